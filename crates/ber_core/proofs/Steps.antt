@@ -1,0 +1,26 @@
+-- Steps of reading, taken apart.
+use Rattle.std.proofs.Common.{◌≡◌, Bool, true, false, cond, Result, Ok, Err, refl, inl, inr}
+use Rattle.std.specs.Prelude.{◌⊎◌}
+use Rattle.ber_core.specs.declared.fault.Fault.{Fault}
+use Rattle.ber_core.specs.declared.fault.Cause.{Cause}
+use Rattle.ber_core.specs.Faults.{fault_of}
+use Rattle.ber_core.specs.Reading.{◌>>=◌, refused}
+
+-- which way a test went
+pub chosen : {A : Type 0} (b : Bool) (x y z : A) → cond b x y ≡ z → ((b ≡ true) × (x ≡ z)) ⊎ ((b ≡ false) × (y ≡ z))
+chosen true x y z e = inl (refl, e)
+chosen false x y z e = inr (refl, e)
+
+-- two steps that gave a value
+pub bind_ok : {A B : Type 0} (r : Result A Fault) (f : A → Result B Fault) (y : B) → (r >>= f) ≡ Ok y → (x : A) × (r ≡ Ok x) × (f x ≡ Ok y)
+bind_ok (Ok x) f y e = (x, refl, e)
+bind_ok (Err g) f y e = absurd (cc)
+
+-- two steps that gave a fault: the first did, or the second
+pub bind_err : {A B : Type 0} (r : Result A Fault) (f : A → Result B Fault) (g : Fault) → (r >>= f) ≡ Err g → (r ≡ Err g) ⊎ ((x : A) × (r ≡ Ok x) × (f x ≡ Err g))
+bind_err (Ok x) f g e = inr (x, refl, e)
+bind_err {A = A} (Err h) f g e = inl (let same : h ≡ g = cc in let both : ◌≡◌ {A = Result A Fault} (Err h) (Err g) = cc in both)
+
+-- the fault that a refusal answers
+pub fault_is : {A : Type 0} (p : _) (why : Cause) (f : Fault) → refused {A = A} p why ≡ Err f → f ≡ fault_of p why
+fault_is p why f e = cc
