@@ -5,3 +5,9 @@ pub mod Regions
 pub mod Shortest
 pub mod Steps
 pub mod WrittenLemmas
+pub mod FieldRegions
+pub mod FieldSound
+pub mod FieldSequence
+pub mod FieldNested
+pub mod Visible
+pub mod ContentsLaws

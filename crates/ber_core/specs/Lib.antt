@@ -5,3 +5,7 @@ pub mod Faults
 pub mod Written
 pub mod Reading
 pub mod Laws
+pub mod Contents
+pub mod ContentsReading
+pub mod Fields
+pub mod FieldReading

@@ -1,0 +1,46 @@
+-- What the contents of one element spell, kind by kind, and their fault where they spell nothing. In each fault
+-- the element stands at the place at, and its contents c at the place from.
+use Rattle.std.specs.Prelude.{◌≡◌, ◌≢◌, ◌≤◌, ◌<◌, ◌≤ℤ◌, ◌+◌, ◌⊎◌, ◌==◌, ℕ, ℤ, Bool, not, List, [], ◌∷◌, ◌++◌, length}
+use Rattle.std.specs.List.{AllByRecursion}
+use Rattle.ber_core.specs.Integer.{Int}
+use Rattle.ber_core.specs.Faults.{fault_of}
+use Rattle.ber_core.specs.declared.fault.Fault.{Fault}
+use Rattle.ber_core.specs.declared.fault.Cause.TheVariants as causes
+
+-- c is one octet, 0 for false and any other for true (ISO/IEC 8825-1, 8.2)
+abbrev pub SpellsBoolean : Bool → List ℕ → Type 0
+SpellsBoolean b c = (n : ℕ) × (c ≡ n ∷ []) × (b ≡ not (n == 0))
+
+-- contents of another count of octets than one spell no boolean
+abbrev pub BooleanFault : Fault → ℕ → List ℕ → Type 0
+BooleanFault f at c = (length c ≢ 1) × (f ≡ fault_of (at + 1) causes.BooleanLength)
+
+-- c is a spelling of the integer n, which lies between low and high (ISO/IEC 8825-1, 8.3)
+abbrev pub SpellsInteger : ℤ → ℤ → ℤ → List ℕ → Type 0
+SpellsInteger low high n c = (low ≤ℤ n) × (n ≤ℤ high) × Int n c
+
+-- contents of no octet, or of more than nine, spell no integer; and an integer may lie outside its range
+abbrev pub IntegerFault : Fault → ℤ → ℤ → ℕ → ℕ → List ℕ → Type 0
+IntegerFault f low high at from c =
+    (((length c ≡ 0) ⊎ (9 < length c)) × (f ≡ fault_of (at + 1) causes.IntegerLength))
+    ⊎ ((n : ℤ) × Int n c × ¬ ((low ≤ℤ n) × (n ≤ℤ high)) × (f ≡ fault_of from causes.IntegerRange))
+
+-- a visible octet is one from the space to the tilde
+abbrev pub IsVisible : ℕ → Type 0
+IsVisible x = (0x20 ≤ x) × (x ≤ 0x7e)
+
+-- c is the text itself, and each of its octets is visible (ISO/IEC 8825-1, 8.23)
+abbrev pub SpellsVisible : List ℕ → List ℕ → Type 0
+SpellsVisible text c = (c ≡ text) × AllByRecursion IsVisible text
+
+-- the fault of a text is its first octet that is not visible
+abbrev pub VisibleFault : Fault → ℕ → List ℕ → Type 0
+VisibleFault f from c = (a b : List ℕ) × (x : ℕ) × (c ≡ a ++ x ∷ b) × AllByRecursion IsVisible a × ¬ IsVisible x × (f ≡ fault_of (from + length a) causes.NotVisible)
+
+-- c is these octets, and their count is the stated one
+abbrev pub SpellsCounted : ℕ → List ℕ → List ℕ → Type 0
+SpellsCounted count octets c = (c ≡ octets) × (length octets ≡ count)
+
+-- contents of another count of octets than the stated one are at fault
+abbrev pub CountedFault : Fault → ℕ → ℕ → List ℕ → Type 0
+CountedFault f count at c = (length c ≢ count) × (f ≡ fault_of (at + 1) causes.FixedLength)

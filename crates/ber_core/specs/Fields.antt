@@ -1,0 +1,67 @@
+-- A sequence of fields, as a PDU has them: what spells it, and its one fault where nothing is spelled. What
+-- contents spell is told apart by kinds, in a grammar that each sequence brings along.
+use Rattle.std.specs.Prelude.{◌≡◌, ◌≢◌, ℕ, ◌+◌, ◌%◌, ◌⊎◌, List, [], ◌∷◌, ◌++◌, length, Option, Some, None}
+use Rattle.ber_core.specs.Length.{Len}
+use Rattle.ber_core.specs.Element.{Elem}
+use Rattle.ber_core.specs.Faults.{LengthFault, fault_of}
+use Rattle.ber_core.specs.declared.fault.Fault.{Fault}
+use Rattle.ber_core.specs.declared.fault.Cause.TheVariants as causes
+
+-- whether a field may be absent, and what its absence means
+pub data Presence (I : Type 0) : Type 0 where
+  always : Presence I
+  optional : Presence I
+  default : I → Presence I
+
+-- a field of a sequence: its identifier, its kind of contents, its presence
+pub record Field (K I : Type 0) : Type 0 where
+  pub identifier : ℕ
+  pub kind : K
+  pub presence : Presence I
+
+-- which contents of a kind spell an item, and the fault of those that spell none, where the element stands at
+-- one place and its contents at another
+pub record Grammar (K I : Type 0) : Type 1 where
+  pub spells : K → I → List ℕ → Type 0
+  pub fault : Fault → K → ℕ → ℕ → List ℕ → Type 0
+
+-- a field that is absent has this value
+abbrev pub AbsenceMeans : {I : Type 0} → Presence I → Option I → Type 0
+AbsenceMeans always v = ⊥
+AbsenceMeans optional v = v ≡ None
+AbsenceMeans (default d) v = v ≡ Some d
+
+-- a field may be absent unless it is always there
+abbrev pub MayBeAbsent : {I : Type 0} → Presence I → Type 0
+MayBeAbsent always = ⊥
+MayBeAbsent optional = Unit {0}
+MayBeAbsent (default d) = Unit {0}
+
+-- an element of this identifier begins the octets
+abbrev pub BeginsWith : ℕ → List ℕ → Type 0
+BeginsWith id [] = ⊥
+BeginsWith id (first ∷ more) = first ≡ id
+
+-- o is the field's element with this value, or it is nothing, and the value is what absence means
+abbrev pub SpellsField : {K I : Type 0} → Grammar K I → Field K I → Option I → List ℕ → Type 0
+SpellsField {I = I} G g v o = ((x : I) × (c : List ℕ) × (v ≡ Some x) × Elem g.identifier c o × G.spells g.kind x c) ⊎ (AbsenceMeans g.presence v × (o ≡ []))
+
+-- o is the spelling of one field after the other, each with its value
+abbrev pub SpellsFields : {K I : Type 0} → Grammar K I → List (Field K I) → List (Option I) → List ℕ → Type 0
+SpellsFields G [] [] o = o ≡ []
+SpellsFields G [] (v ∷ vs) o = ⊥
+SpellsFields G (g ∷ gs) [] o = ⊥
+SpellsFields G (g ∷ gs) (v ∷ vs) o = (a b : List ℕ) × SpellsField G g v a × SpellsFields G gs vs b × (o ≡ a ++ b)
+
+-- The first fault of a sequence of fields, whose octets stand at the place p: it is behind a good field, or
+-- behind one that may be absent and is; or the octets end before, or go on with another identifier than, the
+-- next field that is always there; or it is in the field's length or contents; or there is no field left.
+pub data FieldsFault {K I : Type 0} (G : Grammar K I) (f : Fault) : List (Field K I) → ℕ → List ℕ → Type 0 where
+  later : {g : Field K I} {gs : List (Field K I)} {p : ℕ} {o : List ℕ} (x : I) (c a b : List ℕ) → Elem g.identifier c a → G.spells g.kind x c → o ≡ a ++ b → FieldsFault G f gs (p + length a) b → FieldsFault G f (g ∷ gs) p o
+  absent : {g : Field K I} {gs : List (Field K I)} {p : ℕ} {o : List ℕ} → MayBeAbsent g.presence → ¬ BeginsWith g.identifier o → FieldsFault G f gs p o → FieldsFault G f (g ∷ gs) p o
+  missing : {g : Field K I} {gs : List (Field K I)} {p : ℕ} → g.presence ≡ always → f ≡ fault_of p causes.ElementMissing → FieldsFault G f (g ∷ gs) p []
+  high : {g : Field K I} {gs : List (Field K I)} {p b : ℕ} {bs : List ℕ} → g.presence ≡ always → b % 32 ≡ 31 → f ≡ fault_of p causes.HighTag → FieldsFault G f (g ∷ gs) p (b ∷ bs)
+  unexpected : {g : Field K I} {gs : List (Field K I)} {p b : ℕ} {bs : List ℕ} → g.presence ≡ always → b ≢ g.identifier → b % 32 ≢ 31 → f ≡ fault_of p causes.UnexpectedTag → FieldsFault G f (g ∷ gs) p (b ∷ bs)
+  in_length : {g : Field K I} {gs : List (Field K I)} {p b : ℕ} {bs : List ℕ} → b ≡ g.identifier → LengthFault f p bs → FieldsFault G f (g ∷ gs) p (b ∷ bs)
+  in_contents : {g : Field K I} {gs : List (Field K I)} {p : ℕ} {o : List ℕ} (c size rest : List ℕ) → o ≡ g.identifier ∷ size ++ (c ++ rest) → Len (length c) size → G.fault f g.kind p (p + 1 + length size) c → FieldsFault G f (g ∷ gs) p o
+  extra : {p b : ℕ} {bs : List ℕ} → f ≡ fault_of p causes.ExtraOctets → FieldsFault G f [] p (b ∷ bs)
