@@ -1,4 +1,5 @@
 pub mod Answered
+pub mod Exact
 pub mod Headers
 pub mod OneReading
 pub mod Regions

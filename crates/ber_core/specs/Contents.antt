@@ -1,9 +1,12 @@
 -- What the contents of one element spell, kind by kind, and their fault where they spell nothing. In each fault
 -- the element stands at the place at, and its contents c at the place from.
 use Rattle.std.specs.Prelude.{◌≡◌, ◌≢◌, ◌≤◌, ◌<◌, ◌≤ℤ◌, ◌+◌, ◌⊎◌, ◌==◌, ℕ, ℤ, Bool, not, List, [], ◌∷◌, ◌++◌, length}
+use Rattle.std.specs.Borrow.{Bor}
 use Rattle.std.specs.List.{AllByRecursion}
 use Rattle.ber_core.specs.Integer.{Int}
+use Rattle.ber_core.specs.Element.{contents_of}
 use Rattle.ber_core.specs.Faults.{fault_of}
+use Rattle.ber_core.specs.declared.element.Header.{Header}
 use Rattle.ber_core.specs.declared.fault.Fault.{Fault}
 use Rattle.ber_core.specs.declared.fault.Cause.TheVariants as causes
 
@@ -44,3 +47,9 @@ SpellsCounted count octets c = (c ≡ octets) × (length octets ≡ count)
 -- contents of another count of octets than the stated one are at fault
 abbrev pub CountedFault : Fault → ℕ → ℕ → List ℕ → Type 0
 CountedFault f count at c = (length c ≢ count) × (f ≡ fault_of (at + 1) causes.FixedLength)
+
+-- the slice is the contents behind the header, in the source's own memory
+pub record IsContents (slice source : Bor (List ℕ)) (h : Header) : Type 0 where
+  pub block : slice.ref_ptr.0 ≡ source.ref_ptr.0
+  pub place : slice.ref_ptr.1 ≡ h.contents_from + source.ref_ptr.1
+  pub octets : slice.now ≡ contents_of source.now h

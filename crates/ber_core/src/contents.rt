@@ -1,7 +1,7 @@
 //! The contents of one element: a boolean, an integer, a visible text, octets of a stated count.
 
-ghost use Rattle.std.specs.Prelude.{◌≡◌, ◌≤◌, ◌<◌, ◌+◌, ◌^◌, ℤ, Bool, List, ℕ, Ok, Err, length, IfOk, IfErr};
-ghost use Rattle.ber_core.specs.Contents.{SpellsBoolean, BooleanFault, SpellsInteger, IntegerFault, SpellsVisible, VisibleFault, SpellsCounted, CountedFault};
+ghost use Rattle.std.specs.Prelude.{◌≡◌, ◌≤◌, ◌<◌, ◌+◌, ◌^◌, ℤ, Bool, List, ℕ, Ok, Err, length, IfOk, IfErr, IsOk};
+ghost use Rattle.ber_core.specs.Contents.{SpellsBoolean, BooleanFault, SpellsInteger, IntegerFault, SpellsVisible, VisibleFault, SpellsCounted, CountedFault, IsContents};
 ghost use Rattle.ber_core.specs.ContentsReading.{all_visible_at, boolean_at, counted_at, integer_at, is_visible, visible_at};
 ghost use Rattle.ber_core.specs.Element.{contents_of};
 ghost use Rattle.ber_core.specs.Reading.{Gives};
@@ -16,12 +16,26 @@ use byteorder::{BigEndian, ByteOrder};
 /// # Errors
 ///
 /// `BooleanLength` at the identifier's place plus 1, where the contents are not one octet.
-#[tactic(auto, unfolding(crate::specs::ContentsReading::boolean_at))]
 pub fn boolean(octets: &[u8], header: &Header) -> Result<bool, Fault>
     requires behind { header.now.at < header.now.contents_from }
     requires ordered { header.now.contents_from ≤ header.now.contents_to }
     requires inside { header.now.contents_to ≤ length octets.now }
+    ensures found { IfOk result (λ b. SpellsBoolean b (contents_of octets.now header.now)) }
+    ensures only { (b : Bool) → SpellsBoolean b (contents_of octets.now header.now) → result ≡ Ok b }
+    ensures fault { IfErr result (λ f. BooleanFault f header.now.at (contents_of octets.now header.now)) }
+    ensures fault_only { (f : Fault) → BooleanFault f header.now.at (contents_of octets.now header.now) → result ≡ Err f }
     ensures exact { result ≡ boolean_at header.now.at (contents_of octets.now header.now) }
+{
+    boolean_behind(octets, header)
+}
+
+// The boolean, as reading gives it.
+#[tactic(auto, unfolding(crate::specs::ContentsReading::boolean_at))]
+fn boolean_behind(octets: &[u8], header: &Header) -> Result<bool, Fault>
+    requires behind { header.now.at < header.now.contents_from }
+    requires ordered { header.now.contents_from ≤ header.now.contents_to }
+    requires inside { header.now.contents_to ≤ length octets.now }
+    ensures { result ≡ boolean_at header.now.at (contents_of octets.now header.now) }
 {
     match &octets[header.contents_from..header.contents_to] {
         [number] => Ok(*number != 0),
@@ -35,12 +49,26 @@ pub fn boolean(octets: &[u8], header: &Header) -> Result<bool, Fault>
 ///
 /// `IntegerLength` at the identifier's place plus 1, where the contents have no octet or over nine;
 /// `IntegerRange` at the first octet of the contents, where the integer lies outside the range.
-#[tactic(auto, unfolding(crate::specs::ContentsReading::integer_at))]
 pub fn integer_in(octets: &[u8], header: &Header, low: i128, high: i128) -> Result<i128, Fault>
     requires behind { header.now.at < header.now.contents_from }
     requires ordered { header.now.contents_from ≤ header.now.contents_to }
     requires inside { header.now.contents_to ≤ length octets.now }
+    ensures found { IfOk result (λ n. SpellsInteger low high n (contents_of octets.now header.now)) }
+    ensures only { (n : ℤ) → SpellsInteger low high n (contents_of octets.now header.now) → result ≡ Ok n }
+    ensures fault { IfErr result (λ f. IntegerFault f low high header.now.at header.now.contents_from (contents_of octets.now header.now)) }
+    ensures fault_only { (f : Fault) → IntegerFault f low high header.now.at header.now.contents_from (contents_of octets.now header.now) → result ≡ Err f }
     ensures exact { result ≡ integer_at low high header.now.at header.now.contents_from (contents_of octets.now header.now) }
+{
+    integer_behind(octets, header, low, high)
+}
+
+// The integer, as reading gives it.
+#[tactic(auto, unfolding(crate::specs::ContentsReading::integer_at))]
+fn integer_behind(octets: &[u8], header: &Header, low: i128, high: i128) -> Result<i128, Fault>
+    requires behind { header.now.at < header.now.contents_from }
+    requires ordered { header.now.contents_from ≤ header.now.contents_to }
+    requires inside { header.now.contents_to ≤ length octets.now }
+    ensures { result ≡ integer_at low high header.now.at header.now.contents_from (contents_of octets.now header.now) }
 {
     let contents = &octets[header.contents_from..header.contents_to];
     match contents.len() {
@@ -56,11 +84,34 @@ pub fn integer_in(octets: &[u8], header: &Header, low: i128, high: i128) -> Resu
     }
 }
 
-// Whether an octet is visible.
-fn is_visible_octet(octet: u8) -> bool
-    ensures { result ≡ is_visible octet }
+/// The text that the contents behind `header` are, a part of `octets` (ISO/IEC 8825-1, 8.23).
+///
+/// # Errors
+///
+/// `NotVisible` at the first octet outside 20 to 7E.
+pub fn visible<'a>(octets: &'a [u8], header: &Header) -> Result<&'a [u8], Fault>
+    requires ordered { header.now.contents_from ≤ header.now.contents_to }
+    requires inside { header.now.contents_to ≤ length octets.now }
+    ensures found { IfOk result (λ text. SpellsVisible text.now (contents_of octets.now header.now)) }
+    ensures only { (text : List ℕ) → SpellsVisible text (contents_of octets.now header.now) → IsOk result }
+    ensures fault { IfErr result (λ f. VisibleFault f header.now.contents_from (contents_of octets.now header.now)) }
+    ensures fault_only { (f : Fault) → VisibleFault f header.now.contents_from (contents_of octets.now header.now) → result ≡ Err f }
+    ensures exact { Gives (λ text. text.now) result (visible_at header.now.contents_from (contents_of octets.now header.now)) }
+    ensures part { IfOk result (λ text. IsContents text octets.entry header.now) }
 {
-    0x20 <= octet && octet <= 0x7e
+    visible_behind(octets, header)
+}
+
+// The text, as reading gives it.
+fn visible_behind<'a>(octets: &'a [u8], header: &Header) -> Result<&'a [u8], Fault>
+    requires ordered { header.now.contents_from ≤ header.now.contents_to }
+    requires inside { header.now.contents_to ≤ length octets.now }
+    ensures exact { Gives (λ text. text.now) result (visible_at header.now.contents_from (contents_of octets.now header.now)) }
+    ensures part { IfOk result (λ text. IsContents text octets.entry header.now) }
+{
+    let contents = &octets[header.contents_from..header.contents_to];
+    check_visible(contents, header.contents_from)?;
+    Ok(contents)
 }
 
 /// Whether each of the octets, the first of which stands at the place `from`, is visible.
@@ -80,19 +131,11 @@ pub fn check_visible(octets: &[u8], from: usize) -> Result<(), Fault>
     Ok(())
 }
 
-/// The text that the contents behind `header` are, a part of `octets` (ISO/IEC 8825-1, 8.23).
-///
-/// # Errors
-///
-/// `NotVisible` at the first octet outside 20 to 7E.
-pub fn visible<'a>(octets: &'a [u8], header: &Header) -> Result<&'a [u8], Fault>
-    requires ordered { header.now.contents_from ≤ header.now.contents_to }
-    requires inside { header.now.contents_to ≤ length octets.now }
-    ensures exact { Gives (λ text. text.now) result (visible_at header.now.contents_from (contents_of octets.now header.now)) }
+// Whether an octet is visible.
+fn is_visible_octet(octet: u8) -> bool
+    ensures { result ≡ is_visible octet }
 {
-    let contents = &octets[header.contents_from..header.contents_to];
-    check_visible(contents, header.contents_from)?;
-    Ok(contents)
+    0x20 <= octet && octet <= 0x7e
 }
 
 /// The contents behind `header`, a part of `octets`, which have to be `count` octets.
@@ -100,12 +143,28 @@ pub fn visible<'a>(octets: &'a [u8], header: &Header) -> Result<&'a [u8], Fault>
 /// # Errors
 ///
 /// `FixedLength` at the identifier's place plus 1, where they are not.
-#[tactic(auto, unfolding(crate::specs::ContentsReading::counted_at))]
 pub fn counted<'a>(octets: &'a [u8], header: &Header, count: usize) -> Result<&'a [u8], Fault>
     requires behind { header.now.at < header.now.contents_from }
     requires ordered { header.now.contents_from ≤ header.now.contents_to }
     requires inside { header.now.contents_to ≤ length octets.now }
+    ensures found { IfOk result (λ contents. SpellsCounted count contents.now (contents_of octets.now header.now)) }
+    ensures only { (contents : List ℕ) → SpellsCounted count contents (contents_of octets.now header.now) → IsOk result }
+    ensures fault { IfErr result (λ f. CountedFault f count header.now.at (contents_of octets.now header.now)) }
+    ensures fault_only { (f : Fault) → CountedFault f count header.now.at (contents_of octets.now header.now) → result ≡ Err f }
     ensures exact { Gives (λ contents. contents.now) result (counted_at count header.now.at (contents_of octets.now header.now)) }
+    ensures part { IfOk result (λ contents. IsContents contents octets.entry header.now) }
+{
+    counted_behind(octets, header, count)
+}
+
+// The contents of a stated count, as reading gives them.
+#[tactic(auto, unfolding(crate::specs::ContentsReading::counted_at))]
+fn counted_behind<'a>(octets: &'a [u8], header: &Header, count: usize) -> Result<&'a [u8], Fault>
+    requires behind { header.now.at < header.now.contents_from }
+    requires ordered { header.now.contents_from ≤ header.now.contents_to }
+    requires inside { header.now.contents_to ≤ length octets.now }
+    ensures exact { Gives (λ contents. contents.now) result (counted_at count header.now.at (contents_of octets.now header.now)) }
+    ensures part { IfOk result (λ contents. IsContents contents octets.entry header.now) }
 {
     let contents = &octets[header.contents_from..header.contents_to];
     if contents.len() == count {

@@ -1,0 +1,25 @@
+use Rattle.std.proofs.Common.{◌≡◌, List, ℕ, Ok, Err, sym, ◌∙◌}
+use Rattle.ber_core.specs.Element.{contents_of}
+use Rattle.ber_core.specs.Contents.{SpellsBoolean, BooleanFault}
+use Rattle.ber_core.specs.ContentsReading.{boolean_at}
+use Rattle.ber_core.proofs.Exact.{gives_same, answer_found, answer_fault}
+use Rattle.ber_core.proofs.ContentsLaws.{boolean_found, boolean_again, boolean_wrong, boolean_wrong_again}
+use Rattle.ber_core.proofs.contents.boolean.Goals as goal
+
+pub returns-clause-found : goal.returns-clause-found
+returns-clause-found c =
+    let h = c.args.header.now in
+    let o = contents_of c.args.octets.now h in
+    answer_found (λ b. b) (boolean_at h.at o) (λ b. SpellsBoolean b o) (boolean_found h.at o) c.boolean_behind.result (gives_same (boolean_at h.at o) c.boolean_behind.result c.boolean_behind.ensures)
+
+pub returns-clause-only : goal.returns-clause-only
+returns-clause-only c = λ b s. c.boolean_behind.ensures ∙ boolean_again c.args.header.now.at (contents_of c.args.octets.now c.args.header.now) b s
+
+pub returns-clause-fault : goal.returns-clause-fault
+returns-clause-fault c =
+    let h = c.args.header.now in
+    let o = contents_of c.args.octets.now h in
+    answer_fault (λ b. b) (boolean_at h.at o) (λ f. BooleanFault f h.at o) (λ f. boolean_wrong f h.at o) c.boolean_behind.result (gives_same (boolean_at h.at o) c.boolean_behind.result c.boolean_behind.ensures)
+
+pub returns-clause-fault_only : goal.returns-clause-fault_only
+returns-clause-fault_only c = λ f wrong. c.boolean_behind.ensures ∙ boolean_wrong_again f c.args.header.now.at (contents_of c.args.octets.now c.args.header.now) wrong
