@@ -1,0 +1,45 @@
+-- The kinds of contents that the fields of a PDU have, what they spell, and their faults.
+use Rattle.std.specs.Prelude.{◌≡◌, ℕ, pos, ◌^◌, ◌-◌, Bool, List}
+use Rattle.ber_core.specs.Contents.{SpellsBoolean, BooleanFault, SpellsInteger, IntegerFault, SpellsVisible, VisibleFault}
+use Rattle.ber_core.specs.Fields.{Grammar}
+use Rattle.ber_core.specs.declared.fault.Fault.{Fault}
+use Rattle.mms_data.specs.Data.{Data}
+use Rattle.mms_data.specs.Spelling.{SpellsAll, FaultIn}
+use Rattle.mms_data.specs.Utc.{SpellsUtc, UtcFault}
+use Rattle.mms_data.specs.declared.time.UtcTime.{UtcTime}
+
+-- a visible text, a number, a boolean, a time, members of Data
+pub data Kind : Type 0 where
+  text : Kind
+  number : Kind
+  flag : Kind
+  time : Kind
+  members : Kind
+
+-- the value of a field that is there
+pub data Item : Type 0 where
+  a_text : List ℕ → Item
+  a_number : ℕ → Item
+  a_flag : Bool → Item
+  a_time : UtcTime → Item
+  some_members : List Data → Item
+
+-- the contents of a kind spell the value (profile: a number is at most 4294967295)
+abbrev pub SpellsContents : Kind → Item → List ℕ → Type 0
+SpellsContents text (a_text t) c = SpellsVisible t c
+SpellsContents number (a_number n) c = SpellsInteger (pos 0) (pos (2 ^ 32 - 1)) (pos n) c
+SpellsContents flag (a_flag b) c = SpellsBoolean b c
+SpellsContents time (a_time t) c = SpellsUtc t c
+SpellsContents members (some_members ds) c = SpellsAll ds 1 c
+SpellsContents _ _ c = ⊥
+
+-- the fault of contents of a kind that spell nothing, where the element stands at one place and its contents at another
+abbrev pub ContentsFault : Fault → Kind → ℕ → ℕ → List ℕ → Type 0
+ContentsFault f text at from c = VisibleFault f from c
+ContentsFault f number at from c = IntegerFault f (pos 0) (pos (2 ^ 32 - 1)) at from c
+ContentsFault f flag at from c = BooleanFault f at c
+ContentsFault f time at from c = UtcFault f at c
+ContentsFault f members at from c = FaultIn f 1 from c
+
+abbrev pub contents_grammar : Grammar Kind Item
+contents_grammar = record { spells = SpellsContents; fault = ContentsFault }

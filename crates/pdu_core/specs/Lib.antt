@@ -1,0 +1,5 @@
+pub mod Contents
+pub mod Goose
+pub mod ContentsReading
+pub mod GooseReading
+pub mod Views

@@ -1,0 +1,100 @@
+// Seeing a PDU where it stands.
+
+ghost use Rattle.std.specs.Prelude.{◌≡◌, ◌≤◌, Err, length, slice_range, IfOk, IfErr};
+ghost use Rattle.ber_core.specs.Reading.{Gives};
+ghost use Rattle.ber_core.specs.declared.fault.Fault.{Fault};
+ghost use Rattle.mms_data.specs.Meaning.{left};
+ghost use Rattle.pdu_core.specs.Goose.{goose_items, SpellsGoose, GooseFault};
+ghost use Rattle.pdu_core.specs.GooseReading.{count_at, goose_at};
+ghost use Rattle.pdu_core.specs.Views.{pdu_of, AreParts, Shows};
+ghost use Rattle.pdu_core.specs.declared.goose.GoosePdu.{GoosePdu};
+
+use crate::fields::{
+    CountedMembers, flag_if_there, members_field, number_field, text_field, text_if_there, time_field,
+};
+use crate::view::GooseView;
+use ber_core::fields::{check_end, required};
+use ber_core::{Cause, Fault};
+
+// Whether the count at this place is that of the entries.
+fn check_count(place: usize, count: u32, entries: &CountedMembers<'_>) -> Result<(), Fault>
+    requires { entries.now.count ≡ length (left entries.now.members) }
+    ensures { result ≡ count_at place count (left entries.now.members) }
+{
+    if count as usize == entries.count {
+        Ok(())
+    } else {
+        Err(Cause::EntryCount.at(place))
+    }
+}
+
+// The PDU that fills the octets from `at` to `end`, as reading from left to right gives it.
+#[tactic(auto, unfolding(crate::specs::GooseReading::goose_at))]
+fn goose<'a>(octets: &'a [u8], at: usize, end: usize) -> Result<GooseView<'a>, Fault>
+    requires ordered { at ≤ end }
+    requires inside { end ≤ length octets.now }
+    ensures exact { Gives (λ v. goose_items (pdu_of {A = Unit {0}} v)) result (goose_at octets.now at end) }
+    ensures parts { IfOk result (λ v. AreParts v octets.entry) }
+    ensures entries { IfOk result (λ v. v.entries ≡ length (left v.members)) }
+{
+    let header = required(octets, at, end, 0x61)?;
+    let to = header.contents_to;
+    let (gocb_ref, place) = text_field(octets, header.contents_from, to, 0x80)?;
+    let (live, place) = number_field(octets, place, to, 0x81)?;
+    let (dat_set, place) = text_field(octets, place, to, 0x82)?;
+    let (go_id, place) = text_if_there(octets, place, to, 0x83)?;
+    let (t, place) = time_field(octets, place, to, 0x84)?;
+    let (st_num, place) = number_field(octets, place, to, 0x85)?;
+    let (sq_num, place) = number_field(octets, place, to, 0x86)?;
+    let (simulation, place) = flag_if_there(octets, place, to, 0x87)?;
+    let (conf_rev, place) = number_field(octets, place, to, 0x88)?;
+    let (nds_com, place) = flag_if_there(octets, place, to, 0x89)?;
+    let count_at = place;
+    let (count, place) = number_field(octets, place, to, 0x8a)?;
+    let (entries, place) = members_field(octets, place, to, 0xab)?;
+    check_end(place, to)?;
+    check_end(to, end)?;
+    check_count(count_at, count, &entries)?;
+    Ok(GooseView {
+        gocb_ref,
+        live,
+        dat_set,
+        go_id,
+        t,
+        st_num,
+        sq_num,
+        simulation,
+        conf_rev,
+        nds_com,
+        entries: entries.count,
+        members: entries.members,
+    })
+}
+
+/// The PDU whose one element fills the octets from `at` to `end` (IEC 61850-8-1, IECGoosePdu).
+///
+/// # Errors
+///
+/// The first fault from left to right; where there is none but the count of entries is not that of the
+/// members, `EntryCount` at the identifier of the count.
+pub fn view_goose<'a>(octets: &'a [u8], at: usize, end: usize) -> Result<GooseView<'a>, Fault>
+    requires ordered { at ≤ end }
+    requires inside { end ≤ length octets.now }
+
+    // What is seen is spelled so, and what is spelled so is seen.
+    ensures found { IfOk result (λ v. SpellsGoose {A = Unit {0}} (pdu_of v) (slice_range octets.now at end)) }
+    ensures only { (p : GoosePdu (Unit {0})) → SpellsGoose p (slice_range octets.now at end) → Shows result p }
+
+    // The fault that is answered is there, and the fault that is there is answered.
+    ensures fault { IfErr result (λ f. GooseFault f at (slice_range octets.now at end)) }
+    ensures fault_only { (f : Fault) → GooseFault f at (slice_range octets.now at end) → result ≡ Err f }
+
+    // Texts and members are parts of the octets, and the entries are counted.
+    ensures parts { IfOk result (λ v. AreParts v octets.entry) }
+    ensures entries { IfOk result (λ v. v.entries ≡ length (left v.members)) }
+
+    // For callers: the function on octets that it computes.
+    ensures exact { Gives (λ v. goose_items (pdu_of {A = Unit {0}} v)) result (goose_at octets.now at end) }
+{
+    goose(octets, at, end)
+}
