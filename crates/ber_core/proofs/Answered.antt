@@ -1,5 +1,5 @@
 -- What a call answers that computes `header_at`, in the words of the relations.
-use Rattle.std.proofs.Common.{◌≡◌, ℕ, ◌≤◌, List, length, Result, Ok, Err, refl, sym, ◌∙◌}
+use Rattle.std.proofs.Common.{◌≡◌, ℕ, ◌≤◌, List, length, Result, Ok, Err, sym, ◌∙◌}
 use Rattle.std.specs.Prelude.{slice_range, IfOk, IfErr}
 use Rattle.ber_core.specs.declared.fault.Fault.{Fault}
 use Rattle.ber_core.specs.declared.element.Header.{Header}

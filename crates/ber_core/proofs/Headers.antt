@@ -1,8 +1,8 @@
 -- A length that is read is the length of contents that stand behind it, and the other way round; and the same
 -- of a length at fault.
-use Rattle.std.proofs.Common.{◌≡◌, ℕ, suc, ◌+◌, ◌-◌, ◌≤◌, ◌<◌, Bool, true, false, cond, ltb, eqb, List, [], ◌∷◌, ◌++◌, length, take, drop, Ok, Err, refl, sym, ap, subst, ◌∙◌, arith, inl, inr}
-use Rattle.std.proofs.lemmas.List.{length-append, take-append-drop, length-take, length-take-le, length-drop, drop_at, take_at}
-use Rattle.std.proofs.lemmas.Bool.{ltb-true, ltb-false, le-ltb, lt-ltb, eqb-true, eqb-false, ne_eqb, eq-eqb}
+use Rattle.std.proofs.Common.{◌≡◌, ℕ, suc, ◌+◌, ◌-◌, ◌≤◌, ◌<◌, ltb, eqb, List, [], ◌∷◌, ◌++◌, length, take, drop, Ok, Err, refl, sym, ap, ◌∙◌, arith, inl, inr}
+use Rattle.std.proofs.lemmas.List.{length-append, take-append-drop, length-take, length-take-le, drop_at}
+use Rattle.std.proofs.lemmas.Bool.{ltb-true, ltb-false, le-ltb, lt-ltb, eqb-true, eqb-false, ne_eqb}
 use Rattle.byteorder.specs.Endian.{big_number}
 use Rattle.byteorder.specs.Numbers.{big_from-take, big_from-append}
 use Rattle.ber_core.specs.declared.fault.Fault.{Fault}
@@ -10,7 +10,7 @@ use Rattle.ber_core.specs.declared.fault.Cause.TheVariants as causes
 use Rattle.ber_core.specs.declared.element.Header.{Header}
 use Rattle.ber_core.specs.Length.{Len, number}
 use Rattle.ber_core.specs.Faults.{LengthFault, absent, cut, indefinite, form, past_end, fault_of}
-use Rattle.ber_core.specs.Reading.{refused, sized_at, counted_length_at, length_at}
+use Rattle.ber_core.specs.Reading.{sized_at, counted_length_at, length_at}
 use Rattle.ber_core.proofs.Steps.{chosen, fault_is}
 
 -- the header of an element at p whose length has size octets, and whose contents have n
@@ -160,8 +160,15 @@ past_again f p id n (first ∷ more) rest (inl h) lt is =
 past_again f p id n (first ∷ more) rest (inr h) lt is =
     let big : 128 < first = omega (arith, h.0, h.1) in
     let count : first - 128 ≡ length more = omega (arith, h.0) in
-    rw (le-ltb first 128 (omega arith), ne_eqb first 128 (λ e. omega arith), le-ltb 132 first (omega (arith, h.0, h.2)), count,
-      le-ltb (length (more ++ rest)) (length more) (omega (arith, length-append more rest)), number_front more rest, drop_at more rest (length more) refl)
+    rw (
+      le-ltb first 128 (omega arith),
+      ne_eqb first 128 (λ e. omega arith),
+      le-ltb 132 first (omega (arith, h.0, h.2)),
+      count,
+      le-ltb (length (more ++ rest)) (length more) (omega (arith, length-append more rest)),
+      number_front more rest,
+      drop_at more rest (length more) refl,
+    )
     (sized_past f p id (p + 2 + length more) (number more) rest (omega (arith, h.3)) is)
 
 pub length_wrong_again : (f : Fault) (p id : ℕ) (o : List ℕ) → LengthFault f p o → length_at p id o ≡ Err f

@@ -1,15 +1,14 @@
 -- An element stands at a place exactly where reading gives its header, and a fault exactly where reading refuses.
-use Rattle.std.proofs.Common.{◌≡◌, ℕ, suc, ◌+◌, ◌-◌, ◌%◌, ◌≤◌, ◌<◌, true, false, eqb, List, [], ◌∷◌, ◌++◌, length, take, drop, Result, Ok, Err, refl, sym, ap, subst, ◌∙◌, append_assoc, arith, inl, inr}
+use Rattle.std.proofs.Common.{◌≡◌, ℕ, suc, ◌+◌, ◌-◌, ◌%◌, ◌≤◌, eqb, List, [], ◌∷◌, ◌++◌, length, Result, Ok, Err, refl, sym, ap, subst, ◌∙◌, append_assoc, arith, inl, inr}
 use Rattle.std.proofs.lemmas.List.{length-append}
 use Rattle.std.proofs.lemmas.Bool.{eqb-true, eqb-false, ne_eqb, eq-eqb}
 use Rattle.std.specs.Prelude.{slice_range}
 use Rattle.ber_core.specs.declared.fault.Fault.{Fault}
-use Rattle.ber_core.specs.declared.fault.Cause.TheVariants as causes
 use Rattle.ber_core.specs.declared.element.Header.{Header}
 use Rattle.ber_core.specs.Length.{Len}
-use Rattle.ber_core.specs.Element.{IsIdentifier, Elem, IsHeader, contents_of}
-use Rattle.ber_core.specs.Faults.{LengthFault, HeaderFault, nothing, high, in_length, fault_of}
-use Rattle.ber_core.specs.Reading.{refused, header_at, length_at}
+use Rattle.ber_core.specs.Element.{IsIdentifier, IsHeader, contents_of}
+use Rattle.ber_core.specs.Faults.{HeaderFault, nothing, high, in_length}
+use Rattle.ber_core.specs.Reading.{header_at}
 use Rattle.ber_core.proofs.Steps.{chosen, fault_is}
 use Rattle.ber_core.proofs.Headers.{header_for, Parts, length_again, length_inv, length_wrong, length_wrong_again}
 use Rattle.ber_core.proofs.Regions.{region-length, region-split, contents_are, element_is, rest_is}

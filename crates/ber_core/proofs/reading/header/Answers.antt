@@ -1,4 +1,4 @@
-use Rattle.std.proofs.Common.{sym, ◌∙◌, slice_range}
+use Rattle.std.proofs.Common.{slice_range}
 use Rattle.ber_core.proofs.Answered.{found_by, only_by, fault_by, fault_only_by}
 use Rattle.ber_core.proofs.reading.header.Goals as goal
 
