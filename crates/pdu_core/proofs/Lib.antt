@@ -1,3 +1,5 @@
 pub mod Items
 pub mod GooseLaws
 pub mod Shown
+pub mod OneReading
+pub mod Read

@@ -3,3 +3,5 @@ pub mod Goose
 pub mod ContentsReading
 pub mod GooseReading
 pub mod Views
+pub mod Answers
+pub mod Laws

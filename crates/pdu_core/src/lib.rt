@@ -3,9 +3,13 @@
 
 mod fields;
 mod goose;
+pub mod laws;
+mod owning;
+mod reading;
 mod view;
 mod viewing;
 
 pub use crate::goose::GoosePdu;
+pub use crate::reading::read_goose;
 pub use crate::view::GooseView;
 pub use crate::viewing::view_goose;

@@ -1,0 +1,11 @@
+use Rattle.pdu_core.proofs.OneReading.{pdu_is_one, pdu_or_fault, fault_is_one}
+use Rattle.pdu_core.proofs.laws.one_reading.Goals as goal
+
+pub returns-clause-pdu : goal.returns-clause-pdu
+returns-clause-pdu g c = pdu_is_one
+
+pub returns-clause-either : goal.returns-clause-either
+returns-clause-either g c = pdu_or_fault
+
+pub returns-clause-fault : goal.returns-clause-fault
+returns-clause-fault g c = fault_is_one

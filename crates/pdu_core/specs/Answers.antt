@@ -1,0 +1,23 @@
+-- What a call that reads a PDU into memory answers. Where memory was refused nothing is said.
+use Rattle.std.specs.Prelude.{◌≡◌, Result, Ok, Err}
+use Rattle.ber_core.specs.declared.fault.Fault.{Fault}
+use Rattle.mms_data.specs.declared.fault.ReadFault.{ReadFault}
+use Rattle.mms_data.specs.declared.fault.ReadFault.TheVariants as errors
+
+-- it answers this value, unless memory was refused
+abbrev pub Reads : {X : Type 0} → Result X ReadFault → X → Type 0
+Reads (Ok v) x = v ≡ x
+Reads (Err (errors.Memory e)) x = Unit {0}
+Reads (Err (errors.Fault f)) x = ⊥
+
+-- it answers this fault, unless memory was refused
+abbrev pub Refuses : {X : Type 0} → Result X ReadFault → Fault → Type 0
+Refuses (Ok v) f = ⊥
+Refuses (Err (errors.Memory e)) f = Unit {0}
+Refuses (Err (errors.Fault g)) f = g ≡ f
+
+-- if it answers a fault, that is so
+abbrev pub IfRefused : {X : Type 0} → Result X ReadFault → (Fault → Type 0) → Type 0
+IfRefused (Ok v) P = Unit {0}
+IfRefused (Err (errors.Memory e)) P = Unit {0}
+IfRefused (Err (errors.Fault f)) P = P f

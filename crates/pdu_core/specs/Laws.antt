@@ -1,0 +1,17 @@
+-- What the definitions say together: octets have one reading, and what is written is spelled.
+use Rattle.std.specs.Prelude.{◌≡◌, ℕ, List}
+use Rattle.ber_core.specs.declared.fault.Fault.{Fault}
+use Rattle.pdu_core.specs.Goose.{SpellsGoose, GooseFault}
+use Rattle.pdu_core.specs.declared.goose.GoosePdu.{GoosePdu}
+
+-- no octets spell two PDUs
+abbrev pub PduIsOne : Type 0 → Type 0
+PduIsOne A = (o : List ℕ) (p q : GoosePdu A) → SpellsGoose p o → SpellsGoose q o → p ≡ q
+
+-- octets that spell a PDU have no fault, wherever they stand
+abbrev pub PduOrFault : Type 0 → Type 0
+PduOrFault A = (o : List ℕ) (at : ℕ) (p : GoosePdu A) (f : Fault) → SpellsGoose p o → GooseFault f at o → ⊥
+
+-- no octets have two first faults
+abbrev pub FaultIsOne : Type 0
+FaultIsOne = (o : List ℕ) (at : ℕ) (f g : Fault) → GooseFault f at o → GooseFault g at o → f ≡ g

@@ -1,0 +1,12 @@
+//! Laws about the definitions that the contracts of this crate cite. The functions compute nothing.
+
+ghost use Rattle.pdu_core.specs.Laws.{FaultIsOne, PduIsOne, PduOrFault};
+
+use std::alloc::Allocator;
+
+/// Octets spell at most one PDU, or have at most one first fault, and never both.
+pub fn one_reading<A: Allocator>()
+    ensures pdu { PduIsOne A }
+    ensures either { PduOrFault A }
+    ensures fault { FaultIsOne }
+{}

@@ -1,0 +1,39 @@
+// Reading a PDU into memory of its own.
+
+ghost use Rattle.std.specs.Prelude.{◌≡◌, ◌≤◌, length, slice_range, IfOk};
+ghost use Rattle.ber_core.specs.declared.fault.Fault.{Fault};
+ghost use Rattle.pdu_core.specs.Answers.{IfRefused, Reads, Refuses};
+ghost use Rattle.pdu_core.specs.Goose.{GooseFault, SpellsGoose};
+ghost use Rattle.pdu_core.specs.declared.goose.GoosePdu.{GoosePdu};
+
+use crate::goose::GoosePdu;
+use crate::viewing::view_goose;
+use mms_data::ReadFault;
+use std::alloc::Allocator;
+
+/// The PDU whose one element fills the octets from `at` to `end` (IEC 61850-8-1, IECGoosePdu), in memory of
+/// its own.
+///
+/// # Errors
+///
+/// `Fault` as `view_goose` answers it; `Memory` where memory is refused.
+pub fn read_goose<A: Allocator + Copy>(
+    alloc: A,
+    octets: &[u8],
+    at: usize,
+    end: usize,
+) -> Result<GoosePdu<A>, ReadFault>
+    requires ordered { at ≤ end }
+    requires inside { end ≤ length octets.now }
+
+    // What is read is spelled so, and what is spelled so is read, unless memory is refused.
+    ensures found { IfOk result (λ p. SpellsGoose p (slice_range octets.now at end)) }
+    ensures only { (p : GoosePdu A) → SpellsGoose p (slice_range octets.now at end) → Reads result p }
+
+    // The fault that is answered is there, and the fault that is there is answered, unless memory is refused.
+    ensures fault { IfRefused result (λ f. GooseFault f at (slice_range octets.now at end)) }
+    ensures fault_only { (f : Fault) → GooseFault f at (slice_range octets.now at end) → Refuses result f }
+{
+    let view = view_goose(octets, at, end)?;
+    Ok(view.to_pdu(alloc)?)
+}
