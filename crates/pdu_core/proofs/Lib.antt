@@ -3,3 +3,4 @@ pub mod GooseLaws
 pub mod Shown
 pub mod OneReading
 pub mod Read
+pub mod Sizes

@@ -5,3 +5,4 @@ pub mod GooseReading
 pub mod Views
 pub mod Answers
 pub mod Laws
+pub mod Written

@@ -1,0 +1,117 @@
+// Appending the fields of a PDU, kind by kind. Where a field does not fit, nothing is said of `out`, which then
+// is given up.
+
+ghost use Rattle.std.specs.Prelude.{◌≡◌, ◌≤◌, ◌<◌, ◌+◌, ◌^◌, ◌++◌, length, true, IsOk, OnOk, Some};
+ghost use Rattle.arrayvec.specs.ArrayVec.{array_vec_len};
+ghost use Rattle.ber_core.specs.Element.{IsIdentifier};
+ghost use Rattle.mms_data.specs.Written.{all_spelled};
+ghost use Rattle.pdu_core.specs.Contents.{a_flag, a_number, a_text, a_time, some_members};
+ghost use Rattle.pdu_core.specs.Goose.{text_if};
+ghost use Rattle.pdu_core.specs.Written.{written_field, written_time};
+
+use crate::elements::put_element;
+use arrayvec::ArrayVec;
+use ber_core::{Full, put_integer};
+use byteorder::{BigEndian, ByteOrder};
+use mms_data::writing::put_values;
+use mms_data::{Octets, UtcTime, ValueList};
+use std::alloc::Allocator;
+
+// Appends the field of a text.
+#[tactic(auto, using(crate::proofs::Sizes::element_size))]
+pub fn put_text<const N: usize>(
+    out: &mut ArrayVec<u8, N>,
+    identifier: u8,
+    text: &[u8],
+) -> Result<(), Full>
+    requires identifier { IsIdentifier identifier }
+    ensures enough { length (written_field identifier (Some (a_text text.now))) < 2 ^ 32 → array_vec_len out.old + length (written_field identifier (Some (a_text text.now))) ≤ N → IsOk result }
+    ensures written { OnOk result (out.new.items ≡ out.old.items ++ written_field identifier (Some (a_text text.now))) }
+{
+    put_element(out, identifier, text)
+}
+
+// Appends the field of a text, if there is one.
+#[tactic(auto, using(crate::proofs::Sizes::element_size))]
+pub fn put_text_if<A: Allocator, const N: usize>(
+    out: &mut ArrayVec<u8, N>,
+    identifier: u8,
+    text: &Option<Octets<A>>,
+) -> Result<(), Full>
+    requires identifier { IsIdentifier identifier }
+    ensures enough { length (written_field identifier (text_if text.now)) < 2 ^ 32 → array_vec_len out.old + length (written_field identifier (text_if text.now)) ≤ N → IsOk result }
+    ensures written { OnOk result (out.new.items ≡ out.old.items ++ written_field identifier (text_if text.now)) }
+{
+    match text {
+        Some(text) => put_element(out, identifier, text.as_slice()),
+        None => Ok(()),
+    }
+}
+
+// Appends the field of a number.
+#[tactic(auto, unfolding(crate::specs::Written::element))]
+pub fn put_number<const N: usize>(
+    out: &mut ArrayVec<u8, N>,
+    identifier: u8,
+    number: u64,
+) -> Result<(), Full>
+    requires identifier { IsIdentifier identifier }
+    ensures enough { array_vec_len out.old + length (written_field identifier (Some (a_number number))) ≤ N → IsOk result }
+    ensures written { OnOk result (out.new.items ≡ out.old.items ++ written_field identifier (Some (a_number number))) }
+{
+    put_integer(out, identifier, i128::from(number))
+}
+
+// Appends the field of a boolean.
+pub fn put_flag<const N: usize>(
+    out: &mut ArrayVec<u8, N>,
+    identifier: u8,
+    flag: bool,
+) -> Result<(), Full>
+    requires identifier { IsIdentifier identifier }
+    ensures enough { array_vec_len out.old + length (written_field identifier (Some (a_flag flag))) ≤ N → IsOk result }
+    ensures written { OnOk result (out.new.items ≡ out.old.items ++ written_field identifier (Some (a_flag flag))) }
+{
+    if flag {
+        put_element(out, identifier, &[0xff])
+    } else {
+        put_element(out, identifier, &[0])
+    }
+}
+
+// Appends the field of a time.
+pub fn put_time<const N: usize>(
+    out: &mut ArrayVec<u8, N>,
+    identifier: u8,
+    time: UtcTime,
+) -> Result<(), Full>
+    requires identifier { IsIdentifier identifier }
+    requires fraction { time.fraction < 2 ^ 24 }
+    ensures enough { array_vec_len out.old + length (written_field identifier (Some (a_time time))) ≤ N → IsOk result }
+    ensures written { OnOk result (out.new.items ≡ out.old.items ++ written_field identifier (Some (a_time time))) }
+{
+    let mut contents = [0; 8];
+    BigEndian::write_u32(&mut contents, time.seconds);
+    BigEndian::write_u24(&mut contents[4..], time.fraction);
+    contents[7] = time.quality;
+    put_element(out, identifier, &contents)
+}
+
+// Appends the field of members.
+#[tactic(auto, using(crate::proofs::Sizes::element_size))]
+pub fn put_members<A: Allocator, const N: usize>(
+    out: &mut ArrayVec<u8, N>,
+    identifier: u8,
+    members: &ValueList<A>,
+) -> Result<(), Full>
+    requires identifier { IsIdentifier identifier }
+    requires spelled { all_spelled members.now 1 ≡ true }
+    ensures enough { length (written_field identifier (Some (some_members members.now))) < 2 ^ 32 → array_vec_len out.old + length (written_field identifier (Some (some_members members.now))) ≤ N → IsOk result }
+    ensures written { OnOk result (out.new.items ≡ out.old.items ++ written_field identifier (Some (some_members members.now))) }
+{
+    let mut contents = ArrayVec::<u8, N>::new();
+    if put_values(&mut contents, members).is_err() {
+        return Err(Full);
+    }
+    put_element(out, identifier, contents.as_slice())
+}

@@ -1,0 +1,54 @@
+// Whether a PDU has a spelling.
+
+ghost use Rattle.std.specs.Prelude.{◌≡◌};
+ghost use Rattle.pdu_core.specs.Written.{is_spelled, is_text, is_text_if};
+
+use crate::goose::GoosePdu;
+use ber_core::contents::check_visible;
+use mms_data::Octets;
+use mms_data::writing::are_spellable;
+use std::alloc::Allocator;
+
+// Whether the octets are all visible.
+fn is_visible(text: &[u8]) -> bool
+    ensures { result ≡ is_text text.now }
+{
+    match check_visible(text, 0) {
+        Ok(()) => true,
+        Err(_) => false,
+    }
+}
+
+// The same of octets that may be absent.
+fn is_visible_if<A: Allocator>(text: &Option<Octets<A>>) -> bool
+    ensures { result ≡ is_text_if text.now }
+{
+    match text {
+        Some(text) => is_visible(text.as_slice()),
+        None => true,
+    }
+}
+
+/// Whether each field of the PDU has a spelling: texts are visible, the fraction of the time is below 2^24,
+/// the members are spellable and at most 4294967295.
+pub fn is_spellable<A: Allocator>(pdu: &GoosePdu<A>) -> bool
+    ensures { result ≡ is_spelled pdu.now }
+{
+    if !is_visible(pdu.gocb_ref.as_slice()) {
+        return false;
+    }
+    if !is_visible(pdu.dat_set.as_slice()) {
+        return false;
+    }
+    if !is_visible_if(&pdu.go_id) {
+        return false;
+    }
+    if pdu.t.fraction >= 0x100_0000 {
+        return false;
+    }
+    let entries = pdu.members.as_slice();
+    if entries.len() > 0xffff_ffff {
+        return false;
+    }
+    are_spellable(&pdu.members)
+}

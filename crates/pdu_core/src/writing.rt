@@ -1,0 +1,94 @@
+// Appending a PDU in its written form.
+
+ghost use Rattle.std.specs.Prelude.{◌≡◌, ◌≤◌, ◌<◌, ◌+◌, ◌^◌, ◌↔◌, ◌++◌, drop, length, true, false, IsOk, OnOk, OnErr, Err};
+ghost use Rattle.arrayvec.specs.ArrayVec.{array_vec_len};
+ghost use Rattle.pdu_core.specs.Goose.{goose_fields, goose_items};
+ghost use Rattle.pdu_core.specs.Written.{is_spelled, written_contents, written_fields, written_goose};
+
+use crate::elements::put_element;
+use crate::goose::GoosePdu;
+use crate::putting::{put_flag, put_members, put_number, put_text, put_text_if, put_time};
+use crate::spellable::is_spellable;
+use arrayvec::ArrayVec;
+use ber_core::Full;
+use mms_data::PutFault;
+use std::alloc::Allocator;
+
+// Appends the fields from gocbRef on.
+fn put_fields<A: Allocator, const N: usize>(
+    out: &mut ArrayVec<u8, N>,
+    pdu: &GoosePdu<A>,
+) -> Result<(), Full>
+    requires spelled { is_spelled pdu.now ≡ true }
+    ensures enough { length (written_contents pdu.now) < 2 ^ 32 → array_vec_len out.old + length (written_contents pdu.now) ≤ N → IsOk result }
+    ensures written { OnOk result (out.new.items ≡ out.old.items ++ written_contents pdu.now) }
+{
+    put_text(out, 0x80, pdu.gocb_ref.as_slice())?;
+    put_number(out, 0x81, u64::from(pdu.live))?;
+    put_text(out, 0x82, pdu.dat_set.as_slice())?;
+    put_text_if(out, 0x83, &pdu.go_id)?;
+    put_time(out, 0x84, pdu.t)?;
+    put_numbers(out, pdu)
+}
+
+// Appends the fields from stNum on.
+fn put_numbers<A: Allocator, const N: usize>(
+    out: &mut ArrayVec<u8, N>,
+    pdu: &GoosePdu<A>,
+) -> Result<(), Full>
+    requires spelled { is_spelled pdu.now ≡ true }
+    ensures enough { length (written_fields (drop 5 goose_fields) (drop 5 (goose_items pdu.now))) < 2 ^ 32 → array_vec_len out.old + length (written_fields (drop 5 goose_fields) (drop 5 (goose_items pdu.now))) ≤ N → IsOk result }
+    ensures written { OnOk result (out.new.items ≡ out.old.items ++ written_fields (drop 5 goose_fields) (drop 5 (goose_items pdu.now))) }
+{
+    put_number(out, 0x85, u64::from(pdu.st_num))?;
+    put_number(out, 0x86, u64::from(pdu.sq_num))?;
+    put_flag(out, 0x87, pdu.simulation)?;
+    put_number(out, 0x88, u64::from(pdu.conf_rev))?;
+    put_flag(out, 0x89, pdu.nds_com)?;
+    put_entries(out, pdu)
+}
+
+// Appends the count of entries, and the entries.
+fn put_entries<A: Allocator, const N: usize>(
+    out: &mut ArrayVec<u8, N>,
+    pdu: &GoosePdu<A>,
+) -> Result<(), Full>
+    requires spelled { is_spelled pdu.now ≡ true }
+    ensures enough { length (written_fields (drop 10 goose_fields) (drop 10 (goose_items pdu.now))) < 2 ^ 32 → array_vec_len out.old + length (written_fields (drop 10 goose_fields) (drop 10 (goose_items pdu.now))) ≤ N → IsOk result }
+    ensures written { OnOk result (out.new.items ≡ out.old.items ++ written_fields (drop 10 goose_fields) (drop 10 (goose_items pdu.now))) }
+{
+    let entries = pdu.members.as_slice();
+    put_number(out, 0x8a, entries.len() as u64)?;
+    put_members(out, 0xab, &pdu.members)
+}
+
+/// Appends the written form of the PDU, its spelling with the fewest octets, where it is spellable and fits;
+/// else `out` is unchanged.
+///
+/// # Errors
+///
+/// `NotSpellable` where a text has an octet outside 20 to 7E, the fraction of `t` is not below 2^24, a member
+/// has no spelling, or there are more than 4294967295 members. Otherwise `Full`, where the contents have more
+/// than 4294967295 octets, or the written form does not fit in what is left.
+#[tactic(auto, using(crate::proofs::Sizes::element_size))]
+pub fn put_goose<A: Allocator, const N: usize>(
+    out: &mut ArrayVec<u8, N>,
+    pdu: &GoosePdu<A>,
+) -> Result<(), PutFault>
+    ensures not_spellable { (result ≡ Err PutFault.NotSpellable) ↔ (is_spelled pdu.now ≡ false) }
+    ensures fits { IsOk result ↔ ((is_spelled pdu.now ≡ true) × (length (written_contents pdu.now) < 2 ^ 32) × (array_vec_len out.old + length (written_goose pdu.now) ≤ N)) }
+    ensures written { OnOk result (out.new.items ≡ out.old.items ++ written_goose pdu.now) }
+    ensures unchanged { OnErr result (out.new ≡ out.old) }
+{
+    if !is_spellable(pdu) {
+        return Err(PutFault::NotSpellable);
+    }
+    let mut contents = ArrayVec::<u8, N>::new();
+    if put_fields(&mut contents, pdu).is_err() {
+        return Err(PutFault::Full);
+    }
+    if put_element(out, 0x61, contents.as_slice()).is_err() {
+        return Err(PutFault::Full);
+    }
+    Ok(())
+}
