@@ -12,3 +12,4 @@ pub mod FieldSequence
 pub mod FieldNested
 pub mod Visible
 pub mod ContentsLaws
+pub mod SequenceLaws

@@ -9,3 +9,4 @@ pub mod Contents
 pub mod ContentsReading
 pub mod Fields
 pub mod FieldReading
+pub mod Sequences
