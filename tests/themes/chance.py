@@ -8,6 +8,11 @@ from reference import IDENTIFIER_OF, KINDS_READ
 SEED = 61850
 
 
+def some(chance, count):
+    """So many octets by chance."""
+    return bytes(chance.randrange(256) for _ in range(count))
+
+
 def some_size(chance):
     """How many octets follow a first length octet: mostly the fewest."""
     return chance.choice([None] * 6 + [1, 2, 3, 4])
@@ -22,20 +27,20 @@ def member(chance, depth):
         inside = bytes([chance.choice([0, 1, 255])])
     elif kind == "bits":
         unused, count = chance.randrange(8), chance.randrange(1, 4)
-        inside = bytes([unused]) + chance.randbytes(count)
+        inside = bytes([unused]) + some(chance, count)
     elif kind in ("int", "uint"):
-        inside = chance.choice([b"", b"\0"]) + bytes([chance.randrange(128)]) + chance.randbytes(chance.randrange(8))
+        inside = chance.choice([b"", b"\0"]) + bytes([chance.randrange(128)]) + some(chance, chance.randrange(8))
     elif kind == "visible":
         inside = bytes(chance.randrange(0x20, 0x7F) for _ in range(chance.randrange(9)))
     else:
-        inside = chance.randbytes({"utc": 8, "btime": 6, "float": 5}.get(kind, chance.randrange(20)))
+        inside = some(chance, {"utc": 8, "btime": 6, "float": 5}.get(kind, chance.randrange(20)))
     return element(IDENTIFIER_OF[kind], inside, some_size(chance) if len(inside) < 256 else None)
 
 
 def frame(chance):
     """A frame that is mostly grammatical."""
     text = lambda: bytes(chance.randrange(0x20, 0x7F) for _ in range(chance.randrange(12)))
-    number = lambda: chance.choice([b"", b"\0", b"\0\0\0"]) + bytes([chance.randrange(128)]) + chance.randbytes(chance.randrange(4))
+    number = lambda: chance.choice([b"", b"\0", b"\0\0\0"]) + bytes([chance.randrange(128)]) + some(chance, chance.randrange(4))
     boolean = lambda identifier: chance.choice([b"", element(identifier, chance.choice([b"\0", b"\1", b"\xff"]))])
     inside = [member(chance, 1) for _ in range(chance.randrange(6))]
     made = with_fields(
@@ -43,7 +48,7 @@ def frame(chance):
         gocb_ref=element(0x80, text(), some_size(chance)),
         live=element(0x81, number()),
         go_id=chance.choice([b"", element(0x83, text())]),
-        t=element(0x84, chance.randbytes(8), some_size(chance)),
+        t=element(0x84, some(chance, 8), some_size(chance)),
         st_num=element(0x85, number(), some_size(chance)),
         sq_num=element(0x86, number()),
         simulation=boolean(0x87),
@@ -51,8 +56,8 @@ def frame(chance):
         entries=element(0x8A, bytes([len(inside) if chance.random() < 0.95 else 0])),
         members=element(0xAB, b"".join(inside), None),
     )
-    tag = chance.choice([b"", b"\x81\x00" + chance.randbytes(2)])
-    return framed(made[22:], tag=tag, trailer=chance.randbytes(chance.choice([0, 0, 4, 6])))
+    tag = chance.choice([b"", b"\x81\x00" + some(chance, 2)])
+    return framed(made[22:], tag=tag, trailer=some(chance, chance.choice([0, 0, 4, 6])))
 
 
 def damaged(chance, octets):
