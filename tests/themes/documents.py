@@ -1,0 +1,38 @@
+"""docs/DEFINITIONS.md names the modules of definitions that there are, and words that stand in them."""
+import pathlib
+import re
+
+TOP = pathlib.Path(__file__).resolve().parent.parent.parent
+DOCUMENT = TOP / "docs" / "DEFINITIONS.md"
+DECLARED = r"(?m)^\s*(?:(?:abbrev|unfoldable|opaque)\s+)*pub\s+(?:data\s+|record\s+)?{}(?=[\s:({{])"
+
+
+class Described:
+    """The definitions of one crate are described, and those that are described stand where it is said."""
+
+    def __init__(self, crate, text):
+        self.name, self.text = f"the definitions of {crate}", text
+        self.specs = TOP / "crates" / crate / "specs"
+
+    def why_wrong(self, _program):
+        modules = {file.stem: file.read_text() for file in self.specs.glob("*.antt") if file.stem != "Lib"}
+        described = re.split(r"(?m)^### ", self.text)[1:]
+        headed = {part.split("\n")[0].strip(): part for part in described}
+        named = set(headed) | set(re.findall(r"`(\w+)`", self.text))
+        why = [f"no word on specs/{module}.antt" for module in sorted(set(modules) - named)]
+        why += [f"there is no specs/{module}.antt" for module in sorted(set(headed) - set(modules))]
+        for module in sorted(set(headed) & set(modules)):
+            for row in re.findall(r"(?m)^\| (`.*?) \|", headed[module]):
+                words = re.findall(r"`(\w+)`", row)
+                why += [f"specs/{module}.antt does not define {word}" for word in words
+                        if not re.search(DECLARED.format(re.escape(word)), modules[module])]
+        return why
+
+
+def cases():
+    listed = (TOP / "crates.txt").read_text().splitlines()
+    crates = [line.split(":")[0].split()[0] for line in listed if line.strip() and not line.startswith("#")]
+    parts = {part.split("\n")[0].strip(): part for part in re.split(r"(?m)^## ", DOCUMENT.read_text())[1:]}
+    for crate in crates:
+        if (TOP / "crates" / crate / "specs").is_dir():
+            yield Described(crate, parts.get(crate, ""))
