@@ -2,9 +2,9 @@
 
 It shares nothing with the program: it reads by recursion, keeps whole lists in memory and raises the first fault that
 it finds. The tests compare the program with it, line by line. `tests/reference_program` runs it as a program, so that
-the tests themselves can be tried:
+the tests themselves can be tried (it holds whole lists, which one theme refuses):
 
-    tests/run --program tests/reference_program
+    tests/run --program tests/reference_program --without streaming
 """
 import os
 import sys
