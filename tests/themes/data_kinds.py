@@ -1,7 +1,7 @@
 """Each kind of Data: its text, its written form and its faults. A kind that is not read is an unexpected identifier."""
-from frames import WORKED_LINE, with_members
-from harness import refuse, rewrite, show
-from reference import KINDS_READ
+from frames import WORKED, WORKED_LINE, put, with_members
+from harness import Case, listed, refuse, rewrite, show, text
+from reference import KIND_OF, KINDS_READ
 
 # Octets of the members, the kinds among them in their order, their text, and their written form.
 READ = [
@@ -60,12 +60,30 @@ def first_unread(octets, kinds):
     return None
 
 
+def each_identifier():
+    """A member of one octet FF under each identifier, in one list."""
+    good = {0x83: "true", 0x85: "int:-1", 0x87: "float:ff", 0x89: "oct:ff", 0x90: "mms:ff"}
+    bad = {0xA1: (66, "HighTag"), 0xA2: (66, "HighTag"), 0x84: (66, "BitUnused"), 0x86: (66, "IntegerRange"),
+           0x8A: (66, "NotVisible"), 0x8C: (65, "FixedLength"), 0x91: (65, "FixedLength")}
+    for identifier in range(256):
+        if identifier % 32 == 31:
+            yield "fault 64 HighTag"
+        elif KIND_OF.get(identifier) not in KINDS_READ:
+            yield "fault 64 UnexpectedTag"
+        elif identifier in good:
+            yield WORKED_LINE.replace("{true}", "{" + good[identifier] + "}")
+        else:
+            yield "fault {} {}".format(*bad[identifier])
+
+
 def cases():
-    for spelled, kinds, text, written in READ:
+    yield Case("each identifier of a member", ["show"], listed(*[put(WORKED, at64=it) for it in range(256)]),
+               text(f"{number} {line}" for number, line in enumerate(each_identifier(), 1)))
+    for spelled, kinds, shown, written in READ:
         octets = bytes.fromhex(spelled)
         unread = first_unread(octets, kinds.split())
         if unread is None:
-            yield show(f"{spelled} is {text}", with_members(octets), WORKED_LINE.replace("{true}", "{" + text + "}"))
+            yield show(f"{spelled} is {shown}", with_members(octets), WORKED_LINE.replace("{true}", "{" + shown + "}"))
             yield rewrite(f"{spelled} is written {written}", with_members(octets), with_members(bytes.fromhex(written)))
         else:
             yield refuse(f"{spelled} is not read", with_members(octets), 64 + unread, "UnexpectedTag")

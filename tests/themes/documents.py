@@ -1,4 +1,4 @@
-"""docs/DEFINITIONS.md names the modules of definitions that there are, and words that stand in them."""
+"""The documents name what there is: modules and words of definitions, files and headings that are linked to."""
 import pathlib
 import re
 
@@ -29,7 +29,35 @@ class Described:
         return why
 
 
+class Linked:
+    """Each relative link of a document leads to a file, and to a heading in it."""
+
+    def __init__(self, document):
+        self.document, self.name = document, f"the links of {document.relative_to(TOP)}"
+
+    def why_wrong(self, _program):
+        links = re.findall(r"\]\(([^)#:]*)(?:#([^)]*))?\)", self.document.read_text())
+        why = []
+        for path, anchor in links:
+            file = (self.document.parent / path).resolve() if path else self.document
+            if not file.exists():
+                why += [f"there is no {path}"]
+            elif anchor and anchor not in anchors(file):
+                why += [f"{path} has no heading #{anchor}"]
+        return why
+
+
+def anchors(file):
+    """The headings of a document, as links name them."""
+    headings = re.findall(r"(?m)^#+ (.*)$", file.read_text())
+    return {re.sub(r"[^\w\- ]", "", heading.lower()).replace(" ", "-") for heading in headings}
+
+
 def cases():
+    folders = [TOP, TOP / "docs", TOP / "examples", TOP / "tests", *(TOP / "crates").glob("*")]
+    for folder in folders:
+        for document in sorted(folder.glob("*.md")):
+            yield Linked(document)
     listed = (TOP / "crates.txt").read_text().splitlines()
     crates = [line.split(":")[0].split()[0] for line in listed if line.strip() and not line.startswith("#")]
     parts = {part.split("\n")[0].strip(): part for part in re.split(r"(?m)^## ", DOCUMENT.read_text())[1:]}
