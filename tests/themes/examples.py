@@ -24,7 +24,7 @@ class Shown:
 
 
 def shown_in(document):
-    """The commands of a document's console blocks that call the program."""
+    """The commands of a document's console blocks."""
     command, output, is_console = None, [], False
     for number, line in enumerate((TOP / document).read_text().splitlines(), 1):
         starts = is_console and line.startswith("$ ")
@@ -34,7 +34,7 @@ def shown_in(document):
         if line.startswith("```"):
             is_console = line == "```console"
         elif starts:
-            command, output = ((number, line[2:]) if "./goose" in line else None), []
+            command, output = (number, line[2:]), []
         elif is_console:
             output.append(line + "\n")
 
