@@ -10,8 +10,10 @@ import os
 import sys
 
 # What the program reads today. A kind of Data that is not named here is refused by its identifier (UnexpectedTag), and
-# an EtherType that is not named here as EtherType. To widen the tests with the program, add to these two lines.
-KINDS_READ = {"boolean", "array", "structure"}
+# an EtherType that is not named here as EtherType. To widen the tests with the program, add to these two.
+KINDS_READ = {
+    "array", "structure", "boolean", "bits", "int", "uint", "float", "oct", "visible", "btime", "mms", "utc",
+}
 ETHER_TYPES_READ = {0x88B8: "goose"}
 
 # ISO 9506-2, Data: the identifier of each kind.
