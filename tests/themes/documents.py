@@ -3,7 +3,8 @@ import pathlib
 import re
 
 TOP = pathlib.Path(__file__).resolve().parent.parent.parent
-DOCUMENT = TOP / "docs" / "DEFINITIONS.md"
+DEFINITIONS = TOP / "docs" / "DEFINITIONS.md"
+PROOFS = TOP / "docs" / "PROOFS.md"
 DECLARED = r"(?m)^\s*(?:(?:abbrev|unfoldable|opaque)\s+)*pub\s+(?:data\s+|record\s+)?{}(?=[\s:({{])"
 
 
@@ -27,6 +28,37 @@ class Described:
                 why += [f"specs/{module}.antt does not define {word}" for word in words
                         if not re.search(DECLARED.format(re.escape(word)), modules[module])]
         return why
+
+
+class Claimed:
+    """The calls of one crate that docs/PROOFS.md names are there, with the clauses that it names."""
+
+    def __init__(self, crate, text):
+        self.name, self.text = f"the clauses of {crate}", text
+        self.source = TOP / "crates" / crate / "src"
+
+    def why_wrong(self, _program):
+        clauses = {}
+        for file in sorted(self.source.rglob("*.rt")):
+            for name, contract in contracts(file.read_text()):
+                clauses.setdefault(name, set()).update(re.findall(r"ensures\*? (\w+) \{", contract))
+        why = []
+        for calls, claims in re.findall(r"(?m)^\| (`.*?) \| (.*?) \|", self.text):
+            for call in re.findall(r"`([\w:]+)`", calls):
+                name = call.split("::")[-1]
+                if name not in clauses and name not in ("laws", "FromRead", "ToWrite"):
+                    why += [f"there is no {name}"]
+                    continue
+                missing = [it for it in re.findall(r"`(\w+)`", claims) if it not in clauses.get(name, ()) and it.islower()]
+                why += [f"{name} has no clause {it}" for it in missing]
+        return why
+
+
+def contracts(source):
+    """Each function with the text up to its body."""
+    for found in re.finditer(r"(?m)^( *)(?:pub )?fn (\w+)", source):
+        end = re.compile(rf"(?m)^{found[1]}\{{|\{{\}}$").search(source, found.end())
+        yield found[2], source[found.start():end.start() if end else len(source)]
 
 
 class Linked:
@@ -53,6 +85,11 @@ def anchors(file):
     return {re.sub(r"[^\w\- ]", "", heading.lower()).replace(" ", "-") for heading in headings}
 
 
+def parts(document):
+    """The parts of a document under headings of the second level."""
+    return {part.split("\n")[0].strip(): part for part in re.split(r"(?m)^## ", document.read_text())[1:]}
+
+
 def cases():
     folders = [TOP, TOP / "docs", TOP / "examples", TOP / "tests", *(TOP / "crates").glob("*")]
     for folder in folders:
@@ -60,7 +97,8 @@ def cases():
             yield Linked(document)
     listed = (TOP / "crates.txt").read_text().splitlines()
     crates = [line.split(":")[0].split()[0] for line in listed if line.strip() and not line.startswith("#")]
-    parts = {part.split("\n")[0].strip(): part for part in re.split(r"(?m)^## ", DOCUMENT.read_text())[1:]}
+    defined, proved = parts(DEFINITIONS), parts(PROOFS)
     for crate in crates:
         if (TOP / "crates" / crate / "specs").is_dir():
-            yield Described(crate, parts.get(crate, ""))
+            yield Described(crate, defined.get(crate, ""))
+            yield Claimed(crate, proved.get(crate, ""))
