@@ -16,6 +16,17 @@ def each_cause():
     yield end_list("a line more than a million", b"\n" * 1000001, [], "1000001 list ListTooLong")
 
 
+BAD_LINES = {"LineTooLong": b"#" * 4097, "LineForm": b"F 0", "Moment": b"C -1", "Hex": b"F 0 0"}
+
+
+def earlier_and_later():
+    """Two bad lines in a row: the earlier one ends the list, whatever their causes."""
+    for earlier, first in BAD_LINES.items():
+        for later, second in BAD_LINES.items():
+            octets = b"C 1\n" + first + b"\n" + second + b"\n"
+            yield end_list(f"{earlier}, then {later}", octets, ["1 clock 1"], f"2 list {earlier}")
+
+
 def first_of_two():
     yield end_list("shape before moment", b"C x x\n", [], "1 list LineForm")
     yield end_list("moment before digits", b"F 0x 0\n", [], "1 list Moment")
@@ -64,4 +75,4 @@ def rewriting():
 
 
 def cases():
-    return [*each_cause(), *first_of_two(), *shapes(), *no_faults(), *rewriting()]
+    return [*each_cause(), *earlier_and_later(), *first_of_two(), *shapes(), *no_faults(), *rewriting()]
