@@ -33,10 +33,11 @@ def text(lines):
 def run(program, words, given=b"", **how):
     """What the program writes, its messages and its status."""
     how.setdefault("stdout", subprocess.PIPE)
+    how.setdefault("stderr", subprocess.PIPE)
     if "stdin" not in how:
         how["input"] = given
-    done = subprocess.run([*program, *words], stderr=subprocess.PIPE, timeout=SECONDS, **how)
-    return done.stdout, done.stderr, done.returncode
+    done = subprocess.run([*program, *words], timeout=SECONDS, **how)
+    return done.stdout, done.stderr or b"", done.returncode
 
 
 class Case:

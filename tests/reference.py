@@ -490,21 +490,27 @@ def read_input(descriptor):
 
 def main(words):
     if words and words[-1] in ("--help", "--version"):
-        print("goose show < LIST")
-        return 0
-    if len(words) != 1 or words[0] not in COMMANDS:
-        print("goose show < LIST", file=sys.stderr)
+        lines, status = ["goose show < LIST"], 0
+    elif len(words) != 1 or words[0] not in COMMANDS:
+        put(2, ["goose show < LIST"])
         return 2
-    lines, status = COMMANDS[words[0]](*read_input(LIST_DESCRIPTOR))
+    else:
+        lines, status = COMMANDS[words[0]](*read_input(LIST_DESCRIPTOR))
+    status = status if put(1, lines) else 4
+    if status == 4:
+        put(2, ["read or write fault"])
+    return status
+
+
+def put(descriptor, lines):
+    """Writes lines, and answers whether they could be written."""
     rest = memoryview("".join(line + "\n" for line in lines).encode("ascii"))
     try:
         while rest:
-            rest = rest[os.write(1, rest):]
+            rest = rest[os.write(descriptor, rest):]
     except OSError:
-        status = 4
-    if status == 4:
-        print("read or write fault", file=sys.stderr)
-    return status
+        return False
+    return True
 
 
 if __name__ == "__main__":

@@ -89,9 +89,18 @@ class Unread(Case):
             return run(program, self.words, self.stdin, stdout=stdout, restore_signals=False)
 
 
+class Unheard(Case):
+    """The first read fails, and standard error is a disk that is full."""
+
+    def run(self, program):
+        with descriptor("/") as stdin, descriptor("/dev/full", os.O_WRONLY) as stderr:
+            return run(program, self.words, stdin=stdin, stderr=stderr)
+
+
 def reading():
     yield Directory("a directory is shown as a read fault", ["show"], b"", b"1 list ReadFailed\n", 4, FAULT)
     yield Directory("a directory is rewritten as a read fault", ["rewrite"], b"", b"# 1 list ReadFailed\n", 4, FAULT)
+    yield Unheard("a message that cannot be written changes no status", ["show"], b"", b"1 list ReadFailed\n", 4)
     first = text([f"1 {WORKED_LINE}"])
     failing = listed(WORKED)
     yield FailsAfter("whole lines are shown before a read fault", ["show"], failing, first + b"2 list ReadFailed\n", 4, FAULT)
@@ -111,6 +120,7 @@ def writing():
         yield Full(f"{command} of a list fault on a full disk", [command], b"X\n", None, 4, FAULT)
         yield Full(f"{command} of nothing on a full disk", [command], b"", None, 0)
         yield Unread(f"{command} to nobody", [command], listed(WORKED), None, 4, FAULT)
+    yield Full("help on a full disk", ["--help"], b"", None, 4, FAULT)
 
 
 def cases():

@@ -25,5 +25,5 @@ class Refuses(Case):
 def cases():
     for words in (["--help"], ["show", "--help"], ["rewrite", "--help"], ["--version"]):
         yield Helps(" ".join(words), words, None)
-    for words in ([], ["nothing"], ["Show"], ["show", "more"], ["--nothing"], ["show", "--nothing"], [""]):
+    for words in ([], ["nothing"], ["Show"], ["show", "more"], ["--nothing"], ["show", "--nothing"], [""], [b"sh\xffow"]):
         yield Refuses(f"refuses {words}", words, b"X\n")
