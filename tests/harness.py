@@ -1,0 +1,136 @@
+"""One run of the program, held against what it must write and how it must end."""
+import contextlib
+import os
+import subprocess
+
+import reference
+
+SECONDS = 120
+
+
+def clipped(octets, most=400):
+    """Octets as a text for a report."""
+    text = octets.decode("latin-1")
+    return text if len(text) <= most else f"{text[:most]} .. ({len(text)} octets)"
+
+
+def first_difference(wanted, got):
+    """Where two texts differ first, or None."""
+    if wanted == got:
+        return None
+    wanted, got = wanted.split(b"\n"), got.split(b"\n")
+    pairs = zip(wanted, got)
+    at = next((i for i, (a, b) in enumerate(pairs) if a != b), min(len(wanted), len(got)))
+    of = lambda lines: clipped(lines[at]) if at < len(lines) else "(no such line)"
+    return f"output differs in line {at + 1}\n  wanted: {of(wanted)}\n  got:    {of(got)}"
+
+
+def text(lines):
+    """Lines, each ended by LF, as octets."""
+    return "".join(f"{line}\n" for line in lines).encode("latin-1")
+
+
+def run(program, words, given=b"", **how):
+    """What the program writes, its messages and its status."""
+    how.setdefault("stdout", subprocess.PIPE)
+    how.setdefault("stderr", subprocess.PIPE)
+    if "stdin" not in how:
+        how["input"] = given
+    done = subprocess.run([*program, *words], timeout=SECONDS, **how)
+    return done.stdout, done.stderr or b"", done.returncode
+
+
+class Case:
+    """A command line, its input, and what must come of it. A stdout of None is not compared."""
+
+    def __init__(self, name, words, stdin=b"", stdout=b"", status=0, stderr=()):
+        self.name, self.words, self.stdin = name, words, stdin
+        self.stdout, self.status, self.stderr = stdout, status, stderr
+
+    def run(self, program):
+        return run(program, self.words, self.stdin)
+
+    def why_wrong(self, program):
+        """What is wrong with a run, in words; nothing where all is well."""
+        wrote, complained, status = self.run(program)
+        why = []
+        if self.stdout is not None:
+            difference = first_difference(self.stdout, wrote)
+            why += [difference] if difference else []
+        if status != self.status:
+            why += [f"ended with status {status}, and not {self.status}"]
+        for part in self.stderr:
+            if part not in complained:
+                why += [f"standard error lacks {clipped(part)!r}: {clipped(complained)!r}"]
+        return why
+
+
+class Agreement:
+    """A list of which the program writes what the slow reader writes, and which it does not change twice."""
+
+    def __init__(self, name, octets):
+        self.name, self.octets = name, octets
+
+    def why_wrong(self, program):
+        why, written = [], None
+        for command in ("show", "rewrite"):
+            lines, wanted_status = reference.COMMANDS[command](self.octets)
+            wrote, _, status = run(program, [command], self.octets)
+            difference = first_difference(text(lines), wrote)
+            why += [f"{command}: {difference}"] if difference else []
+            if status != wanted_status:
+                why += [f"{command} ended with status {status}, and not {wanted_status}"]
+            written = wrote
+        again, _, _ = run(program, ["rewrite"], written)
+        if again != written and not written.split(b"\n")[-2:][0].startswith(b"# "):
+            why += ["rewriting what was rewritten changes it"]
+        return why
+
+
+def listed(*frames, moment=0):
+    """A list that records these frames."""
+    return text(f"F {moment} {bytes(frame).hex()}" for frame in frames)
+
+
+def show(name, frame, line):
+    """One frame, and the line that shows it, without its number."""
+    return Case(name, ["show"], listed(frame), text([f"1 {line}"]))
+
+
+def refuse(name, frame, place, cause):
+    """One frame, and its first fault."""
+    return show(name, frame, f"fault {place} {cause}")
+
+
+def rewrite(name, frame, written):
+    """One frame, and its written form."""
+    return Case(name, ["rewrite"], listed(frame), listed(written))
+
+
+def keep(name, frame):
+    """One frame whose own octets rewriting keeps, because it is faulty or its written form is too long."""
+    return Case(name, ["rewrite"], listed(frame), listed(frame), status=1)
+
+
+def end_list(name, octets, before, fault):
+    """A list that ends by a fault, with the shown lines before it."""
+    return Case(name, ["show"], octets, text([*before, fault]), status=3)
+
+
+def folder(path):
+    """A case that is kept as a folder of files args, stdin, stdout, stderr and status."""
+    octets = lambda name: (path / name).read_bytes() if (path / name).is_file() else b""
+    words = octets("args").decode().splitlines()
+    parts = [line for line in octets("stderr").splitlines() if line]
+    status = int(octets("status") or b"0")
+    return Case(path.name, words, octets("stdin"), octets("stdout"), status, parts)
+
+
+@contextlib.contextmanager
+def descriptor(path, flags=os.O_RDONLY):
+    """An open file or folder, by its number, which is closed behind its block."""
+    number = os.open(path, flags)
+    try:
+        yield number
+    finally:
+        os.close(number)

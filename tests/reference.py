@@ -1,0 +1,517 @@
+"""A slow reader of recorded GOOSE frames, written from the formats' definitions alone.
+
+It shares nothing with the program: it reads by recursion, keeps whole lists in memory and raises the first fault that
+it finds. The tests compare the program with it, line by line. `tests/reference_program` runs it as a program, so that
+the tests themselves can be tried (it holds whole lists, which one theme refuses):
+
+    tests/run --program tests/reference_program --without streaming
+"""
+import os
+import sys
+
+# What the program reads today. A kind of Data that is not named here is refused by its identifier (UnexpectedTag), and
+# an EtherType that is not named here as EtherType. To widen the tests with the program, add to these two.
+KINDS_READ = {
+    "array", "structure", "boolean", "bits", "int", "uint", "float", "oct", "visible", "btime", "mms", "utc",
+}
+ETHER_TYPES_READ = {0x88B8: "goose"}
+
+# ISO 9506-2, Data: the identifier of each kind.
+KIND_OF = {
+    0xA1: "array", 0xA2: "structure", 0x83: "boolean", 0x84: "bits", 0x85: "int", 0x86: "uint",
+    0x87: "float", 0x89: "oct", 0x8A: "visible", 0x8C: "btime", 0x90: "mms", 0x91: "utc",
+}
+IDENTIFIER_OF = {kind: identifier for identifier, kind in KIND_OF.items()}
+
+# IEC 61850-8-1, IECGoosePdu: identifier, name, contents, and whether the field is there in every APDU.
+GOOSE_IDENTIFIER = 0x61
+GOOSE_FIELDS = [
+    (0x80, "gocb_ref", "text", True),
+    (0x81, "live", "number", True),
+    (0x82, "dat_set", "text", True),
+    (0x83, "go_id", "text", False),
+    (0x84, "t", "time", True),
+    (0x85, "st_num", "number", True),
+    (0x86, "sq_num", "number", True),
+    (0x87, "simulation", "boolean", False),
+    (0x88, "conf_rev", "number", True),
+    (0x89, "nds_com", "boolean", False),
+    (0x8A, "entries", "number", True),
+    (0xAB, "members", "members", True),
+]
+
+MOST_FRAME, LEAST_LENGTH, MOST_LENGTH = 1600, 8, 1500
+MOST_LINE, MOST_LINES, MOST_LISTED = 4096, 1000000, 2000
+GREATEST_NUMBER = 2**32 - 1
+LEVELS = 16
+
+
+class Fault(Exception):
+    """The first fault of a frame: the place that it stands at and its cause."""
+
+    def __init__(self, place, cause):
+        super().__init__(place, cause)
+        self.place, self.cause = place, cause
+
+
+# ---- BER (ISO/IEC 8825-1) ---------------------------------------------------
+
+
+def is_high(identifier):
+    """Whether the low five bits announce a longer identifier (8.1.2.4)."""
+    return identifier & 0x1F == 0x1F
+
+
+def contents(octets, place, end):
+    """Where the contents of the element at `place` begin and end (8.1.3)."""
+    if place + 1 >= end:
+        raise Fault(end, "Ends")
+    first = octets[place + 1]
+    if first == 0x80:
+        raise Fault(place + 1, "Indefinite")
+    if first > 0x84:
+        raise Fault(place + 1, "LengthForm")
+    following = first - 0x80 if first > 0x80 else 0
+    start = place + 2 + following
+    if start > end:
+        raise Fault(end, "Ends")
+    size = int.from_bytes(octets[place + 2:start], "big") if following else first
+    if size > end - start:
+        raise Fault(place + 1, "LengthPastEnd")
+    return start, start + size
+
+
+def whole_number(octets, place, start, end, least, most):
+    """An INTEGER of 1 to 9 octets (8.3) from `least` to `most`."""
+    if not 1 <= end - start <= 9:
+        raise Fault(place + 1, "IntegerLength")
+    number = int.from_bytes(octets[start:end], "big", signed=True)
+    if not least <= number <= most:
+        raise Fault(start, "IntegerRange")
+    return number
+
+
+def boolean(octets, place, start, end):
+    """A BOOLEAN (8.2)."""
+    if end - start != 1:
+        raise Fault(place + 1, "BooleanLength")
+    return octets[start] != 0
+
+
+def bits(octets, start, end):
+    """A BIT STRING (8.6) as its count of unused bits and its octets, the unused bits cleared."""
+    if start == end or octets[start] > 7 or octets[start] > 0 and end - start == 1:
+        raise Fault(start, "BitUnused")
+    unused, held = octets[start], bytearray(octets[start + 1:end])
+    if held:
+        held[-1] &= 0xFF << unused & 0xFF
+    return unused, bytes(held)
+
+
+def visible(octets, start, end):
+    """A VisibleString: octets 20 to 7E."""
+    for place in range(start, end):
+        if not 0x20 <= octets[place] <= 0x7E:
+            raise Fault(place, "NotVisible")
+    return octets[start:end]
+
+
+def counted(octets, place, start, end, counts):
+    """Raw contents of one of these counts of octets."""
+    if end - start not in counts:
+        raise Fault(place + 1, "FixedLength")
+    return octets[start:end]
+
+
+# ---- Data (ISO 9506-2) ------------------------------------------------------
+
+
+def members(octets, place, end, level):
+    """The members between two places, as pairs of kind and contents."""
+    found = []
+    while place < end:
+        if level > LEVELS:
+            raise Fault(place, "TooDeep")
+        if is_high(octets[place]):
+            raise Fault(place, "HighTag")
+        kind = KIND_OF.get(octets[place])
+        if kind not in KINDS_READ:
+            raise Fault(place, "UnexpectedTag")
+        start, after = contents(octets, place, end)
+        found.append((kind, value(octets, kind, place, start, after, level)))
+        place = after
+    return found
+
+
+def value(octets, kind, place, start, end, level):
+    """The contents of one member."""
+    if kind in ("array", "structure"):
+        return members(octets, start, end, level + 1)
+    if kind == "boolean":
+        return boolean(octets, place, start, end)
+    if kind == "bits":
+        return bits(octets, start, end)
+    if kind == "int":
+        return whole_number(octets, place, start, end, -(2**63), 2**63 - 1)
+    if kind == "uint":
+        return whole_number(octets, place, start, end, 0, 2**64 - 1)
+    if kind == "visible":
+        return visible(octets, start, end)
+    counts = {"float": range(1, 17), "btime": (4, 6), "utc": (8,)}.get(kind)
+    return counted(octets, place, start, end, counts) if counts else octets[start:end]
+
+
+# ---- IECGoosePdu (IEC 61850-8-1) --------------------------------------------
+
+
+def field(octets, contents_of, place, start, end):
+    """The contents of one field of the APDU."""
+    if contents_of == "text":
+        return visible(octets, start, end)
+    if contents_of == "number":
+        return whole_number(octets, place, start, end, 0, GREATEST_NUMBER)
+    if contents_of == "time":
+        return counted(octets, place, start, end, (8,))
+    if contents_of == "boolean":
+        return boolean(octets, place, start, end)
+    return members(octets, start, end, 1)
+
+
+def goose(octets, place, end):
+    """The APDU that fills the region from `place` to `end`, as its fields by name."""
+    if place == end:
+        raise Fault(end, "ElementMissing")
+    if is_high(octets[place]):
+        raise Fault(place, "HighTag")
+    if octets[place] != GOOSE_IDENTIFIER:
+        raise Fault(place, "UnexpectedTag")
+    start, after = contents(octets, place, end)
+    pdu, counted_at = goose_fields(octets, start, after)
+    if after < end:
+        raise Fault(after, "ExtraOctets")
+    if pdu["entries"] != len(pdu["members"]):
+        raise Fault(counted_at, "EntryCount")
+    return pdu
+
+
+def goose_fields(octets, place, end):
+    """The fields in their order, and the place of numDatSetEntries."""
+    pdu = {"go_id": None, "simulation": False, "nds_com": False}
+    counted_at = None
+    for identifier, name, contents_of, is_always in GOOSE_FIELDS:
+        if is_always and place == end:
+            raise Fault(end, "ElementMissing")
+        if place < end and octets[place] == identifier:
+            start, after = contents(octets, place, end)
+            pdu[name] = field(octets, contents_of, place, start, after)
+            counted_at = place if name == "entries" else counted_at
+            place = after
+        elif is_always:
+            raise Fault(place, "HighTag" if is_high(octets[place]) else "UnexpectedTag")
+    if place < end:
+        raise Fault(place, "ExtraOctets")
+    return pdu, counted_at
+
+
+# ---- Frames (IEC 61850-8-1 and IEEE 802.1Q) ---------------------------------
+
+
+def number_at(octets, place):
+    """Two octets, big-endian."""
+    return octets[place] << 8 | octets[place + 1]
+
+
+def frame(octets):
+    """A frame as its fields by name."""
+    size = len(octets)
+
+    def needed(count):
+        if size < count:
+            raise Fault(size, "Truncated")
+
+    if size > MOST_FRAME:
+        raise Fault(MOST_FRAME, "FrameTooLong")
+    needed(14)
+    tag, type_at = None, 12
+    if number_at(octets, 12) == 0x8100:
+        needed(18)
+        tag, type_at = number_at(octets, 14), 16
+    if number_at(octets, type_at) not in ETHER_TYPES_READ:
+        raise Fault(type_at, "EtherType")
+    from_app_id = type_at + 2
+    needed(from_app_id + 8)
+    length = number_at(octets, from_app_id + 2)
+    if not LEAST_LENGTH <= length <= MOST_LENGTH:
+        raise Fault(from_app_id + 2, "LengthField")
+    needed(from_app_id + length)
+    return {
+        "destination": octets[:6],
+        "source": octets[6:12],
+        "tag": tag,
+        "ether_type": number_at(octets, type_at),
+        "app_id": number_at(octets, from_app_id),
+        "reserved1": number_at(octets, from_app_id + 4),
+        "reserved2": number_at(octets, from_app_id + 6),
+        "apdu": goose(octets, from_app_id + 8, from_app_id + length),
+        "trailer": octets[from_app_id + length:],
+    }
+
+
+# ---- The one written form ---------------------------------------------------
+
+
+def element(identifier, inside):
+    """An element with its length in the fewest octets."""
+    size = len(inside)
+    if size < 0x80:
+        return bytes([identifier, size]) + inside
+    count = (size.bit_length() + 7) // 8
+    return bytes([identifier, 0x80 + count]) + size.to_bytes(count, "big") + inside
+
+
+def short_number(number):
+    """Two's complement in the fewest octets."""
+    count = 1
+    while not -(1 << 8 * count - 1) <= number < 1 << 8 * count - 1:
+        count += 1
+    return number.to_bytes(count, "big", signed=True)
+
+
+def written_value(kind, held):
+    """The written form of one member."""
+    if kind in ("array", "structure"):
+        inside = b"".join(written_value(*it) for it in held)
+    elif kind == "boolean":
+        inside = b"\xff" if held else b"\x00"
+    elif kind == "bits":
+        inside = bytes([held[0]]) + held[1]
+    elif kind in ("int", "uint"):
+        inside = short_number(held)
+    else:
+        inside = held
+    return element(IDENTIFIER_OF[kind], inside)
+
+
+def written_goose(pdu):
+    """The written form of an APDU: simulation and ndsCom are always there."""
+    inside = b""
+    for identifier, name, contents_of, _ in GOOSE_FIELDS:
+        held = pdu[name]
+        if held is None:
+            continue
+        if contents_of == "number":
+            held = short_number(held)
+        elif contents_of == "boolean":
+            held = b"\xff" if held else b"\x00"
+        elif contents_of == "members":
+            held = b"".join(written_value(*it) for it in held)
+        inside += element(identifier, held)
+    return element(GOOSE_IDENTIFIER, inside)
+
+
+def written_frame(it):
+    """The written form of a frame, or None where it is too long."""
+    apdu = written_goose(it["apdu"])
+    length = 8 + len(apdu)
+    tag = b"" if it["tag"] is None else b"\x81\x00" + it["tag"].to_bytes(2, "big")
+    numbers = (it["app_id"], length, it["reserved1"], it["reserved2"])
+    if length > MOST_LENGTH:
+        return None
+    octets = it["destination"] + it["source"] + tag + it["ether_type"].to_bytes(2, "big")
+    octets += b"".join(number.to_bytes(2, "big") for number in numbers) + apdu + it["trailer"]
+    return octets if len(octets) <= MOST_FRAME else None
+
+
+# ---- Texts ------------------------------------------------------------------
+
+
+def quoted(octets):
+    """A visible text between double quotes."""
+    return '"' + octets.decode("ascii").replace("\\", "\\\\").replace('"', '\\"') + '"'
+
+
+def value_text(kind, held):
+    """The text of one member."""
+    if kind in ("array", "structure"):
+        inside = " ".join(value_text(*it) for it in held)
+        return "[" + inside + "]" if kind == "array" else "(" + inside + ")"
+    if kind == "boolean":
+        return "true" if held else "false"
+    if kind == "bits":
+        text = "".join(f"{octet:08b}" for octet in held[1])
+        return "bits:" + text[:len(text) - held[0]]
+    if kind in ("int", "uint"):
+        return f"{kind}:{held}"
+    return quoted(held) if kind == "visible" else f"{kind}:{held.hex()}"
+
+
+def frame_text(it):
+    """The line that shows a frame, without its number."""
+    pdu = it["apdu"]
+    truth = {False: "false", True: "true"}
+    return " ".join([
+        "goose",
+        it["destination"].hex(),
+        it["source"].hex(),
+        "tag=" + ("-" if it["tag"] is None else f"{it['tag']:04x}"),
+        f"appid={it['app_id']:04x}",
+        f"r1={it['reserved1']:04x}",
+        f"r2={it['reserved2']:04x}",
+        "ref=" + quoted(pdu["gocb_ref"]),
+        f"live={pdu['live']}",
+        "set=" + quoted(pdu["dat_set"]),
+        "id=" + ("-" if pdu["go_id"] is None else quoted(pdu["go_id"])),
+        "t=" + pdu["t"].hex(),
+        f"st={pdu['st_num']}",
+        f"sq={pdu['sq_num']}",
+        "sim=" + truth[pdu["simulation"]],
+        f"rev={pdu['conf_rev']}",
+        "com=" + truth[pdu["nds_com"]],
+        "{" + " ".join(value_text(*member) for member in pdu["members"]) + "}",
+        "trailer=" + (it["trailer"].hex() or "-"),
+    ])
+
+
+# ---- Recorded lists ---------------------------------------------------------
+
+
+class ListFault(Exception):
+    """The fault that ends a list: the number of its line and its cause."""
+
+    def __init__(self, line, cause):
+        super().__init__(line, cause)
+        self.line, self.cause = line, cause
+
+
+def line_event(line):
+    """The event of a line without its ending: None, a moment alone, or a moment and a frame's octets."""
+    if not line or line[:1] == b"#":
+        return None
+    fields = line.split(b" ")
+    is_shape = b"" not in fields and (fields[0], len(fields)) in ((b"F", 3), (b"C", 2))
+    if not is_shape:
+        raise ValueError("LineForm")
+    if len(fields[1]) > 15 or not all(digit in b"0123456789" for digit in fields[1]):
+        raise ValueError("Moment")
+    if fields[0] == b"C":
+        return int(fields[1]), None
+    digits = fields[2]
+    if not 2 <= len(digits) <= 2 * MOST_LISTED or len(digits) % 2:
+        raise ValueError("Hex")
+    if not all(digit in b"0123456789abcdefABCDEF" for digit in digits):
+        raise ValueError("Hex")
+    return int(fields[1]), bytes.fromhex(digits.decode("ascii"))
+
+
+def events(octets, has_failed):
+    """The events of a list with their line numbers; a ListFault ends them where the list has one."""
+    *ended, rest = octets.split(b"\n")
+    for number, line in enumerate([*ended, rest], 1):
+        is_last = number == len(ended) + 1
+        if number > MOST_LINES and (line or not is_last):
+            raise ListFault(number, "ListTooLong")
+        if len(line) > MOST_LINE:
+            raise ListFault(number, "LineTooLong")
+        if is_last and has_failed:
+            raise ListFault(number, "ReadFailed")
+        try:
+            event = line_event(line[:-1] if line[-1:] == b"\r" else line)
+        except ValueError as why:
+            raise ListFault(number, str(why)) from None
+        if event is not None:
+            yield number, event
+
+
+# ---- What the program writes ------------------------------------------------
+
+
+def show(octets, has_failed=False):
+    """The text of `show` and the exit status."""
+    lines = []
+    try:
+        for number, (moment, listed) in events(octets, has_failed):
+            if listed is None:
+                lines.append(f"{number} clock {moment}")
+                continue
+            try:
+                lines.append(f"{number} {frame_text(frame(listed))}")
+            except Fault as fault:
+                lines.append(f"{number} fault {fault.place} {fault.cause}")
+    except ListFault as fault:
+        lines.append(f"{fault.line} list {fault.cause}")
+        return lines, 4 if fault.cause == "ReadFailed" else 3
+    return lines, 0
+
+
+def rewrite(octets, has_failed=False):
+    """The text of `rewrite` and the exit status."""
+    lines, keeps = [], False
+    try:
+        for _, (moment, listed) in events(octets, has_failed):
+            if listed is None:
+                lines.append(f"C {moment}")
+                continue
+            try:
+                written = written_frame(frame(listed))
+            except Fault:
+                written = None
+            keeps = keeps or written is None
+            lines.append(f"F {moment} {(listed if written is None else written).hex()}")
+    except ListFault as fault:
+        lines.append(f"# {fault.line} list {fault.cause}")
+        return lines, 4 if fault.cause == "ReadFailed" else 3
+    return lines, 1 if keeps else 0
+
+
+COMMANDS = {"show": show, "rewrite": rewrite}
+
+
+# ---- As a program -----------------------------------------------------------
+
+# Python itself does not start with a directory as standard input, so that `tests/reference_program` hands it on as 3.
+LIST_DESCRIPTOR = 3
+
+
+def read_input(descriptor):
+    """What is read there, up to the place where every list has ended, and whether reading failed."""
+    octets, lines, unfinished = bytearray(), 0, 0
+    try:
+        while lines <= MOST_LINES and unfinished <= MOST_LINE:
+            some = os.read(descriptor, 65536)
+            if not some:
+                return bytes(octets), False
+            octets += some
+            lines += some.count(b"\n")
+            unfinished = len(octets) - (octets.rfind(b"\n") + 1)
+        return bytes(octets), False
+    except OSError:
+        return bytes(octets), True
+
+
+def main(words):
+    if words and words[-1] in ("--help", "--version"):
+        lines, status = ["goose show < LIST"], 0
+    elif len(words) != 1 or words[0] not in COMMANDS:
+        put(2, ["goose show < LIST"])
+        return 2
+    else:
+        lines, status = COMMANDS[words[0]](*read_input(LIST_DESCRIPTOR))
+    status = status if put(1, lines) else 4
+    if status == 4:
+        put(2, ["read or write fault"])
+    return status
+
+
+def put(descriptor, lines):
+    """Writes lines, and answers whether they could be written."""
+    rest = memoryview("".join(line + "\n" for line in lines).encode("ascii"))
+    try:
+        while rest:
+            rest = rest[os.write(descriptor, rest):]
+    except OSError:
+        return False
+    return True
+
+
+if __name__ == "__main__":
+    sys.exit(main(sys.argv[1:]))

@@ -1,0 +1,104 @@
+"""The documents name what there is: modules and words of definitions, files and headings that are linked to."""
+import pathlib
+import re
+
+TOP = pathlib.Path(__file__).resolve().parent.parent.parent
+DEFINITIONS = TOP / "docs" / "DEFINITIONS.md"
+PROOFS = TOP / "docs" / "PROOFS.md"
+DECLARED = r"(?m)^\s*(?:(?:abbrev|unfoldable|opaque)\s+)*pub\s+(?:data\s+|record\s+)?{}(?=[\s:({{])"
+
+
+class Described:
+    """The definitions of one crate are described, and those that are described stand where it is said."""
+
+    def __init__(self, crate, text):
+        self.name, self.text = f"the definitions of {crate}", text
+        self.specs = TOP / "crates" / crate / "specs"
+
+    def why_wrong(self, _program):
+        modules = {file.stem: file.read_text() for file in self.specs.glob("*.antt") if file.stem != "Lib"}
+        described = re.split(r"(?m)^### ", self.text)[1:]
+        headed = {part.split("\n")[0].strip(): part for part in described}
+        named = set(headed) | set(re.findall(r"`(\w+)`", self.text))
+        why = [f"no word on specs/{module}.antt" for module in sorted(set(modules) - named)]
+        why += [f"there is no specs/{module}.antt" for module in sorted(set(headed) - set(modules))]
+        for module in sorted(set(headed) & set(modules)):
+            for row in re.findall(r"(?m)^\| (`.*?) \|", headed[module]):
+                words = re.findall(r"`(\w+)`", row)
+                why += [f"specs/{module}.antt does not define {word}" for word in words
+                        if not re.search(DECLARED.format(re.escape(word)), modules[module])]
+        return why
+
+
+class Claimed:
+    """The calls of one crate that docs/PROOFS.md names are there, with the clauses that it names."""
+
+    def __init__(self, crate, text):
+        self.name, self.text = f"the clauses of {crate}", text
+        self.source = TOP / "crates" / crate / "src"
+
+    def why_wrong(self, _program):
+        clauses = {}
+        for file in sorted(self.source.rglob("*.rt")):
+            for name, contract in contracts(file.read_text()):
+                clauses.setdefault(name, set()).update(re.findall(r"ensures\*? (\w+) \{", contract))
+        why = []
+        for calls, claims in re.findall(r"(?m)^\| (`.*?) \| (.*?) \|", self.text):
+            for call in re.findall(r"`([\w:]+)`", calls):
+                name = call.split("::")[-1]
+                if name not in clauses and name not in ("laws", "FromRead", "ToWrite"):
+                    why += [f"there is no {name}"]
+                    continue
+                missing = [it for it in re.findall(r"`(\w+)`", claims) if it not in clauses.get(name, ()) and it.islower()]
+                why += [f"{name} has no clause {it}" for it in missing]
+        return why
+
+
+def contracts(source):
+    """Each function with the text up to its body."""
+    for found in re.finditer(r"(?m)^( *)(?:pub )?fn (\w+)", source):
+        end = re.compile(rf"(?m)^{found[1]}\{{|\{{\}}$").search(source, found.end())
+        yield found[2], source[found.start():end.start() if end else len(source)]
+
+
+class Linked:
+    """Each relative link of a document leads to a file, and to a heading in it."""
+
+    def __init__(self, document):
+        self.document, self.name = document, f"the links of {document.relative_to(TOP)}"
+
+    def why_wrong(self, _program):
+        links = re.findall(r"\]\(([^)#:]*)(?:#([^)]*))?\)", self.document.read_text())
+        why = []
+        for path, anchor in links:
+            file = (self.document.parent / path).resolve() if path else self.document
+            if not file.exists():
+                why += [f"there is no {path}"]
+            elif anchor and anchor not in anchors(file):
+                why += [f"{path} has no heading #{anchor}"]
+        return why
+
+
+def anchors(file):
+    """The headings of a document, as links name them."""
+    headings = re.findall(r"(?m)^#+ (.*)$", file.read_text())
+    return {re.sub(r"[^\w\- ]", "", heading.lower()).replace(" ", "-") for heading in headings}
+
+
+def parts(document):
+    """The parts of a document under headings of the second level."""
+    return {part.split("\n")[0].strip(): part for part in re.split(r"(?m)^## ", document.read_text())[1:]}
+
+
+def cases():
+    folders = [TOP, TOP / "docs", TOP / "examples", TOP / "tests", *(TOP / "crates").glob("*")]
+    for folder in folders:
+        for document in sorted(folder.glob("*.md")):
+            yield Linked(document)
+    listed = (TOP / "crates.txt").read_text().splitlines()
+    crates = [line.split(":")[0].split()[0] for line in listed if line.strip() and not line.startswith("#")]
+    defined, proved = parts(DEFINITIONS), parts(PROOFS)
+    for crate in crates:
+        if (TOP / "crates" / crate / "specs").is_dir():
+            yield Described(crate, defined.get(crate, ""))
+            yield Claimed(crate, proved.get(crate, ""))
