@@ -1,0 +1,9 @@
+pub mod Weights
+pub mod KindLaws
+pub mod ContentsLaws
+pub mod Loop
+pub mod Again
+pub mod Found
+pub mod Wrong
+pub mod WrongAgain
+pub mod Checked
