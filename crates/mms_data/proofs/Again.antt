@@ -1,12 +1,12 @@
 -- What is spelled so is read.
-use Rattle.std.proofs.Common.{◌≡◌, ℕ, zero, suc, ◌-◌, ◌+◌, ◌%◌, ◌≤◌, ◌<◌, eqb, false, List, [], ◌∷◌, ◌++◌, length, drop, Result, Ok, Err, refl, sym, ap, ap₂, ◌∙◌, append_assoc, arith}
+use Rattle.std.proofs.Common.{◌≡◌, ℕ, suc, ◌-◌, ◌+◌, ◌%◌, ◌≤◌, ◌<◌, eqb, false, List, ◌∷◌, ◌++◌, length, drop, Result, Ok, refl, ap, ap₂, ◌∙◌, append_assoc, arith}
 use Rattle.std.proofs.lemmas.List.{length-append, take_at, drop_at}
 use Rattle.ber_core.specs.declared.fault.Fault.{Fault}
 use Rattle.ber_core.specs.Length.{Len}
 use Rattle.ber_core.specs.Element.{Elem}
 use Rattle.ber_core.specs.Reading.{◌>>=◌, header_at}
 use Rattle.ber_core.proofs.Headers.{header_for, length_again}
-use Rattle.mms_data.specs.Data.{Simple, Data, simple, array, structure, Items, no_items, item, items_of, list_of, list_of-items_of, items_of-list_of}
+use Rattle.mms_data.specs.Data.{Data, simple, array, structure, Items, no_items, item, items_of, list_of, list_of-items_of, items_of-list_of}
 use Rattle.mms_data.specs.Kinds.{identifier_of, simple_kind}
 use Rattle.mms_data.specs.Spelling.{Spells, SpellsItems, SpellsAll}
 use Rattle.mms_data.specs.Reading.{contents_within, contents_at, member_with, members_with, member_at, members_at}

@@ -1,10 +1,10 @@
 -- Contents of the kinds without members: what is read is spelled so, what is spelled so is read; and the same of
 -- faults.
-use Rattle.std.proofs.Common.{◌≡◌, ◌≢◌, ℕ, zero, suc, ◌-◌, ◌+◌, ◌%◌, ◌^◌, ◌≤◌, ◌<◌, Bool, true, false, not, cond, ltb, leb, eqb, List, [], ◌∷◌, ◌++◌, length, take, drop, Result, Ok, Err, refl, sym, ap, ap₂, subst, ◌∙◌, append_assoc, arith, inl, inr}
-use Rattle.std.proofs.lemmas.List.{length-append, take-append-drop, length-take, length-drop, drop_at}
-use Rattle.std.proofs.lemmas.Bool.{ltb-true, ltb-false, lt-ltb, le-ltb, leb-true, leb-false, le-leb, lt-leb, eqb-true, eqb-false, ne_eqb, eq-eqb, and_parts, and_cases, and_from, or_cases, or_parts}
+use Rattle.std.proofs.Common.{◌≡◌, ◌≢◌, ℕ, ◌+◌, ◌^◌, ◌<◌, Bool, true, false, not, cond, ltb, leb, eqb, List, [], ◌∷◌, ◌++◌, length, drop, Result, Ok, Err, refl, sym, ap, ap₂, subst, ◌∙◌, append_assoc, arith, inl, inr}
+use Rattle.std.proofs.lemmas.List.{length-append, drop_at}
+use Rattle.std.proofs.lemmas.Bool.{ltb-true, ltb-false, lt-ltb, leb-true, leb-false, le-leb, lt-leb, eqb-true, eqb-false, ne_eqb, eq-eqb, and_parts, and_cases, or_cases}
 use Rattle.std.proofs.lemmas.Int.{ints}
-use Rattle.std.specs.Prelude.{◌⊎◌, ◌&&◌, ◌||◌, ◌≤ℤ◌, ◌<ℤ◌, ℤ, pos, negsuc, slice_index}
+use Rattle.std.specs.Prelude.{◌⊎◌, ◌&&◌, ℤ, pos, negsuc, slice_index}
 use Rattle.byteorder.specs.Endian.{big_number, twos_complement}
 use Rattle.byteorder.specs.Numbers.{big_from-append}
 use Rattle.ber_core.specs.Length.{number}
@@ -188,13 +188,13 @@ text_wrong : (s : ℕ) (c : List ℕ) (f : Fault) → visible_at s c ≡ Err f �
 text_wrong s [] f e = absurd (cc)
 text_wrong s (n ∷ ns) f e = elim (chosen (is_visible n) _ _ _ e) [
   | inl t ↦
-    let w = text_wrong (s + 1) ns f t.1 in
-    let there : s + 1 + length w.before ≡ s + length (n ∷ w.before) = omega arith in
-    record { before = n ∷ w.before; octet = w.octet; after = w.after; parts = ap (λ (x : List ℕ). n ∷ x) w.parts; good = (visible_is n t.0, w.good); bad = w.bad; fault = w.fault ∙ ap (λ x. fault_of x causes.NotVisible) there }
+      let w = text_wrong (s + 1) ns f t.1 in
+      let there : s + 1 + length w.before ≡ s + length (n ∷ w.before) = omega arith in
+      record { before = n ∷ w.before; octet = w.octet; after = w.after; parts = ap (λ (x : List ℕ). n ∷ x) w.parts; good = (visible_is n t.0, w.good); bad = w.bad; fault = w.fault ∙ ap (λ x. fault_of x causes.NotVisible) there }
   | inr t ↦
-    let there : s ≡ s + length {A = ℕ} [] = omega arith in
-    let no : is_visible n ≡ false = t.0 in
-    record { before = []; octet = n; after = ns; parts = refl; good = tt; bad = λ h. (let yes = visible_true n h in cc); fault = fault_is {A = Unit {0}} _ _ f t.1 ∙ ap (λ x. fault_of x causes.NotVisible) there }
+      let there : s ≡ s + length {A = ℕ} [] = omega arith in
+      let no : is_visible n ≡ false = t.0 in
+      record { before = []; octet = n; after = ns; parts = refl; good = tt; bad = λ h. (let yes = visible_true n h in cc); fault = fault_is {A = Unit {0}} _ _ f t.1 ∙ ap (λ x. fault_of x causes.NotVisible) there }
 ]
 
 text_behind : (s : ℕ) (before : List ℕ) (octet : ℕ) (after : List ℕ) → AreVisible before → (¬ IsVisible octet) → visible_at s (before ++ octet ∷ after) ≡ refused (s + length before) causes.NotVisible

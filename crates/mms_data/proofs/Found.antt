@@ -1,23 +1,22 @@
 -- What is read is spelled so.
-use Rattle.std.proofs.Common.{◌≡◌, ℕ, zero, suc, ◌-◌, ◌+◌, ◌%◌, ◌≤◌, ◌<◌, false, eqb, List, [], ◌∷◌, ◌++◌, length, drop, Result, Ok, Err, refl, sym, ap, ap₂, subst, ◌∙◌, append_assoc, arith}
+use Rattle.std.proofs.Common.{◌≡◌, ℕ, zero, suc, ◌-◌, ◌+◌, ◌%◌, false, eqb, List, [], ◌∷◌, ◌++◌, length, drop, Result, Ok, refl, sym, ap, ap₂, subst, ◌∙◌, append_assoc, arith}
 use Rattle.std.proofs.lemmas.List.{length-append}
 use Rattle.std.proofs.lemmas.Bool.{eqb-false}
 use Rattle.ber_core.specs.declared.element.Header.{Header}
 use Rattle.ber_core.specs.declared.fault.Fault.{Fault}
 use Rattle.ber_core.specs.Length.{Len}
-use Rattle.ber_core.specs.Reading.{◌>>=◌, header_at}
+use Rattle.ber_core.specs.Reading.{header_at}
 use Rattle.ber_core.proofs.Headers.{header_for, Parts, length_inv}
 use Rattle.ber_core.proofs.Steps.{bind_ok}
-use Rattle.mms_data.specs.Data.{Simple, Data, simple, array, structure, items_of}
+use Rattle.mms_data.specs.Data.{Data, simple, array, structure, items_of}
 use Rattle.mms_data.specs.Kinds.{identifier_of, simple_kind, simple_identifier}
 use Rattle.mms_data.specs.ContentsReading.{simple_at}
 use Rattle.mms_data.specs.Spelling.{Spells, SpellsAll}
 use Rattle.mms_data.specs.Reading.{contents_within, contents_at, known_at, member_with, members_with, member_at, members_at}
 use Rattle.mms_data.specs.declared.kinds.Kind.{Kind}
 use Rattle.mms_data.specs.declared.kinds.Kind.TheVariants.{Array, Structure, Simple as of_kind}
-use Rattle.mms_data.specs.declared.kinds.SimpleKind.{SimpleKind}
 use Rattle.mms_data.proofs.KindLaws.{here_found, low_tag}
-use Rattle.mms_data.proofs.ContentsLaws.{Holds, simple_found}
+use Rattle.mms_data.proofs.ContentsLaws.{simple_found}
 use Rattle.mms_data.proofs.Again.{contents_again, left_over}
 
 -- a value at the front, and the place after it

@@ -1,5 +1,5 @@
 -- The table of kinds, both ways.
-use Rattle.std.proofs.Common.{◌≡◌, ◌≢◌, ℕ, ◌%◌, Bool, true, false, cond, eqb, Result, Ok, Err, refl, sym, ap, ◌∙◌, inl, inr}
+use Rattle.std.proofs.Common.{◌≡◌, ◌≢◌, ℕ, ◌%◌, false, cond, eqb, Ok, Err, refl, ap, ◌∙◌, inl, inr}
 use Rattle.std.proofs.lemmas.Bool.{eqb-true, eqb-false, ne_eqb}
 use Rattle.std.specs.Prelude.{◌⊎◌, Option, Some, None}
 use Rattle.ber_core.specs.declared.fault.Fault.{Fault}
@@ -50,18 +50,51 @@ one_step id j k rest e = elim (chosen (eqb id (identifier_of j)) (Some j) rest (
 
 pub kind_found : (id : ℕ) (k : Kind) → kind_at id ≡ Some k → id ≡ identifier_of k
 unfolding kind_at
-kind_found id k e = elim (one_step id Array k _ e) [ inl h ↦ h | inr e1 ↦
-    elim (one_step id Structure k _ e1) [ inl h ↦ h | inr e2 ↦
-    elim (one_step id (of_kind kinds.Boolean) k _ e2) [ inl h ↦ h | inr e3 ↦
-    elim (one_step id (of_kind kinds.BitString) k _ e3) [ inl h ↦ h | inr e4 ↦
-    elim (one_step id (of_kind kinds.Integer) k _ e4) [ inl h ↦ h | inr e5 ↦
-    elim (one_step id (of_kind kinds.Unsigned) k _ e5) [ inl h ↦ h | inr e6 ↦
-    elim (one_step id (of_kind kinds.FloatingPoint) k _ e6) [ inl h ↦ h | inr e7 ↦
-    elim (one_step id (of_kind kinds.OctetString) k _ e7) [ inl h ↦ h | inr e8 ↦
-    elim (one_step id (of_kind kinds.VisibleString) k _ e8) [ inl h ↦ h | inr e9 ↦
-    elim (one_step id (of_kind kinds.BinaryTime) k _ e9) [ inl h ↦ h | inr e10 ↦
-    elim (one_step id (of_kind kinds.MmsString) k _ e10) [ inl h ↦ h | inr e11 ↦
-    elim (one_step id (of_kind kinds.UtcTime) k _ e11) [ inl h ↦ h | inr e12 ↦ absurd (let wrong = e12 in cc) ] ] ] ] ] ] ] ] ] ] ] ]
+kind_found id k e = elim (one_step id Array k _ e) [
+  | inl h ↦ h
+  | inr e1 ↦
+      elim (one_step id Structure k _ e1) [
+        | inl h ↦ h
+        | inr e2 ↦
+            elim (one_step id (of_kind kinds.Boolean) k _ e2) [
+              | inl h ↦ h
+              | inr e3 ↦
+                  elim (one_step id (of_kind kinds.BitString) k _ e3) [
+                    | inl h ↦ h
+                    | inr e4 ↦
+                        elim (one_step id (of_kind kinds.Integer) k _ e4) [
+                          | inl h ↦ h
+                          | inr e5 ↦
+                              elim (one_step id (of_kind kinds.Unsigned) k _ e5) [
+                                | inl h ↦ h
+                                | inr e6 ↦
+                                    elim (one_step id (of_kind kinds.FloatingPoint) k _ e6) [
+                                      | inl h ↦ h
+                                      | inr e7 ↦
+                                          elim (one_step id (of_kind kinds.OctetString) k _ e7) [
+                                            | inl h ↦ h
+                                            | inr e8 ↦
+                                                elim (one_step id (of_kind kinds.VisibleString) k _ e8) [
+                                                  | inl h ↦ h
+                                                  | inr e9 ↦
+                                                      elim (one_step id (of_kind kinds.BinaryTime) k _ e9) [
+                                                        | inl h ↦ h
+                                                        | inr e10 ↦
+                                                            elim (one_step id (of_kind kinds.MmsString) k _ e10) [
+                                                              | inl h ↦ h
+                                                              | inr e11 ↦
+                                                                  elim (one_step id (of_kind kinds.UtcTime) k _ e11) [ inl h ↦ h | inr e12 ↦ absurd (let wrong = e12 in cc) ]
+                                                            ]
+                                                      ]
+                                                ]
+                                          ]
+                                    ]
+                              ]
+                        ]
+                  ]
+            ]
+      ]
+]
 
 no_kind : (o : Option Kind) → ((k : Kind) → o ≡ Some k → ⊥) → o ≡ None
 no_kind (Some k) h = absurd (h k refl)

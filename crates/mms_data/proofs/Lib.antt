@@ -7,3 +7,7 @@ pub mod Found
 pub mod Wrong
 pub mod WrongAgain
 pub mod Checked
+pub mod Front
+pub mod Few
+pub mod Parts
+pub mod Cleared

@@ -1,18 +1,15 @@
 -- Where reading stops there is that fault.
-use Rattle.std.proofs.Common.{◌≡◌, ℕ, zero, suc, ◌-◌, ◌+◌, ◌%◌, ◌≤◌, ◌<◌, false, eqb, List, [], ◌∷◌, ◌++◌, length, drop, Result, Ok, Err, refl, sym, ap, ap₂, ◌∙◌, arith, inl, inr}
+use Rattle.std.proofs.Common.{◌≡◌, ℕ, zero, suc, ◌-◌, ◌+◌, ◌%◌, ◌≤◌, ◌<◌, false, eqb, List, [], ◌∷◌, ◌++◌, length, drop, Err, refl, sym, ap, ap₂, ◌∙◌, arith, inl, inr}
 use Rattle.std.proofs.lemmas.List.{length-append}
-use Rattle.ber_core.specs.declared.element.Header.{Header}
 use Rattle.ber_core.specs.declared.fault.Fault.{Fault}
-use Rattle.ber_core.specs.declared.fault.Cause.TheVariants as causes
-use Rattle.ber_core.specs.Faults.{fault_of}
 use Rattle.ber_core.specs.Length.{Len}
-use Rattle.ber_core.specs.Reading.{◌>>=◌, header_at}
+use Rattle.ber_core.specs.Reading.{header_at}
 use Rattle.ber_core.proofs.Headers.{header_for, length_wrong}
 use Rattle.ber_core.proofs.Steps.{bind_err, fault_is}
-use Rattle.mms_data.specs.Data.{Simple, Data, simple, array, structure, items_of}
+use Rattle.mms_data.specs.Data.{Data}
 use Rattle.mms_data.specs.Kinds.{identifier_of, IsKnown}
 use Rattle.mms_data.specs.ContentsReading.{simple_at}
-use Rattle.mms_data.specs.Spelling.{Spells, FaultIn, later, too_deep, high, unexpected, in_length, in_contents, within}
+use Rattle.mms_data.specs.Spelling.{FaultIn, later, too_deep, high, unexpected, in_length, in_contents, within}
 use Rattle.mms_data.specs.Reading.{contents_within, contents_at, known_at, member_with, members_with, member_at, members_at}
 use Rattle.mms_data.specs.declared.kinds.Kind.{Kind}
 use Rattle.mms_data.specs.declared.kinds.Kind.TheVariants.{Array, Structure, Simple as of_kind}
@@ -55,20 +52,20 @@ member_wrong_at k L p id o f levels inner e =
     elim (bind_err (known_at p (id ∷ o)) _ f e) [
       | inl h ↦ known_wrong L p id o f le h
       | inr x ↦
-        let kn = here_found p id x.0 x.1 in
-        elim (bind_err (header_at p (id ∷ o)) _ f x.2) [
-          | inl h ↦ header_wrong L p id o f le (x.0, kn.0) kn.1 h
-          | inr y ↦
-            let t = header_found p id o y.0 kn.1 y.1 in
-            elim (bind_err (contents_at (members_at k) x.0 y.0 (contents_within y.0 (id ∷ o))) _ f y.2) [
-              | inl h ↦
-                let c-is : contents_within y.0 (id ∷ o) ≡ t.contents = ap₂ (λ a b. contents_within a (id ∷ b)) t.header t.parts ∙ contents_again p id t.size t.contents t.rest in
-                let header : y.0 ≡ header_for p (identifier_of x.0) (length t.size) (length t.contents) = t.header ∙ ap (λ j. header_for p j (length t.size) (length t.contents)) kn.0 in
-                contents_wrong k L p (id ∷ o) t.size t.contents t.rest f levels t.sized (λ q. inner q t.contents) x.0 (ap₂ (λ (a : ℕ) (b : List ℕ). a ∷ b) kn.0 t.parts)
-                (sym (ap₂ (contents_at (members_at k) x.0) header c-is) ∙ h)
-              | inr z ↦ absurd (let wrong = z.2 in cc)
-            ]
-        ]
+          let kn = here_found p id x.0 x.1 in
+          elim (bind_err (header_at p (id ∷ o)) _ f x.2) [
+            | inl h ↦ header_wrong L p id o f le (x.0, kn.0) kn.1 h
+            | inr y ↦
+                let t = header_found p id o y.0 kn.1 y.1 in
+                elim (bind_err (contents_at (members_at k) x.0 y.0 (contents_within y.0 (id ∷ o))) _ f y.2) [
+                  | inl h ↦
+                      let c-is : contents_within y.0 (id ∷ o) ≡ t.contents = ap₂ (λ a b. contents_within a (id ∷ b)) t.header t.parts ∙ contents_again p id t.size t.contents t.rest in
+                      let header : y.0 ≡ header_for p (identifier_of x.0) (length t.size) (length t.contents) = t.header ∙ ap (λ j. header_for p j (length t.size) (length t.contents)) kn.0 in
+                      contents_wrong k L p (id ∷ o) t.size t.contents t.rest f levels t.sized (λ q. inner q t.contents) x.0 (ap₂ (λ (a : ℕ) (b : List ℕ). a ∷ b) kn.0 t.parts)
+                      (sym (ap₂ (contents_at (members_at k) x.0) header c-is) ∙ h)
+                  | inr z ↦ absurd (let wrong = z.2 in cc)
+                ]
+          ]
     ]
 
 module _ (k L : ℕ) (f : Fault) (levels : L + k ≡ 17) (law : (p b : ℕ) (bs : List ℕ) → member_at k p (b ∷ bs) ≡ Err f → FaultIn f L p (b ∷ bs)) where
@@ -79,16 +76,16 @@ module _ (k L : ℕ) (f : Fault) (levels : L + k ≡ 17) (law : (p b : ℕ) (bs 
   members_wrong (suc n) p (b ∷ bs) enough e = elim (bind_err (member_at k p (b ∷ bs)) _ f e) [
     | inl h ↦ law p b bs h
     | inr x ↦
-      let t = member_found k L levels p (b ∷ bs) x.0.0 x.0.1 x.1 in
-      let left : drop (x.0.1 - p) (b ∷ bs) ≡ t.rest = left_over (b ∷ bs) t.first t.rest p x.0.1 t.parts t.after in
-      let some : 0 < length t.first = spelled_some x.0.0 L t.first t.spelled in
-      let count : length (b ∷ bs) ≡ length t.first + length t.rest = ap length t.parts ∙ length-append t.first t.rest in
-      elim (bind_err (members_with (member_at k) n x.0.1 (drop (x.0.1 - p) (b ∷ bs))) _ f x.2) [
-        | inl h ↦
-          let there : members_with (member_at k) n (p + length t.first) t.rest ≡ Err f = sym (ap₂ (members_with (member_at k) n) t.after left) ∙ h in
-          later x.0.0 t.first t.rest t.spelled t.parts (members_wrong n (p + length t.first) t.rest (omega arith) there)
-        | inr y ↦ absurd (let wrong = y.2 in cc)
-      ]
+        let t = member_found k L levels p (b ∷ bs) x.0.0 x.0.1 x.1 in
+        let left : drop (x.0.1 - p) (b ∷ bs) ≡ t.rest = left_over (b ∷ bs) t.first t.rest p x.0.1 t.parts t.after in
+        let some : 0 < length t.first = spelled_some x.0.0 L t.first t.spelled in
+        let count : length (b ∷ bs) ≡ length t.first + length t.rest = ap length t.parts ∙ length-append t.first t.rest in
+        elim (bind_err (members_with (member_at k) n x.0.1 (drop (x.0.1 - p) (b ∷ bs))) _ f x.2) [
+          | inl h ↦
+              let there : members_with (member_at k) n (p + length t.first) t.rest ≡ Err f = sym (ap₂ (members_with (member_at k) n) t.after left) ∙ h in
+              later x.0.0 t.first t.rest t.spelled t.parts (members_wrong n (p + length t.first) t.rest (omega arith) there)
+          | inr y ↦ absurd (let wrong = y.2 in cc)
+        ]
   ]
 
 members_at_wrong : (k L : ℕ) (f : Fault) → L + k ≡ 17 → ((p b : ℕ) (bs : List ℕ) → member_at k p (b ∷ bs) ≡ Err f → FaultIn f L p (b ∷ bs)) → (q : ℕ) (c : List ℕ) → members_at k q c ≡ Err f → FaultIn f L q c

@@ -1,5 +1,5 @@
 -- Where there is a fault reading stops with it.
-use Rattle.std.proofs.Common.{◌≡◌, ℕ, zero, suc, ◌-◌, ◌+◌, ◌%◌, ◌≤◌, ◌<◌, List, [], ◌∷◌, ◌++◌, length, drop, Result, Ok, Err, refl, sym, ap, ap₂, ◌∙◌, arith, inl, inr}
+use Rattle.std.proofs.Common.{◌≡◌, ℕ, zero, suc, ◌-◌, ◌+◌, ◌%◌, ◌≤◌, ◌<◌, List, ◌∷◌, ◌++◌, length, drop, Ok, Err, refl, ap, ap₂, ◌∙◌, arith, inl, inr}
 use Rattle.std.proofs.lemmas.List.{length-append}
 use Rattle.std.specs.Prelude.{◌⊎◌}
 use Rattle.ber_core.specs.declared.fault.Fault.{Fault}
@@ -8,11 +8,10 @@ use Rattle.ber_core.specs.Element.{IsIdentifier}
 use Rattle.ber_core.specs.Faults.{LengthFault, fault_of}
 use Rattle.ber_core.specs.Length.{Len}
 use Rattle.ber_core.specs.Reading.{◌>>=◌, header_at}
-use Rattle.ber_core.proofs.Headers.{header_for, length_wrong_again}
-use Rattle.mms_data.specs.Data.{Data}
+use Rattle.ber_core.proofs.Headers.{length_wrong_again}
 use Rattle.mms_data.specs.Kinds.{identifier_of, simple_identifier, IsKnown}
 use Rattle.mms_data.specs.Contents.{SimpleFault}
-use Rattle.mms_data.specs.Spelling.{Spells, FaultIn, later, too_deep, high, unexpected, in_length, in_contents, within}
+use Rattle.mms_data.specs.Spelling.{FaultIn, later, too_deep, high, unexpected, in_length, in_contents, within}
 use Rattle.mms_data.specs.Reading.{member_with, members_with, member_at, members_at}
 use Rattle.mms_data.specs.declared.kinds.Kind.TheVariants.{Array, Structure, Simple as of_kind}
 use Rattle.mms_data.specs.declared.kinds.SimpleKind.{SimpleKind}

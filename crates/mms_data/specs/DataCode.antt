@@ -1,5 +1,5 @@
 -- How two values are told apart: each is a tree of numbers of its own.
-use Rattle.std.specs.Prelude.{◌≡◌, ℕ, zero, suc, ℤ, pos, negsuc, Bool, true, false, List, [], ◌∷◌, refl}
+use Rattle.std.specs.Prelude.{◌≡◌, ℕ, zero, suc, pos, negsuc, true, false, List, [], ◌∷◌, refl}
 use Rattle.std.specs.Coded.{Coded}
 use Rattle.std.proofs.Common.{ap, ap₂, sym, ◌∙◌}
 use base.Stored.{Gv, gnil, gnum, gcons, num}

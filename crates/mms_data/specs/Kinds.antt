@@ -1,6 +1,6 @@
 -- The kinds of Data and their identifiers (ISO 9506-2, Data, in the context class).
 use Rattle.std.specs.Prelude.{◌≡◌, ℕ, ◌%◌, Option, Some, None, Result, Ok, ◌==◌, if◌then◌else◌}
-use Rattle.mms_data.specs.Data.{Simple, boolean, bits, integer, unsigned, floating, octets, visible, binary_time, mms_text, utc, Data, simple, array, structure}
+use Rattle.mms_data.specs.Data.{Simple, boolean, bits, integer, unsigned, floating, octets, visible, binary_time, mms_text, utc}
 use Rattle.mms_data.specs.declared.kinds.Kind.{Kind}
 use Rattle.mms_data.specs.declared.kinds.Kind.TheVariants.{Array, Structure, Simple as of_kind}
 use Rattle.mms_data.specs.declared.kinds.SimpleKind.{SimpleKind}

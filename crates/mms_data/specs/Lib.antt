@@ -11,3 +11,4 @@ pub mod Reading
 pub mod Left
 pub mod Meaning
 pub mod Place
+pub mod Answers

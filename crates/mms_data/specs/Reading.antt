@@ -1,6 +1,6 @@
 -- Reading members from left to right as a function on octets, the first of which stands at the place p, up to
 -- the first fault. Laws in both directions tie it to the spellings and the faults.
-use Rattle.std.specs.Prelude.{◌≡◌, ℕ, zero, suc, ◌+◌, ◌-◌, List, [], ◌∷◌, length, drop, slice_range, Result, Ok, Err}
+use Rattle.std.specs.Prelude.{ℕ, zero, suc, ◌-◌, List, [], ◌∷◌, length, drop, slice_range, Result, Ok}
 use Rattle.ber_core.specs.Reading.{◌>>=◌, refused, header_at}
 use Rattle.ber_core.specs.declared.element.Header.{Header}
 use Rattle.ber_core.specs.declared.fault.Fault.{Fault}

@@ -5,7 +5,7 @@ use Rattle.ber_core.specs.Element.{Elem, IsIdentifier}
 use Rattle.ber_core.specs.Faults.{LengthFault, fault_of}
 use Rattle.ber_core.specs.declared.fault.Fault.{Fault}
 use Rattle.ber_core.specs.declared.fault.Cause.TheVariants as causes
-use Rattle.mms_data.specs.Data.{Simple, Data, simple, array, structure, Items, no_items, item, items_of}
+use Rattle.mms_data.specs.Data.{Data, simple, array, structure, Items, no_items, item, items_of}
 use Rattle.mms_data.specs.Kinds.{IsKnown, simple_identifier, simple_kind}
 use Rattle.mms_data.specs.Contents.{SpellsSimple, SimpleFault}
 use Rattle.mms_data.specs.declared.kinds.SimpleKind.{SimpleKind}
