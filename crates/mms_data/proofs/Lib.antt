@@ -11,3 +11,5 @@ pub mod Front
 pub mod Few
 pub mod Parts
 pub mod Cleared
+pub mod UtcLaws
+pub mod SpellableLaws

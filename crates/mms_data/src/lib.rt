@@ -10,7 +10,9 @@ mod kinds;
 mod octets;
 mod owning;
 mod reading;
+mod spellable;
 mod time;
+pub mod utc;
 mod value;
 mod view;
 
@@ -18,6 +20,7 @@ pub use crate::checking::check_members;
 pub use crate::fault::{PutFault, ReadFault};
 pub use crate::octets::Octets;
 pub use crate::reading::{members, read_members};
+pub use crate::spellable::{are_spellable, is_spellable};
 pub use crate::time::UtcTime;
 pub use crate::value::{BitText, Value, ValueList};
 pub use crate::view::{BitView, Members, View};
