@@ -1,0 +1,13 @@
+pub mod Weights
+pub mod KindLaws
+pub mod ContentsLaws
+pub mod Loop
+pub mod Again
+pub mod Found
+pub mod Wrong
+pub mod WrongAgain
+pub mod Checked
+pub mod Front
+pub mod Few
+pub mod Parts
+pub mod Cleared

@@ -1,0 +1,107 @@
+-- The contents of the kinds without members (ISO 9506-2, Data; ISO/IEC 8825-1, 8.2, 8.3 and 8.6), and what is
+-- wrong with contents.
+use Rattle.std.specs.Prelude.{◌≡◌, ◌≢◌, ◌≤◌, ◌<◌, ◌≤ℤ◌, ◌<ℤ◌, ◌+◌, ◌-◌, ◌^◌, ◌%◌, ◌⊎◌, ℕ, ℤ, pos, negsuc, not, ◌==◌, List, [], ◌∷◌, ◌++◌, length}
+use Rattle.ber_core.specs.Length.{number}
+use Rattle.ber_core.specs.Integer.{Int}
+use Rattle.ber_core.specs.Faults.{fault_of}
+use Rattle.ber_core.specs.declared.fault.Fault.{Fault}
+use Rattle.ber_core.specs.declared.fault.Cause.TheVariants as causes
+use Rattle.mms_data.specs.Data.{Simple, boolean, bits, integer, unsigned, floating, octets, visible, binary_time, mms_text, utc}
+use Rattle.mms_data.specs.declared.kinds.SimpleKind.{SimpleKind}
+use Rattle.mms_data.specs.declared.kinds.SimpleKind.TheVariants as kinds
+use Rattle.mms_data.specs.declared.time.UtcTime.{UtcTime}
+
+-- profile: the integers that are accepted as signed
+abbrev pub IsSigned : ℤ → Type 0
+IsSigned n = (negsuc (2 ^ 63 - 1) ≤ℤ n) × (n <ℤ pos (2 ^ 63))
+
+-- profile: the integers that are accepted as unsigned
+abbrev pub IsUnsigned : ℤ → Type 0
+IsUnsigned n = (pos 0 ≤ℤ n) × (n <ℤ pos (2 ^ 64))
+
+-- profile: a floating-point number has 1 to 16 octets
+abbrev pub IsFloatingCount : ℕ → Type 0
+IsFloatingCount n = (1 ≤ n) × (n ≤ 16)
+
+-- a binary time has 4 or 6 octets
+abbrev pub IsTimeCount : ℕ → Type 0
+IsTimeCount n = (n ≡ 4) ⊎ (n ≡ 6)
+
+-- a character of visible text
+abbrev pub IsVisible : ℕ → Type 0
+IsVisible octet = (32 ≤ octet) × (octet ≤ 126)
+
+-- each octet is a character of visible text
+abbrev pub AreVisible : List ℕ → Type 0
+AreVisible [] = Unit {0}
+AreVisible (octet ∷ more) = IsVisible octet × AreVisible more
+
+-- octets, the unused low bits of the last set to 0
+abbrev pub cleared : ℕ → List ℕ → List ℕ
+cleared unused [] = []
+cleared unused (last ∷ []) = (last - last % 2 ^ unused) ∷ []
+cleared unused (first ∷ next ∷ more) = first ∷ cleared unused (next ∷ more)
+
+-- the count of unused bits is at most 7, and 0 where no octets follow it
+abbrev pub IsUnused : ℕ → List ℕ → Type 0
+IsUnused unused [] = unused ≡ 0
+IsUnused unused (first ∷ more) = unused ≤ 7
+
+-- contents of a bit string: the count of unused bits, then octets, whose unused bits may have any value
+abbrev pub SpellsBits : ℕ → List ℕ → List ℕ → Type 0
+SpellsBits unused ns [] = ⊥
+SpellsBits unused ns (count ∷ more) = (count ≡ unused) × IsUnused count more × (ns ≡ cleared count more)
+
+-- contents of a UtcTime: four octets of seconds, three of fraction, one of quality
+abbrev pub SpellsTime : UtcTime → List ℕ → Type 0
+SpellsTime t c = (seconds : List ℕ) × (fraction : List ℕ) × (length seconds ≡ 4) × (length fraction ≡ 3) × (c ≡ seconds ++ (fraction ++ t.quality ∷ []))
+    × (number seconds ≡ t.seconds) × (number fraction ≡ t.fraction)
+
+-- the contents of a value, c, by its kind
+abbrev pub SpellsSimple : Simple → List ℕ → Type 0
+SpellsSimple (boolean b) c = (octet : ℕ) × (c ≡ octet ∷ []) × (b ≡ not (octet == 0))
+SpellsSimple (bits unused ns) c = SpellsBits unused ns c
+SpellsSimple (integer n) c = Int n c × IsSigned n
+SpellsSimple (unsigned n) c = Int (pos n) c × IsUnsigned (pos n)
+SpellsSimple (floating ns) c = (c ≡ ns) × IsFloatingCount (length ns)
+SpellsSimple (octets ns) c = c ≡ ns
+SpellsSimple (visible ns) c = (c ≡ ns) × AreVisible ns
+SpellsSimple (binary_time ns) c = (c ≡ ns) × IsTimeCount (length ns)
+SpellsSimple (mms_text ns) c = c ≡ ns
+SpellsSimple (utc t) c = SpellsTime t c
+
+-- ---- faults: p is the identifier's place, s that of the first octet of contents
+
+-- an integer has 1 to 9 octets, and is in range
+abbrev pub IntegerFault : (ℤ → Type 0) → Fault → ℕ → ℕ → List ℕ → Type 0
+IntegerFault InRange f p s c =
+    ((f ≡ fault_of (p + 1) causes.IntegerLength) × ((length c ≡ 0) ⊎ (9 < length c)))
+    ⊎ ((f ≡ fault_of s causes.IntegerRange) × (n : ℤ) × Int n c × ¬ InRange n)
+
+-- the first octet that is no character
+pub record VisibleFault (f : Fault) (s : ℕ) (c : List ℕ) : Type 0 where
+  pub before : List ℕ
+  pub octet : ℕ
+  pub after : List ℕ
+  pub parts : c ≡ before ++ octet ∷ after
+  pub good : AreVisible before
+  pub bad : ¬ IsVisible octet
+  pub fault : f ≡ fault_of (s + length before) causes.NotVisible
+
+-- no count of unused bits, or a wrong one
+abbrev pub BitsFault : Fault → ℕ → List ℕ → Type 0
+BitsFault f s [] = f ≡ fault_of s causes.BitUnused
+BitsFault f s (unused ∷ more) = (f ≡ fault_of s causes.BitUnused) × ¬ IsUnused unused more
+
+-- what is wrong with contents, by the kind
+abbrev pub SimpleFault : Fault → SimpleKind → ℕ → ℕ → List ℕ → Type 0
+SimpleFault f kinds.Boolean p s c = (f ≡ fault_of (p + 1) causes.BooleanLength) × (length c ≢ 1)
+SimpleFault f kinds.BitString p s c = BitsFault f s c
+SimpleFault f kinds.Integer p s c = IntegerFault IsSigned f p s c
+SimpleFault f kinds.Unsigned p s c = IntegerFault IsUnsigned f p s c
+SimpleFault f kinds.FloatingPoint p s c = (f ≡ fault_of (p + 1) causes.FixedLength) × ¬ IsFloatingCount (length c)
+SimpleFault f kinds.OctetString p s c = ⊥
+SimpleFault f kinds.VisibleString p s c = VisibleFault f s c
+SimpleFault f kinds.BinaryTime p s c = (f ≡ fault_of (p + 1) causes.FixedLength) × ¬ IsTimeCount (length c)
+SimpleFault f kinds.MmsString p s c = ⊥
+SimpleFault f kinds.UtcTime p s c = (f ≡ fault_of (p + 1) causes.FixedLength) × (length c ≢ 8)

@@ -1,0 +1,14 @@
+pub mod Data
+pub mod DataCode
+pub mod Value
+pub mod Weight
+pub mod Falls
+pub mod Kinds
+pub mod Contents
+pub mod ContentsReading
+pub mod Spelling
+pub mod Reading
+pub mod Left
+pub mod Meaning
+pub mod Place
+pub mod Answers

@@ -1,0 +1,141 @@
+// The contents of the kinds without members, judged and seen where they stand. Places: `at` is the
+// identifier's, `from` that of the first octet of contents.
+
+ghost use Rattle.std.specs.Prelude.{◌≡◌, ◌+◌, ◌<◌, ◌≤◌, ◌^◌, length, Ok, Err, IfOk};
+ghost use Rattle.ber_core.specs.Reading.{Gives};
+ghost use Rattle.mms_data.specs.ContentsReading.{bits_at, boolean_at, integer_at, signed_at, time_at, unsigned_at, visible_at};
+ghost use Rattle.mms_data.specs.Meaning.{meaning};
+ghost use Rattle.mms_data.specs.Place.{IsPart, ViewIsPart};
+ghost use Rattle.mms_data.specs.Reading.{simple_data_at};
+
+use crate::kinds::SimpleKind;
+use crate::time::UtcTime;
+use crate::view::{BitView, View};
+use ber_core::{Cause, Fault};
+use byteorder::{BigEndian, ByteOrder};
+
+// The view of the contents of a kind.
+#[tactic(auto, unfolding(crate::specs::ContentsReading::simple_at))]
+pub(crate) fn simple<'a>(
+    kind: SimpleKind,
+    contents: &'a [u8],
+    at: usize,
+    from: usize,
+) -> Result<View<'a>, Fault>
+    requires order { at < from }
+    requires fits { from + length contents.now < 2 ^ 64 }
+    ensures exact { Gives meaning result (simple_data_at kind at from contents.now) }
+    ensures part { IfOk result (λ v. ViewIsPart v contents.entry) }
+{
+    match kind {
+        SimpleKind::Boolean => Ok(View::Boolean(boolean(contents, at)?)),
+        SimpleKind::BitString => Ok(View::Bits(bits(contents, from)?)),
+        SimpleKind::Integer => Ok(View::Integer(signed(contents, at, from)?)),
+        SimpleKind::Unsigned => Ok(View::Unsigned(unsigned(contents, at, from)?)),
+        SimpleKind::FloatingPoint => match contents.len() {
+            1..=16 => Ok(View::Floating(contents)),
+            _ => Err(Cause::FixedLength.at(at + 1)),
+        },
+        SimpleKind::OctetString => Ok(View::Octets(contents)),
+        SimpleKind::VisibleString => {
+            visible(contents, from)?;
+            Ok(View::Visible(contents))
+        }
+        SimpleKind::BinaryTime => match contents.len() {
+            4 | 6 => Ok(View::BinaryTime(contents)),
+            _ => Err(Cause::FixedLength.at(at + 1)),
+        },
+        SimpleKind::MmsString => Ok(View::MmsText(contents)),
+        SimpleKind::UtcTime => Ok(View::Utc(time(contents, at)?)),
+    }
+}
+
+// A truth value: any octet but 0 is true.
+fn boolean(contents: &[u8], at: usize) -> Result<bool, Fault>
+    requires { at + 1 < 2 ^ 64 }
+    ensures { result ≡ boolean_at at contents.now }
+{
+    match contents {
+        [octet] => Ok(*octet != 0),
+        _ => Err(Cause::BooleanLength.at(at + 1)),
+    }
+}
+
+// The count of unused bits, and the octets as they stand.
+fn bits<'a>(contents: &'a [u8], from: usize) -> Result<BitView<'a>, Fault>
+    ensures exact { Gives (λ b. (b.unused, b.octets.now)) result (bits_at from contents.now) }
+    ensures part { IfOk result (λ b. IsPart b.octets contents.entry) }
+{
+    match contents {
+        [0] => Ok(BitView {
+            unused: 0,
+            octets: &contents[1..],
+        }),
+        [unused @ 0..=7, _, ..] => Ok(BitView {
+            unused: *unused,
+            octets: &contents[1..],
+        }),
+        _ => Err(Cause::BitUnused.at(from)),
+    }
+}
+
+// The integer that one to nine octets spell.
+fn integer(contents: &[u8], at: usize) -> Result<i128, Fault>
+    requires { at + 1 < 2 ^ 64 }
+    ensures { result ≡ integer_at at contents.now }
+{
+    match contents.len() {
+        count @ 1..=9 => Ok(BigEndian::read_int128(contents, count)),
+        _ => Err(Cause::IntegerLength.at(at + 1)),
+    }
+}
+
+// The same in the range of signed numbers.
+fn signed(contents: &[u8], at: usize, from: usize) -> Result<i64, Fault>
+    requires { at + 1 < 2 ^ 64 }
+    ensures { result ≡ signed_at at from contents.now }
+{
+    match integer(contents, at)? {
+        number @ -0x8000_0000_0000_0000..=0x7fff_ffff_ffff_ffff => Ok(number as i64),
+        _ => Err(Cause::IntegerRange.at(from)),
+    }
+}
+
+// The same in the range of unsigned numbers.
+fn unsigned(contents: &[u8], at: usize, from: usize) -> Result<u64, Fault>
+    requires { at + 1 < 2 ^ 64 }
+    ensures { result ≡ unsigned_at at from contents.now }
+{
+    match integer(contents, at)? {
+        number @ 0..=0xffff_ffff_ffff_ffff => Ok(number as u64),
+        _ => Err(Cause::IntegerRange.at(from)),
+    }
+}
+
+// Whether each octet is a character of visible text.
+fn visible(contents: &[u8], from: usize) -> Result<(), Fault>
+    requires { from + length contents.now < 2 ^ 64 }
+    ensures { result ≡ visible_at from contents.now }
+{
+    for (index, octet) in contents.iter().enumerate() {
+        if *octet < 0x20 || 0x7e < *octet {
+            return Err(Cause::NotVisible.at(from + index));
+        }
+    }
+    Ok(())
+}
+
+// A moment of eight octets.
+fn time(contents: &[u8], at: usize) -> Result<UtcTime, Fault>
+    requires { at + 1 < 2 ^ 64 }
+    ensures { result ≡ time_at at contents.now }
+{
+    if contents.len() != 8 {
+        return Err(Cause::FixedLength.at(at + 1));
+    }
+    Ok(UtcTime {
+        seconds: BigEndian::read_u32(contents),
+        fraction: BigEndian::read_u24(&contents[4..]),
+        quality: contents[7],
+    })
+}

@@ -1,0 +1,91 @@
+// Values in memory of their own, from views.
+
+ghost use Rattle.std.specs.Prelude.{◌≡◌, ◌≤◌, ◌-◌, ◌%◌, ◌^◌, IfOk};
+ghost use Rattle.mms_data.specs.Contents.{cleared};
+ghost use Rattle.mms_data.specs.Meaning.{left, meaning};
+ghost use Rattle.mms_data.specs.Value.{data_of, datas};
+
+use crate::octets::Octets;
+use crate::value::{BitText, Value, ValueList};
+use crate::view::{BitView, Members, View};
+use std::alloc::{AllocError, Allocator};
+
+impl<'a> View<'a> {
+    /// The value that the view stands for, in memory of its own.
+    ///
+    /// # Errors
+    ///
+    /// `AllocError` where memory is refused.
+    #[cycle(owning)]
+    pub fn to_value<A: Allocator + Copy>(&self, alloc: A) -> Result<Value<A>, AllocError>
+        ensures { IfOk result (λ v. data_of v ≡ meaning self.now) }
+    {
+        match self {
+            View::Array(members) => Ok(Value::Array(ValueList::from(members.to_values(alloc)?))),
+            View::Structure(members) => Ok(Value::Structure(ValueList::from(members.to_values(
+                alloc,
+            )?))),
+            View::Boolean(b) => Ok(Value::Boolean(*b)),
+            View::Bits(bits) => Ok(Value::Bits(BitText {
+                unused: bits.unused,
+                octets: cleared_octets(alloc, bits)?,
+            })),
+            View::Integer(n) => Ok(Value::Integer(*n)),
+            View::Unsigned(n) => Ok(Value::Unsigned(*n)),
+            View::Floating(octets) => Ok(Value::Floating(owned(alloc, octets)?)),
+            View::Octets(octets) => Ok(Value::Octets(owned(alloc, octets)?)),
+            View::Visible(octets) => Ok(Value::Visible(owned(alloc, octets)?)),
+            View::BinaryTime(octets) => Ok(Value::BinaryTime(owned(alloc, octets)?)),
+            View::MmsText(octets) => Ok(Value::MmsText(owned(alloc, octets)?)),
+            View::Utc(time) => Ok(Value::Utc(*time)),
+        }
+    }
+}
+
+impl<'a> Members<'a> {
+    /// The values that the members stand for, in memory of their own, which is taken once a list.
+    ///
+    /// # Errors
+    ///
+    /// `AllocError` where memory is refused.
+    #[cycle(owning)]
+    pub fn to_values<A: Allocator + Copy>(self, alloc: A) -> Result<Vec<Value<A>, A>, AllocError>
+        ensures { IfOk result (λ v. datas v.items ≡ left self.entry) }
+    {
+        let mut values = Vec::with_capacity(alloc, self.count())?;
+        for view in self {
+            values.push(view.to_value(alloc)?)?;
+        }
+        Ok(values)
+    }
+}
+
+// The octets, in memory of their own.
+fn owned<A: Allocator>(alloc: A, octets: &[u8]) -> Result<Octets<A>, AllocError>
+    ensures { IfOk result (λ o. o ≡ octets.now) }
+{
+    Ok(Octets::from(Vec::from_slice(alloc, octets)?))
+}
+
+// The octets of the bits, the unused ones set to 0.
+fn cleared_octets<A: Allocator>(alloc: A, bits: &BitView) -> Result<Octets<A>, AllocError>
+    ensures { IfOk result (λ o. o ≡ cleared bits.now.unused bits.now.octets.now) }
+{
+    match bits.octets {
+        [] => owned(alloc, bits.octets),
+        [front @ .., last] => {
+            let mut octets = Vec::with_capacity(alloc, bits.octets.len())?;
+            octets.extend_from_slice(front)?;
+            octets.push(clear(*last, bits.unused))?;
+            Ok(Octets::from(octets))
+        }
+    }
+}
+
+// The octet, its low `unused` bits set to 0.
+fn clear(octet: u8, unused: u8) -> u8
+    requires { unused ≤ 7 }
+    ensures { result ≡ octet - octet % 2 ^ unused }
+{
+    octet - octet % (1 << unused)
+}

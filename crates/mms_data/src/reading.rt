@@ -1,0 +1,60 @@
+// Members of Data, seen where they stand, and in memory of their own.
+
+ghost use Rattle.std.specs.Prelude.{◌≡◌, ◌≤◌, List, length, slice_range};
+ghost use Rattle.ber_core.specs.declared.fault.Fault.{Fault};
+ghost use Rattle.mms_data.specs.Answers.{IfRead, IfRefused, Reads, Refuses};
+ghost use Rattle.mms_data.specs.Data.{Data};
+ghost use Rattle.mms_data.specs.Meaning.{left};
+ghost use Rattle.mms_data.specs.Place.{IsPart, source_of};
+ghost use Rattle.mms_data.specs.Spelling.{FaultIn, SpellSome, SpellsAll};
+
+use crate::checking::check_members;
+use crate::fault::ReadFault;
+use crate::value::Value;
+use crate::view;
+use std::alloc::Allocator;
+
+/// The members that the octets from `at` to `end` spell, the first at the level, seen where they stand:
+/// octets that `check_members` accepts there.
+pub fn members<'a>(octets: &'a [u8], at: usize, end: usize, level: u8) -> view::Members<'a>
+    requires order { at ≤ end }
+    requires inside { end ≤ length octets.now }
+    requires first { 1 ≤ level }
+    requires last { level ≤ 17 }
+    requires accepted { SpellSome level (slice_range octets.now at end) }
+
+    // The views to come stand for the members that are spelled, and their octets are a part of the source.
+    ensures spelled { SpellsAll (left result) level (slice_range octets.now at end) }
+    ensures part { IsPart (source_of result) octets.entry }
+{
+    view::Members::new(octets, at, end, level)
+}
+
+/// The values that the octets from `at` to `end` spell, the first at the level, from 1 to 17 (ISO 9506-2).
+///
+/// # Errors
+///
+/// The first fault, at its place, or `Memory` where memory is refused.
+pub fn read_members<A: Allocator + Copy>(
+    alloc: A,
+    octets: &[u8],
+    at: usize,
+    end: usize,
+    level: u8,
+) -> Result<Vec<Value<A>, A>, ReadFault>
+    requires order { at ≤ end }
+    requires inside { end ≤ length octets.now }
+    requires first { 1 ≤ level }
+    requires last { level ≤ 17 }
+
+    // What is read is spelled so, and what is spelled so is read, unless memory runs out.
+    ensures found { IfRead result (λ ds. SpellsAll ds level (slice_range octets.now at end)) }
+    ensures only { (ds : List Data) → SpellsAll ds level (slice_range octets.now at end) → Reads result ds }
+
+    // The fault that is answered is there, and the fault that is there is answered, unless memory runs out.
+    ensures fault { IfRefused result (λ f. FaultIn f level at (slice_range octets.now at end)) }
+    ensures fault_only { (f : Fault) → FaultIn f level at (slice_range octets.now at end) → Refuses result f }
+{
+    check_members(octets, at, end, level)?;
+    Ok(members(octets, at, end, level).to_values(alloc)?)
+}

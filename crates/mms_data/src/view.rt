@@ -1,0 +1,137 @@
+// Members of Data, seen where they stand.
+
+ghost use Rattle.std.specs.Prelude.{◌≡◌, ◌<◌, ◌≤◌, ◌+◌, ◌-◌, ◌^◌, ◌∷◌, length, slice_range};
+ghost use Rattle.mms_data.specs.Left.{AreMembers};
+
+use crate::contents::simple;
+use crate::kinds::{Kind, member_kind};
+use crate::time::UtcTime;
+use ber_core::{Header, header};
+
+/// Bits where they stand: the last `unused` bits of the last octet are no part of them, and may have any value.
+#[derive(Clone, Copy)]
+pub struct BitView<'a> {
+    pub unused: u8,
+    pub octets: &'a [u8],
+    pub ghost at_most_seven: { unused ≤ 7 },
+}
+
+/// A value of Data (ISO 9506-2), seen where it stands. Its octets are a part of the source.
+#[derive(Clone, Copy)]
+pub enum View<'a> {
+    Array(Members<'a>),
+    Structure(Members<'a>),
+    Boolean(bool),
+    Bits(BitView<'a>),
+    Integer(i64),
+    Unsigned(u64),
+    Floating(&'a [u8]),
+    Octets(&'a [u8]),
+    Visible(&'a [u8]),
+    BinaryTime(&'a [u8]),
+    MmsText(&'a [u8]),
+    Utc(UtcTime),
+}
+
+/// Members of Data that are still to come, seen where they stand: an iterator over one `View` a member, which
+/// takes no memory and ends.
+#[derive(Clone, Copy)]
+pub struct Members<'a> {
+    octets: &'a [u8],
+    levels: u8,
+    pub ghost bounded: { levels ≤ 16 },
+    pub ghost spelled: { AreMembers levels octets.now },
+}
+
+impl<'a> Members<'a> {
+    ghost use Rattle.std.specs.Prelude.{Ok};
+    ghost use Rattle.mms_data.specs.Data.{Data};
+    ghost use Rattle.mms_data.specs.Meaning.{left, meaning};
+    ghost use Rattle.mms_data.specs.Place.{IsPart, ViewIsPart, source_of};
+    ghost use Rattle.mms_data.specs.Reading.{contents_at, members_at};
+    ghost use Rattle.mms_data.specs.Spelling.{SpellSome, SpellsAll};
+
+    // The members that the octets from `at` to `end` spell, the first at the level.
+    pub(crate) fn new(octets: &'a [u8], at: usize, end: usize, level: u8) -> Members<'a>
+        requires order { at ≤ end }
+        requires inside { end ≤ length octets.now }
+        requires first { 1 ≤ level }
+        requires last { level ≤ 17 }
+        requires accepted { SpellSome level (slice_range octets.now at end) }
+        ensures spelled { SpellsAll (left result) level (slice_range octets.now at end) }
+        ensures part { IsPart (source_of result) octets.entry }
+    {
+        Members {
+            octets: &octets[at..end],
+            levels: 17 - level,
+        }
+    }
+
+    // What the contents behind this header are.
+    fn view(contents: &'a [u8], header: &Header, kind: Kind, levels: u8) -> View<'a>
+        requires few { levels ≤ 16 }
+        requires begins { header.now.at < header.now.contents_from }
+        requires fits { header.now.contents_from + length contents.now < 2 ^ 64 }
+        requires good { (d : Data) × (contents_at (members_at levels) kind header.now contents.now ≡ Ok d) }
+        ensures means { contents_at (members_at levels) kind header.now contents.now ≡ Ok (meaning result) }
+        ensures part { ViewIsPart result contents.entry }
+    {
+        match kind {
+            Kind::Array => View::Array(Members {
+                octets: contents,
+                levels,
+            }),
+            Kind::Structure => View::Structure(Members {
+                octets: contents,
+                levels,
+            }),
+            Kind::Simple(kind) => {
+                let Ok(view) = simple(kind, contents, header.at, header.contents_from) else {
+                    unreachable!()
+                };
+                view
+            }
+        }
+    }
+
+    // The first member, and those behind it.
+    fn split(self) -> (View<'a>, Members<'a>)
+        requires { 0 < length self.octets.now }
+        ensures first { left self.entry ≡ meaning result.0 ∷ left result.1 }
+        ensures part { ViewIsPart result.0 (source_of self.entry) }
+        ensures rest { IsPart (source_of result.1) (source_of self.entry) }
+    {
+        let (octets, levels) = (self.octets, self.levels);
+        let Ok(kind) = member_kind(octets, 0) else {
+            unreachable!()
+        };
+        let Ok(header) = header(octets, 0, octets.len()) else {
+            unreachable!()
+        };
+        let contents = &octets[header.contents_from..header.contents_to];
+        let view = Members::view(contents, &header, kind, levels - 1);
+        let octets = &octets[header.contents_to..];
+        (view, Members { octets, levels })
+    }
+}
+
+impl<'a> Iterator for Members<'a> {
+    ghost use Rattle.std.specs.Iterator.{item_count};
+    ghost use Rattle.mms_data.specs.Meaning.{left};
+    ghost use Rattle.mms_data.specs.Place.{GivesView};
+
+    type Item = View<'a>;
+
+    ghost next_gives = { GivesView };
+
+    ghost remaining = { item_count left };
+
+    fn next(&mut self) -> Option<View<'a>> {
+        if self.octets.is_empty() {
+            return None;
+        }
+        let (view, rest) = self.split();
+        *self = rest;
+        Some(view)
+    }
+}
