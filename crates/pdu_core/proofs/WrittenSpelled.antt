@@ -1,15 +1,15 @@
 -- What is written is spelled.
-use Rattle.std.proofs.Common.{◌≡◌, ◌≢◌, ℕ, ℤ, pos, negsuc, ◌-◌, ◌+◌, ◌%◌, ◌^◌, ◌≤◌, ◌<◌, Bool, true, false, eqb, ltb, List, [], ◌∷◌, ◌++◌, length, drop, Result, Ok, Err, Option, Some, None, refl, sym, ap, subst, ◌∙◌, arith, inl, inr}
+use Rattle.std.proofs.Common.{◌≡◌, ℕ, pos, ◌+◌, ◌%◌, ◌^◌, ◌<◌, Bool, true, false, eqb, List, [], ◌∷◌, length, drop, Result, Ok, Err, Option, Some, None, refl, sym, ap, subst, ◌∙◌, arith, inl, inr}
 use Rattle.std.proofs.lemmas.Bool.{eqb-false, ltb-true}
 use Rattle.std.proofs.lemmas.Int.{ints}
 use Rattle.std.proofs.lemmas.List.{length-append, append-nil}
-use Rattle.std.specs.Prelude.{◌&&◌, ◌≤ℤ◌, ◌<ℤ◌, nat_lt}
+use Rattle.std.specs.Prelude.{◌&&◌, nat_lt}
 use Rattle.byteorder.specs.Endian.{big_bytes, big_number}
 use Rattle.byteorder.specs.Numbers.{length-bytes_high_first, big_number-reads_back}
 use Rattle.ber_core.specs.Contents.{SpellsVisible}
 use Rattle.ber_core.specs.ContentsReading.{all_visible_at, visible_at}
 use Rattle.ber_core.specs.Element.{Elem, IsIdentifier}
-use Rattle.ber_core.specs.Fields.{Field, AbsenceMeans, SpellsField, SpellsFields}
+use Rattle.ber_core.specs.Fields.{Field, AbsenceMeans, SpellsFields}
 use Rattle.ber_core.specs.Length.{number}
 use Rattle.ber_core.specs.Reading.{◌>>=◌}
 use Rattle.ber_core.specs.Written.{short_integer, short_length}
@@ -22,9 +22,9 @@ use Rattle.mms_data.specs.declared.time.UtcTime.{UtcTime}
 use Rattle.mms_data.proofs.WrittenLaws.{written_spells}
 use Rattle.pdu_core.specs.Contents.{Kind, text, flag, time, members, Item, a_text, a_number, a_flag, a_time, some_members, SpellsContents, contents_grammar}
 use Rattle.pdu_core.specs.Contents.{number as a_kind_of_number}
-use Rattle.pdu_core.specs.Goose.{goose_fields, goose_items, text_if, SpellsGoose}
+use Rattle.pdu_core.specs.Goose.{goose_fields, goose_items, text_if}
 use Rattle.pdu_core.specs.Laws.{WrittenIsSpelled}
-use Rattle.pdu_core.specs.Written.{are_spelled_items, element, is_ok_reading, is_spelled, is_spelled_item, is_text, written_contents, written_field, written_fields, written_goose, written_item, written_time}
+use Rattle.pdu_core.specs.Written.{are_spelled_items, element, is_ok_reading, is_spelled_item, is_text, written_contents, written_fields, written_item, written_time}
 use Rattle.pdu_core.specs.declared.goose.GoosePdu.{GoosePdu}
 use Rattle.pdu_core.proofs.Sizes.{element_size}
 

@@ -1,12 +1,13 @@
 -- The written form of a PDU: its spelling with the fewest octets everywhere, FF for true, and each boolean
 -- there (profile).
-use Rattle.std.specs.Prelude.{◌≡◌, ◌&&◌, ◌^◌, ℕ, pos, nat_lt, Bool, true, false, List, [], ◌∷◌, ◌++◌, length, Option, Some, None, Result, Ok, Err}
+use Rattle.std.specs.Prelude.{◌&&◌, ◌^◌, ℕ, pos, nat_lt, Bool, true, false, List, [], ◌∷◌, ◌++◌, Option, Some, None, Result, Ok, Err}
 use Rattle.byteorder.specs.Endian.{big_bytes}
 use Rattle.ber_core.specs.ContentsReading.{all_visible_at}
 use Rattle.ber_core.specs.Fields.{Field}
 use Rattle.ber_core.specs.Written.{short_integer, written_element}
 use Rattle.ber_core.specs.declared.fault.Fault.{Fault}
-use Rattle.mms_data.specs.Written.{all_spelled, written_all}
+use Rattle.mms_data.specs.Written.{written_all}
+use Rattle.mms_data.specs.Spellable.{all_spelled}
 use Rattle.mms_data.specs.declared.time.UtcTime.{UtcTime}
 use Rattle.pdu_core.specs.Contents.{Kind, Item, a_text, a_number, a_flag, a_time, some_members}
 use Rattle.pdu_core.specs.Goose.{goose_fields, goose_items}

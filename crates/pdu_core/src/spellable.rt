@@ -6,8 +6,7 @@ ghost use Rattle.pdu_core.specs.Written.{are_spelled_items, is_spelled, is_text}
 
 use crate::goose::GoosePdu;
 use ber_core::contents::check_visible;
-use mms_data::{Octets, UtcTime};
-use mms_data::writing::are_spellable;
+use mms_data::{Octets, UtcTime, are_spellable};
 use std::alloc::Allocator;
 
 // Whether the octets are all visible.
@@ -64,5 +63,5 @@ pub fn is_spellable<A: Allocator>(pdu: &GoosePdu<A>) -> bool
         return false;
     }
     know_ranges(pdu.live, pdu.t, pdu.st_num, pdu.sq_num, pdu.conf_rev);
-    are_spellable(&pdu.members)
+    are_spellable(&pdu.members, 1)
 }

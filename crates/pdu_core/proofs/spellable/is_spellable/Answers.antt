@@ -1,4 +1,4 @@
-use Rattle.std.proofs.Common.{◌≡◌, ◌<◌, ◌^◌, ◌∷◌, [], true, length, Fits, w32, w8, rules, sym, ap, ◌∙◌, arith}
+use Rattle.std.proofs.Common.{◌≡◌, ◌<◌, ◌^◌, ◌∷◌, [], true, length, rules, sym, ap, ◌∙◌, arith}
 use Rattle.std.proofs.lemmas.List.{length-map}
 use Rattle.pdu_core.specs.Goose.{text_if}
 use Rattle.pdu_core.specs.Written.{are_spelled_items, is_text}
@@ -16,4 +16,4 @@ returns g c =
     let fraction : p.t.fraction < 2 ^ 24 = search rules in
     let same : length c.as_slice-entries.result.now ≡ length p.members = sym (length-map c.as_slice-entries.result.now _) ∙ ap length c.as_slice-entries.ensures in
     let count : length p.members < 2 ^ 32 = omega (arith, same, c.if-entries-gt4294967295.false) in
-    spelled_by_parts p c.are_spellable.result numbers ref set id fraction count c.are_spellable.ensures
+    spelled_by_parts p c.are_spellable.result numbers ref set id fraction count c.are_spellable.ensures.exact
