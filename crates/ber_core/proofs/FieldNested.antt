@@ -91,7 +91,7 @@ pub fields_split : {K I : Type 0} (read : Read K I) (gs hs : List (Field K I)) (
 fields_split read [] hs vs octets p e = refl
 fields_split read (g ∷ gs) hs vs octets p e =
     bind_parts (field_at read g octets p e) (λ x. fields_at read (gs ++ hs) (vs ++ x.0 ∷ []) octets x.1 e) (λ x. fields_at read gs (vs ++ x.0 ∷ []) octets x.1 e) (λ x. fields_at read hs x.0 octets x.1 e)
-        (λ x. fields_split read gs hs (vs ++ x.0 ∷ []) octets x.1 e)
+    (λ x. fields_split read gs hs (vs ++ x.0 ∷ []) octets x.1 e)
 
 -- as many values as fields
 pub as_many : {K I : Type 0} (G : Grammar K I) (gs : List (Field K I)) (vs : List (Option I)) (o : List ℕ) → SpellsFields G gs vs o → length vs ≡ length gs

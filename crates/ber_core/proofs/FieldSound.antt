@@ -37,7 +37,6 @@ pub err_is : {A : Type 0} (f g : Fault) → ◌≡◌ {A = Result A Fault} (Err 
 err_is f g e = cc
 
 module _ {K I : Type 0} (G : Grammar K I) (read : Read K I) (sound : IsSound G read) (octets : List ℕ) (e : ℕ) (within : e ≤ length octets) where
-
   -- the contents behind a header that stands at the front of the region
   module _ (g : Field K I) (p : ℕ) (order : p ≤ e) where
     behind_took : (ls : List ℕ) (h : Header) (v : Option I) (q : ℕ) → slice_range octets p e ≡ g.identifier ∷ ls → Parts p g.identifier ls h → behind read g.kind octets h ≡ Ok (v, q) → Took G g p (slice_range octets p e) v q

@@ -1,7 +1,7 @@
 -- Reading of a PDU against its spellings and its faults.
-use Rattle.std.proofs.Common.{◌≡◌, ◌≢◌, ℕ, zero, suc, ◌-◌, ◌+◌, ◌%◌, ◌≤◌, ◌<◌, Bool, true, false, eqb, ltb, List, [], ◌∷◌, ◌++◌, length, drop, Result, Ok, Err, Option, Some, None, refl, sym, ap, ap₂, subst, ◌∙◌, append_assoc, arith, inl, inr}
+use Rattle.std.proofs.Common.{◌≡◌, ◌≢◌, ℕ, ◌+◌, ◌≤◌, Bool, eqb, List, [], ◌∷◌, ◌++◌, length, Result, Ok, Err, Option, Some, None, refl, sym, ap, ap₂, subst, ◌∙◌, arith, inl, inr}
 use Rattle.std.proofs.lemmas.List.{length-append, append-nil, drop_at}
-use Rattle.std.proofs.lemmas.Bool.{le-ltb, eqb-true, eqb-false, eq-eqb, ne_eqb}
+use Rattle.std.proofs.lemmas.Bool.{le-ltb, eqb-false, eq-eqb, ne_eqb}
 use Rattle.std.specs.Prelude.{slice_range, ◌⊎◌}
 use Rattle.ber_core.specs.declared.fault.Fault.{Fault}
 use Rattle.ber_core.specs.declared.fault.Cause.TheVariants as causes
@@ -12,18 +12,18 @@ use Rattle.ber_core.specs.Reading.{◌>>=◌}
 use Rattle.ber_core.specs.Length.{Len}
 use Rattle.ber_core.specs.Element.{Elem, contents_of}
 use Rattle.ber_core.specs.Faults.{fault_of}
-use Rattle.ber_core.proofs.Headers.{header_for, Parts}
+use Rattle.ber_core.proofs.Headers.{header_for}
 use Rattle.ber_core.proofs.Steps.{chosen, bind_ok, bind_err}
 use Rattle.pdu_core.specs.declared.goose.GoosePdu.{GoosePdu}
-use Rattle.ber_core.specs.Fields.{Field, Grammar, SpellsField, SpellsFields, FieldsFault}
-use Rattle.pdu_core.specs.Contents.{Kind, number, members, Item, a_text, a_number, a_flag, a_time, some_members, SpellsContents, contents_grammar}
+use Rattle.ber_core.specs.Fields.{SpellsFields}
+use Rattle.pdu_core.specs.Contents.{Item, a_text, a_number, a_flag, a_time, some_members, contents_grammar}
 use Rattle.pdu_core.specs.Goose.{goose_front, goose_end, goose_fields, goose_items, text_if, SpellsGoose, apdu_grammar, apdu_fields, CountFault, GooseFault}
-use Rattle.ber_core.specs.FieldReading.{Read, required_at, there_at, or_absence, if_there, field_at, fields_at, ends_at}
+use Rattle.ber_core.specs.FieldReading.{Read, required_at, there_at, if_there, fields_at, ends_at}
 use Rattle.pdu_core.specs.ContentsReading.{item_at}
 use Rattle.pdu_core.specs.GooseReading.{count_at, counted_end, counted, goose_at}
 use Rattle.ber_core.proofs.FieldRegions.{behind_front, contents_are, rest_is, if_there_again, if_there_found}
 use Rattle.ber_core.proofs.FieldSound.{IsSound, err_is, pair_is, required_found}
-use Rattle.ber_core.proofs.FieldSequence.{Outside, Goes, fields_found, fields_wrong, fields_again, fields_wrong_again, ended}
+use Rattle.ber_core.proofs.FieldSequence.{Outside, fields_found, fields_wrong, fields_again, fields_wrong_again, ended}
 use Rattle.ber_core.proofs.FieldNested.{nothing, nested_read, nested_sound, fills_found, fills_again, fields_split, as_many, result_cases, ok_is}
 use Rattle.pdu_core.proofs.Items.{items_sound}
 
@@ -330,7 +330,7 @@ items_one {A = A} q r e =
     let nds_com : q.nds_com ≡ r.nds_com = cc in
     let entries : q.members ≡ r.members = cc in
     same_pdu q.gocb_ref r.gocb_ref q.live r.live q.dat_set r.dat_set q.go_id r.go_id q.t r.t q.st_num r.st_num q.sq_num r.sq_num q.simulation r.simulation q.conf_rev r.conf_rev q.nds_com r.nds_com q.members r.members
-        gocb_ref live dat_set (text_if_one q.go_id r.go_id id) t st_num sq_num simulation conf_rev nds_com entries where
-  same_pdu : (a a' : List ℕ) (b b' : ℕ) (h h' : List ℕ) (c c' : Option (List ℕ)) (t t' : UtcTime) (i i' j j' : ℕ) (d d' : Bool) (f f' : ℕ) (k k' : Bool) (g g' : List Data) → a ≡ a' → b ≡ b' → h ≡ h' → c ≡ c' → t ≡ t' → i ≡ i' → j ≡ j' → d ≡ d' → f ≡ f' → k ≡ k' → g ≡ g'
-      → ◌≡◌ {A = GoosePdu A} (record { gocb_ref = a; live = b; dat_set = h; go_id = c; t = t; st_num = i; sq_num = j; simulation = d; conf_rev = f; nds_com = k; members = g }) (record { gocb_ref = a'; live = b'; dat_set = h'; go_id = c'; t = t'; st_num = i'; sq_num = j'; simulation = d'; conf_rev = f'; nds_com = k'; members = g' })
-  same_pdu a a' b b' h h' c c' t t' i i' j j' d d' f f' k k' g g' ea eb eh ec et ei ej ed ef ek eg = rw (ea, eb, eh, ec, et, ei, ej, ed, ef, ek, eg) refl
+    gocb_ref live dat_set (text_if_one q.go_id r.go_id id) t st_num sq_num simulation conf_rev nds_com entries where
+      same_pdu : (a a' : List ℕ) (b b' : ℕ) (h h' : List ℕ) (c c' : Option (List ℕ)) (t t' : UtcTime) (i i' j j' : ℕ) (d d' : Bool) (f f' : ℕ) (k k' : Bool) (g g' : List Data) → a ≡ a' → b ≡ b' → h ≡ h' → c ≡ c' → t ≡ t' → i ≡ i' → j ≡ j' → d ≡ d' → f ≡ f' → k ≡ k' → g ≡ g'
+          → ◌≡◌ {A = GoosePdu A} (record { gocb_ref = a; live = b; dat_set = h; go_id = c; t = t; st_num = i; sq_num = j; simulation = d; conf_rev = f; nds_com = k; members = g }) (record { gocb_ref = a'; live = b'; dat_set = h'; go_id = c'; t = t'; st_num = i'; sq_num = j'; simulation = d'; conf_rev = f'; nds_com = k'; members = g' })
+      same_pdu a a' b b' h h' c c' t t' i i' j j' d d' f f' k k' g g' ea eb eh ec et ei ej ed ef ek eg = rw (ea, eb, eh, ec, et, ei, ej, ed, ef, ek, eg) refl

@@ -1,5 +1,5 @@
 -- Reading of each kind of contents is sound.
-use Rattle.std.proofs.Common.{◌≡◌, ℕ, ℤ, pos, negsuc, ◌-◌, ◌^◌, ◌≤◌, Bool, List, Result, Ok, Err, refl, sym, ap, subst, ◌∙◌, arith, inl, inr}
+use Rattle.std.proofs.Common.{◌≡◌, ℕ, ℤ, pos, negsuc, ◌-◌, ◌^◌, ◌≤◌, List, Result, Ok, Err, refl, sym, ap, subst, ◌∙◌, arith, inl, inr}
 use Rattle.std.proofs.Common.{rules, length, to_z, of_z, w32, Fits}
 use Rattle.std.proofs.lemmas.Int.{ints}
 use Rattle.std.specs.Borrow.{Bor}
@@ -10,7 +10,7 @@ use mir.Syntax.{w128}
 use Rattle.mms_data.specs.Place.{IsPart}
 use Rattle.std.specs.Prelude.{◌≤ℤ◌}
 use Rattle.ber_core.specs.ContentsReading.{boolean_at, integer_at, visible_at}
-use Rattle.ber_core.specs.Contents.{SpellsInteger, IntegerFault, IsContents}
+use Rattle.ber_core.specs.Contents.{SpellsInteger, IsContents}
 use Rattle.ber_core.specs.Element.{contents_of}
 use Rattle.ber_core.specs.Reading.{◌>>=◌}
 use Rattle.ber_core.specs.declared.element.Header.{Header}
@@ -20,10 +20,12 @@ use Rattle.ber_core.proofs.FieldSound.{IsSound, IsPlaced}
 use Rattle.ber_core.proofs.FieldNested.{ok_is}
 use Rattle.ber_core.proofs.Steps.{bind_ok, bind_err}
 use Rattle.mms_data.specs.Data.{Data}
-use Rattle.mms_data.specs.Reading.{members_at}
 use Rattle.mms_data.specs.Spelling.{SpellsAll, FaultIn}
 use Rattle.mms_data.specs.Utc.{utc_at}
-use Rattle.mms_data.proofs.MembersLaws.{all_found, all_again, all_wrong, all_wrong_again}
+use Rattle.mms_data.proofs.Found.{all_found}
+use Rattle.mms_data.proofs.Again.{all_again}
+use Rattle.mms_data.proofs.Wrong.{all_wrong}
+use Rattle.mms_data.proofs.WrongAgain.{all_wrong_again}
 use Rattle.mms_data.proofs.UtcLaws.{utc_found, utc_again, utc_wrong, utc_wrong_again}
 use Rattle.pdu_core.specs.Contents.{Kind, text, number, flag, time, members, Item, a_text, a_number, a_flag, a_time, some_members, SpellsContents, ContentsFault, contents_grammar}
 use Rattle.pdu_core.specs.ContentsReading.{natural, number_in, members_in, item_at}

@@ -1,5 +1,5 @@
 -- What a call that reads a PDU into memory of its own says of spellings and faults.
-use Rattle.std.proofs.Common.{◌≡◌, ℕ, ◌≤◌, List, length, Result, Ok, Err, sym, subst, ◌∙◌}
+use Rattle.std.proofs.Common.{◌≡◌, ℕ, ◌≤◌, List, length, Ok, Err, sym, subst, ◌∙◌}
 use Rattle.std.specs.Prelude.{slice_range, Option}
 use Rattle.ber_core.specs.declared.fault.Fault.{Fault}
 use Rattle.ber_core.proofs.FieldNested.{ok_is}

@@ -3,9 +3,8 @@ use Rattle.std.proofs.Common.{◌≡◌, ℕ, ◌≤◌, List, length, Result, O
 use Rattle.std.specs.Prelude.{slice_range, IfOk, IfErr}
 use Rattle.ber_core.specs.Reading.{Gives}
 use Rattle.ber_core.specs.declared.fault.Fault.{Fault}
-use Rattle.ber_core.proofs.Exact.{answer_found, answer_fault, answer_fault_only}
+use Rattle.ber_core.proofs.Exact.{answer_fault, answer_fault_only}
 use Rattle.ber_core.proofs.FieldNested.{ok_is}
-use Rattle.pdu_core.specs.Contents.{Item}
 use Rattle.pdu_core.specs.Goose.{goose_items, SpellsGoose, GooseFault}
 use Rattle.pdu_core.specs.GooseReading.{goose_at}
 use Rattle.pdu_core.specs.Views.{pdu_of, Shows}

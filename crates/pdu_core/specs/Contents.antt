@@ -1,5 +1,5 @@
 -- The kinds of contents that the fields of a PDU have, what they spell, and their faults.
-use Rattle.std.specs.Prelude.{◌≡◌, ℕ, pos, ◌^◌, ◌-◌, Bool, List}
+use Rattle.std.specs.Prelude.{ℕ, pos, ◌^◌, ◌-◌, Bool, List}
 use Rattle.ber_core.specs.Contents.{SpellsBoolean, BooleanFault, SpellsInteger, IntegerFault, SpellsVisible, VisibleFault}
 use Rattle.ber_core.specs.Fields.{Grammar}
 use Rattle.ber_core.specs.declared.fault.Fault.{Fault}

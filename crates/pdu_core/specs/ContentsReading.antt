@@ -1,5 +1,5 @@
 -- Reading the contents of a field, by their kind.
-use Rattle.std.specs.Prelude.{◌≡◌, ℕ, ℤ, pos, negsuc, ◌^◌, ◌-◌, List, Result, Ok, Err}
+use Rattle.std.specs.Prelude.{ℕ, ℤ, pos, negsuc, ◌^◌, ◌-◌, List, Result, Ok}
 use Rattle.ber_core.specs.ContentsReading.{boolean_at, integer_at, visible_at}
 use Rattle.ber_core.specs.Element.{contents_of}
 use Rattle.ber_core.specs.FieldReading.{Read}

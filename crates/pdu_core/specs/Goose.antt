@@ -1,5 +1,5 @@
 -- IECGoosePdu (IEC 61850-8-1, annex A): its fields, its spellings, its faults.
-use Rattle.std.specs.Prelude.{◌≡◌, ◌≢◌, ℕ, ◌+◌, ◌⊎◌, Bool, false, List, [], ◌∷◌, ◌++◌, length, Option, Some, None}
+use Rattle.std.specs.Prelude.{◌≡◌, ◌≢◌, ℕ, ◌+◌, ◌⊎◌, false, List, [], ◌∷◌, ◌++◌, length, Option, Some, None}
 use Rattle.ber_core.specs.Length.{Len}
 use Rattle.ber_core.specs.Element.{Elem}
 use Rattle.ber_core.specs.Faults.{fault_of}

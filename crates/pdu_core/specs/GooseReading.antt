@@ -1,6 +1,6 @@
 -- Reading a PDU from left to right, with the first fault that is met. Laws in both directions tie it to the
 -- spellings and the faults.
-use Rattle.std.specs.Prelude.{◌≡◌, ◌==◌, ℕ, drop, List, [], ◌∷◌, length, Option, Some, None, Result, Ok, Err, if◌then◌else◌}
+use Rattle.std.specs.Prelude.{◌==◌, ℕ, drop, List, [], ◌∷◌, length, Option, Some, Result, Ok, if◌then◌else◌}
 use Rattle.ber_core.specs.FieldReading.{ends_at, fields_at, required_at}
 use Rattle.ber_core.specs.Reading.{refused, ◌>>=◌}
 use Rattle.ber_core.specs.declared.fault.Fault.{Fault}

@@ -1,12 +1,13 @@
 -- The written form of a PDU: its spelling with the fewest octets everywhere, FF for true, and each boolean
 -- there (profile).
-use Rattle.std.specs.Prelude.{◌≡◌, ◌&&◌, ◌^◌, ℕ, pos, nat_lt, Bool, true, false, List, [], ◌∷◌, ◌++◌, length, Option, Some, None, Result, Ok, Err}
+use Rattle.std.specs.Prelude.{◌&&◌, ◌^◌, ℕ, pos, nat_lt, Bool, true, false, List, [], ◌∷◌, ◌++◌, Option, Some, None, Result, Ok, Err}
 use Rattle.byteorder.specs.Endian.{big_bytes}
 use Rattle.ber_core.specs.ContentsReading.{all_visible_at}
 use Rattle.ber_core.specs.Fields.{Field}
 use Rattle.ber_core.specs.Written.{short_integer, written_element}
 use Rattle.ber_core.specs.declared.fault.Fault.{Fault}
-use Rattle.mms_data.specs.Written.{all_spelled, written_all}
+use Rattle.mms_data.specs.Written.{written_all}
+use Rattle.mms_data.specs.Spellable.{all_spelled}
 use Rattle.mms_data.specs.declared.time.UtcTime.{UtcTime}
 use Rattle.pdu_core.specs.Contents.{Kind, Item, a_text, a_number, a_flag, a_time, some_members}
 use Rattle.pdu_core.specs.Goose.{goose_fields, goose_items}
@@ -56,11 +57,20 @@ is_ok_reading (Err f) = false
 abbrev pub is_text : List ℕ → Bool
 is_text t = is_ok_reading (all_visible_at 0 t)
 
-abbrev pub is_text_if : Option (List ℕ) → Bool
-is_text_if None = true
-is_text_if (Some t) = is_text t
+-- the value of a field has a spelling
+abbrev pub is_spelled_item : Item → Bool
+is_spelled_item (a_text t) = is_text t
+is_spelled_item (a_number n) = nat_lt n (2 ^ 32)
+is_spelled_item (a_flag b) = true
+is_spelled_item (a_time t) = nat_lt t.seconds (2 ^ 32) && (nat_lt t.fraction (2 ^ 24) && nat_lt t.quality 256)
+is_spelled_item (some_members ds) = all_spelled ds 1
+
+-- each value that is there has a spelling
+abbrev pub are_spelled_items : List (Option Item) → Bool
+are_spelled_items [] = true
+are_spelled_items (None ∷ vs) = are_spelled_items vs
+are_spelled_items (Some x ∷ vs) = is_spelled_item x && are_spelled_items vs
 
 -- each field of the PDU has a spelling
 abbrev pub is_spelled : {A : Type 0} → GoosePdu A → Bool
-is_spelled p =
-    is_text p.gocb_ref && (is_text p.dat_set && (is_text_if p.go_id && (nat_lt p.t.fraction (2 ^ 24) && (nat_lt (length p.members) (2 ^ 32) && all_spelled p.members 1))))
+is_spelled p = are_spelled_items (goose_items p)

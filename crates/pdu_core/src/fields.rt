@@ -15,16 +15,14 @@ ghost use Rattle.pdu_core.specs.Views.{octets_if, IsPartIf};
 use ber_core::contents::{boolean, integer_in, visible};
 use ber_core::fields::{required, there};
 use ber_core::{Fault, Header};
-use mms_data::UtcTime;
-use mms_data::members::{check_members, members};
 use mms_data::utc::utc_time;
-use mms_data::view;
+use mms_data::{Members, UtcTime, check_members, members};
 
 // Members of Data, and their count.
 #[derive(Clone, Copy)]
 pub struct CountedMembers<'a> {
     pub count: usize,
-    pub members: view::Members<'a>,
+    pub members: Members<'a>,
 }
 
 // The number behind a header.

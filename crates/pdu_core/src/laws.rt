@@ -1,6 +1,6 @@
 //! Laws about the definitions that the contracts of this crate cite. The functions compute nothing.
 
-ghost use Rattle.pdu_core.specs.Laws.{FaultIsOne, PduIsOne, PduOrFault};
+ghost use Rattle.pdu_core.specs.Laws.{FaultIsOne, PduIsOne, PduOrFault, WrittenIsSpelled};
 
 use std::alloc::Allocator;
 
@@ -9,4 +9,9 @@ pub fn one_reading<A: Allocator>()
     ensures pdu { PduIsOne A }
     ensures either { PduOrFault A }
     ensures fault { FaultIsOne }
+{}
+
+/// The written form of a PDU that has a spelling is one, unless its contents have more than 4294967295 octets.
+pub fn written_is_spelled<A: Allocator>()
+    ensures { WrittenIsSpelled A }
 {}

@@ -9,6 +9,8 @@ mod owning;
 mod putting;
 mod reading;
 mod spellable;
+#[cfg(test)]
+mod tests;
 mod view;
 mod viewing;
 mod writing;

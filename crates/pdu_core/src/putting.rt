@@ -4,7 +4,7 @@
 ghost use Rattle.std.specs.Prelude.{◌≡◌, ◌≤◌, ◌<◌, ◌+◌, ◌^◌, ◌++◌, length, true, IsOk, OnOk, Some};
 ghost use Rattle.arrayvec.specs.ArrayVec.{array_vec_len};
 ghost use Rattle.ber_core.specs.Element.{IsIdentifier};
-ghost use Rattle.mms_data.specs.Written.{all_spelled};
+ghost use Rattle.mms_data.specs.Spellable.{all_spelled};
 ghost use Rattle.pdu_core.specs.Contents.{a_flag, a_number, a_text, a_time, some_members};
 ghost use Rattle.pdu_core.specs.Goose.{text_if};
 ghost use Rattle.pdu_core.specs.Written.{written_field, written_time};
@@ -13,8 +13,7 @@ use crate::elements::put_element;
 use arrayvec::ArrayVec;
 use ber_core::{Full, put_integer};
 use byteorder::{BigEndian, ByteOrder};
-use mms_data::writing::put_values;
-use mms_data::{Octets, UtcTime, ValueList};
+use mms_data::{Octets, UtcTime, ValueList, put_values};
 use std::alloc::Allocator;
 
 // Appends the field of a text.

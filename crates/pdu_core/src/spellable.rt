@@ -1,12 +1,12 @@
 // Whether a PDU has a spelling.
 
-ghost use Rattle.std.specs.Prelude.{◌≡◌};
-ghost use Rattle.pdu_core.specs.Written.{is_spelled, is_text, is_text_if};
+ghost use Rattle.std.specs.Prelude.{◌≡◌, ◌<◌, ◌^◌, ◌∷◌, []};
+ghost use Rattle.pdu_core.specs.Goose.{text_if};
+ghost use Rattle.pdu_core.specs.Written.{are_spelled_items, is_spelled, is_text};
 
 use crate::goose::GoosePdu;
 use ber_core::contents::check_visible;
-use mms_data::Octets;
-use mms_data::writing::are_spellable;
+use mms_data::{Octets, UtcTime, are_spellable};
 use std::alloc::Allocator;
 
 // Whether the octets are all visible.
@@ -21,12 +21,24 @@ fn is_visible(text: &[u8]) -> bool
 
 // The same of octets that may be absent.
 fn is_visible_if<A: Allocator>(text: &Option<Octets<A>>) -> bool
-    ensures { result ≡ is_text_if text.now }
+    ensures { result ≡ are_spelled_items (text_if text.now ∷ []) }
 {
     match text {
         Some(text) => is_visible(text.as_slice()),
         None => true,
     }
+}
+
+// Each number lies in the range of its type; nothing is computed.
+fn know_ranges(live: u32, t: UtcTime, st_num: u32, sq_num: u32, conf_rev: u32)
+    ensures live { live < 2 ^ 32 }
+    ensures seconds { t.seconds < 2 ^ 32 }
+    ensures quality { t.quality < 256 }
+    ensures st_num { st_num < 2 ^ 32 }
+    ensures sq_num { sq_num < 2 ^ 32 }
+    ensures conf_rev { conf_rev < 2 ^ 32 }
+{
+    let _ = (t.seconds, t.quality);
 }
 
 /// Whether each field of the PDU has a spelling: texts are visible, the fraction of the time is below 2^24,
@@ -50,5 +62,6 @@ pub fn is_spellable<A: Allocator>(pdu: &GoosePdu<A>) -> bool
     if entries.len() > 0xffff_ffff {
         return false;
     }
-    are_spellable(&pdu.members)
+    know_ranges(pdu.live, pdu.t, pdu.st_num, pdu.sq_num, pdu.conf_rev);
+    are_spellable(&pdu.members, 1)
 }

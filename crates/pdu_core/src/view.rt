@@ -1,7 +1,6 @@
 // The PDU of GOOSE where it stands.
 
-use mms_data::UtcTime;
-use mms_data::view::Members;
+use mms_data::{Members, UtcTime};
 
 /// An IECGoosePdu (IEC 61850-8-1) where it stands: the fields of `GoosePdu`, texts and members as parts of
 /// the octets that spell it, and the count of the members.

@@ -10,7 +10,8 @@ ghost use Rattle.pdu_core.specs.Views.{pdu_of, AreParts, Shows};
 ghost use Rattle.pdu_core.specs.declared.goose.GoosePdu.{GoosePdu};
 
 use crate::fields::{
-    CountedMembers, flag_if_there, members_field, number_field, text_field, text_if_there, time_field,
+    CountedMembers, flag_if_there, members_field, number_field, text_field, text_if_there,
+    time_field,
 };
 use crate::view::GooseView;
 use ber_core::fields::{check_end, required};

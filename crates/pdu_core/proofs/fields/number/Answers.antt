@@ -1,4 +1,4 @@
-use Rattle.std.proofs.Common.{sym, ◌∙◌}
+use Rattle.std.proofs.Common.{sym}
 use Rattle.pdu_core.proofs.Items.{cast_fits, number_cast}
 use Rattle.pdu_core.proofs.fields.number.Goals as goal
 

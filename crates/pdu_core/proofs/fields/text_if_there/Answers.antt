@@ -1,4 +1,4 @@
-use Rattle.std.proofs.Common.{◌≤◌, length, arith}
+use Rattle.std.proofs.Common.{arith}
 use Rattle.ber_core.specs.Reading.{IsWithin}
 use Rattle.pdu_core.proofs.Items.{part_of_contents}
 use Rattle.pdu_core.proofs.fields.text_if_there.Goals as goal
