@@ -13,3 +13,4 @@ pub mod Parts
 pub mod Cleared
 pub mod UtcLaws
 pub mod SpellableLaws
+pub mod WrittenSizes
