@@ -14,6 +14,8 @@ mod owning;
 mod putting;
 mod reading;
 mod spellable;
+#[cfg(test)]
+mod tests;
 mod time;
 pub mod utc;
 mod value;
