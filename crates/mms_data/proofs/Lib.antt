@@ -13,3 +13,6 @@ pub mod Parts
 pub mod Cleared
 pub mod UtcLaws
 pub mod SpellableLaws
+pub mod WrittenSizes
+pub mod OneReading
+pub mod WrittenSpelled

@@ -1,11 +1,11 @@
 -- The test of what has a spelling says so, both ways.
-use Rattle.std.proofs.Common.{◌≡◌, ℕ, zero, suc, ◌+◌, ◌-◌, ◌%◌, ◌^◌, ◌≤◌, ◌<◌, Bool, true, false, leb, eqb, List, [], ◌∷◌, length, Result, Ok, Err, refl, sym, ap, ◌∙◌, arith}
+use Rattle.std.proofs.Common.{◌≡◌, ℕ, zero, suc, ◌+◌, ◌-◌, ◌%◌, ◌^◌, ◌<◌, true, leb, eqb, List, [], ◌∷◌, length, Result, Ok, Err, refl, ap, arith}
 use Rattle.std.proofs.lemmas.Bool.{ltb-true, lt-ltb, leb-true, le-leb, eqb-true, eq-eqb, and_parts, and_from}
 use Rattle.std.proofs.lemmas.Int.{ints}
-use Rattle.std.specs.Prelude.{◌&&◌, ◌==◌, nat_le, nat_lt, ◌≤ℤ◌, ◌<ℤ◌, ℤ, pos, negsuc, slice_index}
+use Rattle.std.specs.Prelude.{ℤ, pos, negsuc, slice_index}
 use Rattle.ber_core.specs.declared.fault.Fault.{Fault}
-use Rattle.mms_data.specs.Data.{Simple, boolean, bits, integer, unsigned, floating, octets, visible, binary_time, mms_text, utc, Data, simple, array, structure, Items, no_items, item, items_of}
-use Rattle.mms_data.specs.Contents.{IsSigned, IsUnsigned, AreVisible, IsUnused, cleared}
+use Rattle.mms_data.specs.Data.{Simple, boolean, bits, integer, unsigned, floating, octets, visible, binary_time, mms_text, utc, Data, simple, array, structure, Items, no_items, item}
+use Rattle.mms_data.specs.Contents.{IsSigned, AreVisible, IsUnused, cleared}
 use Rattle.mms_data.specs.ContentsReading.{visible_at}
 use Rattle.mms_data.specs.Spellable.{IsTime, IsSpellable, Spellable, SpellableItems, is_text_read, is_text, are_bits, is_time, is_signed, is_simple, is_spelled, are_spelled}
 use Rattle.mms_data.specs.declared.time.UtcTime.{UtcTime}

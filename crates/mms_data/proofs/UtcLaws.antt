@@ -1,11 +1,9 @@
 -- Reading of a UtcTime: what is read is spelled so, what is spelled so is read; and the same of faults.
-use Rattle.std.proofs.Common.{◌≡◌, ℕ, suc, ◌+◌, ◌≤◌, eqb, List, [], ◌∷◌, ◌++◌, length, take, drop, slice_index, Result, Ok, Err, refl, sym, ap, ◌∙◌, append_assoc, arith, inl, inr}
+use Rattle.std.proofs.Common.{◌≡◌, ℕ, ◌+◌, eqb, List, [], ◌∷◌, ◌++◌, length, take, drop, slice_index, Ok, Err, refl, sym, ap, ◌∙◌, arith, inl, inr}
 use Rattle.std.proofs.lemmas.List.{length-append, length-take, length-drop, take-append-drop, drop-drop, drop_at}
 use Rattle.std.proofs.lemmas.Bool.{eqb-true, eqb-false, eq-eqb, ne_eqb}
 use Rattle.byteorder.specs.Endian.{big_number}
 use Rattle.byteorder.specs.Numbers.{big_from-take, big_from-append}
-use Rattle.ber_core.specs.Length.{number}
-use Rattle.ber_core.specs.Faults.{fault_of}
 use Rattle.ber_core.specs.declared.fault.Fault.{Fault}
 use Rattle.ber_core.specs.declared.fault.Cause.TheVariants as causes
 use Rattle.ber_core.proofs.Steps.{chosen, fault_is}
@@ -31,11 +29,15 @@ eight_spell c size =
     let four : length (take 4 c) ≡ 4 = omega (arith, length-take 4 c) in
     let three : length (take 3 (drop 4 c)) ≡ 3 = omega (arith, length-take 3 (drop 4 c), length-drop 4 c) in
     let behind : drop 3 (drop 4 c) ≡ slice_index c 7 ∷ [] = drop-drop 3 4 c ∙ last_of c size in
-    let rest : drop 4 c ≡ take 3 (drop 4 c) ++ (slice_index c 7 ∷ []) = sym (take-append-drop 3 (drop 4 c)) ∙ ap (λ (x : List ℕ). take 3 (drop 4 c) ++ x) behind in
-    (take 4 c, take 3 (drop 4 c), four, three,
-     ap (λ (n : ℕ). big_number n (take 4 c)) four ∙ big_from-take 0 4 4 c (omega arith),
-     ap (λ (n : ℕ). big_number n (take 3 (drop 4 c))) three ∙ big_from-take 0 3 3 (drop 4 c) (omega arith),
-     sym (take-append-drop 4 c) ∙ ap (λ (x : List ℕ). take 4 c ++ x) rest)
+    let rest : drop 4 c ≡ take 3 (drop 4 c) ++ (slice_index c 7 ∷ []) = sym (take-append-drop 3 (drop 4 c)) ∙ ap (λ (x : List ℕ). take 3 (drop 4 c) ++ x) behind in (
+      take 4 c,
+      take 3 (drop 4 c),
+      four,
+      three,
+      ap (λ (n : ℕ). big_number n (take 4 c)) four ∙ big_from-take 0 4 4 c (omega arith),
+      ap (λ (n : ℕ). big_number n (take 3 (drop 4 c))) three ∙ big_from-take 0 3 3 (drop 4 c) (omega arith),
+      sym (take-append-drop 4 c) ∙ ap (λ (x : List ℕ). take 4 c ++ x) rest,
+    )
 
 -- what is spelled is eight octets, from which the time is computed
 spelled_eight : (t : UtcTime) (c : List ℕ) → SpellsUtc t c → (length c ≡ 8) × (utc_of c ≡ t)

@@ -1,7 +1,6 @@
 -- The contents of the kinds without members (ISO 9506-2, Data; ISO/IEC 8825-1, 8.2, 8.3 and 8.6), and what is
 -- wrong with contents.
 use Rattle.std.specs.Prelude.{◌≡◌, ◌≢◌, ◌≤◌, ◌<◌, ◌≤ℤ◌, ◌<ℤ◌, ◌+◌, ◌-◌, ◌^◌, ◌%◌, ◌⊎◌, ℕ, ℤ, pos, negsuc, not, ◌==◌, List, [], ◌∷◌, ◌++◌, length}
-use Rattle.ber_core.specs.Length.{number}
 use Rattle.ber_core.specs.Integer.{Int}
 use Rattle.ber_core.specs.Faults.{fault_of}
 use Rattle.ber_core.specs.declared.fault.Fault.{Fault}

@@ -1,7 +1,7 @@
 -- Reading contents of the kinds without members as a function on octets: p is the identifier's place, s that of
 -- the first octet of contents. Laws in both directions tie it to the spellings and the faults.
-use Rattle.std.specs.Prelude.{◌+◌, ◌^◌, ℕ, ℤ, pos, negsuc, Bool, not, ◌&&◌, ◌||◌, ◌==◌, nat_lt, nat_le, if◌then◌else◌, List, [], ◌∷◌, length, drop, slice_index, Result, Ok}
-use Rattle.byteorder.specs.Endian.{twos_complement, big_number}
+use Rattle.std.specs.Prelude.{◌+◌, ◌^◌, ℕ, ℤ, pos, negsuc, Bool, not, ◌&&◌, ◌||◌, ◌==◌, nat_lt, nat_le, if◌then◌else◌, List, [], ◌∷◌, length, Result, Ok}
+use Rattle.byteorder.specs.Endian.{twos_complement}
 use Rattle.ber_core.specs.Length.{number}
 use Rattle.ber_core.specs.Reading.{◌>>=◌, refused}
 use Rattle.ber_core.specs.declared.fault.Fault.{Fault}

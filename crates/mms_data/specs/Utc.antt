@@ -1,6 +1,6 @@
 -- What the contents of a UtcTime spell, their fault where they spell nothing, and reading them as a function on
 -- octets. The element stands at the place at, and its contents are c.
-use Rattle.std.specs.Prelude.{◌≡◌, ◌≢◌, ◌+◌, ◌==◌, ℕ, List, [], ◌∷◌, ◌++◌, length, drop, slice_index, Result, Ok, Err, if◌then◌else◌}
+use Rattle.std.specs.Prelude.{◌≡◌, ◌≢◌, ◌+◌, ◌==◌, ℕ, List, [], ◌∷◌, ◌++◌, length, drop, slice_index, Result, Ok, if◌then◌else◌}
 use Rattle.byteorder.specs.Endian.{big_number}
 use Rattle.ber_core.specs.Length.{number}
 use Rattle.ber_core.specs.Faults.{fault_of}

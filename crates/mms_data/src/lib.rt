@@ -7,14 +7,20 @@ mod contents;
 mod copying;
 mod fault;
 mod kinds;
+pub mod laws;
+mod measuring;
 mod octets;
 mod owning;
+mod putting;
 mod reading;
 mod spellable;
+#[cfg(test)]
+mod tests;
 mod time;
 pub mod utc;
 mod value;
 mod view;
+pub mod writing;
 
 pub use crate::checking::check_members;
 pub use crate::fault::{PutFault, ReadFault};
@@ -24,3 +30,4 @@ pub use crate::spellable::{are_spellable, is_spellable};
 pub use crate::time::UtcTime;
 pub use crate::value::{BitText, Value, ValueList};
 pub use crate::view::{BitView, Members, View};
+pub use crate::writing::{put_value, put_values, spelled_length};
