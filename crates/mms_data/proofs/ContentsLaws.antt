@@ -1,12 +1,10 @@
 -- Contents of the kinds without members: what is read is spelled so, what is spelled so is read; and the same of
 -- faults.
-use Rattle.std.proofs.Common.{◌≡◌, ◌≢◌, ℕ, ◌+◌, ◌^◌, ◌<◌, Bool, true, false, not, cond, ltb, leb, eqb, List, [], ◌∷◌, ◌++◌, length, drop, Result, Ok, Err, refl, sym, ap, ap₂, subst, ◌∙◌, append_assoc, arith, inl, inr}
-use Rattle.std.proofs.lemmas.List.{length-append, drop_at}
-use Rattle.std.proofs.lemmas.Bool.{ltb-true, ltb-false, lt-ltb, leb-true, leb-false, le-leb, lt-leb, eqb-true, eqb-false, ne_eqb, eq-eqb, and_parts, and_cases, or_cases}
+use Rattle.std.proofs.Common.{◌≡◌, ◌≢◌, ℕ, ◌+◌, ◌^◌, ◌<◌, Bool, true, false, not, cond, ltb, leb, eqb, List, [], ◌∷◌, ◌++◌, length, Result, Ok, Err, refl, sym, ap, ap₂, subst, ◌∙◌, arith, inl, inr}
+use Rattle.std.proofs.lemmas.Bool.{ltb-true, ltb-false, lt-ltb, leb-true, leb-false, le-leb, lt-leb, eqb-true, and_parts, and_cases, or_cases}
 use Rattle.std.proofs.lemmas.Int.{ints}
-use Rattle.std.specs.Prelude.{◌⊎◌, ◌&&◌, ℤ, pos, negsuc, slice_index}
-use Rattle.byteorder.specs.Endian.{big_number, twos_complement}
-use Rattle.byteorder.specs.Numbers.{big_from-append}
+use Rattle.std.specs.Prelude.{◌⊎◌, ◌&&◌, ℤ, pos, negsuc}
+use Rattle.byteorder.specs.Endian.{twos_complement}
 use Rattle.ber_core.specs.Length.{number}
 use Rattle.ber_core.specs.Integer.{Int}
 use Rattle.ber_core.specs.Faults.{fault_of}
@@ -17,11 +15,12 @@ use Rattle.ber_core.specs.declared.fault.Cause.TheVariants as causes
 use Rattle.ber_core.proofs.Steps.{chosen, bind_ok, bind_err, fault_is}
 use Rattle.mms_data.specs.Data.{Simple, boolean, bits, integer, unsigned, floating, octets, visible, binary_time, mms_text, utc}
 use Rattle.mms_data.specs.Kinds.{simple_kind}
-use Rattle.mms_data.specs.Contents.{IsSigned, IsUnsigned, IsFloatingCount, IsTimeCount, IsVisible, AreVisible, cleared, IsUnused, SpellsBits, SpellsTime, SpellsSimple, IntegerFault, VisibleFault, BitsFault, SimpleFault}
-use Rattle.mms_data.specs.ContentsReading.{boolean_at, integer_at, signed_of, unsigned_of, signed_at, unsigned_at, counted_at, is_floating_count, is_time_count, is_visible, visible_at, is_unused, bits_at, time_of, time_at, simple_at}
+use Rattle.mms_data.specs.Contents.{IsSigned, IsUnsigned, IsFloatingCount, IsTimeCount, IsVisible, AreVisible, cleared, IsUnused, SpellsBits, SpellsSimple, IntegerFault, VisibleFault, BitsFault, SimpleFault}
+use Rattle.mms_data.specs.ContentsReading.{boolean_at, integer_at, signed_of, unsigned_of, signed_at, unsigned_at, counted_at, is_floating_count, is_time_count, is_visible, visible_at, is_unused, bits_at, simple_at}
 use Rattle.mms_data.specs.declared.kinds.SimpleKind.{SimpleKind}
 use Rattle.mms_data.specs.declared.kinds.SimpleKind.TheVariants as kinds
-use Rattle.mms_data.specs.declared.time.UtcTime.{UtcTime}
+use Rattle.mms_data.specs.Utc.{utc_at}
+use Rattle.mms_data.proofs.UtcLaws.{utc_found, utc_again, utc_wrong, utc_wrong_again}
 
 -- a test that lets a value through
 tested_ok : {A : Type 0} (b : Bool) (x y : A) (p : ℕ) (why : Cause) → cond b (Ok x) (refused p why) ≡ Ok y → (b ≡ true) × (x ≡ y)
@@ -142,17 +141,17 @@ range_refused InRange ranged p s c f law (inr h) = rw (integer_again p c h.1 h.2
 
 -- ---- counts
 
-floating_true : (n : ℕ) → IsFloatingCount n → is_floating_count n ≡ true
+pub floating_true : (n : ℕ) → IsFloatingCount n → is_floating_count n ≡ true
 floating_true n h = rw (le-leb 1 n h.0, le-leb n 16 h.1) refl
 
-floating_is : (n : ℕ) → is_floating_count n ≡ true → IsFloatingCount n
+pub floating_is : (n : ℕ) → is_floating_count n ≡ true → IsFloatingCount n
 floating_is n e = let b = and_parts _ _ e in (leb-true _ _ b.0, leb-true _ _ b.1)
 
-time_true : (n : ℕ) → IsTimeCount n → is_time_count n ≡ true
+pub time_true : (n : ℕ) → IsTimeCount n → is_time_count n ≡ true
 time_true n (inl h) = rw h refl
 time_true n (inr h) = rw h refl
 
-time_is : (n : ℕ) → is_time_count n ≡ true → IsTimeCount n
+pub time_is : (n : ℕ) → is_time_count n ≡ true → IsTimeCount n
 time_is n e = elim (or_cases _ _ e) [ inl a ↦ inl (eqb-true _ _ a) | inr b ↦ inr (eqb-true _ _ b) ]
 
 counted_wrong : (b : Bool) (IsGood : Type 0) (p : ℕ) (c : List ℕ) (f : Fault) → (IsGood → b ≡ true) → counted_at b p c ≡ Err f → (f ≡ fault_of (p + 1) causes.FixedLength) × ¬ IsGood
@@ -173,11 +172,11 @@ visible_is n e = let b = and_parts _ _ e in (leb-true _ _ b.0, leb-true _ _ b.1)
 visible_false : (n : ℕ) → (¬ IsVisible n) → is_visible n ≡ false
 visible_false n h = elim (chosen (is_visible n) true false _ refl) [ inl t ↦ absurd (h (visible_is n t.0)) | inr t ↦ t.0 ]
 
-text_again : (s : ℕ) (c : List ℕ) → AreVisible c → visible_at s c ≡ Ok tt
+pub text_again : (s : ℕ) (c : List ℕ) → AreVisible c → visible_at s c ≡ Ok tt
 text_again s [] h = refl
 text_again s (n ∷ ns) h = rw (visible_true n h.0) (text_again (s + 1) ns h.1)
 
-text_found : (s : ℕ) (c : List ℕ) (u : Unit {0}) → visible_at s c ≡ Ok u → AreVisible c
+pub text_found : (s : ℕ) (c : List ℕ) (u : Unit {0}) → visible_at s c ≡ Ok u → AreVisible c
 text_found s [] u e = tt
 text_found s (n ∷ ns) u e = elim (chosen (is_visible n) _ _ _ e) [
   | inl t ↦ (visible_is n t.0, text_found (s + 1) ns u t.1)
@@ -208,11 +207,11 @@ text_refused s c f w = ap (visible_at s) w.parts ∙ text_behind s w.before w.oc
 
 -- ---- bits
 
-unused_true : (n : ℕ) (ns : List ℕ) → IsUnused n ns → is_unused n ns ≡ true
+pub unused_true : (n : ℕ) (ns : List ℕ) → IsUnused n ns → is_unused n ns ≡ true
 unused_true n [] h = rw h refl
 unused_true n (m ∷ ns) h = le-leb n 7 h
 
-unused_is : (n : ℕ) (ns : List ℕ) → is_unused n ns ≡ true → IsUnused n ns
+pub unused_is : (n : ℕ) (ns : List ℕ) → is_unused n ns ≡ true → IsUnused n ns
 unused_is n [] e = eqb-true _ _ e
 unused_is n (m ∷ ns) e = leb-true _ _ e
 
@@ -239,59 +238,6 @@ bits_refused s (n ∷ more) f h = elim (chosen (is_unused n more) true false _ r
   | inr t ↦ let no : is_unused n more ≡ false = t.0 in rw (no, h.0) refl
 ]
 
--- ---- moments
-
-number_front : (a b : List ℕ) (n : ℕ) → length a ≡ n → big_number n (a ++ b) ≡ number a
-number_front a b n size = rw (sym size) (big_from-append (length a) a b (omega arith))
-
--- the octet behind n octets
-octet_behind : (xs : List ℕ) (q n : ℕ) → length xs ≡ n → slice_index (xs ++ q ∷ []) n ≡ q
-octet_behind [] q n size = rw (sym size) refl
-octet_behind (x ∷ xs) q n size = rw (sym size) (octet_behind xs q (length xs) refl)
-
-moment_is : (seconds fraction : List ℕ) (quality : ℕ) → length seconds ≡ 4 → length fraction ≡ 3
-    → time_of (seconds ++ (fraction ++ quality ∷ [])) ≡ record { seconds = number seconds; fraction = number fraction; quality = quality }
-moment_is seconds fraction quality four three =
-    let a : big_number 4 (seconds ++ (fraction ++ quality ∷ [])) ≡ number seconds = number_front seconds (fraction ++ quality ∷ []) 4 four in
-    let b : big_number 3 (drop 4 (seconds ++ (fraction ++ quality ∷ []))) ≡ number fraction = ap (big_number 3) (drop_at seconds (fraction ++ quality ∷ []) 4 four) ∙ number_front fraction (quality ∷ []) 3 three in
-    let c : slice_index (seconds ++ (fraction ++ quality ∷ [])) 7 ≡ quality =
-    ap (λ (x : List ℕ). slice_index x 7) (sym (append_assoc seconds fraction (quality ∷ []))) ∙ octet_behind (seconds ++ fraction) quality 7 (omega (arith, length-append seconds fraction)) in
-    let make : ℕ → ℕ → ℕ → UtcTime = λ x y z. record { seconds = x; fraction = y; quality = z } in
-    ap₂ (λ x y. make x y (slice_index (seconds ++ (fraction ++ quality ∷ [])) 7)) a b ∙ ap (make (number seconds) (number fraction)) c
-
-time_again : (p : ℕ) (t : UtcTime) (c : List ℕ) → SpellsTime t c → time_at p c ≡ Ok t
-time_again p t c h =
-    let size : length c ≡ 8 = omega (arith, ap length h.4, length-append h.0 (h.1 ++ t.quality ∷ []), length-append h.1 (t.quality ∷ []), h.2, h.3) in
-    let make : ℕ → ℕ → UtcTime = λ x y. record { seconds = x; fraction = y; quality = t.quality } in
-    let is : time_of c ≡ t = ap time_of h.4 ∙ moment_is h.0 h.1 t.quality h.2 h.3 ∙ ap₂ make h.5 h.6 in
-    rw (eq-eqb (length c) 8 size) (ap (λ x. Ok x) is)
-
--- eight octets, cut
-cut_eight : (c : List ℕ) → length c ≡ 8 → (seconds : List ℕ) × (fraction : List ℕ) × (quality : ℕ) × (length seconds ≡ 4) × (length fraction ≡ 3) × (c ≡ seconds ++ (fraction ++ quality ∷ []))
-cut_eight [] size = absurd (omega arith)
-cut_eight (a1 ∷ []) size = absurd (omega arith)
-cut_eight (a1 ∷ a2 ∷ []) size = absurd (omega arith)
-cut_eight (a1 ∷ a2 ∷ a3 ∷ []) size = absurd (omega arith)
-cut_eight (a1 ∷ a2 ∷ a3 ∷ a4 ∷ []) size = absurd (omega arith)
-cut_eight (a1 ∷ a2 ∷ a3 ∷ a4 ∷ a5 ∷ []) size = absurd (omega arith)
-cut_eight (a1 ∷ a2 ∷ a3 ∷ a4 ∷ a5 ∷ a6 ∷ []) size = absurd (omega arith)
-cut_eight (a1 ∷ a2 ∷ a3 ∷ a4 ∷ a5 ∷ a6 ∷ a7 ∷ []) size = absurd (omega arith)
-cut_eight (a1 ∷ a2 ∷ a3 ∷ a4 ∷ a5 ∷ a6 ∷ a7 ∷ a8 ∷ []) size = (a1 ∷ a2 ∷ a3 ∷ a4 ∷ [], a5 ∷ a6 ∷ a7 ∷ [], a8, refl, refl, refl)
-cut_eight (a1 ∷ a2 ∷ a3 ∷ a4 ∷ a5 ∷ a6 ∷ a7 ∷ a8 ∷ a9 ∷ more) size = absurd (omega arith)
-
-time_found : (p : ℕ) (c : List ℕ) (t : UtcTime) → time_at p c ≡ Ok t → SpellsTime t c
-time_found p c t e =
-    let x = tested_ok (eqb (length c) 8) (time_of c) t (p + 1) causes.FixedLength e in
-    let parts = cut_eight c (eqb-true _ _ x.0) in
-    let is : record { seconds = number parts.0; fraction = number parts.1; quality = parts.2 } ≡ t = sym (moment_is parts.0 parts.1 parts.2 parts.3 parts.4) ∙ ap time_of (sym parts.5) ∙ x.1 in
-    subst (λ m. SpellsTime m c) is (parts.0, parts.1, parts.3, parts.4, parts.5, refl, refl)
-
-time_wrong : (p : ℕ) (c : List ℕ) (f : Fault) → time_at p c ≡ Err f → (f ≡ fault_of (p + 1) causes.FixedLength) × (length c ≢ 8)
-time_wrong p c f e = let t = tested_err (eqb (length c) 8) (time_of c) f (p + 1) causes.FixedLength e in (t.1, eqb-false _ _ t.0)
-
-time_refused : (p : ℕ) (c : List ℕ) → length c ≢ 8 → time_at p c ≡ refused (p + 1) causes.FixedLength
-time_refused p c never = rw (ne_eqb (length c) 8 never) refl
-
 -- ---- all kinds
 
 -- what contents spell is read
@@ -306,7 +252,7 @@ simple_again (octets ns) p s c h = rw h refl
 simple_again (visible ns) p s c h = rw (h.0, text_again s ns h.1) refl
 simple_again (binary_time ns) p s c h = rw (h.0, time_true (length ns) h.1) refl
 simple_again (mms_text ns) p s c h = rw h refl
-simple_again (utc t) p s c h = rw (time_again p t c h) refl
+simple_again (utc t) p s c h = rw (utc_again p c t h) refl
 
 -- a value of this kind, which c spells
 pub record Holds (k : SimpleKind) (c : List ℕ) (v : Simple) : Type 0 where
@@ -344,7 +290,7 @@ simple_found kinds.BinaryTime p s c v e =
     let t = tested_ok (is_time_count (length c)) c x.0 (p + 1) causes.FixedLength x.1 in
     rw (x.2, ← t.1) (record { kind = refl; spelled = (refl, time_is (length c) t.0) })
 simple_found kinds.MmsString p s c v e = let is : v ≡ mms_text c = cc in rw is (record { kind = refl; spelled = refl })
-simple_found kinds.UtcTime p s c v e = let x = value_is (time_at p c) utc v e in rw x.2 (record { kind = refl; spelled = time_found p c x.0 x.1 })
+simple_found kinds.UtcTime p s c v e = let x = value_is (utc_at p c) utc v e in rw x.2 (record { kind = refl; spelled = utc_found p c x.0 x.1 })
 
 -- where reading stops there is that fault
 pub simple_wrong : (k : SimpleKind) (p s : ℕ) (c : List ℕ) (f : Fault) → simple_at k p s c ≡ Err f → SimpleFault f k p s c
@@ -360,7 +306,7 @@ simple_wrong kinds.VisibleString p s c f e = text_wrong s c f (fault_of_first (v
 simple_wrong kinds.BinaryTime p s c f e =
     counted_wrong (is_time_count (length c)) (IsTimeCount (length c)) p c f (time_true (length c)) (fault_of_first (counted_at (is_time_count (length c)) p c) binary_time f e)
 simple_wrong kinds.MmsString p s c f e = let wrong : ⊥ = cc in wrong
-simple_wrong kinds.UtcTime p s c f e = time_wrong p c f (fault_of_first (time_at p c) utc f e)
+simple_wrong kinds.UtcTime p s c f e = utc_wrong p c f (fault_of_first (utc_at p c) utc f e)
 
 -- and where there is a fault reading stops with it
 pub simple_refused : (k : SimpleKind) (p s : ℕ) (c : List ℕ) (f : Fault) → SimpleFault f k p s c → simple_at k p s c ≡ Err f
@@ -374,4 +320,4 @@ simple_refused kinds.OctetString p s c f h = absurd h
 simple_refused kinds.VisibleString p s c f h = rw (text_refused s c f h) refl
 simple_refused kinds.BinaryTime p s c f h = rw (counted_refused (is_time_count (length c)) (IsTimeCount (length c)) p c (time_is (length c)) h.1, h.0) refl
 simple_refused kinds.MmsString p s c f h = absurd h
-simple_refused kinds.UtcTime p s c f h = rw (time_refused p c h.1, h.0) refl
+simple_refused kinds.UtcTime p s c f h = rw (utc_wrong_again p c f h) refl

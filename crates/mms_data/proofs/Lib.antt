@@ -11,3 +11,6 @@ pub mod Front
 pub mod Few
 pub mod Parts
 pub mod Cleared
+pub mod UtcLaws
+pub mod SpellableLaws
+pub mod WrittenSizes

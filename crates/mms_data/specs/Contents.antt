@@ -1,7 +1,6 @@
 -- The contents of the kinds without members (ISO 9506-2, Data; ISO/IEC 8825-1, 8.2, 8.3 and 8.6), and what is
 -- wrong with contents.
 use Rattle.std.specs.Prelude.{◌≡◌, ◌≢◌, ◌≤◌, ◌<◌, ◌≤ℤ◌, ◌<ℤ◌, ◌+◌, ◌-◌, ◌^◌, ◌%◌, ◌⊎◌, ℕ, ℤ, pos, negsuc, not, ◌==◌, List, [], ◌∷◌, ◌++◌, length}
-use Rattle.ber_core.specs.Length.{number}
 use Rattle.ber_core.specs.Integer.{Int}
 use Rattle.ber_core.specs.Faults.{fault_of}
 use Rattle.ber_core.specs.declared.fault.Fault.{Fault}
@@ -9,7 +8,7 @@ use Rattle.ber_core.specs.declared.fault.Cause.TheVariants as causes
 use Rattle.mms_data.specs.Data.{Simple, boolean, bits, integer, unsigned, floating, octets, visible, binary_time, mms_text, utc}
 use Rattle.mms_data.specs.declared.kinds.SimpleKind.{SimpleKind}
 use Rattle.mms_data.specs.declared.kinds.SimpleKind.TheVariants as kinds
-use Rattle.mms_data.specs.declared.time.UtcTime.{UtcTime}
+use Rattle.mms_data.specs.Utc.{SpellsUtc, UtcFault}
 
 -- profile: the integers that are accepted as signed
 abbrev pub IsSigned : ℤ → Type 0
@@ -52,11 +51,6 @@ abbrev pub SpellsBits : ℕ → List ℕ → List ℕ → Type 0
 SpellsBits unused ns [] = ⊥
 SpellsBits unused ns (count ∷ more) = (count ≡ unused) × IsUnused count more × (ns ≡ cleared count more)
 
--- contents of a UtcTime: four octets of seconds, three of fraction, one of quality
-abbrev pub SpellsTime : UtcTime → List ℕ → Type 0
-SpellsTime t c = (seconds : List ℕ) × (fraction : List ℕ) × (length seconds ≡ 4) × (length fraction ≡ 3) × (c ≡ seconds ++ (fraction ++ t.quality ∷ []))
-    × (number seconds ≡ t.seconds) × (number fraction ≡ t.fraction)
-
 -- the contents of a value, c, by its kind
 abbrev pub SpellsSimple : Simple → List ℕ → Type 0
 SpellsSimple (boolean b) c = (octet : ℕ) × (c ≡ octet ∷ []) × (b ≡ not (octet == 0))
@@ -68,7 +62,7 @@ SpellsSimple (octets ns) c = c ≡ ns
 SpellsSimple (visible ns) c = (c ≡ ns) × AreVisible ns
 SpellsSimple (binary_time ns) c = (c ≡ ns) × IsTimeCount (length ns)
 SpellsSimple (mms_text ns) c = c ≡ ns
-SpellsSimple (utc t) c = SpellsTime t c
+SpellsSimple (utc t) c = SpellsUtc t c
 
 -- ---- faults: p is the identifier's place, s that of the first octet of contents
 
@@ -104,4 +98,4 @@ SimpleFault f kinds.OctetString p s c = ⊥
 SimpleFault f kinds.VisibleString p s c = VisibleFault f s c
 SimpleFault f kinds.BinaryTime p s c = (f ≡ fault_of (p + 1) causes.FixedLength) × ¬ IsTimeCount (length c)
 SimpleFault f kinds.MmsString p s c = ⊥
-SimpleFault f kinds.UtcTime p s c = (f ≡ fault_of (p + 1) causes.FixedLength) × (length c ≢ 8)
+SimpleFault f kinds.UtcTime p s c = UtcFault f p c

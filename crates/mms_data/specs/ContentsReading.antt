@@ -1,7 +1,7 @@
 -- Reading contents of the kinds without members as a function on octets: p is the identifier's place, s that of
 -- the first octet of contents. Laws in both directions tie it to the spellings and the faults.
-use Rattle.std.specs.Prelude.{◌+◌, ◌^◌, ℕ, ℤ, pos, negsuc, Bool, not, ◌&&◌, ◌||◌, ◌==◌, nat_lt, nat_le, if◌then◌else◌, List, [], ◌∷◌, length, drop, slice_index, Result, Ok}
-use Rattle.byteorder.specs.Endian.{twos_complement, big_number}
+use Rattle.std.specs.Prelude.{◌+◌, ◌^◌, ℕ, ℤ, pos, negsuc, Bool, not, ◌&&◌, ◌||◌, ◌==◌, nat_lt, nat_le, if◌then◌else◌, List, [], ◌∷◌, length, Result, Ok}
+use Rattle.byteorder.specs.Endian.{twos_complement}
 use Rattle.ber_core.specs.Length.{number}
 use Rattle.ber_core.specs.Reading.{◌>>=◌, refused}
 use Rattle.ber_core.specs.declared.fault.Fault.{Fault}
@@ -10,7 +10,7 @@ use Rattle.mms_data.specs.Contents.{cleared}
 use Rattle.mms_data.specs.Data.{Simple, boolean, bits, integer, unsigned, floating, octets, visible, binary_time, mms_text, utc}
 use Rattle.mms_data.specs.declared.kinds.SimpleKind.{SimpleKind}
 use Rattle.mms_data.specs.declared.kinds.SimpleKind.TheVariants as kinds
-use Rattle.mms_data.specs.declared.time.UtcTime.{UtcTime}
+use Rattle.mms_data.specs.Utc.{utc_at}
 
 abbrev pub boolean_at : ℕ → List ℕ → Result Bool Fault
 boolean_at p [] = refused (p + 1) causes.BooleanLength
@@ -63,12 +63,6 @@ abbrev pub bits_at : ℕ → List ℕ → Result (ℕ × List ℕ) Fault
 bits_at s [] = refused s causes.BitUnused
 bits_at s (unused ∷ more) = if is_unused unused more then Ok (unused, more) else refused s causes.BitUnused
 
-abbrev pub time_of : List ℕ → UtcTime
-time_of c = record { seconds = big_number 4 c; fraction = big_number 3 (drop 4 c); quality = slice_index c 7 }
-
-abbrev pub time_at : ℕ → List ℕ → Result UtcTime Fault
-time_at p c = if length c == 8 then Ok (time_of c) else refused (p + 1) causes.FixedLength
-
 -- the value that contents of a kind spell
 unfoldable pub simple_at : SimpleKind → ℕ → ℕ → List ℕ → Result Simple Fault
 simple_at kinds.Boolean p s c = boolean_at p c >>= λ b. Ok (boolean b)
@@ -80,4 +74,4 @@ simple_at kinds.OctetString p s c = Ok (octets c)
 simple_at kinds.VisibleString p s c = visible_at s c >>= λ u. Ok (visible c)
 simple_at kinds.BinaryTime p s c = counted_at (is_time_count (length c)) p c >>= λ o. Ok (binary_time o)
 simple_at kinds.MmsString p s c = Ok (mms_text c)
-simple_at kinds.UtcTime p s c = time_at p c >>= λ t. Ok (utc t)
+simple_at kinds.UtcTime p s c = utc_at p c >>= λ t. Ok (utc t)

@@ -12,3 +12,6 @@ pub mod Left
 pub mod Meaning
 pub mod Place
 pub mod Answers
+pub mod Utc
+pub mod Spellable
+pub mod Written

@@ -3,13 +3,13 @@
 
 ghost use Rattle.std.specs.Prelude.{◌≡◌, ◌+◌, ◌<◌, ◌≤◌, ◌^◌, length, Ok, Err, IfOk};
 ghost use Rattle.ber_core.specs.Reading.{Gives};
-ghost use Rattle.mms_data.specs.ContentsReading.{bits_at, boolean_at, integer_at, signed_at, time_at, unsigned_at, visible_at};
+ghost use Rattle.mms_data.specs.ContentsReading.{bits_at, boolean_at, integer_at, signed_at, unsigned_at, visible_at};
 ghost use Rattle.mms_data.specs.Meaning.{meaning};
 ghost use Rattle.mms_data.specs.Place.{IsPart, ViewIsPart};
 ghost use Rattle.mms_data.specs.Reading.{simple_data_at};
 
 use crate::kinds::SimpleKind;
-use crate::time::UtcTime;
+use crate::utc::eight_octets;
 use crate::view::{BitView, View};
 use ber_core::{Cause, Fault};
 use byteorder::{BigEndian, ByteOrder};
@@ -46,7 +46,7 @@ pub(crate) fn simple<'a>(
             _ => Err(Cause::FixedLength.at(at + 1)),
         },
         SimpleKind::MmsString => Ok(View::MmsText(contents)),
-        SimpleKind::UtcTime => Ok(View::Utc(time(contents, at)?)),
+        SimpleKind::UtcTime => Ok(View::Utc(eight_octets(contents, at)?)),
     }
 }
 
@@ -113,7 +113,7 @@ fn unsigned(contents: &[u8], at: usize, from: usize) -> Result<u64, Fault>
 }
 
 // Whether each octet is a character of visible text.
-fn visible(contents: &[u8], from: usize) -> Result<(), Fault>
+pub(crate) fn visible(contents: &[u8], from: usize) -> Result<(), Fault>
     requires { from + length contents.now < 2 ^ 64 }
     ensures { result ≡ visible_at from contents.now }
 {
@@ -123,19 +123,4 @@ fn visible(contents: &[u8], from: usize) -> Result<(), Fault>
         }
     }
     Ok(())
-}
-
-// A moment of eight octets.
-fn time(contents: &[u8], at: usize) -> Result<UtcTime, Fault>
-    requires { at + 1 < 2 ^ 64 }
-    ensures { result ≡ time_at at contents.now }
-{
-    if contents.len() != 8 {
-        return Err(Cause::FixedLength.at(at + 1));
-    }
-    Ok(UtcTime {
-        seconds: BigEndian::read_u32(contents),
-        fraction: BigEndian::read_u24(&contents[4..]),
-        quality: contents[7],
-    })
 }

@@ -1,0 +1,39 @@
+//! The contents of a UtcTime.
+
+ghost use Rattle.std.specs.Prelude.{◌≡◌, ◌≤◌, ◌<◌, ◌+◌, ◌^◌, length};
+ghost use Rattle.ber_core.specs.Element.{contents_of};
+ghost use Rattle.mms_data.specs.Utc.{utc_at};
+
+use crate::time::UtcTime;
+use ber_core::{Cause, Fault, Header};
+use byteorder::{BigEndian, ByteOrder};
+
+/// The time that the contents behind `header` spell (IEC 61850-8-1).
+///
+/// # Errors
+///
+/// `FixedLength` at the identifier's place plus 1, where the contents are not eight octets.
+pub fn utc_time(octets: &[u8], header: &Header) -> Result<UtcTime, Fault>
+    requires behind { header.now.at < header.now.contents_from }
+    requires ordered { header.now.contents_from ≤ header.now.contents_to }
+    requires inside { header.now.contents_to ≤ length octets.now }
+    ensures exact { result ≡ utc_at header.now.at (contents_of octets.now header.now) }
+{
+    eight_octets(&octets[header.contents_from..header.contents_to], header.at)
+}
+
+// The time that the contents spell, behind the identifier that stands at `at`.
+#[tactic(auto, unfolding(crate::specs::Utc::utc_at))]
+pub(crate) fn eight_octets(contents: &[u8], at: usize) -> Result<UtcTime, Fault>
+    requires { at + 1 < 2 ^ 64 }
+    ensures { result ≡ utc_at at contents.now }
+{
+    if contents.len() != 8 {
+        return Err(Cause::FixedLength.at(at + 1));
+    }
+    Ok(UtcTime {
+        seconds: BigEndian::read_u32(contents),
+        fraction: BigEndian::read_u24(&contents[4..]),
+        quality: contents[7],
+    })
+}
