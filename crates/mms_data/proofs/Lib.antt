@@ -14,3 +14,5 @@ pub mod Cleared
 pub mod UtcLaws
 pub mod SpellableLaws
 pub mod WrittenSizes
+pub mod OneReading
+pub mod WrittenSpelled

@@ -15,3 +15,4 @@ pub mod Answers
 pub mod Utc
 pub mod Spellable
 pub mod Written
+pub mod Laws

@@ -7,6 +7,7 @@ mod contents;
 mod copying;
 mod fault;
 mod kinds;
+pub mod laws;
 mod measuring;
 mod octets;
 mod owning;

@@ -1,0 +1,29 @@
+-- Octets have one reading, since reading is a function.
+use Rattle.std.proofs.Common.{◌≡◌, ℕ, ◌-◌, List, Result, Ok, Err, refl, sym, ◌∙◌, arith, inl, inr}
+use Rattle.std.specs.Prelude.{◌≤◌, ◌⊎◌}
+use Rattle.ber_core.specs.declared.fault.Fault.{Fault}
+use Rattle.mms_data.specs.Data.{Data}
+use Rattle.mms_data.specs.Laws.{MembersOrFault, MembersElseFault, FaultIsOne, MembersAreOne}
+use Rattle.mms_data.specs.Reading.{members_at}
+use Rattle.mms_data.specs.Spelling.{SpellsAll, SpellSome, FaultIn}
+use Rattle.mms_data.proofs.Again.{all_again}
+use Rattle.mms_data.proofs.Found.{all_found}
+use Rattle.mms_data.proofs.Front.{one_value}
+use Rattle.mms_data.proofs.Wrong.{all_wrong}
+use Rattle.mms_data.proofs.WrongAgain.{all_wrong_again}
+
+pub members_are_one : MembersAreOne
+members_are_one L o ds es last s t = one_value L last o ds es s t
+
+pub members_or_fault : MembersOrFault
+members_or_fault L p o ds f last s h = let both = sym (all_again (17 - L) L (omega arith) p o ds s) ∙ all_wrong_again (17 - L) L f (omega arith) p o h in cc
+
+pub fault_is_one : FaultIsOne
+fault_is_one L p o f g last h i = let both = sym (all_wrong_again (17 - L) L f (omega arith) p o h) ∙ all_wrong_again (17 - L) L g (omega arith) p o i in cc
+
+either : (L p : ℕ) (o : List ℕ) → L ≤ 17 → (r : Result (List Data) Fault) → members_at (17 - L) p o ≡ r → SpellSome L o ⊎ ((f : Fault) × FaultIn f L p o)
+either L p o last (Ok ds) e = inl (ds, all_found (17 - L) L (omega arith) p o ds e)
+either L p o last (Err f) e = inr (f, all_wrong (17 - L) L f (omega arith) p o e)
+
+pub members_else_fault : MembersElseFault
+members_else_fault L p o last = either L p o last (members_at (17 - L) p o) refl

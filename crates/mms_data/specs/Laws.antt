@@ -1,0 +1,31 @@
+-- What the definitions say together: octets have one reading, and written forms are spellings.
+use Rattle.std.specs.Prelude.{◌≡◌, ◌≤◌, ◌<◌, ◌^◌, ◌⊎◌, ℕ, List, length}
+use Rattle.ber_core.specs.declared.fault.Fault.{Fault}
+use Rattle.mms_data.specs.Data.{Data}
+use Rattle.mms_data.specs.Spelling.{Spells, SpellsAll, SpellSome, FaultIn}
+use Rattle.mms_data.specs.Spellable.{Spellable, AllSpellable}
+use Rattle.mms_data.specs.Written.{HasWritten, written, written_all}
+
+-- octets spell one list of members at most
+abbrev pub MembersAreOne : Type 0
+MembersAreOne = (L : ℕ) (o : List ℕ) (ds es : List Data) → L ≤ 17 → SpellsAll ds L o → SpellsAll es L o → ds ≡ es
+
+-- octets that spell members have no fault
+abbrev pub MembersOrFault : Type 0
+MembersOrFault = (L p : ℕ) (o : List ℕ) (ds : List Data) (f : Fault) → L ≤ 17 → SpellsAll ds L o → FaultIn f L p o → ⊥
+
+-- octets that spell no members have one
+abbrev pub MembersElseFault : Type 0
+MembersElseFault = (L p : ℕ) (o : List ℕ) → L ≤ 17 → SpellSome L o ⊎ ((f : Fault) × FaultIn f L p o)
+
+-- octets have one first fault at most
+abbrev pub FaultIsOne : Type 0
+FaultIsOne = (L p : ℕ) (o : List ℕ) (f g : Fault) → L ≤ 17 → FaultIn f L p o → FaultIn g L p o → f ≡ g
+
+-- the written form of a value that has a spelling, and contents of at most 4294967295 octets, spells it
+abbrev pub WrittenIsSpelled : Type 0
+WrittenIsSpelled = (d : Data) (L : ℕ) → Spellable d L → HasWritten d → Spells d L (written d)
+
+-- the same of members, one after the other
+abbrev pub AllWrittenAreSpelled : Type 0
+AllWrittenAreSpelled = (ds : List Data) (L : ℕ) → AllSpellable ds L → length (written_all ds) < 2 ^ 32 → SpellsAll ds L (written_all ds)

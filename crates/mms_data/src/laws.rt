@@ -1,0 +1,17 @@
+//! Laws about the definitions that the contracts of this crate cite. The functions compute nothing.
+
+ghost use Rattle.mms_data.specs.Laws.{AllWrittenAreSpelled, FaultIsOne, MembersAreOne, MembersElseFault, MembersOrFault, WrittenIsSpelled};
+
+/// Octets spell one list of members, or have one first fault, and never both.
+pub fn one_reading()
+    ensures members { MembersAreOne }
+    ensures either { MembersOrFault }
+    ensures else_fault { MembersElseFault }
+    ensures fault { FaultIsOne }
+{}
+
+/// The written form of a value that has a spelling spells it.
+pub fn written_is_spelled()
+    ensures value { WrittenIsSpelled }
+    ensures members { AllWrittenAreSpelled }
+{}
