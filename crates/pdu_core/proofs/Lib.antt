@@ -4,5 +4,5 @@ pub mod Shown
 pub mod OneReading
 pub mod Read
 pub mod Sizes
-pub mod Parts
 pub mod WrittenSpelled
+pub mod Texts

@@ -3,7 +3,7 @@ use Rattle.std.proofs.Common.{◌≡◌, ℕ, pos, ◌+◌, ◌%◌, ◌^◌, �
 use Rattle.std.proofs.lemmas.Bool.{eqb-false, ltb-true}
 use Rattle.std.proofs.lemmas.Int.{ints}
 use Rattle.std.proofs.lemmas.List.{length-append, append-nil}
-use Rattle.std.specs.Prelude.{◌&&◌, nat_lt}
+use Rattle.std.specs.Prelude.{◌&&◌, IfSome}
 use Rattle.byteorder.specs.Endian.{big_bytes, big_number}
 use Rattle.byteorder.specs.Numbers.{length-bytes_high_first, big_number-reads_back}
 use Rattle.ber_core.specs.Contents.{SpellsVisible}
@@ -19,25 +19,19 @@ use Rattle.ber_core.proofs.FieldSequence.{both}
 use Rattle.ber_core.proofs.Shortest.{integer_shortest, length_shortest}
 use Rattle.mms_data.specs.Utc.{SpellsUtc}
 use Rattle.mms_data.specs.declared.time.UtcTime.{UtcTime}
-use Rattle.mms_data.proofs.WrittenLaws.{written_spells}
+use Rattle.mms_data.proofs.WrittenSpelled.{all_written_are_spelled}
 use Rattle.pdu_core.specs.Contents.{Kind, text, flag, time, members, Item, a_text, a_number, a_flag, a_time, some_members, SpellsContents, contents_grammar}
 use Rattle.pdu_core.specs.Contents.{number as a_kind_of_number}
 use Rattle.pdu_core.specs.Goose.{goose_fields, goose_items, text_if}
 use Rattle.pdu_core.specs.Laws.{WrittenIsSpelled}
-use Rattle.pdu_core.specs.Written.{are_spelled_items, element, is_ok_reading, is_spelled_item, is_text, written_contents, written_fields, written_item, written_time}
+use Rattle.pdu_core.specs.Spellable.{IsNumber, IsText, Spellable}
+use Rattle.mms_data.specs.Spellable.{AllSpellable, IsTime}
+use Rattle.mms_data.specs.Written.{element, written_time}
+use Rattle.pdu_core.specs.Written.{written_contents, written_fields, written_item}
 use Rattle.pdu_core.specs.declared.goose.GoosePdu.{GoosePdu}
 use Rattle.pdu_core.proofs.Sizes.{element_size}
 
 -- ---- contents, kind by kind
-
-ok_of : (r : Result (Unit {0}) Fault) → is_ok_reading r ≡ true → r ≡ Ok tt
-ok_of (Ok u) e = refl
-ok_of (Err f) e = absurd (cc)
-
-text_written : (t : List ℕ) → is_text t ≡ true → SpellsVisible t t
-text_written t e =
-    let read : visible_at 0 t ≡ Ok t = ap (λ r. r >>= λ _. Ok t) (ok_of (all_visible_at 0 t) e) in
-    visible_found 0 t t read
 
 number_written : (n : ℕ) → n < 2 ^ 32 → SpellsContents a_kind_of_number (a_number n) (short_integer (pos n))
 number_written n small = (omega (arith, ints), omega (arith, ints), (integer_shortest (pos n) (omega (arith, ints)) (omega (arith, ints))).spells)
@@ -61,15 +55,20 @@ kind_of (a_flag b) = flag
 kind_of (a_time t) = time
 kind_of (some_members ds) = members
 
-item_written : (x : Item) → is_spelled_item x ≡ true → length (written_item x) < 2 ^ 32 → SpellsContents (kind_of x) x (written_item x)
-item_written (a_text t) e small = text_written t e
-item_written (a_number n) e small = number_written n (ltb-true n (2 ^ 32) e)
-item_written (a_flag b) e small = flag_written b
-item_written (a_time t) e small =
-    let s = both (nat_lt t.seconds (2 ^ 32)) (nat_lt t.fraction (2 ^ 24) && nat_lt t.quality 256) e in
-    let f = both (nat_lt t.fraction (2 ^ 24)) (nat_lt t.quality 256) s.1 in
-    time_written t (ltb-true t.seconds (2 ^ 32) s.0) (ltb-true t.fraction (2 ^ 24) f.0)
-item_written (some_members ds) e small = written_spells ds 1 e small
+-- the value of a field has a spelling
+abbrev pub IsSpellable : Item → Type 0
+IsSpellable (a_text t) = IsText t
+IsSpellable (a_number n) = IsNumber n
+IsSpellable (a_flag b) = Unit {0}
+IsSpellable (a_time t) = IsTime t
+IsSpellable (some_members ds) = AllSpellable ds 1
+
+item_written : (x : Item) → IsSpellable x → length (written_item x) < 2 ^ 32 → SpellsContents (kind_of x) x (written_item x)
+item_written (a_text t) s small = (refl, s)
+item_written (a_number n) s small = number_written n s
+item_written (a_flag b) s small = flag_written b
+item_written (a_time t) s small = time_written t s.0 s.1
+item_written (some_members ds) s small = all_written_are_spelled ds 1 s small
 
 -- ---- elements and fields
 
@@ -77,27 +76,26 @@ pub element_written : (id : ℕ) (c : List ℕ) → IsIdentifier id → length c
 unfolding element
 element_written id c identifier small = record { identifier = identifier; size = short_length (length c); sized = (length_shortest (length c) small).spells; parts = refl }
 
--- the values are of the kinds that the fields have, and one that is absent may be
+-- the values are of the kinds that the fields have, and spellable, and one that is absent may be
 abbrev pub Suit : List (Field Kind Item) → List (Option Item) → Type 0
 Suit [] [] = Unit {0}
 Suit [] (v ∷ vs) = ⊥
 Suit (g ∷ gs) [] = ⊥
 Suit (g ∷ gs) (None ∷ vs) = AbsenceMeans g.presence None × Suit gs vs
-Suit (g ∷ gs) (Some x ∷ vs) = (kind_of x ≡ g.kind) × IsIdentifier g.identifier × Suit gs vs
+Suit (g ∷ gs) (Some x ∷ vs) = (kind_of x ≡ g.kind) × IsIdentifier g.identifier × IsSpellable x × Suit gs vs
 
-fields_written : (gs : List (Field Kind Item)) (vs : List (Option Item)) → Suit gs vs → are_spelled_items vs ≡ true → length (written_fields gs vs) < 2 ^ 32 → SpellsFields contents_grammar gs vs (written_fields gs vs)
-fields_written [] [] suit e small = refl
-fields_written [] (v ∷ vs) suit e small = absurd suit
-fields_written (g ∷ gs) [] suit e small = absurd suit
-fields_written (g ∷ gs) (None ∷ vs) (means, suit) e small = ([], written_fields gs vs, inr (means, refl), fields_written gs vs suit e small, refl)
-fields_written (g ∷ gs) (Some x ∷ vs) (kind, identifier, suit) e small =
-    let s = both (is_spelled_item x) (are_spelled_items vs) e in
+fields_written : (gs : List (Field Kind Item)) (vs : List (Option Item)) → Suit gs vs → length (written_fields gs vs) < 2 ^ 32 → SpellsFields contents_grammar gs vs (written_fields gs vs)
+fields_written [] [] suit small = refl
+fields_written [] (v ∷ vs) suit small = absurd suit
+fields_written (g ∷ gs) [] suit small = absurd suit
+fields_written (g ∷ gs) (None ∷ vs) (means, suit) small = ([], written_fields gs vs, inr (means, refl), fields_written gs vs suit small, refl)
+fields_written (g ∷ gs) (Some x ∷ vs) (kind, identifier, spellable, suit) small =
     let first = element g.identifier (written_item x) in
     let size : length (written_fields (g ∷ gs) (Some x ∷ vs)) ≡ length first + length (written_fields gs vs) = length-append first (written_fields gs vs) in
     let holds = element_size g.identifier (written_item x) in
     let few : length (written_item x) < 2 ^ 32 = omega (arith, size, holds, small) in
-    let spelled : SpellsContents g.kind x (written_item x) = subst (λ (k : Kind). SpellsContents k x (written_item x)) kind (item_written x s.0 few) in
-    (first, written_fields gs vs, inl (x, written_item x, refl, element_written g.identifier (written_item x) identifier few, spelled), fields_written gs vs suit s.1 (omega (arith, size, small)), refl)
+    let spelled : SpellsContents g.kind x (written_item x) = subst (λ (k : Kind). SpellsContents k x (written_item x)) kind (item_written x spellable few) in
+    (first, written_fields gs vs, inl (x, written_item x, refl, element_written g.identifier (written_item x) identifier few, spelled), fields_written gs vs suit (omega (arith, size, small)), refl)
 
 -- ---- the PDU
 
@@ -105,15 +103,16 @@ one_octet : (id : ℕ) → eqb (id % 32) 31 ≡ false → IsIdentifier id
 one_octet id e = eqb-false (id % 32) 31 e
 
 -- the fields from t on
-rest_suits : {A : Type 0} (p : GoosePdu A) → Suit (drop 4 goose_fields) (drop 4 (goose_items p))
-rest_suits p =
-    (refl, one_octet 0x84 refl, (refl, one_octet 0x85 refl, (refl, one_octet 0x86 refl, (refl, one_octet 0x87 refl, (refl, one_octet 0x88 refl, (refl, one_octet 0x89 refl, (refl, one_octet 0x8a refl, (refl, one_octet 0xab refl, tt))))))))
+rest_suits : {A : Type 0} (p : GoosePdu A) → Spellable p → Suit (drop 4 goose_fields) (drop 4 (goose_items p))
+rest_suits p s =
+    (refl, one_octet 0x84 refl, s.t, (refl, one_octet 0x85 refl, s.st_num, (refl, one_octet 0x86 refl, s.sq_num, (refl, one_octet 0x87 refl, tt, (refl, one_octet 0x88 refl, s.conf_rev,
+      (refl, one_octet 0x89 refl, tt, (refl, one_octet 0x8a refl, s.entries, (refl, one_octet 0xab refl, s.members, tt))))))))
 
-goose_suits : {A : Type 0} (p : GoosePdu A) → Suit goose_fields (goose_items p)
-goose_suits p = (refl, one_octet 0x80 refl, (refl, one_octet 0x81 refl, (refl, one_octet 0x82 refl, with_id p.go_id))) where
-  with_id : (id : Option (List ℕ)) → Suit (drop 3 goose_fields) (text_if id ∷ drop 4 (goose_items p))
-  with_id None = (refl, rest_suits p)
-  with_id (Some t) = (refl, one_octet 0x83 refl, rest_suits p)
+goose_suits : {A : Type 0} (p : GoosePdu A) → Spellable p → Suit goose_fields (goose_items p)
+goose_suits p s = (refl, one_octet 0x80 refl, s.gocb_ref, (refl, one_octet 0x81 refl, s.live, (refl, one_octet 0x82 refl, s.dat_set, with_id p.go_id s.go_id))) where
+  with_id : (id : Option (List ℕ)) → IfSome id IsText → Suit (drop 3 goose_fields) (text_if id ∷ drop 4 (goose_items p))
+  with_id None t = (refl, rest_suits p s)
+  with_id (Some t) visible = (refl, one_octet 0x83 refl, visible, rest_suits p s)
 
 pub written_is_spelled : {A : Type 0} → WrittenIsSpelled A
-written_is_spelled p e small = (written_contents p, element_written 0x61 (written_contents p) (one_octet 0x61 refl) small, fields_written goose_fields (goose_items p) (goose_suits p) e small)
+written_is_spelled p s small = (written_contents p, element_written 0x61 (written_contents p) (one_octet 0x61 refl) small, fields_written goose_fields (goose_items p) (goose_suits p s) small)

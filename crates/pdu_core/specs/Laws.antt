@@ -1,8 +1,9 @@
 -- What the definitions say together: octets have one reading, and what is written is spelled.
-use Rattle.std.specs.Prelude.{◌≡◌, ◌<◌, ◌^◌, ℕ, true, List, length}
+use Rattle.std.specs.Prelude.{◌≡◌, ℕ, List}
 use Rattle.ber_core.specs.declared.fault.Fault.{Fault}
 use Rattle.pdu_core.specs.Goose.{SpellsGoose, GooseFault}
-use Rattle.pdu_core.specs.Written.{is_spelled, written_contents, written_goose}
+use Rattle.pdu_core.specs.Spellable.{Spellable}
+use Rattle.pdu_core.specs.Written.{HasWritten, written_goose}
 use Rattle.pdu_core.specs.declared.goose.GoosePdu.{GoosePdu}
 
 -- no octets spell two PDUs
@@ -19,4 +20,4 @@ FaultIsOne = (o : List ℕ) (at : ℕ) (f g : Fault) → GooseFault f at o → G
 
 -- the written form of a PDU that has a spelling is one, unless its contents have more than 4294967295 octets
 abbrev pub WrittenIsSpelled : Type 0 → Type 0
-WrittenIsSpelled A = (p : GoosePdu A) → is_spelled p ≡ true → length (written_contents p) < 2 ^ 32 → SpellsGoose p (written_goose p)
+WrittenIsSpelled A = (p : GoosePdu A) → Spellable p → HasWritten p → SpellsGoose p (written_goose p)

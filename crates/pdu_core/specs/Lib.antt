@@ -5,4 +5,5 @@ pub mod GooseReading
 pub mod Views
 pub mod Answers
 pub mod Laws
+pub mod Spellable
 pub mod Written

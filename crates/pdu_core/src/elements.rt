@@ -3,14 +3,14 @@
 ghost use Rattle.std.specs.Prelude.{◌≡◌, ◌≤◌, ◌<◌, ◌+◌, ◌^◌, ◌↔◌, ◌++◌, length, IsOk, OnOk, OnErr};
 ghost use Rattle.arrayvec.specs.ArrayVec.{array_vec_len};
 ghost use Rattle.ber_core.specs.Element.{IsIdentifier};
-ghost use Rattle.pdu_core.specs.Written.{element};
+ghost use Rattle.mms_data.specs.Written.{element};
 
 use arrayvec::ArrayVec;
 use ber_core::{Full, put_header};
 
 // Appends the element of this identifier and these contents, where they have at most 4294967295 octets and
 // it fits; else `out` is unchanged.
-#[tactic(auto, unfolding(crate::specs::Written::element))]
+#[tactic(auto, unfolding(mms_data::specs::Written::element))]
 pub fn put_element<const N: usize>(
     out: &mut ArrayVec<u8, N>,
     identifier: u8,

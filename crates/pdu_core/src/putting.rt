@@ -1,13 +1,14 @@
 // Appending the fields of a PDU, kind by kind. Where a field does not fit, nothing is said of `out`, which then
 // is given up.
 
-ghost use Rattle.std.specs.Prelude.{◌≡◌, ◌≤◌, ◌<◌, ◌+◌, ◌^◌, ◌++◌, length, true, IsOk, OnOk, Some};
+ghost use Rattle.std.specs.Prelude.{◌≡◌, ◌≤◌, ◌<◌, ◌+◌, ◌^◌, ◌++◌, length, IsOk, OnOk, Some};
 ghost use Rattle.arrayvec.specs.ArrayVec.{array_vec_len};
 ghost use Rattle.ber_core.specs.Element.{IsIdentifier};
-ghost use Rattle.mms_data.specs.Spellable.{all_spelled};
+ghost use Rattle.mms_data.specs.Spellable.{AllSpellable};
 ghost use Rattle.pdu_core.specs.Contents.{a_flag, a_number, a_text, a_time, some_members};
 ghost use Rattle.pdu_core.specs.Goose.{text_if};
-ghost use Rattle.pdu_core.specs.Written.{written_field, written_time};
+ghost use Rattle.mms_data.specs.Written.{written_time};
+ghost use Rattle.pdu_core.specs.Written.{written_field};
 
 use crate::elements::put_element;
 use arrayvec::ArrayVec;
@@ -48,7 +49,7 @@ pub fn put_text_if<A: Allocator, const N: usize>(
 }
 
 // Appends the field of a number.
-#[tactic(auto, unfolding(crate::specs::Written::element))]
+#[tactic(auto, unfolding(mms_data::specs::Written::element))]
 pub fn put_number<const N: usize>(
     out: &mut ArrayVec<u8, N>,
     identifier: u8,
@@ -104,7 +105,7 @@ pub fn put_members<A: Allocator, const N: usize>(
     members: &ValueList<A>,
 ) -> Result<(), Full>
     requires identifier { IsIdentifier identifier }
-    requires spelled { all_spelled members.now 1 ≡ true }
+    requires spellable { AllSpellable members.now 1 }
     ensures enough { length (written_field identifier (Some (some_members members.now))) < 2 ^ 32 → array_vec_len out.old + length (written_field identifier (Some (some_members members.now))) ≤ N → IsOk result }
     ensures written { OnOk result (out.new.items ≡ out.old.items ++ written_field identifier (Some (some_members members.now))) }
 {

@@ -1,8 +1,7 @@
 // Whether a PDU has a spelling.
 
-ghost use Rattle.std.specs.Prelude.{◌≡◌, ◌<◌, ◌^◌, ◌∷◌, []};
-ghost use Rattle.pdu_core.specs.Goose.{text_if};
-ghost use Rattle.pdu_core.specs.Written.{are_spelled_items, is_spelled, is_text};
+ghost use Rattle.std.specs.Prelude.{◌↔◌, ◌<◌, ◌^◌, IfSome, IsTrue};
+ghost use Rattle.pdu_core.specs.Spellable.{IsText, Spellable};
 
 use crate::goose::GoosePdu;
 use ber_core::contents::check_visible;
@@ -11,7 +10,7 @@ use std::alloc::Allocator;
 
 // Whether the octets are all visible.
 fn is_visible(text: &[u8]) -> bool
-    ensures { result ≡ is_text text.now }
+    ensures { IsTrue result ↔ IsText text.now }
 {
     match check_visible(text, 0) {
         Ok(()) => true,
@@ -21,7 +20,7 @@ fn is_visible(text: &[u8]) -> bool
 
 // The same of octets that may be absent.
 fn is_visible_if<A: Allocator>(text: &Option<Octets<A>>) -> bool
-    ensures { result ≡ are_spelled_items (text_if text.now ∷ []) }
+    ensures { IsTrue result ↔ IfSome text.now IsText }
 {
     match text {
         Some(text) => is_visible(text.as_slice()),
@@ -44,7 +43,7 @@ fn know_ranges(live: u32, t: UtcTime, st_num: u32, sq_num: u32, conf_rev: u32)
 /// Whether each field of the PDU has a spelling: texts are visible, the fraction of the time is below 2^24,
 /// the members are spellable and at most 4294967295.
 pub fn is_spellable<A: Allocator>(pdu: &GoosePdu<A>) -> bool
-    ensures { result ≡ is_spelled pdu.now }
+    ensures { IsTrue result ↔ Spellable pdu.now }
 {
     if !is_visible(pdu.gocb_ref.as_slice()) {
         return false;

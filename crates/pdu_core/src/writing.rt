@@ -3,7 +3,8 @@
 ghost use Rattle.std.specs.Prelude.{◌≡◌, ◌≤◌, ◌<◌, ◌+◌, ◌^◌, ◌↔◌, ◌++◌, drop, length, true, false, IsOk, OnOk, OnErr, Err};
 ghost use Rattle.arrayvec.specs.ArrayVec.{array_vec_len};
 ghost use Rattle.pdu_core.specs.Goose.{goose_fields, goose_items};
-ghost use Rattle.pdu_core.specs.Written.{is_spelled, written_contents, written_fields, written_goose};
+ghost use Rattle.pdu_core.specs.Spellable.{Spellable};
+ghost use Rattle.pdu_core.specs.Written.{HasWritten, written_contents, written_fields, written_goose};
 
 use crate::elements::put_element;
 use crate::goose::GoosePdu;
@@ -19,7 +20,7 @@ fn put_fields<A: Allocator, const N: usize>(
     out: &mut ArrayVec<u8, N>,
     pdu: &GoosePdu<A>,
 ) -> Result<(), Full>
-    requires spelled { is_spelled pdu.now ≡ true }
+    requires spellable { Spellable pdu.now }
     ensures enough { length (written_contents pdu.now) < 2 ^ 32 → array_vec_len out.old + length (written_contents pdu.now) ≤ N → IsOk result }
     ensures written { OnOk result (out.new.items ≡ out.old.items ++ written_contents pdu.now) }
 {
@@ -36,7 +37,7 @@ fn put_numbers<A: Allocator, const N: usize>(
     out: &mut ArrayVec<u8, N>,
     pdu: &GoosePdu<A>,
 ) -> Result<(), Full>
-    requires spelled { is_spelled pdu.now ≡ true }
+    requires spellable { Spellable pdu.now }
     ensures enough { length (written_fields (drop 5 goose_fields) (drop 5 (goose_items pdu.now))) < 2 ^ 32 → array_vec_len out.old + length (written_fields (drop 5 goose_fields) (drop 5 (goose_items pdu.now))) ≤ N → IsOk result }
     ensures written { OnOk result (out.new.items ≡ out.old.items ++ written_fields (drop 5 goose_fields) (drop 5 (goose_items pdu.now))) }
 {
@@ -53,7 +54,7 @@ fn put_entries<A: Allocator, const N: usize>(
     out: &mut ArrayVec<u8, N>,
     pdu: &GoosePdu<A>,
 ) -> Result<(), Full>
-    requires spelled { is_spelled pdu.now ≡ true }
+    requires spellable { Spellable pdu.now }
     ensures enough { length (written_fields (drop 10 goose_fields) (drop 10 (goose_items pdu.now))) < 2 ^ 32 → array_vec_len out.old + length (written_fields (drop 10 goose_fields) (drop 10 (goose_items pdu.now))) ≤ N → IsOk result }
     ensures written { OnOk result (out.new.items ≡ out.old.items ++ written_fields (drop 10 goose_fields) (drop 10 (goose_items pdu.now))) }
 {
@@ -75,8 +76,8 @@ pub fn put_goose<A: Allocator, const N: usize>(
     out: &mut ArrayVec<u8, N>,
     pdu: &GoosePdu<A>,
 ) -> Result<(), PutFault>
-    ensures not_spellable { (result ≡ Err PutFault.NotSpellable) ↔ (is_spelled pdu.now ≡ false) }
-    ensures fits { IsOk result ↔ ((is_spelled pdu.now ≡ true) × (length (written_contents pdu.now) < 2 ^ 32) × (array_vec_len out.old + length (written_goose pdu.now) ≤ N)) }
+    ensures not_spellable { (result ≡ Err PutFault.NotSpellable) ↔ (¬ Spellable pdu.now) }
+    ensures fits { IsOk result ↔ (Spellable pdu.now × HasWritten pdu.now × (array_vec_len out.old + length (written_goose pdu.now) ≤ N)) }
     ensures written { OnOk result (out.new.items ≡ out.old.items ++ written_goose pdu.now) }
     ensures unchanged { OnErr result (out.new ≡ out.old) }
 {
