@@ -60,10 +60,10 @@ signed_is : (n : ℤ) → is_signed n ≡ true → IsSigned n
 signed_is (pos n) e = let few = ltb-true n (2 ^ 63) e in (omega (arith, ints, few), omega (arith, ints, few))
 signed_is (negsuc n) e = let few = ltb-true n (2 ^ 63) e in (omega (arith, ints, few), omega (arith, ints, few))
 
-moment_true : (t : UtcTime) → IsTime t → is_time t ≡ true
+pub moment_true : (t : UtcTime) → IsTime t → is_time t ≡ true
 moment_true t h = rw (lt-ltb t.seconds (2 ^ 32) h.0, lt-ltb t.fraction (2 ^ 24) h.1, lt-ltb t.quality (2 ^ 8) h.2) refl
 
-moment_is : (t : UtcTime) → is_time t ≡ true → IsTime t
+pub moment_is : (t : UtcTime) → is_time t ≡ true → IsTime t
 moment_is t e = let a = and_parts _ _ e in let b = and_parts _ _ a.1 in (ltb-true _ _ a.0, ltb-true _ _ b.0, ltb-true _ _ b.1)
 
 simple_true : (s : Simple) → IsSpellable s → is_simple s ≡ true

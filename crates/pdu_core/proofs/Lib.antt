@@ -6,3 +6,5 @@ pub mod Read
 pub mod Sizes
 pub mod WrittenSpelled
 pub mod Texts
+pub mod ValueLaws
+pub mod SpellableTests

@@ -7,3 +7,4 @@ pub mod Answers
 pub mod Laws
 pub mod Spellable
 pub mod Written
+pub mod GooseValue

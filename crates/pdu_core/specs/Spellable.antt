@@ -1,8 +1,10 @@
 -- Which PDUs have a spelling.
-use Rattle.std.specs.Prelude.{◌<◌, ◌^◌, ℕ, List, length, IfSome}
+use Rattle.std.specs.Prelude.{◌<◌, ◌^◌, ◌&&◌, ℕ, Bool, true, false, nat_lt, List, length, Option, Some, None, IfSome, Result, Ok, Err}
 use Rattle.std.specs.List.{AllByRecursion}
 use Rattle.ber_core.specs.Contents.{IsVisible}
-use Rattle.mms_data.specs.Spellable.{AllSpellable, IsTime}
+use Rattle.ber_core.specs.ContentsReading.{all_visible_at}
+use Rattle.ber_core.specs.declared.fault.Fault.{Fault}
+use Rattle.mms_data.specs.Spellable.{AllSpellable, IsTime, all_spelled, is_time}
 use Rattle.pdu_core.specs.declared.goose.GoosePdu.{GoosePdu}
 
 -- each octet of the text is visible
@@ -25,3 +27,26 @@ pub record Spellable {A : Type 0} (p : GoosePdu A) : Type 0 where
   pub conf_rev : IsNumber p.conf_rev
   pub entries : IsNumber (length p.members)
   pub members : AllSpellable p.members 1
+
+-- ---- the same as a test
+
+abbrev pub is_read : Result (Unit {0}) Fault → Bool
+is_read (Ok u) = true
+is_read (Err f) = false
+
+abbrev pub is_text : List ℕ → Bool
+is_text t = is_read (all_visible_at 0 t)
+
+abbrev pub is_text_if : Option (List ℕ) → Bool
+is_text_if None = true
+is_text_if (Some t) = is_text t
+
+abbrev pub are_numbers : ℕ → ℕ → ℕ → ℕ → ℕ → Bool
+are_numbers live st_num sq_num conf_rev entries = nat_lt live (2 ^ 32) && (nat_lt st_num (2 ^ 32) && (nat_lt sq_num (2 ^ 32) && (nat_lt conf_rev (2 ^ 32) && nat_lt entries (2 ^ 32))))
+
+abbrev pub are_texts : List ℕ → List ℕ → Option (List ℕ) → Bool
+are_texts gocb_ref dat_set go_id = is_text gocb_ref && (is_text dat_set && is_text_if go_id)
+
+abbrev pub is_spelled : {A : Type 0} → GoosePdu A → Bool
+is_spelled p =
+    are_texts p.gocb_ref p.dat_set p.go_id && (are_numbers p.live p.st_num p.sq_num p.conf_rev (length p.members) && (is_time p.t && all_spelled p.members 1))

@@ -1,0 +1,28 @@
+-- What the definitions say together.
+use Rattle.std.specs.Prelude.{◌≡◌, ◌≤◌, ◌<◌, ◌+◌, ◌*◌, ℕ, List, Ok, Err}
+use Rattle.ber_core.specs.declared.fault.Fault.{Fault}
+use Rattle.frame_core.specs.Frame.{SpellsFrame}
+use Rattle.frame_core.specs.FrameFault.{FrameFault}
+use Rattle.frame_core.specs.FrameReading.{frame_at}
+use Rattle.frame_core.specs.declared.frame.Frame.{Frame}
+use Rattle.frame_core.specs.VlanTag.{bit_number, drop_eligible_of, priority_of, vlan_of}
+
+-- the parts of a control word make it up, each in its range
+abbrev pub PartsMakeTheControl : Type 0
+PartsMakeTheControl = (control : ℕ) → control < 65536 → (control ≡ 8192 * priority_of control + 4096 * bit_number (drop_eligible_of control) + vlan_of control) × (priority_of control ≤ 7) × (vlan_of control ≤ 4095)
+
+-- no octets spell two frames
+abbrev pub FrameIsOne : Type 0 → Type 0
+FrameIsOne A = (o : List ℕ) (f g : Frame A) → SpellsFrame f o → SpellsFrame g o → f ≡ g
+
+-- octets that spell a frame have no fault
+abbrev pub FrameOrFault : Type 0 → Type 0
+FrameOrFault A = (o : List ℕ) (f : Frame A) (e : Fault) → SpellsFrame f o → FrameFault e o → ⊥
+
+-- no octets have two first faults
+abbrev pub FaultIsOne : Type 0
+FaultIsOne = (o : List ℕ) (e d : Fault) → FrameFault e o → FrameFault d o → e ≡ d
+
+-- the frame that octets spell is read, and so is the first fault that they have
+abbrev pub ReadingTells : Type 0 → Type 0
+ReadingTells A = ((o : List ℕ) (f : Frame A) → SpellsFrame f o → frame_at o ≡ Ok f) × ((o : List ℕ) (e : Fault) → FrameFault e o → frame_at {A = A} o ≡ Err e)

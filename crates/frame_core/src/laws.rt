@@ -1,0 +1,62 @@
+//! Laws about the definitions that the contracts of this crate cite. The functions compute nothing.
+
+ghost use Rattle.std.specs.Prelude.{◌≡◌, ℕ, ◌+◌, ◌<◌, ◌↔◌, List, ◌++◌, codes};
+ghost use Rattle.frame_core.specs.declared.device.InputEnd.{InputEnd};
+ghost use Rattle.frame_core.specs.declared.event.Event.{Event};
+ghost use Rattle.frame_core.specs.EventLine.{event_of, event_text, IsListable, HoldsOctets, WritesMoment, WritesOctets};
+ghost use Rattle.frame_core.specs.declared.event.EventKind.TheVariants.{Frame, Clock};
+ghost use Rattle.frame_core.specs.EventList.{listing, put_event};
+ghost use Rattle.frame_core.specs.Lines.{finished, faulty};
+ghost use Rattle.frame_core.specs.declared.list_fault.ListCause.{ListCause};
+ghost use Rattle.frame_core.specs.declared.list_fault.ListFault.{ListFault};
+ghost use Rattle.frame_core.specs.Laws.{FaultIsOne, FrameIsOne, FrameOrFault, PartsMakeTheControl, ReadingTells};
+
+use std::alloc::Allocator;
+
+/// Octets are spelled for at most one frame, or have at most one first fault, and never both.
+pub fn one_reading<A: Allocator>()
+    ensures frame { FrameIsOne A }
+    ensures either { FrameOrFault A }
+    ensures fault { FaultIsOne }
+{}
+
+/// The function on octets, by which texts are defined, gives the frame that octets spell, and the first fault
+/// that they have.
+pub fn reading_tells<A: Allocator>()
+    ensures { ReadingTells A }
+{}
+
+/// The parts of a tag's control word make it up: 8192 times the priority, 4096 where the frame may be dropped
+/// first, and the number of the virtual network.
+pub fn parts_make_the_control()
+    ensures { PartsMakeTheControl }
+{}
+
+/// What `write_event` writes reads back: wherever the line of an event stands in a list, it is
+/// listed as that event, with its line's number, before what follows.
+pub fn written_event_reads_back<A: Allocator>()
+    ensures { (e : Event A) → IsListable e → HoldsOctets e.kind → (ending : InputEnd) (n : ℕ) (rest : List ℕ) → n < 1000000 →
+        listing ending n (event_text e ++ rest) ≡ put_event (n + 1, e) (listing ending (n + 1) rest) }
+{}
+
+/// A list that is finished is that of a source that ended, and only a source that failed makes a
+/// list stop by `ReadFailed`.
+pub fn stops_tell_the_ending<A: Allocator>()
+    ensures finished { (ending : InputEnd) (n : ℕ) (text : List ℕ) →
+        (listing {A = A} ending n text).stop ≡ finished → ending ≡ InputEnd.End }
+    ensures read_failed { (ending : InputEnd) (n : ℕ) (text : List ℕ) (fault : ListFault) →
+        (listing {A = A} ending n text).stop ≡ faulty fault → fault.cause ≡ ListCause.ReadFailed → ending ≡ InputEnd.Failed }
+{}
+
+/// What the lines of events look like: `C`, a space and the digits of a moment, or `F`, a space, the
+/// digits of a moment, a space and the hexadecimal digits of a frame. A line says an event exactly
+/// where it looks so.
+pub fn a_line_says_what_it_spells<A: Allocator>()
+    ensures clock { (line : List ℕ) (moment : ℕ) →
+        (event_of {A = A} line ≡ Ok (Some (record { moment = moment; kind = Clock })))
+        ↔ ((digits : List ℕ) × (line ≡ codes "C " ++ digits) × WritesMoment digits moment) }
+    ensures frame { (line : List ℕ) (moment : ℕ) (octets : List ℕ) →
+        (event_of {A = A} line ≡ Ok (Some (record { moment = moment; kind = Frame octets })))
+        ↔ ((digits : List ℕ) × (hex : List ℕ) × (line ≡ codes "F " ++ digits ++ codes " " ++ hex)
+        × WritesMoment digits moment × WritesOctets hex octets) }
+{}

@@ -1,0 +1,9 @@
+//! Frames read and written; lists over memory, in any pieces, and where a device fails.
+
+mod devices;
+mod frame_reading;
+mod frame_writing;
+mod frames;
+mod line_reading;
+mod list_reading;
+mod list_writing;

@@ -1,0 +1,109 @@
+//! Frames that are read, and the first fault of those that are not.
+
+ghost use Rattle.std.specs.Prelude.{◌≤◌, length};
+
+use crate::tests::frames::{FRAME, LONG, TAGGED, changed, changed_twice, fault, with_one_more};
+use crate::{Apdu, ApduView, VlanTag, decode, view_frame};
+use ber_core::{Cause, Fault};
+use mms_data::ReadFault;
+use std::alloc::Global;
+use std::test::Fail;
+
+/// The fault of the octets, by the view, if they have one.
+fn seen(octets: &[u8]) -> Result<(), Fault> {
+    view_frame(octets)?;
+    Ok(())
+}
+
+/// The same by the owned frame.
+fn read(alloc: Global, octets: &[u8]) -> Result<(), Fault> {
+    match decode(alloc, octets) {
+        Err(ReadFault::Fault(fault)) => Err(fault),
+        _ => Ok(()),
+    }
+}
+
+#[test]
+fn a_frame_is_seen_and_read(rt: HostRuntime) -> Result<(), Fail> {
+    for octets in [FRAME.as_slice(), LONG.as_slice()] {
+        let view = view_frame(octets)?;
+        assert_eq!(rt; view.destination, [0x01, 0x0c, 0xcd, 0x01, 0x00, 0x01]);
+        assert_eq!(rt; view.source, [0x02, 0x00, 0x00, 0x00, 0x00, 0x01]);
+        assert_eq!(rt; view.tag, None);
+        assert_eq!(rt; view.app_id, 1);
+        assert_eq!(rt; view.trailer.len(), 0);
+        let ApduView::Goose(goose) = view.apdu;
+        assert_eq!(rt; goose.gocb_ref, b"G".as_slice());
+        assert_eq!(rt; goose.live, 2000);
+        assert_eq!(rt; goose.dat_set, b"D".as_slice());
+        assert_eq!(rt; goose.st_num, 1);
+        assert_eq!(rt; goose.sq_num, 0);
+        assert_eq!(rt; goose.entries, 1);
+        let frame = decode(rt.alloc(), octets)?;
+        let Apdu::Goose(owned) = frame.apdu;
+        assert_eq!(rt; owned.gocb_ref.as_slice(), b"G".as_slice());
+        assert_eq!(rt; owned.members.as_slice().len(), 1);
+    }
+    Ok(())
+}
+
+#[test]
+fn a_tag_and_a_trailer_are_kept(rt: HostRuntime) -> Result<(), Fail> {
+    let view = view_frame(&TAGGED)?;
+    let tag = view.tag.ok_or("no tag")?;
+    assert_eq!(rt; tag, VlanTag { control: 0x8000 });
+    assert_eq!(rt; tag.priority(), 4);
+    assert_eq!(rt; tag.drop_eligible(), false);
+    assert_eq!(rt; tag.vlan(), 0);
+    assert_eq!(rt; view.trailer, [0, 0, 0, 0].as_slice());
+    let all = VlanTag { control: 0xb123 };
+    assert_eq!(rt; all.priority(), 5);
+    assert_eq!(rt; all.drop_eligible(), true);
+    assert_eq!(rt; all.vlan(), 0x123);
+    Ok(())
+}
+
+#[test]
+fn a_cut_frame_is_truncated(rt: HostRuntime) {
+    for size in 0..FRAME.len() {
+        assert_eq!(rt; seen(&FRAME[..size]), fault(size, Cause::Truncated));
+    }
+    for size in 0..71 {
+        assert_eq!(rt; seen(&TAGGED[..size]), fault(size, Cause::Truncated));
+    }
+    assert_eq!(rt; seen(&TAGGED[..71]), Ok(()));
+}
+
+#[test]
+fn each_cause_stands_at_its_place(rt: HostRuntime) {
+    let cases = [
+        (changed(24, 0x9f), 24, Cause::HighTag),
+        (changed(23, 0x80), 23, Cause::Indefinite),
+        (changed(23, 0x85), 23, Cause::LengthForm),
+        (changed(23, 0x2c), 23, Cause::LengthPastEnd),
+        (changed(23, 0x2a), 63, Cause::LengthPastEnd),
+        (changed(45, 0), 45, Cause::IntegerLength),
+        (changed(22, 0x60), 22, Cause::UnexpectedTag),
+        (changed(64, 0x88), 64, Cause::UnexpectedTag),
+        (changed(51, 2), 51, Cause::BooleanLength),
+        (changed(46, 0xff), 46, Cause::IntegerRange),
+        (changed(35, 7), 35, Cause::FixedLength),
+        (changed(26, 7), 26, Cause::NotVisible),
+        (changed(61, 2), 59, Cause::EntryCount),
+        (changed_twice(12, 8, 13, 0), 12, Cause::EtherType),
+        (changed(17, 7), 16, Cause::LengthField),
+        (changed_twice(16, 5, 17, 0xdd), 16, Cause::LengthField),
+        (changed(17, 0x36), 67, Cause::Truncated),
+    ];
+    for (octets, place, cause) in cases {
+        assert_eq!(rt; seen(&octets), fault(place, cause));
+        assert_eq!(rt; read(rt.alloc(), &octets), fault(place, cause));
+    }
+}
+
+#[test]
+fn what_is_behind_the_last_field_is_a_fault(rt: HostRuntime) {
+    assert_eq!(rt; seen(&with_one_more(0x36)), fault(67, Cause::ExtraOctets));
+    assert_eq!(rt; seen(&with_one_more(0x35)), Ok(()));
+    assert_eq!(rt; seen(&[0; 1601]), fault(1600, Cause::FrameTooLong));
+}

@@ -1,0 +1,6 @@
+pub mod PieceLemmas
+pub mod ValueLemmas
+pub mod BitLemmas
+pub mod EngineLemmas
+pub mod RewriteLemmas
+pub mod ReadFaults

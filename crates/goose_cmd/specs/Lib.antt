@@ -1,0 +1,11 @@
+pub mod Ending
+pub mod Pieces
+pub mod Names
+pub mod FrameText
+pub mod ValueText
+pub mod CommandLine
+pub mod LineText
+pub mod ShowText
+pub mod RewriteText
+pub mod EngineText
+pub mod EngineStep

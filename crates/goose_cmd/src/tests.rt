@@ -1,0 +1,6 @@
+//! Engines over memory, in any pieces, and where a device fails; and the words of the command line.
+
+mod command_line;
+mod devices;
+mod rewriting;
+mod showing;

@@ -1,0 +1,3 @@
+mod OwnCalls
+mod Setting
+mod Answers
