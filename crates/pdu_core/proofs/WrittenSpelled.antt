@@ -1,21 +1,15 @@
 -- What is written is spelled.
-use Rattle.std.proofs.Common.{◌≡◌, ℕ, pos, ◌+◌, ◌%◌, ◌^◌, ◌<◌, Bool, true, false, eqb, List, [], ◌∷◌, length, drop, Result, Ok, Err, Option, Some, None, refl, sym, ap, subst, ◌∙◌, arith, inl, inr}
-use Rattle.std.proofs.lemmas.Bool.{eqb-false, ltb-true}
+use Rattle.std.proofs.Common.{◌≡◌, ℕ, pos, ◌+◌, ◌%◌, ◌^◌, ◌<◌, Bool, true, false, eqb, List, [], ◌∷◌, length, drop, Option, Some, None, refl, sym, ap, subst, ◌∙◌, arith, inl, inr}
+use Rattle.std.proofs.lemmas.Bool.{eqb-false}
 use Rattle.std.proofs.lemmas.Int.{ints}
 use Rattle.std.proofs.lemmas.List.{length-append, append-nil}
-use Rattle.std.specs.Prelude.{◌&&◌, IfSome}
+use Rattle.std.specs.Prelude.{IfSome}
 use Rattle.byteorder.specs.Endian.{big_bytes, big_number}
 use Rattle.byteorder.specs.Numbers.{length-bytes_high_first, big_number-reads_back}
-use Rattle.ber_core.specs.Contents.{SpellsVisible}
-use Rattle.ber_core.specs.ContentsReading.{all_visible_at, visible_at}
 use Rattle.ber_core.specs.Element.{Elem, IsIdentifier}
 use Rattle.ber_core.specs.Fields.{Field, AbsenceMeans, SpellsFields}
 use Rattle.ber_core.specs.Length.{number}
-use Rattle.ber_core.specs.Reading.{◌>>=◌}
 use Rattle.ber_core.specs.Written.{short_integer, short_length}
-use Rattle.ber_core.specs.declared.fault.Fault.{Fault}
-use Rattle.ber_core.proofs.ContentsLaws.{visible_found}
-use Rattle.ber_core.proofs.FieldSequence.{both}
 use Rattle.ber_core.proofs.Shortest.{integer_shortest, length_shortest}
 use Rattle.mms_data.specs.Utc.{SpellsUtc}
 use Rattle.mms_data.specs.declared.time.UtcTime.{UtcTime}
@@ -104,9 +98,32 @@ one_octet id e = eqb-false (id % 32) 31 e
 
 -- the fields from t on
 rest_suits : {A : Type 0} (p : GoosePdu A) → Spellable p → Suit (drop 4 goose_fields) (drop 4 (goose_items p))
-rest_suits p s =
-    (refl, one_octet 0x84 refl, s.t, (refl, one_octet 0x85 refl, s.st_num, (refl, one_octet 0x86 refl, s.sq_num, (refl, one_octet 0x87 refl, tt, (refl, one_octet 0x88 refl, s.conf_rev,
-      (refl, one_octet 0x89 refl, tt, (refl, one_octet 0x8a refl, s.entries, (refl, one_octet 0xab refl, s.members, tt))))))))
+rest_suits p s = (
+  refl,
+  one_octet 0x84 refl,
+  s.t,
+  (
+    refl,
+    one_octet 0x85 refl,
+    s.st_num,
+    (
+      refl,
+      one_octet 0x86 refl,
+      s.sq_num,
+      (
+        refl,
+        one_octet 0x87 refl,
+        tt,
+        (
+          refl,
+          one_octet 0x88 refl,
+          s.conf_rev,
+          (refl, one_octet 0x89 refl, tt, (refl, one_octet 0x8a refl, s.entries, (refl, one_octet 0xab refl, s.members, tt))),
+        ),
+      ),
+    ),
+  ),
+)
 
 goose_suits : {A : Type 0} (p : GoosePdu A) → Spellable p → Suit goose_fields (goose_items p)
 goose_suits p s = (refl, one_octet 0x80 refl, s.gocb_ref, (refl, one_octet 0x81 refl, s.live, (refl, one_octet 0x82 refl, s.dat_set, with_id p.go_id s.go_id))) where
