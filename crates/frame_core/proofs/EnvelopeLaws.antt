@@ -66,9 +66,16 @@ module _ (o : List ℕ) where
   pub passes_again : HasApdu o → judged o ≡ Ok tt
   unfolding judged envelope_at
   passes_again h =
-      rw (le-ltb 1600 (length o) h.head.front.short, le-ltb (length o) 14 h.head.front.addresses, le-ltb (length o) (ether_place o + 2) h.head.front.there,
-        eq-eqb (word_at o (ether_place o)) 0x88b8 h.head.goose, le-ltb (length o) (ether_place o + 10) h.head.there, le-ltb (length_field o) 8 h.low, le-ltb 1500 (length_field o) h.high,
-        le-ltb (length o) (apdu_to o) h.there) refl
+      rw (
+        le-ltb 1600 (length o) h.head.front.short,
+        le-ltb (length o) 14 h.head.front.addresses,
+        le-ltb (length o) (ether_place o + 2) h.head.front.there,
+        eq-eqb (word_at o (ether_place o)) 0x88b8 h.head.goose,
+        le-ltb (length o) (ether_place o + 10) h.head.there,
+        le-ltb (length_field o) 8 h.low,
+        le-ltb 1500 (length_field o) h.high,
+        le-ltb (length o) (apdu_to o) h.there,
+      ) refl
 
   -- what is refused has that fault
   envelope_wrong : (f : Fault) → length o ≤ 1600 → 14 ≤ length o → envelope_at (ether_place o) o ≡ Err f → FrameFault f o
@@ -126,12 +133,34 @@ module _ (o : List ℕ) where
   stops f (not_goose front other is) =
       inl (rw (le-ltb 1600 (length o) front.short, le-ltb (length o) 14 front.addresses, le-ltb (length o) (ether_place o + 2) front.there, ne_eqb (word_at o (ether_place o)) 0x88b8 other, is) refl)
   stops f (no_head front goose few is) =
-      inl (rw (le-ltb 1600 (length o) front.short, le-ltb (length o) 14 front.addresses, le-ltb (length o) (ether_place o + 2) front.there, eq-eqb (word_at o (ether_place o)) 0x88b8 goose,
-        lt-ltb (length o) (ether_place o + 10) few, is) refl)
+      inl (rw (
+        le-ltb 1600 (length o) front.short,
+        le-ltb (length o) 14 front.addresses,
+        le-ltb (length o) (ether_place o + 2) front.there,
+        eq-eqb (word_at o (ether_place o)) 0x88b8 goose,
+        lt-ltb (length o) (ether_place o + 10) few,
+        is,
+      ) refl)
   stops f (out_of_range head range is) =
-      inl (rw (le-ltb 1600 (length o) head.front.short, le-ltb (length o) 14 head.front.addresses, le-ltb (length o) (ether_place o + 2) head.front.there, eq-eqb (word_at o (ether_place o)) 0x88b8 head.goose,
-        le-ltb (length o) (ether_place o + 10) head.there, range_again range, is) refl)
+      inl (rw (
+        le-ltb 1600 (length o) head.front.short,
+        le-ltb (length o) 14 head.front.addresses,
+        le-ltb (length o) (ether_place o + 2) head.front.there,
+        eq-eqb (word_at o (ether_place o)) 0x88b8 head.goose,
+        le-ltb (length o) (ether_place o + 10) head.there,
+        range_again range,
+        is,
+      ) refl)
   stops f (no_apdu head low high few is) =
-      inl (rw (le-ltb 1600 (length o) head.front.short, le-ltb (length o) 14 head.front.addresses, le-ltb (length o) (ether_place o + 2) head.front.there, eq-eqb (word_at o (ether_place o)) 0x88b8 head.goose,
-        le-ltb (length o) (ether_place o + 10) head.there, le-ltb (length_field o) 8 low, le-ltb 1500 (length_field o) high, lt-ltb (length o) (apdu_to o) few, is) refl)
+      inl (rw (
+        le-ltb 1600 (length o) head.front.short,
+        le-ltb (length o) 14 head.front.addresses,
+        le-ltb (length o) (ether_place o + 2) head.front.there,
+        eq-eqb (word_at o (ether_place o)) 0x88b8 head.goose,
+        le-ltb (length o) (ether_place o + 10) head.there,
+        le-ltb (length_field o) 8 low,
+        le-ltb 1500 (length_field o) high,
+        lt-ltb (length o) (apdu_to o) few,
+        is,
+      ) refl)
   stops f (in_apdu has fault) = inr (has, fault)

@@ -61,11 +61,16 @@ module _ {A : Type 0} (p : GoosePdu A) (held : ℕ) (empty : held ≡ 0) where
       let spelled : Spellable p = elim (unit_tested p) [
         | inl s ↦ s
         | inr n ↦ absurd (let same = wrong.1 n in cc)
-      ] in
-      (λ e. (spelled, elim (cases_lt 1492 (length (written_goose p))) [
-        | inl more ↦ more
-        | inr fit ↦ absurd (let w = fits.1 (spelled, small fit, omega arith) in cc)
-      ]), λ s. refl)
+      ] in (
+        λ e. (
+          spelled,
+          elim (cases_lt 1492 (length (written_goose p))) [
+            | inl more ↦ more
+            | inr fit ↦ absurd (let w = fits.1 (spelled, small fit, omega arith) in cc)
+          ],
+        ),
+        λ s. refl,
+      )
 
 apdu_written : {A : Type 0} (a : Apdu A) → ApduIsSpellable a → length (written_apdu a) ≤ 1492 → SpellsApdu a (written_apdu a)
 apdu_written (apdus.Goose p) spelled fit = written_is_spelled p spelled (small p 0 refl fit)
@@ -80,14 +85,17 @@ module _ {A X : Type 0} (f : Frame A) (items : X → List ℕ) where
       let spelled : ApduIsSpellable f.apdu = elim (apdu_tested f.apdu) [
         | inl s ↦ s
         | inr n ↦ absurd (let same = wrong.1 n in cc)
-      ] in
-      (spelled, elim (cases_lt 1500 (8 + length (written_apdu f.apdu))) [
-        | inl more ↦ absurd (let same = long.1 (spelled, inl more) in cc)
-        | inr fit ↦ fit
-      ], elim (cases_lt 1600 (length (written_frame f))) [
-        | inl more ↦ absurd (let same = long.1 (spelled, inr more) in cc)
-        | inr fit ↦ fit
-      ])
+      ] in (
+        spelled,
+        elim (cases_lt 1500 (8 + length (written_apdu f.apdu))) [
+          | inl more ↦ absurd (let same = long.1 (spelled, inl more) in cc)
+          | inr fit ↦ fit
+        ],
+        elim (cases_lt 1600 (length (written_frame f))) [
+          | inl more ↦ absurd (let same = long.1 (spelled, inr more) in cc)
+          | inr fit ↦ fit
+        ],
+      )
 
   -- what is written of a frame spells it
   pub written_spells : (r : Result X EncodeFault)

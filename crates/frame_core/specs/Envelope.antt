@@ -45,9 +45,9 @@ unfoldable pub envelope_at : ℕ → List ℕ → Result (Unit {0}) Fault
 envelope_at p o =
     if nat_lt (length o) (p + 2) then refused (length o) causes.Truncated
     else (if word_at o p == 0x88b8 then (
-      if nat_lt (length o) (p + 10) then refused (length o) causes.Truncated
-      else (if nat_lt (word_at o (p + 4)) 8 || nat_lt 1500 (word_at o (p + 4)) then refused (p + 4) causes.LengthField
-      else (if nat_lt (length o) (p + 2 + word_at o (p + 4)) then refused (length o) causes.Truncated else Ok tt)))
+    if nat_lt (length o) (p + 10) then refused (length o) causes.Truncated
+    else (if nat_lt (word_at o (p + 4)) 8 || nat_lt 1500 (word_at o (p + 4)) then refused (p + 4) causes.LengthField
+    else (if nat_lt (length o) (p + 2 + word_at o (p + 4)) then refused (length o) causes.Truncated else Ok tt)))
     else refused p causes.EtherType)
 
 -- judging it whole

@@ -72,10 +72,7 @@ fn write_frame<A: Allocator>(frame: &Frame<A>) -> Result<ArrayVec<u8, 1600>, Enc
 }
 
 // Appends the APDU alone.
-fn put_apdu<A: Allocator>(
-    out: &mut ArrayVec<u8, MOST_APDU>,
-    apdu: &Apdu<A>,
-) -> Result<(), PutFault>
+fn put_apdu<A: Allocator>(out: &mut ArrayVec<u8, MOST_APDU>, apdu: &Apdu<A>) -> Result<(), PutFault>
     requires { array_vec_len out.old ≡ 0 }
     ensures not_spellable { (result ≡ Err PutFault.NotSpellable) ↔ (¬ ApduIsSpellable apdu.now) }
     ensures full { (result ≡ Err PutFault.Full) ↔ (ApduIsSpellable apdu.now × (1492 < length (written_apdu apdu.now))) }
@@ -145,7 +142,11 @@ fn put_head<A: Allocator>(out: &mut ArrayVec<u8, MOST_OCTETS>, frame: &Frame<A>,
 }
 
 // Appends the APDU and the trailer, if both fit.
-fn put_body(out: &mut ArrayVec<u8, MOST_OCTETS>, apdu: &[u8], trailer: &[u8]) -> Result<(), EncodeFault>
+fn put_body(
+    out: &mut ArrayVec<u8, MOST_OCTETS>,
+    apdu: &[u8],
+    trailer: &[u8],
+) -> Result<(), EncodeFault>
     ensures fits { IsOk result ↔ (array_vec_len out.old + length (apdu.now ++ trailer.now) ≤ 1600) }
     ensures written { OnOk result (out.new.items ≡ out.old.items ++ (apdu.now ++ trailer.now)) }
 {

@@ -50,7 +50,10 @@ pub(crate) fn find_places(octets: &[u8]) -> Result<Places, Fault>
     }
     let ether_type = ether_type_place(octets);
     let apdu_to = apdu_end(octets, ether_type)?;
-    Ok(Places { ether_type, apdu_to })
+    Ok(Places {
+        ether_type,
+        apdu_to,
+    })
 }
 
 // Where the EtherType stands.

@@ -9,8 +9,8 @@ ghost use Rattle.frame_core.specs.LineAnswer.{Answers, fields_after};
 use crate::cutting::find;
 use crate::event::{Event, EventKind};
 use crate::list_fault::ListCause;
-use mms_data::Octets;
 use hex::FromHexError;
+use mms_data::Octets;
 use std::alloc::{AllocError, Allocator};
 
 /// The most digits of a moment.

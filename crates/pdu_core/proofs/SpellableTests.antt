@@ -60,5 +60,15 @@ test_spelled p e =
 
 pub spelled_test : {A : Type 0} (p : GoosePdu A) → Spellable p → is_spelled p ≡ true
 spelled_test p s =
-    rw (text_test p.gocb_ref s.gocb_ref, text_test p.dat_set s.dat_set, text_if_test p.go_id s.go_id, lt-ltb p.live (2 ^ 32) s.live, lt-ltb p.st_num (2 ^ 32) s.st_num, lt-ltb p.sq_num (2 ^ 32) s.sq_num,
-      lt-ltb p.conf_rev (2 ^ 32) s.conf_rev, lt-ltb (length p.members) (2 ^ 32) s.entries, moment_true p.t s.t, all_true (items_of p.members) 1 s.members) refl
+    rw (
+      text_test p.gocb_ref s.gocb_ref,
+      text_test p.dat_set s.dat_set,
+      text_if_test p.go_id s.go_id,
+      lt-ltb p.live (2 ^ 32) s.live,
+      lt-ltb p.st_num (2 ^ 32) s.st_num,
+      lt-ltb p.sq_num (2 ^ 32) s.sq_num,
+      lt-ltb p.conf_rev (2 ^ 32) s.conf_rev,
+      lt-ltb (length p.members) (2 ^ 32) s.entries,
+      moment_true p.t s.t,
+      all_true (items_of p.members) 1 s.members,
+    ) refl

@@ -3,10 +3,10 @@
 use crate::device::Sink;
 use crate::event::{Event, EventKind};
 use crate::list_writer::write_event;
-use mms_data::Octets;
 use crate::std_io::ToWrite;
 use crate::tests::devices::{Full, NEVER, sink_of};
 use crate::whole_write::{WriteFault, put_all};
+use mms_data::Octets;
 use std::alloc::Global;
 use std::process::Abort;
 use std::test::Fail;
