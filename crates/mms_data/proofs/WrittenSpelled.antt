@@ -44,9 +44,15 @@ number_back n x few =
     ap (λ k. big_number k (big_bytes n x)) (length-bytes_high_first n x) ∙ ap (big_number n) (sym (append-nil (big_bytes n x))) ∙ big_number-reads_back n x [] few
 
 time_spelled : (t : UtcTime) → IsTime t → SpellsUtc t (written_time t)
-time_spelled t h =
-    (big_bytes 4 t.seconds, big_bytes 3 t.fraction, length-bytes_high_first 4 t.seconds, length-bytes_high_first 3 t.fraction,
-     number_back 4 t.seconds h.0, number_back 3 t.fraction h.1, refl)
+time_spelled t h = (
+  big_bytes 4 t.seconds,
+  big_bytes 3 t.fraction,
+  length-bytes_high_first 4 t.seconds,
+  length-bytes_high_first 3 t.fraction,
+  number_back 4 t.seconds h.0,
+  number_back 3 t.fraction h.1,
+  refl,
+)
 
 simple_spelled : (s : Simple) → IsSpellable s → SpellsSimple s (simple_contents s)
 simple_spelled (boolean b) h = (truth_octet b, refl, truth_is b)

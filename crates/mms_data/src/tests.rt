@@ -56,9 +56,9 @@ fn a_view_is_its_value(rt: HostRuntime) -> Result<(), Fail> {
 
 // Each kind once, in the spelling with the fewest octets.
 const EACH_KIND: [u8; 54] = [
-    0xa2, 0x34, 0x83, 1, 0xff, 0x84, 2, 4, 0xa0, 0x85, 1, 5, 0x86, 2, 0, 0xc8, 0x87, 5, 8, 0x41, 0x20, 0,
-    0, 0x89, 2, 1, 2, 0x8a, 2, 0x41, 0x42, 0x8c, 4, 0, 0, 0, 1, 0x90, 1, 0x43, 0x91, 8, 0x60, 0, 0, 1,
-    0x80, 0, 0, 0x0a, 0xa1, 2, 0xa1, 0,
+    0xa2, 0x34, 0x83, 1, 0xff, 0x84, 2, 4, 0xa0, 0x85, 1, 5, 0x86, 2, 0, 0xc8, 0x87, 5, 8, 0x41,
+    0x20, 0, 0, 0x89, 2, 1, 2, 0x8a, 2, 0x41, 0x42, 0x8c, 4, 0, 0, 0, 1, 0x90, 1, 0x43, 0x91, 8,
+    0x60, 0, 0, 1, 0x80, 0, 0, 0x0a, 0xa1, 2, 0xa1, 0,
 ];
 
 fn put_all<A: Allocator>(values: Vec<Value<A>, A>) -> Result<ArrayVec<u8, 64>, PutFault> {
@@ -103,7 +103,10 @@ fn faults_of_the_front(rt: HostRuntime) {
     assert_eq!(rt; count(&[0x85, 2, 0]), fault(1, Cause::LengthPastEnd));
     assert_eq!(rt; count(&[0x88, 1, 0]), fault(0, Cause::UnexpectedTag));
     assert_eq!(rt; count(&[0x83, 1, 0, 0x88]), fault(3, Cause::UnexpectedTag));
-    assert_eq!(rt; count(&[0xa2, 3, 0x88, 1, 0xff]), fault(2, Cause::UnexpectedTag));
+    assert_eq!(rt;
+        count(&[0xa2, 3, 0x88, 1, 0xff]),
+        fault(2, Cause::UnexpectedTag)
+    );
     assert_eq!(rt; count(&DEEP), fault(32, Cause::TooDeep));
     assert_eq!(rt; check_members(&DEEP, 2, 35, 1), Ok(1));
 }
