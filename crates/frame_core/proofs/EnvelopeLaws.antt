@@ -1,12 +1,9 @@
 -- Judging the envelope stops exactly at its first fault, and passes exactly where an APDU has its region.
-use Rattle.std.proofs.Common.{◌≡◌, ◌≢◌, ℕ, ◌+◌, ◌≤◌, ◌<◌, Bool, true, false, cond, ltb, eqb, ◌||◌, List, length, Result, Ok, Err, refl, sym, ap, ◌∙◌, arith, lit≤, inl, inr}
+use Rattle.std.proofs.Common.{◌≡◌, ℕ, ◌+◌, ◌≤◌, ◌<◌, Bool, true, false, cond, ltb, eqb, ◌||◌, List, length, Ok, Err, refl, arith, lit≤, inl, inr}
 use Rattle.std.proofs.lemmas.Bool.{ltb-true, ltb-false, le-ltb, lt-ltb, eqb-true, eqb-false, ne_eqb, eq-eqb, or_cases, cases_lt}
 use Rattle.std.specs.Prelude.{◌⊎◌, slice_range}
 use Rattle.pdu_core.specs.Goose.{GooseFault}
 use Rattle.ber_core.specs.declared.fault.Fault.{Fault}
-use Rattle.ber_core.specs.declared.fault.Cause.TheVariants as causes
-use Rattle.ber_core.specs.Faults.{fault_of}
-use Rattle.ber_core.specs.Reading.{refused}
 use Rattle.ber_core.proofs.Steps.{chosen, fault_is}
 use Rattle.frame_core.specs.Envelope.{apdu_from, apdu_to, envelope_at, ether_place, judged, length_field, word_at}
 use Rattle.frame_core.specs.FrameFault.{FrameFault, HasApdu, HasEtherType, HasHead, in_apdu, no_apdu, no_ether_type, no_head, not_goose, out_of_range, too_long}

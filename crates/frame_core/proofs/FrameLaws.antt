@@ -1,18 +1,16 @@
 -- Octets are spelled for one frame at most, or have one fault, and never both: what holds of the units of GOOSE
 -- holds of the frames that carry them.
-use Rattle.std.proofs.Common.{◌≡◌, ℕ, ◌≤◌, List, length, Result, Ok, Err, sym, ap, ◌∙◌, arith, inl, inr}
-use Rattle.std.specs.Prelude.{◌⊎◌, slice_range}
+use Rattle.std.proofs.Common.{◌≡◌, ℕ, List, Result, Ok, Err, sym, ap, ◌∙◌, inl, inr}
+use Rattle.std.specs.Prelude.{slice_range}
 use Rattle.ber_core.specs.declared.fault.Fault.{Fault}
-use Rattle.pdu_core.specs.Goose.{GooseFault, SpellsGoose}
 use Rattle.pdu_core.specs.Laws.{PduIsOne, PduOrFault}
 use Rattle.pdu_core.specs.Laws.{FaultIsOne as PduFaultIsOne}
-use Rattle.pdu_core.specs.declared.goose.GoosePdu.{GoosePdu}
-use Rattle.frame_core.specs.Envelope.{apdu_from, apdu_to, judged}
+use Rattle.frame_core.specs.Envelope.{apdu_from, apdu_to}
 use Rattle.frame_core.specs.Frame.{SpellsFrame}
 use Rattle.frame_core.specs.FrameReading.{frame_with}
-use Rattle.frame_core.specs.FrameFault.{FrameFault, HasApdu}
+use Rattle.frame_core.specs.FrameFault.{FrameFault}
 use Rattle.frame_core.specs.declared.frame.Frame.{Frame}
-use Rattle.frame_core.proofs.EnvelopeLaws.{at_least, passes_again, stops}
+use Rattle.frame_core.proofs.EnvelopeLaws.{passes_again, stops}
 use Rattle.frame_core.proofs.FrameParts.{has_apdu, known}
 
 -- judging gives one answer

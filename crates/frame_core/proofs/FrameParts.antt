@@ -1,8 +1,8 @@
 -- The parts of a frame, by the places at which they stand, and the frame that they make up.
-use Rattle.std.proofs.Common.{◌≡◌, ℕ, ◌+◌, ◌-◌, ◌≤◌, true, false, cond, eqb, List, [], ◌++◌, length, take, drop, Option, Some, None, refl, sym, ap, subst, ◌∙◌, append_assoc, arith, lit≤, inl, inr}
-use Rattle.std.proofs.lemmas.List.{length-append, length-take-le, length-drop}
+use Rattle.std.proofs.Common.{◌≡◌, ℕ, ◌+◌, ◌-◌, ◌≤◌, true, false, cond, eqb, List, ◌++◌, length, take, drop, Option, Some, None, refl, sym, ap, subst, ◌∙◌, append_assoc, arith, lit≤}
+use Rattle.std.proofs.lemmas.List.{length-append}
 use Rattle.std.proofs.Math.Seq.{take-length}
-use Rattle.std.proofs.lemmas.Bool.{eqb-true, eqb-false, ne_eqb, eq-eqb}
+use Rattle.std.proofs.lemmas.Bool.{eqb-true}
 use Rattle.std.specs.Prelude.{slice_range}
 use Rattle.byteorder.specs.Endian.{big_number}
 use Rattle.byteorder.specs.Numbers.{big_from-take}
@@ -11,10 +11,10 @@ use Rattle.ber_core.proofs.Regions.{region-split, region-length, behind_front, f
 use Rattle.pdu_core.specs.Goose.{SpellsGoose}
 use Rattle.pdu_core.specs.declared.goose.GoosePdu.{GoosePdu}
 use Rattle.frame_core.proofs.EnvelopeLaws.{at_least}
-use Rattle.frame_core.specs.Envelope.{SpellsTag, Word, apdu_from, apdu_to, ether_place, length_field, tag_at, word_at}
+use Rattle.frame_core.specs.Envelope.{SpellsTag, Word, apdu_from, apdu_to, ether_place, tag_at, word_at}
 use Rattle.frame_core.specs.Frame.{SpellsFrame, ether_type_of, SpellsApdu}
 use Rattle.frame_core.specs.FrameReading.{frame_with}
-use Rattle.frame_core.specs.FrameFault.{HasApdu, HasEtherType, HasHead}
+use Rattle.frame_core.specs.FrameFault.{HasApdu}
 use Rattle.frame_core.specs.declared.frame.Apdu.{Apdu}
 use Rattle.frame_core.specs.declared.frame.Apdu.TheVariants as apdus
 use Rattle.frame_core.specs.declared.frame.Frame.{Frame}

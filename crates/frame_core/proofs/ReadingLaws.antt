@@ -1,6 +1,6 @@
 -- Reading gives the frame that octets spell, and the first fault that they have.
-use Rattle.std.proofs.Common.{◌≡◌, ℕ, ◌≤◌, List, length, Result, Ok, Err, refl, ap, ◌∙◌, arith, inl, inr}
-use Rattle.std.specs.Prelude.{◌⊎◌, IfOk, IfErr, slice_range}
+use Rattle.std.proofs.Common.{◌≡◌, ℕ, ◌≤◌, List, Result, Ok, Err, refl, ap, ◌∙◌, arith, inl, inr}
+use Rattle.std.specs.Prelude.{IfOk, IfErr}
 use Rattle.ber_core.specs.Reading.{Gives, ◌>>=◌}
 use Rattle.ber_core.specs.declared.fault.Fault.{Fault}
 use Rattle.pdu_core.specs.GooseValue.{goose_value}

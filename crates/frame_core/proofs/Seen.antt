@@ -1,5 +1,5 @@
 -- The frame that is seen, from its parts.
-use Rattle.std.proofs.Common.{◌≡◌, ℕ, ◌+◌, ◌-◌, List, length, take, drop, Option, Result, Ok, Err, refl, sym, ap, subst, ◌∙◌, arith}
+use Rattle.std.proofs.Common.{◌≡◌, ℕ, ◌+◌, List, length, Option, Ok, refl, sym, ap, subst, ◌∙◌}
 use Rattle.std.specs.Prelude.{slice_range}
 use Rattle.ber_core.specs.declared.fault.Fault.{Fault}
 use Rattle.pdu_core.specs.Goose.{GooseFault, SpellsGoose}
@@ -9,7 +9,7 @@ use Rattle.pdu_core.specs.declared.view.GooseView.{GooseView}
 use Rattle.frame_core.specs.Envelope.{apdu_from, apdu_to, ether_place, judged, tag_at, word_at}
 use Rattle.frame_core.specs.Frame.{SpellsFrame}
 use Rattle.frame_core.specs.FrameReading.{frame_with}
-use Rattle.frame_core.specs.FrameFault.{FrameFault, HasApdu, in_apdu}
+use Rattle.frame_core.specs.FrameFault.{FrameFault, in_apdu}
 use Rattle.frame_core.specs.declared.frame.Apdu.TheVariants as apdus
 use Rattle.frame_core.specs.declared.frame.Frame.{Frame}
 use Rattle.frame_core.specs.declared.vlan_tag.VlanTag.{VlanTag}

@@ -1,5 +1,5 @@
 -- A frame that octets spell has a written form, unless it would be too long.
-use Rattle.std.proofs.Common.{◌≡◌, ℕ, List, ◌++◌, subst}
+use Rattle.std.proofs.Common.{ℕ, List, subst}
 use Rattle.ber_core.specs.Length.{AreOctets}
 use Rattle.mms_data.proofs.SpelledSpellable.{back_octets, front_octets}
 use Rattle.pdu_core.proofs.SpelledSpellable.{goose_spellable}

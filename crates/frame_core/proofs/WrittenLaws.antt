@@ -1,9 +1,8 @@
 -- The written form of a frame is a spelling of it.
-use Rattle.std.proofs.Common.{◌≡◌, ℕ, ◌+◌, ◌^◌, ◌<◌, ◌≤◌, List, [], ◌++◌, length, Option, Some, None, refl, sym, ap, ◌∙◌, append_assoc, arith, lit<}
-use Rattle.std.proofs.lemmas.List.{append-nil, length-append}
+use Rattle.std.proofs.Common.{◌≡◌, ℕ, ◌+◌, ◌<◌, ◌≤◌, List, [], ◌++◌, length, Option, Some, None, refl, sym, ap, ◌∙◌, append_assoc, arith, lit<}
+use Rattle.std.proofs.lemmas.List.{append-nil}
 use Rattle.byteorder.specs.Endian.{big_bytes, big_number}
 use Rattle.byteorder.specs.Numbers.{big_number-reads_back, length-bytes_high_first}
-use Rattle.ber_core.specs.Length.{number}
 use Rattle.frame_core.specs.Envelope.{SpellsTag, Word}
 use Rattle.frame_core.specs.Frame.{SpellsApdu, SpellsFrame, ether_type_of}
 use Rattle.frame_core.specs.Written.{IsHeld, TagIsHeld, written_apdu, written_frame, written_tag, written_word}

@@ -1,6 +1,6 @@
 -- What stands before the APDU of a frame (IEEE 802.1Q, IEC 61850-8-1), and where: two addresses of six octets,
 -- a tag of two words or none, the EtherType, then the words APPID, Length, Reserved 1 and Reserved 2.
-use Rattle.std.specs.Prelude.{◌≡◌, ◌≤◌, ◌<◌, ◌+◌, ◌⊎◌, ◌==◌, ℕ, List, [], ◌∷◌, ◌++◌, length, drop, slice_range, Option, Some, None, Result, Ok, nat_lt, ◌||◌, if◌then◌else◌}
+use Rattle.std.specs.Prelude.{◌≡◌, ◌+◌, ◌==◌, ℕ, List, [], ◌++◌, length, drop, Option, Some, None, Result, Ok, nat_lt, ◌||◌, if◌then◌else◌}
 use Rattle.byteorder.specs.Endian.{big_number}
 use Rattle.ber_core.specs.Length.{number}
 use Rattle.ber_core.specs.Reading.{refused}

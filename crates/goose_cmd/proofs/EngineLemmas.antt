@@ -1,6 +1,6 @@
 -- What several answers of a reader of lists make an engine write.
-use Rattle.std.proofs.Common.{Option, Some, None, Ok, Err, Result, MatchResult, ◌≡◌, ℕ, Bool, true, false, List, [], ◌∷◌, ◌++◌, inl, inr, ap, sym, ◌∙◌, refl, subst}
-use Rattle.std.specs.Prelude.{◌⊎◌, ◌||◌, if◌then◌else◌}
+use Rattle.std.proofs.Common.{Option, Some, None, Ok, Err, MatchResult, ◌≡◌, ℕ, Bool, true, false, List, [], ◌∷◌, ◌++◌, inl, inr, ap, sym, ◌∙◌, refl, subst}
+use Rattle.std.specs.Prelude.{◌||◌, if◌then◌else◌}
 use Rattle.std.specs.List.{flat_map, list_any}
 use Rattle.std.proofs.lemmas.List.{append_assoc, append-nil}
 use Rattle.std.proofs.lemmas.List.Concat.{flat_map-append}
@@ -12,17 +12,17 @@ use Rattle.frame_core.specs.declared.list_fault.ListCause.{ListCause}
 use Rattle.frame_core.specs.declared.list_fault.ListCause.TheVariants.{LineTooLong, LineForm, Moment, Hex, ListTooLong, ReadFailed}
 use Rattle.frame_core.specs.declared.list_fault.ListFault.{ListFault}
 use Rattle.frame_core.specs.Device.{AppendsFront, Gives, OnlyOpen}
-use Rattle.frame_core.specs.Lines.{Stop, finished, faulty, CanFollow}
+use Rattle.frame_core.specs.Lines.{faulty}
 use Rattle.frame_core.specs.Reader.{Stream}
-use Rattle.frame_core.specs.EventList.{Listing, listing, put_event, put_events, stops}
-use Rattle.frame_core.specs.EventReader.{Answer, AnswersEvent, TakesEvents, ReadsList, lines_before}
+use Rattle.frame_core.specs.EventList.{Listing, listing, put_events}
+use Rattle.frame_core.specs.EventReader.{Answer, AnswersEvent, TakesEvents, lines_before}
 use Rattle.frame_core.proofs.Devices.{Appends-append, AppendsFront-append, AppendsFront-more, Gives-append, Gives-from_Consumes}
 use Rattle.frame_core.proofs.Readers.{CanFollow-given, CanFollow-none, regroup}
 use Rattle.frame_core.proofs.EventReaders.{TakesEvents-push, ReadsList-end, ReadsList-fault}
 use Rattle.goose_cmd.specs.declared.ending.Ending.{Ending}
-use Rattle.goose_cmd.specs.declared.ending.Ending.TheVariants.{Done, Findings, InputFault, ReadFault, WriteFault, Memory}
+use Rattle.goose_cmd.specs.declared.ending.Ending.TheVariants.{Done, Findings, WriteFault, Memory}
 use Rattle.goose_cmd.specs.declared.engines.run.Next.TheVariants as next
-use Rattle.goose_cmd.specs.EngineText.{Text, text_of, last_text, ending_of, StopsAt, EndsByFault, EndsWell, WritesAfter}
+use Rattle.goose_cmd.specs.EngineText.{Text, text_of, last_text, ending_of, StopsAt, EndsWell, WritesAfter}
 use Rattle.goose_cmd.specs.EngineStep.{StepWrites, Breaks}
 
 -- a fault ends a run in one of two ways

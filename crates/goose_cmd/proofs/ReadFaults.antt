@@ -7,13 +7,12 @@ use Rattle.frame_core.specs.declared.event.Event.{Event}
 use Rattle.frame_core.specs.declared.list_fault.ListCause.{ListCause}
 use Rattle.frame_core.specs.declared.list_fault.ListCause.TheVariants.{LineTooLong, LineForm, Moment, Hex, ListTooLong, ReadFailed}
 use Rattle.frame_core.specs.declared.list_fault.ListFault.{ListFault}
-use Rattle.frame_core.specs.Lines.{Stop, finished, unfinished, faulty, Reading, reading, reading_of_pieces, reading_of_rest, reading_at_end, pieces, judged, put_line, without_cr, fault_at}
+use Rattle.frame_core.specs.Lines.{Stop, finished, unfinished, faulty, Reading, reading, reading_of_pieces, reading_at_end, pieces, judged, fault_at}
 use Rattle.frame_core.specs.EventLine.{event_of, event_of_fields, fields, clock_at, frame_at, moment_of, octets_of}
 use Rattle.frame_core.specs.EventList.{Listing, listing, events_of, put_said}
 use Rattle.goose_cmd.specs.declared.ending.Ending.{Ending}
 use Rattle.goose_cmd.specs.declared.ending.Ending.TheVariants.{Done, Findings, InputFault, ReadFault, WriteFault, Memory}
 use Rattle.goose_cmd.specs.EngineText.{Text, ending_of, WritesAfter}
-use Rattle.std.specs.Io.KnownBytes.{Appends}
 
 -- a stop that blames the reader only where it failed
 abbrev Blames : InputEnd → Stop → Type 0

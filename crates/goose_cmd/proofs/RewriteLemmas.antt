@@ -1,6 +1,6 @@
 -- The written form of a frame does not hang on where its memory comes from.
-use Rattle.std.proofs.Common.{◌≡◌, ◌<◌, ◌≤◌, ◌+◌, ℕ, List, Option, Some, None, Ok, Err, Result, MatchResult, refl, ap, sym, ◌∙◌, Bool, true, false, inl, inr, length, arith}
-use Rattle.std.specs.Prelude.{◌↔◌, ◌⊎◌, ◌&&◌, nat_le, if◌then◌else◌}
+use Rattle.std.proofs.Common.{◌≡◌, ℕ, List, Some, None, Ok, Result, refl, ap, sym, ◌∙◌, Bool, true}
+use Rattle.std.specs.Prelude.{if◌then◌else◌}
 use Rattle.ber_core.specs.declared.fault.Fault.{Fault}
 use Rattle.frame_core.specs.declared.frame.Frame.{Frame}
 use Rattle.frame_core.specs.declared.frame_view.ApduView.{ApduView}

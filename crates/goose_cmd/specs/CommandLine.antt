@@ -1,7 +1,7 @@
 -- The command line of the program, and the task of each subcommand.
-use Rattle.std.specs.Prelude.{◌≡◌, ◌==◌, ℕ, Bool, true, false, List, Option, Some, None, codes, if◌then◌else◌}
+use Rattle.std.specs.Prelude.{ℕ, true, List, Option, Some, None, codes, if◌then◌else◌}
 use Rattle.std.specs.Str.{bytes_eq}
-use Rattle.clap.specs.Words.{App, Shape, new_app, with_subcommand}
+use Rattle.clap.specs.Words.{App, new_app, with_subcommand}
 use Rattle.goose_cmd.specs.declared.words.Task.{Task}
 use Rattle.goose_cmd.specs.declared.words.Task.TheVariants.{Show, Rewrite}
 

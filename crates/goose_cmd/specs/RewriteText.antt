@@ -1,8 +1,7 @@
 -- The text of `rewrite`: the list again, each grammatical frame in its written form.
-use Rattle.std.specs.Prelude.{ℕ, List, ◌++◌, Bool, true, false, not, Option, Some, None, is_some, Result, Ok, Err, codes, if◌then◌else◌}
+use Rattle.std.specs.Prelude.{ℕ, List, ◌++◌, Bool, false, not, Option, Some, None, is_some, Result, Ok, Err, codes, if◌then◌else◌}
 use Rattle.std.specs.Fmt.{decimal}
 use Rattle.ber_core.specs.declared.fault.Fault.{Fault}
-use Rattle.frame_core.specs.declared.event.Event.{Event}
 use Rattle.frame_core.specs.declared.event.EventKind.{EventKind}
 use Rattle.frame_core.specs.declared.event.EventKind.TheVariants.{Frame, Clock}
 use Rattle.frame_core.specs.EventLine.{kind_text}

@@ -1,7 +1,6 @@
 -- The text of `show`: one line an event.
 use Rattle.std.specs.Prelude.{ℕ, List, Result, Ok, Err, false}
 use Rattle.ber_core.specs.declared.fault.Fault.{Fault}
-use Rattle.frame_core.specs.declared.event.Event.{Event}
 use Rattle.frame_core.specs.declared.event.EventKind.{EventKind}
 use Rattle.frame_core.specs.declared.event.EventKind.TheVariants.{Frame, Clock}
 use Rattle.frame_core.specs.declared.frame.Frame as frames

@@ -5,7 +5,7 @@ use Rattle.ber_core.specs.declared.fault.Fault.{Fault}
 use Rattle.mms_data.specs.Data.{Data}
 use Rattle.mms_data.specs.Laws.{MembersOrFault, MembersElseFault, FaultIsOne, MembersAreOne}
 use Rattle.mms_data.specs.Reading.{members_at}
-use Rattle.mms_data.specs.Spelling.{SpellsAll, SpellSome, FaultIn}
+use Rattle.mms_data.specs.Spelling.{SpellSome, FaultIn}
 use Rattle.mms_data.proofs.Again.{all_again}
 use Rattle.mms_data.proofs.Found.{all_found}
 use Rattle.mms_data.proofs.Front.{one_value}

@@ -1,15 +1,14 @@
 -- The written form of a value spells it.
-use Rattle.std.proofs.Common.{◌≡◌, ℕ, ◌+◌, ◌-◌, ◌%◌, ◌<◌, ◌≤◌, ◌^◌, Bool, true, false, not, eqb, List, [], ◌∷◌, ◌++◌, length, refl, sym, ap, ◌∙◌, arith}
+use Rattle.std.proofs.Common.{◌≡◌, ℕ, ◌+◌, ◌%◌, ◌<◌, ◌^◌, Bool, true, false, not, List, [], length, refl, sym, ap, ◌∙◌, arith}
 use Rattle.std.proofs.lemmas.List.{length-append, append-nil}
 use Rattle.std.proofs.lemmas.Bool.{eqb-false}
 use Rattle.std.proofs.lemmas.Int.{ints}
-use Rattle.std.specs.Prelude.{◌==◌, ◌≤ℤ◌, ◌<ℤ◌, ℤ, pos, negsuc}
+use Rattle.std.specs.Prelude.{◌==◌, pos}
 use Rattle.byteorder.specs.Endian.{big_bytes, big_number}
 use Rattle.byteorder.specs.Numbers.{length-bytes_high_first, big_number-reads_back}
 use Rattle.ber_core.specs.Element.{Elem}
 use Rattle.ber_core.specs.Length.{number}
-use Rattle.ber_core.specs.Integer.{Int}
-use Rattle.ber_core.specs.Written.{short_length, short_integer, written_element}
+use Rattle.ber_core.specs.Written.{short_length}
 use Rattle.ber_core.proofs.Shortest.{length_shortest, integer_shortest}
 use Rattle.mms_data.specs.Data.{Simple, boolean, bits, integer, unsigned, floating, octets, visible, binary_time, mms_text, utc, Data, simple, array, structure, Items, no_items, item, items_of}
 use Rattle.mms_data.specs.Kinds.{identifier_of, simple_kind}
@@ -18,7 +17,7 @@ use Rattle.mms_data.specs.Utc.{SpellsUtc}
 use Rattle.mms_data.specs.Laws.{WrittenIsSpelled, AllWrittenAreSpelled}
 use Rattle.mms_data.specs.Spellable.{IsTime, IsSpellable, Spellable, SpellableItems}
 use Rattle.mms_data.specs.Spelling.{Spells, SpellsItems}
-use Rattle.mms_data.specs.Written.{element, truth_octet, written_time, simple_contents, written, written_items, written_contents, HasWritten}
+use Rattle.mms_data.specs.Written.{element, truth_octet, written_time, simple_contents, written, written_items, HasWritten}
 use Rattle.mms_data.specs.declared.kinds.Kind.{Kind}
 use Rattle.mms_data.specs.declared.kinds.Kind.TheVariants.{Array, Structure, Simple as of_kind}
 use Rattle.mms_data.specs.declared.time.UtcTime.{UtcTime}

@@ -1,8 +1,7 @@
 -- A PDU that octets spell has a spelling in the sense of the test: nothing is read that could not be written.
-use Rattle.std.proofs.Common.{◌≡◌, ℕ, pos, ◌^◌, ◌<◌, Bool, false, List, [], ◌∷◌, ◌++◌, length, Option, Some, None, refl, sym, subst, ◌∙◌, arith, inl, inr}
+use Rattle.std.proofs.Common.{ℕ, List, [], ◌∷◌, ◌++◌, Option, Some, None, sym, subst, arith, inl, inr}
 use Rattle.std.proofs.lemmas.Int.{ints}
 use Rattle.std.specs.Prelude.{IfSome}
-use Rattle.ber_core.specs.Element.{Elem}
 use Rattle.ber_core.specs.Fields.{AbsenceMeans, Field, Presence, SpellsField, SpellsFields, always, default, optional}
 use Rattle.ber_core.specs.Length.{AreOctets}
 use Rattle.mms_data.proofs.SpelledSpellable.{back_octets, contents_octets, front_octets, items_spellable, simple_spellable}

@@ -5,7 +5,6 @@ use Rattle.ber_core.specs.Reading.{◌>>=◌}
 use Rattle.ber_core.specs.declared.fault.Fault.{Fault}
 use Rattle.pdu_core.specs.Contents.{Item}
 use Rattle.pdu_core.specs.Goose.{GooseFault, SpellsGoose, goose_items, text_if}
-use Rattle.pdu_core.specs.GooseReading.{goose_at}
 use Rattle.pdu_core.specs.GooseValue.{goose_value, pdu_of_items, text_if_there}
 use Rattle.pdu_core.specs.declared.goose.GoosePdu.{GoosePdu}
 use Rattle.pdu_core.proofs.GooseLaws.{goose_again, goose_wrong_again}

@@ -1,4 +1,4 @@
-use Rattle.std.proofs.Common.{◌≡◌, List, ℕ, Ok, Err, sym, ◌∙◌}
+use Rattle.std.proofs.Common.{◌∙◌}
 use Rattle.ber_core.specs.Element.{contents_of}
 use Rattle.ber_core.specs.Contents.{SpellsBoolean, BooleanFault}
 use Rattle.ber_core.specs.ContentsReading.{boolean_at}

@@ -1,4 +1,3 @@
-use Rattle.std.proofs.Common.{◌≡◌, List, ℕ, Ok, Err, sym, ◌∙◌}
 use Rattle.ber_core.specs.Element.{contents_of}
 use Rattle.ber_core.specs.Contents.{SpellsCounted, CountedFault}
 use Rattle.ber_core.specs.ContentsReading.{counted_at}

@@ -1,4 +1,4 @@
-use Rattle.std.proofs.Common.{◌≡◌, rules, List, ℕ, Ok, Err, sym, ◌∙◌}
+use Rattle.std.proofs.Common.{◌≡◌, rules, ◌∙◌}
 use Rattle.ber_core.specs.Element.{contents_of}
 use Rattle.ber_core.specs.Contents.{SpellsInteger, IntegerFault}
 use Rattle.ber_core.specs.ContentsReading.{integer_at}
