@@ -18,3 +18,4 @@ pub mod Seen
 pub mod WrittenLaws
 pub mod PutLaws
 pub mod ReadingLaws
+pub mod SpelledSpellable

@@ -1,7 +1,9 @@
 -- What the definitions say together.
 use Rattle.std.specs.Prelude.{◌≡◌, ◌≤◌, ◌<◌, ◌+◌, ◌*◌, ℕ, List, Ok, Err}
 use Rattle.ber_core.specs.declared.fault.Fault.{Fault}
+use Rattle.ber_core.specs.Length.{AreOctets}
 use Rattle.frame_core.specs.Frame.{SpellsFrame}
+use Rattle.frame_core.specs.Written.{ApduIsSpellable}
 use Rattle.frame_core.specs.FrameFault.{FrameFault}
 use Rattle.frame_core.specs.FrameReading.{frame_at}
 use Rattle.frame_core.specs.declared.frame.Frame.{Frame}
@@ -26,3 +28,8 @@ FaultIsOne = (o : List ℕ) (e d : Fault) → FrameFault e o → FrameFault d o 
 -- the frame that octets spell is read, and so is the first fault that they have
 abbrev pub ReadingTells : Type 0 → Type 0
 ReadingTells A = ((o : List ℕ) (f : Frame A) → SpellsFrame f o → frame_at o ≡ Ok f) × ((o : List ℕ) (e : Fault) → FrameFault e o → frame_at {A = A} o ≡ Err e)
+
+-- a frame that octets spell has a spelling in the sense of its fields: nothing but its length keeps it from
+-- being written
+abbrev pub SpelledIsSpellable : Type 0 → Type 0
+SpelledIsSpellable A = (o : List ℕ) (f : Frame A) → AreOctets o → SpellsFrame f o → ApduIsSpellable f.apdu

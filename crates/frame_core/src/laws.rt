@@ -9,7 +9,7 @@ ghost use Rattle.frame_core.specs.EventList.{listing, put_event};
 ghost use Rattle.frame_core.specs.Lines.{finished, faulty};
 ghost use Rattle.frame_core.specs.declared.list_fault.ListCause.{ListCause};
 ghost use Rattle.frame_core.specs.declared.list_fault.ListFault.{ListFault};
-ghost use Rattle.frame_core.specs.Laws.{FaultIsOne, FrameIsOne, FrameOrFault, PartsMakeTheControl, ReadingTells};
+ghost use Rattle.frame_core.specs.Laws.{FaultIsOne, FrameIsOne, FrameOrFault, PartsMakeTheControl, ReadingTells, SpelledIsSpellable};
 
 use std::alloc::Allocator;
 
@@ -24,6 +24,12 @@ pub fn one_reading<A: Allocator>()
 /// that they have.
 pub fn reading_tells<A: Allocator>()
     ensures { ReadingTells A }
+{}
+
+/// A frame that octets spell has a spelling in the sense of its fields: nothing but its length keeps it from being
+/// written.
+pub fn spelled_is_spellable<A: Allocator>()
+    ensures { SpelledIsSpellable A }
 {}
 
 /// The parts of a tag's control word make it up: 8192 times the priority, 4096 where the frame may be dropped

@@ -59,15 +59,24 @@ fn answer(rt: &HostRuntime, texts: &[String]) -> u8 {
     }
 }
 
-fn main(rt: HostRuntime) -> ExitCode {
-    let code = match texts_of(&rt) {
-        Ok(texts) => answer(&rt, texts.as_slice()),
-        Err(status) => status,
-    };
+// Says on standard error what status 4 or 5 means; clap has said what status 2 does.
+fn say(rt: &HostRuntime, code: u8) {
     let _ = match code {
         4 => rt.eprintln("read or write fault"),
         5 => rt.eprintln("out of memory"),
         _ => Ok(()),
     };
+}
+
+fn main(rt: HostRuntime) -> ExitCode {
+    let code = match texts_of(&rt) {
+        Ok(texts) => answer(&rt, texts.as_slice()),
+        Err(2) => {
+            let _ = rt.eprintln("error: a word of the command line is no text (UTF-8)");
+            2
+        }
+        Err(status) => status,
+    };
+    say(&rt, code);
     ExitCode::from(code)
 }

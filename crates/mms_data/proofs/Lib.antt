@@ -16,3 +16,4 @@ pub mod SpellableLaws
 pub mod WrittenSizes
 pub mod OneReading
 pub mod WrittenSpelled
+pub mod SpelledSpellable

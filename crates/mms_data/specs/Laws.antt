@@ -1,6 +1,7 @@
 -- What the definitions say together: octets have one reading, and written forms are spellings.
 use Rattle.std.specs.Prelude.{◌≡◌, ◌≤◌, ◌<◌, ◌^◌, ◌⊎◌, ℕ, List, length}
 use Rattle.ber_core.specs.declared.fault.Fault.{Fault}
+use Rattle.ber_core.specs.Length.{AreOctets}
 use Rattle.mms_data.specs.Data.{Data}
 use Rattle.mms_data.specs.Spelling.{Spells, SpellsAll, SpellSome, FaultIn}
 use Rattle.mms_data.specs.Spellable.{Spellable, AllSpellable}
@@ -29,3 +30,7 @@ WrittenIsSpelled = (d : Data) (L : ℕ) → Spellable d L → HasWritten d → S
 -- the same of members, one after the other
 abbrev pub AllWrittenAreSpelled : Type 0
 AllWrittenAreSpelled = (ds : List Data) (L : ℕ) → AllSpellable ds L → length (written_all ds) < 2 ^ 32 → SpellsAll ds L (written_all ds)
+
+-- a value that octets spell at a level has a spelling there in the sense of its fields: what is read can be written
+abbrev pub SpelledIsSpellable : Type 0
+SpelledIsSpellable = (d : Data) (L : ℕ) (o : List ℕ) → AreOctets o → Spells d L o → Spellable d L

@@ -8,3 +8,4 @@ pub mod WrittenSpelled
 pub mod Texts
 pub mod ValueLaws
 pub mod SpellableTests
+pub mod SpelledSpellable

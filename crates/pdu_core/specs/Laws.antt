@@ -1,6 +1,7 @@
 -- What the definitions say together: octets have one reading, and what is written is spelled.
 use Rattle.std.specs.Prelude.{◌≡◌, ℕ, List}
 use Rattle.ber_core.specs.declared.fault.Fault.{Fault}
+use Rattle.ber_core.specs.Length.{AreOctets}
 use Rattle.pdu_core.specs.Goose.{SpellsGoose, GooseFault}
 use Rattle.pdu_core.specs.Spellable.{Spellable}
 use Rattle.pdu_core.specs.Written.{HasWritten, written_goose}
@@ -21,3 +22,7 @@ FaultIsOne = (o : List ℕ) (at : ℕ) (f g : Fault) → GooseFault f at o → G
 -- the written form of a PDU that has a spelling is one, unless its contents have more than 4294967295 octets
 abbrev pub WrittenIsSpelled : Type 0 → Type 0
 WrittenIsSpelled A = (p : GoosePdu A) → Spellable p → HasWritten p → SpellsGoose p (written_goose p)
+
+-- a PDU that octets spell has a spelling in the sense of its fields: what is read can be written
+abbrev pub SpelledIsSpellable : Type 0 → Type 0
+SpelledIsSpellable A = (p : GoosePdu A) (o : List ℕ) → AreOctets o → SpellsGoose p o → Spellable p

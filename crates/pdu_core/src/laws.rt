@@ -1,6 +1,6 @@
 //! Laws about the definitions that the contracts of this crate cite. The functions compute nothing.
 
-ghost use Rattle.pdu_core.specs.Laws.{FaultIsOne, PduIsOne, PduOrFault, WrittenIsSpelled};
+ghost use Rattle.pdu_core.specs.Laws.{FaultIsOne, PduIsOne, PduOrFault, SpelledIsSpellable, WrittenIsSpelled};
 
 use std::alloc::Allocator;
 
@@ -14,4 +14,9 @@ pub fn one_reading<A: Allocator>()
 /// The written form of a PDU that has a spelling is one, unless its contents have more than 4294967295 octets.
 pub fn written_is_spelled<A: Allocator>()
     ensures { WrittenIsSpelled A }
+{}
+
+/// A PDU that octets spell has a spelling in the sense of its fields: what is read can be written.
+pub fn spelled_is_spellable<A: Allocator>()
+    ensures { SpelledIsSpellable A }
 {}

@@ -90,6 +90,7 @@ fn each_cause_stands_at_its_place(rt: HostRuntime) {
         (changed(35, 7), 35, Cause::FixedLength),
         (changed(26, 7), 26, Cause::NotVisible),
         (changed(61, 2), 59, Cause::EntryCount),
+        (changed_twice(64, 0x84, 66, 1), 66, Cause::BitUnused),
         (changed_twice(12, 8, 13, 0), 12, Cause::EtherType),
         (changed(17, 7), 16, Cause::LengthField),
         (changed_twice(16, 5, 17, 0xdd), 16, Cause::LengthField),
@@ -106,4 +107,12 @@ fn what_is_behind_the_last_field_is_a_fault(rt: HostRuntime) {
     assert_eq!(rt; seen(&with_one_more(0x36)), fault(67, Cause::ExtraOctets));
     assert_eq!(rt; seen(&with_one_more(0x35)), Ok(()));
     assert_eq!(rt; seen(&[0; 1601]), fault(1600, Cause::FrameTooLong));
+}
+
+#[test]
+fn a_region_may_end_too_early(rt: HostRuntime) {
+    let cut_length = changed_twice(17, 0x0a, 23, 0x82);
+    assert_eq!(rt; seen(&cut_length[..24]), fault(24, Cause::Ends));
+    let one_field = changed_twice(17, 0x0d, 23, 3);
+    assert_eq!(rt; seen(&one_field[..27]), fault(27, Cause::ElementMissing));
 }
