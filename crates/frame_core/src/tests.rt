@@ -7,3 +7,4 @@ mod frames;
 mod line_reading;
 mod list_reading;
 mod list_writing;
+mod refused_memory;

@@ -2,5 +2,6 @@
 
 mod command_line;
 mod devices;
+mod refused_memory;
 mod rewriting;
 mod showing;

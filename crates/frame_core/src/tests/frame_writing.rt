@@ -1,31 +1,72 @@
 //! Frames in their written form.
 
 use crate::tests::frames::{FRAME, LONG, TAGGED};
-use crate::{Apdu, EncodeFault, decode, encode};
+use crate::{Apdu, EncodeFault, Frame, decode, encode};
 use mms_data::Octets;
+use std::alloc::Global;
+use std::process::Abort;
 use std::test::Fail;
 
-#[test]
-fn the_written_form_has_the_fewest_octets(rt: HostRuntime) -> Result<(), Fail> {
-    for octets in [FRAME.as_slice(), LONG.as_slice()] {
-        let frame = decode(rt.alloc(), octets)?;
-        assert_eq!(rt; encode(&frame)?.as_slice(), FRAME.as_slice());
-    }
-    let tagged = decode(rt.alloc(), &TAGGED)?;
-    assert_eq!(rt; encode(&tagged)?.as_slice(), TAGGED.as_slice());
+/// Whether the frame that the octets spell has this written form.
+fn has_form<H: Abort>(rt: &H, alloc: Global, octets: &[u8], form: &[u8]) -> Result<(), Fail> {
+    let frame = decode(alloc, octets)?;
+    assert_eq!(rt; encode(&frame)?.as_slice(), form);
     Ok(())
 }
 
 #[test]
+fn the_written_form_has_the_fewest_octets(rt: HostRuntime) -> Result<(), Fail> {
+    has_form(&rt, rt.alloc(), &FRAME, &FRAME)?;
+    has_form(&rt, rt.alloc(), &LONG, &FRAME)?;
+    has_form(&rt, rt.alloc(), &TAGGED, &TAGGED)
+}
+
+/// The frame with so many octets 00 behind it.
+fn with_trailer(alloc: Global, size: usize) -> Result<Frame<Global>, Fail> {
+    let mut frame = decode(alloc, &FRAME)?;
+    frame.trailer = Octets::from(vec![in alloc; 0; size]?);
+    Ok(frame)
+}
+
+#[test]
 fn a_trailer_fits_up_to_1600_octets(rt: HostRuntime) -> Result<(), Fail> {
-    let mut frame = decode(rt.alloc(), &FRAME)?;
-    frame.trailer = Octets::from(Vec::from_slice(rt.alloc(), &[0; 1533])?);
-    assert_eq!(rt; encode(&frame)?.len(), 1600);
-    frame.trailer = Octets::from(Vec::from_slice(rt.alloc(), &[0; 1534])?);
-    assert_eq!(rt; encode(&frame).err(), Some(EncodeFault::TooLong));
-    let Apdu::Goose(mut goose) = frame.apdu;
-    goose.gocb_ref = Octets::from(Vec::from_slice(rt.alloc(), &[7])?);
-    frame.apdu = Apdu::Goose(goose);
+    let most = with_trailer(rt.alloc(), 1533)?;
+    assert_eq!(rt; encode(&most)?.len(), 1600);
+    let over = with_trailer(rt.alloc(), 1534)?;
+    assert_eq!(rt; encode(&over).err(), Some(EncodeFault::TooLong));
+    Ok(())
+}
+
+/// The frame with the octet 07, which no text has, for its control block.
+fn with_unspellable_text(alloc: Global, frame: Frame<Global>) -> Result<Frame<Global>, Fail> {
+    let Frame {
+        destination,
+        source,
+        tag,
+        app_id,
+        reserved1,
+        reserved2,
+        apdu,
+        trailer,
+    } = frame;
+    let Apdu::Goose(mut goose) = apdu;
+    goose.gocb_ref = Octets::from(vec![in alloc; 7]?);
+    Ok(Frame {
+        destination,
+        source,
+        tag,
+        app_id,
+        reserved1,
+        reserved2,
+        apdu: Apdu::Goose(goose),
+        trailer,
+    })
+}
+
+#[test]
+fn a_field_with_no_spelling_is_told_first(rt: HostRuntime) -> Result<(), Fail> {
+    let over = with_trailer(rt.alloc(), 1534)?;
+    let frame = with_unspellable_text(rt.alloc(), over)?;
     assert_eq!(rt; encode(&frame).err(), Some(EncodeFault::NotSpellable));
     Ok(())
 }

@@ -1,0 +1,147 @@
+//! Where memory is refused, at each growth in turn.
+
+use crate::list_reader::{ListError, ListReader};
+use crate::list_writer::write_event;
+use crate::std_io::ToWrite;
+use crate::tests::devices::{NEVER, source_of};
+use crate::tests::frames::TAGGED;
+use crate::{Frame, FrameView, Source, decode, encode, view_frame};
+use mms_data::ReadFault;
+use refusing_alloc::RefusingAlloc;
+use std::alloc::{Allocator, Global};
+use std::process::Abort;
+use std::test::Fail;
+
+/// Whether the frame's written form is these octets.
+fn is_written_as<A: Allocator>(frame: &Frame<A>, octets: &[u8]) -> bool {
+    match encode(frame) {
+        Ok(form) => form.as_slice() == octets,
+        Err(_) => false,
+    }
+}
+
+/// Whether the tagged frame is decoded at once; else it is once memory is granted.
+fn is_decoded_at_once<H: Abort>(rt: &H, alloc: &RefusingAlloc<Global>) -> Result<bool, Fail> {
+    match decode(alloc, &TAGGED) {
+        Ok(frame) => {
+            assert!(rt; !alloc.has_refused());
+            assert!(rt; is_written_as(&frame, &TAGGED));
+            Ok(true)
+        }
+        Err(ReadFault::Memory(_)) => {
+            assert!(rt; alloc.has_refused());
+            alloc.allow();
+            let frame = decode(alloc, &TAGGED)?;
+            assert!(rt; is_written_as(&frame, &TAGGED));
+            Ok(false)
+        }
+        Err(ReadFault::Fault(_)) => Err(Fail::from("a fault of good octets")),
+    }
+}
+
+#[test]
+fn decode_where_each_growth_is_refused(rt: HostRuntime) -> Result<(), Fail> {
+    for first_refused in 0..100usize {
+        let alloc = RefusingAlloc::new(rt.alloc(), first_refused);
+        if is_decoded_at_once(&rt, &alloc)? {
+            assert!(rt; first_refused > 3);
+            return Ok(());
+        }
+    }
+    Err(Fail::from("each call was refused memory"))
+}
+
+/// Whether the view's frame is made at once; else it is once memory is granted.
+fn is_made_at_once<H: Abort>(
+    rt: &H,
+    alloc: &RefusingAlloc<Global>,
+    view: &FrameView<'_>,
+) -> Result<bool, Fail> {
+    match view.to_frame(alloc) {
+        Ok(frame) => {
+            assert!(rt; !alloc.has_refused());
+            assert!(rt; is_written_as(&frame, &TAGGED));
+            Ok(true)
+        }
+        Err(_) => {
+            assert!(rt; alloc.has_refused());
+            alloc.allow();
+            let frame = view.to_frame(alloc)?;
+            assert!(rt; is_written_as(&frame, &TAGGED));
+            Ok(false)
+        }
+    }
+}
+
+#[test]
+fn to_frame_where_each_growth_is_refused(rt: HostRuntime) -> Result<(), Fail> {
+    let view = view_frame(&TAGGED)?;
+    for first_refused in 0..100usize {
+        let alloc = RefusingAlloc::new(rt.alloc(), first_refused);
+        if is_made_at_once(&rt, &alloc, &view)? {
+            assert!(rt; first_refused > 3);
+            return Ok(());
+        }
+    }
+    Err(Fail::from("each call was refused memory"))
+}
+
+/// The next answer, with memory for it from the second allocator: an event as its line, `end`, `memory`,
+/// or what the fault says.
+fn next_answer<R: Source>(
+    texts: Global,
+    alloc: &RefusingAlloc<Global>,
+    list: &mut ListReader<R>,
+) -> Result<String, Fail> {
+    match list.next(alloc) {
+        Ok(Some(event)) => {
+            let mut line = Vec::new(texts);
+            let mut sink = ToWrite::new(&mut line);
+            write_event(&mut sink, &event)?;
+            Ok(String::from_utf8(line)?)
+        }
+        Ok(None) => Ok("end".to_string(texts)?),
+        Err(ListError::Fault(fault)) => Ok(fault.to_string(texts)?),
+        Err(ListError::Memory(_)) => Ok("memory".to_string(texts)?),
+    }
+}
+
+/// The next answer where memory is granted at last: a refusal comes twice, and leaves the line's number.
+fn answer_at_last<H: Abort, R: Source>(
+    rt: &H,
+    texts: Global,
+    alloc: &RefusingAlloc<Global>,
+    list: &mut ListReader<R>,
+) -> Result<String, Fail> {
+    let line = list.line_number();
+    let said = next_answer(texts, alloc, list)?;
+    if said.as_str() != "memory" {
+        return Ok(said);
+    }
+    assert!(rt; alloc.has_refused());
+    assert_eq!(rt; list.line_number(), line);
+    let again = next_answer(texts, alloc, list)?;
+    assert_eq!(rt; again.as_str(), "memory");
+    assert_eq!(rt; list.line_number(), line);
+    alloc.allow();
+    next_answer(texts, alloc, list)
+}
+
+#[test]
+fn next_where_each_growth_is_refused(rt: HostRuntime) -> Result<(), Fail> {
+    for first_refused in 0..100usize {
+        let alloc = RefusingAlloc::new(rt.alloc(), first_refused);
+        let text = b"# first\nF 5 0aff\n\nC 7\nF 8 00\n";
+        let mut list = ListReader::new(source_of(text, 7, NEVER));
+        for (answer, line) in [("F 5 0aff\n", 2), ("C 7\n", 4), ("F 8 00\n", 5), ("end", 5)] {
+            let said = answer_at_last(&rt, rt.alloc(), &alloc, &mut list)?;
+            assert_eq!(rt; said.as_str(), answer, "at {first_refused}");
+            assert_eq!(rt; list.line_number(), line, "at {first_refused}");
+        }
+        if !alloc.has_refused() {
+            assert!(rt; first_refused > 1);
+            return Ok(());
+        }
+    }
+    Err(Fail::from("each list was refused memory"))
+}
