@@ -1,5 +1,8 @@
 // Outside examples: spellings and faults of each kind, and written forms.
 
+mod refused_memory;
+mod round_trips;
+
 use crate::{
     Octets, PutFault, ReadFault, UtcTime, Value, ValueList, View, are_spellable, check_members,
     is_spellable, laws, members, put_value, put_values, read_members, spelled_length,

@@ -1,5 +1,7 @@
 // Outside examples: a recorded frame of GOOSE whose octets are changed one at a time.
 
+mod refused_memory;
+
 ghost use Rattle.std.specs.Prelude.{◌<◌};
 
 use crate::{GoosePdu, is_spellable, put_goose, read_goose, view_goose};

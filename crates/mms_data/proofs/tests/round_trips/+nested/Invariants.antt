@@ -1,0 +1,6 @@
+use Rattle.std.proofs.Common.{ℕ}
+use Rattle.mms_data.proofs.tests.round_trips.+nested.Given as goal
+
+-- each level has fewer levels below it
+abbrev pub decreases-nested : goal.decreases-nested
+decreases-nested g l = l.levels
