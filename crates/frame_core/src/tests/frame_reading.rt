@@ -122,9 +122,7 @@ fn what_is_behind_the_last_field_is_a_fault(rt: HostRuntime) {
 }
 
 #[test]
-fn a_region_may_end_too_early(rt: HostRuntime) {
-    let cut_length = changed_twice(17, 0x0a, 23, 0x82);
-    assert_eq!(rt; seen(&cut_length[..24]), fault(24, Cause::Ends));
-    let one_field = changed_twice(17, 0x0d, 23, 3);
-    assert_eq!(rt; seen(&one_field[..27]), fault(27, Cause::ElementMissing));
+fn octets_may_end_inside_a_length(rt: HostRuntime) {
+    let frame = changed_twice(17, 0x0a, 23, 0x82);
+    assert_eq!(rt; seen(&frame[..24]), fault(24, Cause::Ends));
 }
