@@ -1,4 +1,4 @@
-"""The worked frame of the tests, and frames made from parts."""
+"""The worked frames of the tests, and frames made from parts."""
 
 # One GOOSE frame of 67 octets: APDU at 22, its length octet at 23, stNum's contents at 46, sqNum's at 49, simulation's
 # at 52, confRev's at 55, ndsCom's at 58, numDatSetEntries at 59, allData at 62 and its one member at 64.
@@ -12,6 +12,17 @@ WORKED_LINE = (
     'ref="G" live=2000 set="D" id=- t=0000000000000000 st=1 sq=0 sim=false rev=1 com=false {true} trailer=-'
 )
 BOOLEAN = bytes.fromhex("8301ff")
+
+# One Sampled Values frame of 54 octets: APDU at 22, noASDU at 24, the ASDUs at 27, the one ASDU at 29, its svID at 31,
+# smpCnt at 34, confRev at 38, smpSynch at 44, sample at 47 and smpMod at 51.
+SAMPLED_ENVELOPE = bytes.fromhex("010ccd040001 020000000001 88ba 4000 0028 0000 0000")
+SAMPLED = SAMPLED_ENVELOPE + bytes.fromhex(
+    "601e 800101 a219 3017 800153 82020f9e 830400000001 850102 8702002a 880100"
+)
+SAMPLED_LINE = (
+    "sv 010ccd040001 020000000001 tag=- appid=4000 r1=0000 r2=0000 "
+    '{(id="S" set=- cnt=3998 rev=1 t=- synch=2 rate=- sample=002a mod=00 f89=-)} trailer=-'
+)
 
 
 def put(frame, **octets):
@@ -72,4 +83,31 @@ def with_members(members, count=1):
     return with_fields(entries=element(0x8A, bytes([count])), members=element(0xAB, members))
 
 
+ASDU_FIELDS = {
+    "sv_id": element(0x80, b"S"),
+    "dat_set": b"",
+    "smp_cnt": element(0x82, b"\x0f\x9e"),
+    "conf_rev": element(0x83, b"\0\0\0\1"),
+    "refr_tm": b"",
+    "smp_synch": element(0x85, b"\2"),
+    "smp_rate": b"",
+    "sample": element(0x87, b"\x00\x2a"),
+    "smp_mod": element(0x88, b"\0"),
+    "field_89": b"",
+}
+
+
+def asdu(following=None, **fields):
+    """The worked ASDU with other octets for some fields; an absent field is given as no octets."""
+    return element(0x30, b"".join({**ASDU_FIELDS, **fields}.values()), following)
+
+
+def with_asdus(*asdus, count=None, following=None, **how):
+    """A Sampled Values frame of these ASDUs, with the contents of noASDU where they are another count."""
+    count = bytes([len(asdus)]) if count is None else count
+    inside = element(0x80, count, following) + element(0xA2, b"".join(asdus), following)
+    return framed(element(0x60, inside, following), envelope=SAMPLED_ENVELOPE, **how)
+
+
+assert len(SAMPLED) == 54 and with_asdus(asdu()) == SAMPLED
 assert len(WORKED) == 67 and with_fields() == WORKED and with_members(BOOLEAN) == WORKED

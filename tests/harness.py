@@ -8,6 +8,10 @@ import reference
 SECONDS = 120
 
 
+class Skipped(Exception):
+    """A case cannot be run here, and why."""
+
+
 def clipped(octets, most=400):
     """Octets as a text for a report."""
     text = octets.decode("latin-1")
@@ -85,6 +89,42 @@ class Agreement:
         if again != written and not written.split(b"\n")[-2:][0].startswith(b"# "):
             why += ["rewriting what was rewritten changes it"]
         return why
+
+
+class WellFormed:
+    """Each frame has one line, which shows a frame or a fault whose place is at most the frame's size."""
+
+    def __init__(self, name, frames):
+        self.name, self.frames = name, list(frames)
+
+    def why_wrong(self, program):
+        wrote, _, status = run(program, ["show"], listed(*self.frames))
+        lines = wrote.decode("ascii").splitlines()
+        if status or len(lines) != len(self.frames):
+            return [f"{len(lines)} lines for {len(self.frames)} frames, status {status}"]
+        return [f"a strange line: {line}" for number, line in enumerate(lines, 1) if not self.is_well(number, line)][:3]
+
+    def is_well(self, number, line):
+        words = line.split(" ")
+        if words[:2] == [str(number), "fault"]:
+            return len(words) == 4 and int(words[2]) <= len(self.frames[number - 1])
+        return len(words) > 2 and words[0] == str(number) and words[1] in reference.APDUS_READ
+
+
+class WrittenReadsBack:
+    """What rewriting makes of each frame is shown as the frame itself was, and is not changed again."""
+
+    def __init__(self, name, frames):
+        self.name, self.frames = name, list(frames)
+
+    def why_wrong(self, program):
+        octets = listed(*self.frames)
+        written, _, _ = run(program, ["rewrite"], octets)
+        again, _, _ = run(program, ["rewrite"], written)
+        shown, _, _ = run(program, ["show"], octets)
+        reshown, _, _ = run(program, ["show"], written)
+        pairs = {"rewriting twice": (written, again), "showing what was rewritten": (shown, reshown)}
+        return [f"{name}: {why}" for name, pair in pairs.items() for why in [first_difference(*pair)] if why]
 
 
 def listed(*frames, moment=0):

@@ -1,4 +1,4 @@
-"""A slow reader of recorded GOOSE frames, written from the formats' definitions alone.
+"""A slow reader of recorded GOOSE and Sampled Values frames, written from the formats' definitions alone.
 
 It shares nothing with the program: it reads by recursion, keeps whole lists in memory and raises the first fault that
 it finds. The tests compare the program with it, line by line. `tests/reference_program` runs it as a program, so that
@@ -10,11 +10,11 @@ import os
 import sys
 
 # What the program reads today. A kind of Data that is not named here is refused by its identifier (UnexpectedTag), and
-# an EtherType that is not named here as EtherType. To widen the tests with the program, add to these two.
+# the frames of an APDU that is not named here by their EtherType. To widen the tests with the program, add to these two.
 KINDS_READ = {
     "array", "structure", "boolean", "bits", "int", "uint", "float", "oct", "visible", "btime", "mms", "utc",
 }
-ETHER_TYPES_READ = {0x88B8: "goose"}
+APDUS_READ = {"goose", "sv"}
 
 # ISO 9506-2, Data: the identifier of each kind.
 KIND_OF = {
@@ -23,14 +23,17 @@ KIND_OF = {
 }
 IDENTIFIER_OF = {kind: identifier for identifier, kind in KIND_OF.items()}
 
-# IEC 61850-8-1, IECGoosePdu: identifier, name, contents, and whether the field is there in every APDU.
-GOOSE_IDENTIFIER = 0x61
+# A sequence of fields: identifier, name, contents, and whether the field is always there. Contents are named by a word,
+# by the counts of octets that they may have, or by the fields of a sequence inside.
+ONE, TWO, FOUR, TIME, RAW = (1,), (2,), (4,), (8,), range(1, 17)
+
+# IEC 61850-8-1, IECGoosePdu.
 GOOSE_FIELDS = [
     (0x80, "gocb_ref", "text", True),
     (0x81, "live", "number", True),
     (0x82, "dat_set", "text", True),
     (0x83, "go_id", "text", False),
-    (0x84, "t", "time", True),
+    (0x84, "t", TIME, True),
     (0x85, "st_num", "number", True),
     (0x86, "sq_num", "number", True),
     (0x87, "simulation", "boolean", False),
@@ -40,9 +43,35 @@ GOOSE_FIELDS = [
     (0xAB, "members", "members", True),
 ]
 
+# IEC 61850-9-2, ASDU and savPdu.
+ASDU_FIELDS = [
+    (0x80, "sv_id", "text", True),
+    (0x81, "dat_set", "text", False),
+    (0x82, "smp_cnt", TWO, True),
+    (0x83, "conf_rev", FOUR, True),
+    (0x84, "refr_tm", TIME, False),
+    (0x85, "smp_synch", ONE, True),
+    (0x86, "smp_rate", TWO, False),
+    (0x87, "sample", "any", True),
+    (0x88, "smp_mod", RAW, False),
+    (0x89, "field_89", RAW, False),
+]
+ASDU_IDENTIFIER = 0x30
+SAMPLED_FIELDS = [
+    (0x80, "asdu_count", "asdu count", True),
+    (0xA2, "asdus", "asdus", True),
+]
+
+# Each EtherType's APDU, by the name that shown lines give it: a region that one element fills.
+APDU_OF = {0x88B8: "goose", 0x88BA: "sv"}
+APDUS = {
+    "goose": [(0x61, "pdu", GOOSE_FIELDS, True)],
+    "sv": [(0x60, "pdu", SAMPLED_FIELDS, True)],
+}
+
 MOST_FRAME, LEAST_LENGTH, MOST_LENGTH = 1600, 8, 1500
 MOST_LINE, MOST_LINES, MOST_LISTED = 4096, 1000000, 2000
-GREATEST_NUMBER = 2**32 - 1
+GREATEST_NUMBER, MOST_ASDUS = 2**32 - 1, 2**16 - 1
 LEVELS = 16
 
 
@@ -161,59 +190,74 @@ def value(octets, kind, place, start, end, level):
     return counted(octets, place, start, end, counts) if counts else octets[start:end]
 
 
-# ---- IECGoosePdu (IEC 61850-8-1) --------------------------------------------
+# ---- APDUs (IEC 61850-8-1 and IEC 61850-9-2) --------------------------------
 
 
 def field(octets, contents_of, place, start, end):
-    """The contents of one field of the APDU."""
+    """The contents of one field."""
+    if isinstance(contents_of, list):
+        return fields(octets, contents_of, start, end)
     if contents_of == "text":
         return visible(octets, start, end)
     if contents_of == "number":
         return whole_number(octets, place, start, end, 0, GREATEST_NUMBER)
-    if contents_of == "time":
-        return counted(octets, place, start, end, (8,))
+    if contents_of == "asdu count":
+        return whole_number(octets, place, start, end, 1, MOST_ASDUS)
     if contents_of == "boolean":
         return boolean(octets, place, start, end)
-    return members(octets, start, end, 1)
+    if contents_of == "members":
+        return members(octets, start, end, 1)
+    if contents_of == "asdus":
+        return asdus(octets, start, end)
+    if contents_of == "any":
+        return octets[start:end]
+    return counted(octets, place, start, end, contents_of)
 
 
-def goose(octets, place, end):
-    """The APDU that fills the region from `place` to `end`, as its fields by name."""
-    if place == end:
-        raise Fault(end, "ElementMissing")
-    if is_high(octets[place]):
-        raise Fault(place, "HighTag")
-    if octets[place] != GOOSE_IDENTIFIER:
-        raise Fault(place, "UnexpectedTag")
-    start, after = contents(octets, place, end)
-    pdu, counted_at = goose_fields(octets, start, after)
-    if after < end:
-        raise Fault(after, "ExtraOctets")
-    if pdu["entries"] != len(pdu["members"]):
-        raise Fault(counted_at, "EntryCount")
-    return pdu
-
-
-def goose_fields(octets, place, end):
-    """The fields in their order, and the place of numDatSetEntries."""
-    pdu = {"go_id": None, "simulation": False, "nds_com": False}
-    counted_at = None
-    for identifier, name, contents_of, is_always in GOOSE_FIELDS:
+def fields(octets, table, place, end):
+    """The sequence of fields between two places, by name, an absent one as None, and under "at" where each stands."""
+    found = {"at": {}}
+    for identifier, name, contents_of, is_always in table:
+        found[name] = None
         if is_always and place == end:
             raise Fault(end, "ElementMissing")
         if place < end and octets[place] == identifier:
             start, after = contents(octets, place, end)
-            pdu[name] = field(octets, contents_of, place, start, after)
-            counted_at = place if name == "entries" else counted_at
+            found[name] = field(octets, contents_of, place, start, after)
+            found["at"][name] = place
             place = after
         elif is_always:
             raise Fault(place, "HighTag" if is_high(octets[place]) else "UnexpectedTag")
     if place < end:
         raise Fault(place, "ExtraOctets")
-    return pdu, counted_at
+    return found
 
 
-# ---- Frames (IEC 61850-8-1 and IEEE 802.1Q) ---------------------------------
+def asdus(octets, place, end):
+    """The ASDUs between two places."""
+    found = []
+    while place < end:
+        if is_high(octets[place]):
+            raise Fault(place, "HighTag")
+        if octets[place] != ASDU_IDENTIFIER:
+            raise Fault(place, "UnexpectedTag")
+        start, after = contents(octets, place, end)
+        found.append(fields(octets, ASDU_FIELDS, start, after))
+        place = after
+    return found
+
+
+def apdu(octets, name, place, end):
+    """The APDU of this name that fills the region, as its fields by name; what it counts is judged last."""
+    pdu = fields(octets, APDUS[name], place, end)["pdu"]
+    if name == "goose" and pdu["entries"] != len(pdu["members"]):
+        raise Fault(pdu["at"]["entries"], "EntryCount")
+    if name == "sv" and pdu["asdu_count"] != len(pdu["asdus"]):
+        raise Fault(pdu["at"]["asdu_count"], "AsduCount")
+    return pdu
+
+
+# ---- Frames (IEC 61850-8-1, IEC 61850-9-2 and IEEE 802.1Q) ------------------
 
 
 def number_at(octets, place):
@@ -236,7 +280,8 @@ def frame(octets):
     if number_at(octets, 12) == 0x8100:
         needed(18)
         tag, type_at = number_at(octets, 14), 16
-    if number_at(octets, type_at) not in ETHER_TYPES_READ:
+    name = APDU_OF.get(number_at(octets, type_at))
+    if name not in APDUS_READ:
         raise Fault(type_at, "EtherType")
     from_app_id = type_at + 2
     needed(from_app_id + 8)
@@ -248,11 +293,11 @@ def frame(octets):
         "destination": octets[:6],
         "source": octets[6:12],
         "tag": tag,
-        "ether_type": number_at(octets, type_at),
+        "name": name,
         "app_id": number_at(octets, from_app_id),
         "reserved1": number_at(octets, from_app_id + 4),
         "reserved2": number_at(octets, from_app_id + 6),
-        "apdu": goose(octets, from_app_id + 8, from_app_id + length),
+        "apdu": apdu(octets, name, from_app_id + 8, from_app_id + length),
         "trailer": octets[from_app_id + length:],
     }
 
@@ -292,33 +337,41 @@ def written_value(kind, held):
     return element(IDENTIFIER_OF[kind], inside)
 
 
-def written_goose(pdu):
-    """The written form of an APDU: simulation and ndsCom are always there."""
+def written_field(contents_of, held):
+    """The written form of a field's contents."""
+    if isinstance(contents_of, list):
+        return written_fields(contents_of, held)
+    if contents_of in ("number", "asdu count"):
+        return short_number(held)
+    if contents_of == "boolean":
+        return b"\xff" if held else b"\x00"
+    if contents_of == "members":
+        return b"".join(written_value(*it) for it in held)
+    if contents_of == "asdus":
+        return b"".join(element(ASDU_IDENTIFIER, written_fields(ASDU_FIELDS, it)) for it in held)
+    return held
+
+
+def written_fields(table, found):
+    """The written form of a sequence of fields. An absent boolean is false, and is written."""
     inside = b""
-    for identifier, name, contents_of, _ in GOOSE_FIELDS:
-        held = pdu[name]
-        if held is None:
-            continue
-        if contents_of == "number":
-            held = short_number(held)
-        elif contents_of == "boolean":
-            held = b"\xff" if held else b"\x00"
-        elif contents_of == "members":
-            held = b"".join(written_value(*it) for it in held)
-        inside += element(identifier, held)
-    return element(GOOSE_IDENTIFIER, inside)
+    for identifier, name, contents_of, _ in table:
+        if found[name] is not None or contents_of == "boolean":
+            inside += element(identifier, written_field(contents_of, found[name]))
+    return inside
 
 
 def written_frame(it):
     """The written form of a frame, or None where it is too long."""
-    apdu = written_goose(it["apdu"])
-    length = 8 + len(apdu)
+    inside = written_fields(APDUS[it["name"]], {"pdu": it["apdu"]})
+    length = 8 + len(inside)
     tag = b"" if it["tag"] is None else b"\x81\x00" + it["tag"].to_bytes(2, "big")
     numbers = (it["app_id"], length, it["reserved1"], it["reserved2"])
     if length > MOST_LENGTH:
         return None
-    octets = it["destination"] + it["source"] + tag + it["ether_type"].to_bytes(2, "big")
-    octets += b"".join(number.to_bytes(2, "big") for number in numbers) + apdu + it["trailer"]
+    (ether_type,) = (number for number, name in APDU_OF.items() if name == it["name"])
+    octets = it["destination"] + it["source"] + tag + ether_type.to_bytes(2, "big")
+    octets += b"".join(number.to_bytes(2, "big") for number in numbers) + inside + it["trailer"]
     return octets if len(octets) <= MOST_FRAME else None
 
 
@@ -345,29 +398,69 @@ def value_text(kind, held):
     return quoted(held) if kind == "visible" else f"{kind}:{held.hex()}"
 
 
-def frame_text(it):
-    """The line that shows a frame, without its number."""
-    pdu = it["apdu"]
-    truth = {False: "false", True: "true"}
+def or_dash(held, text):
+    """The text of what is there, and a dash for what is not."""
+    return "-" if held is None else text(held)
+
+
+def number_text(octets):
+    """Octets as a big-endian number, in decimal."""
+    return str(int.from_bytes(octets, "big"))
+
+
+def goose_text(pdu):
+    """The text of an IECGoosePdu."""
+    truth = lambda held: "true" if held else "false"
     return " ".join([
-        "goose",
-        it["destination"].hex(),
-        it["source"].hex(),
-        "tag=" + ("-" if it["tag"] is None else f"{it['tag']:04x}"),
-        f"appid={it['app_id']:04x}",
-        f"r1={it['reserved1']:04x}",
-        f"r2={it['reserved2']:04x}",
         "ref=" + quoted(pdu["gocb_ref"]),
         f"live={pdu['live']}",
         "set=" + quoted(pdu["dat_set"]),
-        "id=" + ("-" if pdu["go_id"] is None else quoted(pdu["go_id"])),
+        "id=" + or_dash(pdu["go_id"], quoted),
         "t=" + pdu["t"].hex(),
         f"st={pdu['st_num']}",
         f"sq={pdu['sq_num']}",
-        "sim=" + truth[pdu["simulation"]],
+        "sim=" + truth(pdu["simulation"]),
         f"rev={pdu['conf_rev']}",
-        "com=" + truth[pdu["nds_com"]],
+        "com=" + truth(pdu["nds_com"]),
         "{" + " ".join(value_text(*member) for member in pdu["members"]) + "}",
+    ])
+
+
+def asdu_text(asdu):
+    """The text of an ASDU."""
+    return "(" + " ".join([
+        "id=" + quoted(asdu["sv_id"]),
+        "set=" + or_dash(asdu["dat_set"], quoted),
+        "cnt=" + number_text(asdu["smp_cnt"]),
+        "rev=" + number_text(asdu["conf_rev"]),
+        "t=" + or_dash(asdu["refr_tm"], bytes.hex),
+        "synch=" + number_text(asdu["smp_synch"]),
+        "rate=" + or_dash(asdu["smp_rate"], number_text),
+        "sample=" + asdu["sample"].hex(),
+        "mod=" + or_dash(asdu["smp_mod"], bytes.hex),
+        "f89=" + or_dash(asdu["field_89"], bytes.hex),
+    ]) + ")"
+
+
+def sampled_text(pdu):
+    """The text of a savPdu."""
+    return "{" + " ".join(asdu_text(asdu) for asdu in pdu["asdus"]) + "}"
+
+
+PDU_TEXTS = {"goose": goose_text, "sv": sampled_text}
+
+
+def frame_text(it):
+    """The line that shows a frame, without its number."""
+    return " ".join([
+        it["name"],
+        it["destination"].hex(),
+        it["source"].hex(),
+        "tag=" + or_dash(it["tag"], "{:04x}".format),
+        f"appid={it['app_id']:04x}",
+        f"r1={it['reserved1']:04x}",
+        f"r2={it['reserved2']:04x}",
+        PDU_TEXTS[it["name"]](it["apdu"]),
         "trailer=" + (it["trailer"].hex() or "-"),
     ])
 

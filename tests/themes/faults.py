@@ -1,7 +1,7 @@
 """Each cause of a frame's fault at its place, and which of two faults is the first."""
 from frames import BOOLEAN, ENVELOPE, WORKED, element, framed, put, with_fields, with_length, with_members
 from harness import refuse, show
-from reference import KINDS_READ
+from reference import APDUS_READ, KINDS_READ
 
 
 def cut(frame, count):
@@ -13,6 +13,13 @@ def member(name, octets, place, cause, kind):
     """A member with a fault, counted from its identifier; it is unexpected where its kind is not read."""
     place, cause = (64 + place, cause) if kind in KINDS_READ else (64, "UnexpectedTag")
     return refuse(name, with_members(octets), place, cause)
+
+
+def sampled(name, octets, type_at):
+    """A GOOSE APDU under the EtherType of Sampled Values, which is refused itself where these are not read."""
+    if "sv" in APDUS_READ:
+        return refuse(name, octets, type_at + 10, "UnexpectedTag")
+    return refuse(name, octets, type_at, "EtherType")
 
 
 def each_cause():
@@ -39,7 +46,7 @@ def each_cause():
     yield refuse("another count of members", put(WORKED, at61=2), 59, "EntryCount")
     yield refuse("more than 1,600 octets", WORKED + bytes(1534), 1600, "FrameTooLong")
     yield refuse("another protocol", put(WORKED, at12=8, at13=0), 12, "EtherType")
-    yield refuse("sampled values", put(WORKED, at13=0xBA), 12, "EtherType")
+    yield sampled("the EtherType of Sampled Values", put(WORKED, at13=0xBA), 12)
     yield refuse("a Length of seven", with_length(WORKED, 7), 16, "LengthField")
     yield refuse("a Length of 1,501", with_length(WORKED, 1501), 16, "LengthField")
     yield refuse("a Length past the frame", with_length(WORKED, 0x36), 67, "Truncated")
@@ -80,7 +87,7 @@ def first_of_two():
     yield refuse("a wrong count without booleans", put(with_fields(simulation=b"", nds_com=b""), at55=2), 53, "EntryCount")
     yield refuse("a wrong count in a tagged frame", put(tagged, at65=2), 63, "EntryCount")
     yield refuse("another protocol behind a tag", put(tagged, at16=8, at17=0), 16, "EtherType")
-    yield refuse("sampled values behind a tag", put(tagged, at17=0xBA), 16, "EtherType")
+    yield sampled("the EtherType of Sampled Values behind a tag", put(tagged, at17=0xBA), 16)
     yield refuse("two tags", WORKED[:12] + tag + tag + WORKED[12:], 16, "EtherType")
     yield refuse("the other tag type", WORKED[:12] + b"\x88\xa8\x80\x00" + WORKED[12:], 12, "EtherType")
     yield refuse("a Length of seven behind a tag", put(tagged, at21=7), 20, "LengthField")

@@ -1,24 +1,19 @@
 -- Reading of each kind of contents: what is read is spelled so, what is spelled so is read; and the same of faults.
-use Rattle.std.proofs.Common.{◌≡◌, ℕ, ℤ, ◌+◌, ◌≤◌, ◌<◌, Bool, true, false, eqb, List, [], ◌∷◌, ◌++◌, length, Result, Ok, Err, refl, sym, ap, subst, ◌∙◌, arith, inl, inr}
+use Rattle.std.proofs.Common.{◌≡◌, ℕ, ℤ, ◌+◌, ◌≤◌, ◌<◌, Bool, true, false, eqb, List, [], ◌∷◌, ◌++◌, length, Ok, Err, refl, sym, ap, subst, ◌∙◌, arith, inl, inr}
 use Rattle.std.proofs.lemmas.Bool.{eqb-true, eqb-false, eq-eqb, ne_eqb, false_from_ne_true}
 use Rattle.std.proofs.lemmas.Int.{ints}
-use Rattle.std.specs.Prelude.{not, ◌&&◌, ◌||◌, ◌==◌, ◌⊎◌, ◌≤ℤ◌, nat_lt}
+use Rattle.std.specs.Prelude.{pos, negsuc, not, ◌&&◌, ◌||◌, ◌==◌, ◌⊎◌, ◌≤ℤ◌, nat_lt}
 use Rattle.std.specs.List.{AllByRecursion}
 use lib.Signed.{le_z}
 use Rattle.byteorder.specs.Endian.{twos_complement}
 use Rattle.ber_core.specs.Length.{number}
+use Rattle.ber_core.specs.Integer.{Int}
 use Rattle.ber_core.specs.Contents.{SpellsBoolean, BooleanFault, SpellsInteger, IntegerFault, IsVisible, SpellsVisible, VisibleFault, SpellsCounted, CountedFault}
-use Rattle.ber_core.specs.ContentsReading.{all_visible_at, boolean_at, counted_at, in_range, integer_at, is_visible, visible_at}
+use Rattle.ber_core.specs.ContentsReading.{all_visible_at, any_integer_at, boolean_at, counted_at, in_range, integer_at, is_visible, natural, visible_at}
 use Rattle.ber_core.specs.Faults.{fault_of}
 use Rattle.ber_core.specs.declared.fault.Fault.{Fault}
 use Rattle.ber_core.specs.declared.fault.Cause.TheVariants as causes
-use Rattle.ber_core.proofs.Steps.{chosen, bind_ok, bind_err}
-
-ok_is : {A : Type 0} (x y : A) → ◌≡◌ {A = Result A Fault} (Ok x) (Ok y) → x ≡ y
-ok_is x y e = cc
-
-err_is : {A : Type 0} (f g : Fault) → ◌≡◌ {A = Result A Fault} (Err f) (Err g) → g ≡ f
-err_is f g e = cc
+use Rattle.ber_core.proofs.Steps.{chosen, bind_ok, bind_err, ok_is, err_is}
 
 -- ---- texts
 
@@ -34,7 +29,7 @@ visible_true x h = grind arith
 visible_false : (x : ℕ) → ¬ IsVisible x → is_visible x ≡ false
 visible_false x n = false_from_ne_true (is_visible x) (λ t. n (is_visible_true x t))
 
-all_visible_found : (from : ℕ) (c : List ℕ) (u : Unit {0}) → all_visible_at from c ≡ Ok u → AllByRecursion IsVisible c
+pub all_visible_found : (from : ℕ) (c : List ℕ) (u : Unit {0}) → all_visible_at from c ≡ Ok u → AllByRecursion IsVisible c
 unfolding all_visible_at
 all_visible_found from [] u e = tt
 all_visible_found from (x ∷ xs) u e = elim (chosen (is_visible x) _ _ _ e) [
@@ -42,7 +37,7 @@ all_visible_found from (x ∷ xs) u e = elim (chosen (is_visible x) _ _ _ e) [
   | inr t ↦ absurd (let wrong = t.1 in cc)
 ]
 
-all_visible_again : (from : ℕ) (c : List ℕ) → AllByRecursion IsVisible c → all_visible_at from c ≡ Ok tt
+pub all_visible_again : (from : ℕ) (c : List ℕ) → AllByRecursion IsVisible c → all_visible_at from c ≡ Ok tt
 unfolding all_visible_at
 all_visible_again from [] h = refl
 all_visible_again from (x ∷ xs) h = rw (visible_true x h.0) (all_visible_again (from + 1) xs h.1)
@@ -129,29 +124,56 @@ range_wrong f low high from z e = elim (chosen (le_z low z && le_z z high) _ _ _
 range_wrong_again : (f : Fault) (low high : ℤ) (from : ℕ) (z : ℤ) → ¬ ((low ≤ℤ z) × (z ≤ℤ high)) → f ≡ fault_of from causes.IntegerRange → in_range low high from z ≡ Err f
 range_wrong_again f low high from z out is = rw (false_from_ne_true (le_z low z && le_z z high) (λ t. out (within_true low high z t)), is) refl
 
+module _ (at : ℕ) (c : List ℕ) where
+  pub any_integer_found : (n : ℤ) → any_integer_at at c ≡ Ok n → Int n c
+  unfolding any_integer_at
+  any_integer_found n e = elim (chosen (length c == 0 || nat_lt 9 (length c)) _ _ _ e) [
+    | inl t ↦ absurd (let wrong = t.1 in cc)
+    | inr t ↦ let s = size_tested c t.0 in (s.0, s.1, ok_is (twos_complement (length c) (number c)) n t.1)
+  ]
+
+  pub any_integer_again : (n : ℤ) → Int n c → any_integer_at at c ≡ Ok n
+  unfolding any_integer_at
+  any_integer_again n (few, many, is) = rw (size_test c few many, is) refl
+
+  pub any_integer_wrong : (f : Fault) → any_integer_at at c ≡ Err f → (f ≡ fault_of (at + 1) causes.IntegerLength) × ((length c ≡ 0) ⊎ (9 < length c))
+  unfolding any_integer_at
+  any_integer_wrong f e = elim (chosen (length c == 0 || nat_lt 9 (length c)) _ _ _ e) [
+    | inl t ↦ (err_is {A = ℤ} (fault_of (at + 1) causes.IntegerLength) f t.1, size_wrong c t.0)
+    | inr t ↦ absurd (let wrong = t.1 in cc)
+  ]
+
+  pub any_integer_wrong_again : (f : Fault) → f ≡ fault_of (at + 1) causes.IntegerLength → (length c ≡ 0) ⊎ (9 < length c) → any_integer_at at c ≡ Err f
+  unfolding any_integer_at
+  any_integer_wrong_again f is size = rw (size_wrong_again c size, is) refl
+
 module _ (low high : ℤ) (at from : ℕ) (c : List ℕ) where
   pub integer_found : (n : ℤ) → integer_at low high at from c ≡ Ok n → SpellsInteger low high n c
   unfolding integer_at
-  integer_found n e = elim (chosen (length c == 0 || nat_lt 9 (length c)) _ _ _ e) [
-    | inl t ↦ absurd (let wrong = t.1 in cc)
-    | inr t ↦ let s = size_tested c t.0 in let r = range_found low high from (twos_complement (length c) (number c)) n t.1 in (r.0, r.1, (s.0, s.1, r.2))
-  ]
+  integer_found n e =
+      let x = bind_ok (any_integer_at at c) (in_range low high from) n e in
+      let r = range_found low high from x.0 n x.2 in
+      (r.0, r.1, subst (λ (z : ℤ). Int z c) r.2 (any_integer_found at c x.0 x.1))
 
   pub integer_again : (n : ℤ) → SpellsInteger low high n c → integer_at low high at from c ≡ Ok n
   unfolding integer_at
-  integer_again n (least, most, (few, many, is)) = rw (size_test c few many, is) (range_again low high from n least most)
+  integer_again n (least, most, is) = rw (any_integer_again at c n is) (range_again low high from n least most)
 
   pub integer_wrong : (f : Fault) → integer_at low high at from c ≡ Err f → IntegerFault f low high at from c
   unfolding integer_at
-  integer_wrong f e = elim (chosen (length c == 0 || nat_lt 9 (length c)) _ _ _ e) [
-    | inl t ↦ inl (size_wrong c t.0, err_is {A = ℤ} (fault_of (at + 1) causes.IntegerLength) f t.1)
-    | inr t ↦ let s = size_tested c t.0 in let r = range_wrong f low high from (twos_complement (length c) (number c)) t.1 in inr (twos_complement (length c) (number c), (s.0, s.1, refl), r.0, r.1)
+  integer_wrong f e = elim (bind_err (any_integer_at at c) (in_range low high from) f e) [
+    | inl h ↦ let w = any_integer_wrong at c f h in inl (w.1, w.0)
+    | inr x ↦ let r = range_wrong f low high from x.0 x.2 in inr (x.0, any_integer_found at c x.0 x.1, r.0, r.1)
   ]
 
   pub integer_wrong_again : (f : Fault) → IntegerFault f low high at from c → integer_at low high at from c ≡ Err f
   unfolding integer_at
-  integer_wrong_again f (inl (size, is)) = rw (size_wrong_again c size, is) refl
-  integer_wrong_again f (inr (z, (few, many, is), out, fault)) = rw (size_test c few many, is) (range_wrong_again f low high from z out fault)
+  integer_wrong_again f (inl (size, is)) = rw (any_integer_wrong_again at c f is size) refl
+  integer_wrong_again f (inr (z, spelled, out, fault)) = rw (any_integer_again at c z spelled) (range_wrong_again f low high from z out fault)
+
+pub natural_is : (n : ℤ) → pos 0 ≤ℤ n → n ≡ pos (natural n)
+natural_is (pos n) h = refl
+natural_is (negsuc n) h = absurd (omega (arith, ints))
 
 -- ---- booleans
 

@@ -7,11 +7,12 @@ use Rattle.ber_core.specs.declared.fault.Fault.{Fault}
 use Rattle.ber_core.specs.declared.element.Header.{Header}
 use Rattle.ber_core.specs.Reading.{◌>>=◌}
 use Rattle.ber_core.specs.Element.{contents_of}
-use Rattle.ber_core.proofs.Steps.{bind_ok, bind_err}
+use Rattle.ber_core.proofs.Steps.{bind_ok, bind_err, err_is}
+pub use Rattle.ber_core.proofs.Steps.{ok_is}
 use Rattle.ber_core.specs.Fields.{Field, Grammar, SpellsFields, FieldsFault}
 use Rattle.ber_core.specs.FieldReading.{Read, field_at, fields_at, ends_at, nested, are_apart}
-use Rattle.ber_core.proofs.FieldRegions.{behind_front}
-use Rattle.ber_core.proofs.FieldSound.{IsSound, IsPlaced, err_is}
+use Rattle.ber_core.proofs.Regions.{behind_front}
+use Rattle.ber_core.proofs.FieldSound.{IsSound, IsPlaced}
 use Rattle.ber_core.proofs.FieldSequence.{fields_found, fields_wrong, fields_again, fields_wrong_again, ended}
 
 abbrev pub nested_read : {K I : Type 0} → Read K I → List (Field K I) → Read (Unit {0}) (List (Option I))
@@ -20,9 +21,6 @@ nested_read read gs k octets h = fields_at read gs [] octets h.contents_from h.c
 pub nothing : (o : List ℕ) → length o ≡ 0 → o ≡ []
 nothing [] h = refl
 nothing (x ∷ xs) h = absurd (omega arith)
-
-pub ok_is : {A : Type 0} (x y : A) → ◌≡◌ {A = Result A Fault} (Ok x) (Ok y) → x ≡ y
-ok_is x y e = cc
 
 -- a sequence that fills its region
 pub record Fills {K I : Type 0} (G : Grammar K I) (gs : List (Field K I)) (ws : List (Option I)) (o : List ℕ) : Type 0 where

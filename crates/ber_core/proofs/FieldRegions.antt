@@ -1,55 +1,16 @@
--- Headers at a place of the octets, and the contents behind them.
-use Rattle.std.proofs.Common.{◌≡◌, ℕ, suc, ◌-◌, ◌+◌, ◌%◌, ◌≤◌, false, eqb, List, [], ◌∷◌, ◌++◌, length, drop, Ok, Err, Some, None, refl, sym, ap, ◌∙◌, append_assoc, arith, inl, inr}
-use Rattle.std.proofs.lemmas.List.{length-append, take_at, drop_at}
+-- The header of an element that may stand at the front.
+use Rattle.std.proofs.Common.{◌≡◌, ℕ, ◌%◌, false, eqb, List, [], ◌∷◌, ◌++◌, length, Ok, Err, Some, None, refl, sym, ap, ◌∙◌, inl, inr}
 use Rattle.std.proofs.lemmas.Bool.{eqb-true, eqb-false, ne_eqb, eq-eqb}
-use Rattle.std.specs.Prelude.{slice_range}
 use Rattle.ber_core.specs.declared.fault.Fault.{Fault}
 use Rattle.ber_core.specs.declared.element.Header.{Header}
 use Rattle.ber_core.specs.Reading.{header_at}
 use Rattle.ber_core.specs.Length.{Len}
-use Rattle.ber_core.specs.Element.{contents_of}
 use Rattle.ber_core.specs.Faults.{LengthFault}
-use Rattle.ber_core.proofs.Headers.{header_for, length_again, length_inv, length_wrong, length_wrong_again, Parts}
+use Rattle.ber_core.proofs.Headers.{header_for, length_again, length_wrong, length_wrong_again, low_found, Parts}
 use Rattle.ber_core.proofs.Steps.{chosen, bind_ok, bind_err}
-use Rattle.ber_core.proofs.Regions.{region-drop, region-inner, region-length}
+pub use Rattle.ber_core.proofs.Regions.{behind_front, contents_are, rest_is}
 use Rattle.ber_core.specs.Fields.{BeginsWith}
 use Rattle.ber_core.specs.FieldReading.{if_there}
-
--- the contents of an element are where its header says
-contents_again : (p id : ℕ) (size c rest : List ℕ) → slice_range (id ∷ size ++ (c ++ rest)) ((p + 1 + length size) - p) ((p + 1 + length size + length c) - p) ≡ c
-contents_again p id size c rest =
-    let from : (p + 1 + length size) - p ≡ suc (length size) = omega arith in
-    let count : (p + 1 + length size + length c) - p - suc (length size) ≡ length c = omega arith in
-    rw (from, count, drop_at size (c ++ rest) (length size) refl, take_at c rest (length c) refl) refl
-
-header_found : (p id : ℕ) (ls : List ℕ) (h : Header) → eqb (id % 32) 31 ≡ false → header_at p (id ∷ ls) ≡ Ok h → Parts p id ls h
-unfolding header_at
-header_found p id ls h low e = length_inv p id ls h (sym (rw low refl) ∙ e)
-
--- what stands behind the front of a region
-pub behind_front : (octets : List ℕ) (p e : ℕ) (a b : List ℕ) → p ≤ e → e ≤ length octets → slice_range octets p e ≡ a ++ b → (slice_range octets (p + length a) e ≡ b) × (p + length a + length b ≡ e)
-behind_front octets p e a b order within parts =
-    let size : length a + length b ≡ e - p = sym (length-append a b) ∙ sym (ap length parts) ∙ region-length octets p e within in
-    let low : p + length a ≤ e = omega arith in
-    (sym (region-drop octets p (length a) e low) ∙ ap (drop (length a)) parts ∙ drop_at a b (length a) refl, omega arith)
-
--- the contents behind a header, and what follows them
-pub contents_are : (octets : List ℕ) (p e id : ℕ) (size c rest : List ℕ) → p ≤ e → e ≤ length octets → slice_range octets p e ≡ id ∷ size ++ (c ++ rest)
-    → contents_of octets (header_for p id (length size) (length c)) ≡ c
-contents_are octets p e id size c rest order within parts =
-    let all : (id ∷ size ++ (c ++ rest)) ≡ (id ∷ size ++ c) ++ rest = ap (λ (x : List ℕ). id ∷ x) (sym (append_assoc size c rest)) in
-    let b = behind_front octets p e (id ∷ size ++ c) rest order within (parts ∙ all) in
-    sym (region-inner octets p e (p + 1 + length size) (p + 1 + length size + length c) (omega arith) (omega arith) (omega (arith, b.1, length-append size c)))
-    ∙ ap (λ (o : List ℕ). slice_range o ((p + 1 + length size) - p) ((p + 1 + length size + length c) - p)) parts
-    ∙ contents_again p id size c rest
-
-pub rest_is : (octets : List ℕ) (p e id : ℕ) (size c rest : List ℕ) → p ≤ e → e ≤ length octets → slice_range octets p e ≡ id ∷ size ++ (c ++ rest)
-    → (slice_range octets (p + 1 + length size + length c) e ≡ rest) × (p + 1 + length size + length c ≤ e)
-rest_is octets p e id size c rest order within parts =
-    let all : (id ∷ size ++ (c ++ rest)) ≡ (id ∷ size ++ c) ++ rest = ap (λ (x : List ℕ). id ∷ x) (sym (append_assoc size c rest)) in
-    let b = behind_front octets p e (id ∷ size ++ c) rest order within (parts ∙ all) in
-    let at : p + 1 + length size + length c ≡ p + length (id ∷ size ++ c) = omega (arith, length-append size c) in
-    (ap (λ (x : ℕ). slice_range octets x e) at ∙ b.0, omega arith)
 
 -- ---- an element that is there, or is not
 
@@ -64,7 +25,7 @@ module _ (id p : ℕ) (low : eqb (id % 32) 31 ≡ false) where
     | inl t ↦ let same = eqb-true b id t.0 in let x = bind_ok (header_at p (b ∷ bs)) _ (Some h) t.1 in
         let is : x.0 ≡ h = (let y = x.2 in cc) in
         let head : header_at p (id ∷ bs) ≡ Ok h = ap (λ (i : ℕ). header_at p (i ∷ bs)) (sym same) ∙ x.1 ∙ ap (λ (y : Header). Ok y) is in
-        (bs, ap (λ (i : ℕ). i ∷ bs) same, header_found p id bs h low head)
+        (bs, ap (λ (i : ℕ). i ∷ bs) same, low_found p id bs h low head)
     | inr t ↦ absurd (let wrong = t.1 in cc)
   ]
 

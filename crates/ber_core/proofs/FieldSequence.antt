@@ -8,12 +8,11 @@ use Rattle.ber_core.specs.declared.fault.Cause.TheVariants as causes
 use Rattle.ber_core.specs.Reading.{◌>>=◌}
 use Rattle.ber_core.specs.Element.{Elem}
 use Rattle.ber_core.specs.Faults.{fault_of}
-use Rattle.ber_core.proofs.Steps.{chosen, bind_ok, bind_err}
+use Rattle.ber_core.proofs.Steps.{chosen, bind_ok, bind_err, err_is}
 use Rattle.ber_core.specs.Fields.{Field, Grammar, BeginsWith, SpellsField, SpellsFields, FieldsFault, later, absent, missing, high, unexpected, in_length, in_contents, extra}
 use Rattle.ber_core.specs.FieldReading.{Read, field_at, fields_at, ends_at, is_stranger, are_apart}
-use Rattle.ber_core.proofs.FieldRegions.{behind_front}
-use Rattle.ber_core.proofs.Regions.{region-length}
-use Rattle.ber_core.proofs.FieldSound.{IsSound, Took, took, skipped, field_took, field_wrong, field_again, field_skipped, field_wrong_again, field_length_again, field_absent, absence_means, may_be_absent, err_is}
+use Rattle.ber_core.proofs.Regions.{behind_front, region-length}
+use Rattle.ber_core.proofs.FieldSound.{IsSound, Took, took, skipped, field_took, field_wrong, field_again, field_skipped, field_wrong_again, field_length_again, field_absent, absence_means, may_be_absent}
 
 -- ---- identifiers of a sequence are apart
 
@@ -75,7 +74,7 @@ record Piece {K I : Type 0} (G : Grammar K I) (g : Field K I) (p : ℕ) (o : Lis
   spelled : SpellsField G g v front
   next : q ≡ p + length front
 
-cut : (id : ℕ) (size c rest : List ℕ) → (id ∷ size ++ (c ++ rest)) ≡ (id ∷ size ++ c) ++ rest
+pub cut : (id : ℕ) (size c rest : List ℕ) → (id ∷ size ++ (c ++ rest)) ≡ (id ∷ size ++ c) ++ rest
 cut id size c rest = ap (λ (x : List ℕ). id ∷ x) (sym (append_assoc size c rest))
 
 piece : {K I : Type 0} (G : Grammar K I) (g : Field K I) (low : eqb (g.identifier % 32) 31 ≡ false) (p : ℕ) (o : List ℕ) (v : Option I) (q : ℕ) → Took G g p o v q → Piece G g p o v q
@@ -173,7 +172,7 @@ module _ {K I : Type 0} (G : Grammar K I) (read : Read K I) (sound : IsSound G r
       ]
 
   -- one good element in front
-  elem_again : (g : Field K I) (p : ℕ) (x : I) (c a b : List ℕ) → p ≤ e → eqb (g.identifier % 32) 31 ≡ false → Elem g.identifier c a → G.spells g.kind x c → slice_range octets p e ≡ a ++ b → field_at read g octets p e ≡ Ok (Some x, p + length a)
+  pub elem_again : (g : Field K I) (p : ℕ) (x : I) (c a b : List ℕ) → p ≤ e → eqb (g.identifier % 32) 31 ≡ false → Elem g.identifier c a → G.spells g.kind x c → slice_range octets p e ≡ a ++ b → field_at read g octets p e ≡ Ok (Some x, p + length a)
   elem_again g p x c a b order low elem spelled parts =
       let whole : slice_range octets p e ≡ g.identifier ∷ elem.size ++ (c ++ b) = parts ∙ ap (λ (s : List ℕ). s ++ b) elem.parts ∙ sym (cut g.identifier elem.size c b) in
       let next : p + 1 + length elem.size + length c ≡ p + length a = omega (arith, ap length elem.parts, length-append elem.size c) in

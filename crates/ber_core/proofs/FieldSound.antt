@@ -11,9 +11,11 @@ use Rattle.ber_core.specs.Element.{contents_of}
 use Rattle.ber_core.specs.Faults.{LengthFault, fault_of}
 use Rattle.ber_core.proofs.Headers.{header_for, Parts}
 use Rattle.ber_core.proofs.Steps.{chosen, bind_ok, bind_err}
+pub use Rattle.ber_core.proofs.Steps.{err_is, pair_is}
 use Rattle.ber_core.specs.Fields.{Presence, always, optional, default, Field, Grammar, AbsenceMeans, MayBeAbsent, BeginsWith, FieldsFault, missing, high, unexpected, in_length, in_contents}
 use Rattle.ber_core.specs.FieldReading.{Read, if_there, absence, or_absence, there_at, required_at, behind, behind_if, field_as, field_at}
-use Rattle.ber_core.proofs.FieldRegions.{contents_are, rest_is, if_there_again, if_there_found, if_there_wrong, if_there_wrong_again, if_there_none, if_there_absent}
+use Rattle.ber_core.proofs.Regions.{contents_are, rest_is}
+use Rattle.ber_core.proofs.FieldRegions.{if_there_again, if_there_found, if_there_wrong, if_there_wrong_again, if_there_none, if_there_absent}
 
 -- a header that stands in these octets
 abbrev pub IsPlaced : List ℕ → Header → Type 0
@@ -29,12 +31,6 @@ pub record IsSound {K I : Type 0} (G : Grammar K I) (read : Read K I) : Type 0 w
 pub data Took {K I : Type 0} (G : Grammar K I) (g : Field K I) (p : ℕ) (o : List ℕ) : Option I → ℕ → Type 0 where
   took : {v : Option I} {q : ℕ} (x : I) (size c rest : List ℕ) → o ≡ g.identifier ∷ size ++ (c ++ rest) → Len (length c) size → G.spells g.kind x c → v ≡ Some x → q ≡ p + 1 + length size + length c → Took G g p o v q
   skipped : {v : Option I} {q : ℕ} → ¬ BeginsWith g.identifier o → AbsenceMeans g.presence v → q ≡ p → Took G g p o v q
-
-pub pair_is : {A B : Type 0} (a c : A) (b d : B) → ◌≡◌ {A = Result (A × B) Fault} (Ok (a, b)) (Ok (c, d)) → (c ≡ a) × (d ≡ b)
-pair_is {A = A} {B = B} a c b d h = let same : ◌≡◌ {A = A × B} (a, b) (c, d) = cc in (sym (ap (λ x. x.0) same), sym (ap (λ x. x.1) same))
-
-pub err_is : {A : Type 0} (f g : Fault) → ◌≡◌ {A = Result A Fault} (Err f) (Err g) → g ≡ f
-err_is f g e = cc
 
 module _ {K I : Type 0} (G : Grammar K I) (read : Read K I) (sound : IsSound G read) (octets : List ℕ) (e : ℕ) (within : e ≤ length octets) where
   -- the contents behind a header that stands at the front of the region

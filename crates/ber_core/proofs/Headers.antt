@@ -1,6 +1,6 @@
 -- A length that is read is the length of contents that stand behind it, and the other way round; and the same
 -- of a length at fault.
-use Rattle.std.proofs.Common.{◌≡◌, ℕ, suc, ◌+◌, ◌-◌, ◌≤◌, ◌<◌, ltb, eqb, List, [], ◌∷◌, ◌++◌, length, take, drop, Ok, Err, refl, sym, ap, ◌∙◌, arith, inl, inr}
+use Rattle.std.proofs.Common.{◌≡◌, ℕ, suc, ◌+◌, ◌-◌, ◌%◌, ◌≤◌, ◌<◌, false, ltb, eqb, List, [], ◌∷◌, ◌++◌, length, take, drop, Ok, Err, refl, sym, ap, ◌∙◌, arith, inl, inr}
 use Rattle.std.proofs.lemmas.List.{length-append, take-append-drop, length-take, length-take-le, drop_at}
 use Rattle.std.proofs.lemmas.Bool.{ltb-true, ltb-false, le-ltb, lt-ltb, eqb-true, eqb-false, ne_eqb}
 use Rattle.byteorder.specs.Endian.{big_number}
@@ -10,7 +10,7 @@ use Rattle.ber_core.specs.declared.fault.Cause.TheVariants as causes
 use Rattle.ber_core.specs.declared.element.Header.{Header}
 use Rattle.ber_core.specs.Length.{Len, number}
 use Rattle.ber_core.specs.Faults.{LengthFault, absent, cut, indefinite, form, past_end, fault_of}
-use Rattle.ber_core.specs.Reading.{sized_at, counted_length_at, length_at}
+use Rattle.ber_core.specs.Reading.{sized_at, counted_length_at, length_at, header_at}
 use Rattle.ber_core.proofs.Steps.{chosen, fault_is}
 
 -- the header of an element at p whose length has size octets, and whose contents have n
@@ -108,6 +108,11 @@ length_inv p id (first ∷ more) h e = elim (chosen (ltb first 128) _ _ _ e) [
     ]
   ]
 ]
+
+-- the same behind an identifier of one octet
+pub low_found : (p id : ℕ) (o : List ℕ) (h : Header) → eqb (id % 32) 31 ≡ false → header_at p (id ∷ o) ≡ Ok h → Parts p id o h
+unfolding header_at
+low_found p id o h low e = length_inv p id o h (sym (rw low refl) ∙ e)
 
 -- ---- what is refused has a length at fault
 

@@ -10,6 +10,7 @@ pub mod FieldRegions
 pub mod FieldSound
 pub mod FieldSequence
 pub mod FieldNested
+pub mod Repeated
 pub mod Visible
 pub mod ContentsLaws
 pub mod SequenceLaws

@@ -2,14 +2,15 @@
 use Rattle.std.proofs.Common.{◌≡◌, ℕ, suc, ◌+◌, ◌-◌, ◌%◌, ◌≤◌, eqb, List, [], ◌∷◌, ◌++◌, length, Result, Ok, Err, refl, sym, ap, subst, ◌∙◌, append_assoc, arith, inl, inr}
 use Rattle.std.proofs.lemmas.List.{length-append}
 use Rattle.std.proofs.lemmas.Bool.{eqb-true, eqb-false, ne_eqb, eq-eqb}
-use Rattle.std.specs.Prelude.{slice_range}
+use Rattle.std.specs.Prelude.{slice_range, ◌⊎◌}
 use Rattle.ber_core.specs.declared.fault.Fault.{Fault}
 use Rattle.ber_core.specs.declared.element.Header.{Header}
 use Rattle.ber_core.specs.Length.{Len}
 use Rattle.ber_core.specs.Element.{IsIdentifier, IsHeader, contents_of}
 use Rattle.ber_core.specs.Faults.{HeaderFault, nothing, high, in_length}
+use Rattle.ber_core.specs.Laws.{ElementElseFault}
 use Rattle.ber_core.specs.Reading.{header_at}
-use Rattle.ber_core.proofs.Steps.{chosen, fault_is}
+use Rattle.ber_core.proofs.Steps.{chosen, err_is, fault_is, ok_is}
 use Rattle.ber_core.proofs.Headers.{header_for, Parts, length_again, length_inv, length_wrong, length_wrong_again}
 use Rattle.ber_core.proofs.Regions.{region-length, region-split, contents_are, element_is, rest_is}
 
@@ -99,20 +100,22 @@ header_only octets at end h order within is =
 
 -- ---- the laws
 
-ok_one : {A : Type 0} (x y : A) → ◌≡◌ {A = Result A Fault} (Ok x) (Ok y) → x ≡ y
-ok_one x y e = cc
-
-err_one : {A : Type 0} (f g : Fault) → ◌≡◌ {A = Result A Fault} (Err f) (Err g) → f ≡ g
-err_one f g e = cc
-
 not_both : {A : Type 0} (x : A) (f : Fault) → ◌≡◌ {A = Result A Fault} (Ok x) (Err f) → ⊥
 not_both x f e = cc
 
 pub element_is_one : (octets : List ℕ) (at end : ℕ) (h k : Header) → at ≤ end → end ≤ length octets → IsHeader octets at end h → IsHeader octets at end k → h ≡ k
-element_is_one octets at end h k order within p q = ok_one h k (sym (header_only octets at end h order within p) ∙ header_only octets at end k order within q)
+element_is_one octets at end h k order within p q = ok_is h k (sym (header_only octets at end h order within p) ∙ header_only octets at end k order within q)
 
 pub element_or_fault : (octets : List ℕ) (at end : ℕ) (h : Header) (f : Fault) → at ≤ end → end ≤ length octets → IsHeader octets at end h → HeaderFault f at (slice_range octets at end) → ⊥
 element_or_fault octets at end h f order within p q = not_both h f (sym (header_only octets at end h order within p) ∙ header_wrong_again f at (slice_range octets at end) q)
 
 pub fault_is_one : (region : List ℕ) (at : ℕ) (f g : Fault) → HeaderFault f at region → HeaderFault g at region → f ≡ g
-fault_is_one region at f g p q = err_one {A = Header} f g (sym (header_wrong_again f at region p) ∙ header_wrong_again g at region q)
+fault_is_one region at f g p q = err_is {A = Header} g f (sym (header_wrong_again g at region q) ∙ header_wrong_again f at region p)
+
+either : (octets : List ℕ) (at end : ℕ) → at ≤ end → end ≤ length octets → (r : Result Header Fault) → header_at at (slice_range octets at end) ≡ r
+    → ((h : Header) × IsHeader octets at end h) ⊎ ((f : Fault) × HeaderFault f at (slice_range octets at end))
+either octets at end order within (Ok h) e = inl (h, header_found octets at end h order within e)
+either octets at end order within (Err f) e = inr (f, header_wrong at (slice_range octets at end) f e)
+
+pub element_else_fault : ElementElseFault
+element_else_fault octets at end order within = either octets at end order within (header_at at (slice_range octets at end)) refl

@@ -32,14 +32,14 @@ big_bytes_octets (suc k) n zero = byte_at_small k n
 big_bytes_octets (suc k) n (suc i) = big_bytes_octets k n i
 
 -- the octets of a number that fits them spell it
-number-big_bytes : (k n : ℕ) → n < 256 ^ k → number (big_bytes k n) ≡ n
+pub number-big_bytes : (k n : ℕ) → n < 256 ^ k → number (big_bytes k n) ≡ n
 number-big_bytes k n fits =
     ap (λ (j : ℕ). big_number j (big_bytes k n)) (length-bytes_high_first k n)
     ∙ ap (big_number k) (sym (append-nil (big_bytes k n)))
     ∙ big_number-reads_back k n [] fits
 
 -- what octets spell is below the power for their count
-number_small : (o : List ℕ) → AreOctets o → number o < 256 ^ length o
+pub number_small : (o : List ℕ) → AreOctets o → number o < 256 ^ length o
 number_small o small = big_from-lt 0 (length o) o small
 
 -- a number below 2 ^ 32 fits its size, which is 1 to 4

@@ -1,5 +1,5 @@
 -- Steps of reading, taken apart.
-use Rattle.std.proofs.Common.{◌≡◌, Bool, true, false, cond, Result, Ok, Err, refl, inl, inr}
+use Rattle.std.proofs.Common.{◌≡◌, Bool, true, false, cond, Result, Ok, Err, refl, sym, ap, inl, inr}
 use Rattle.std.specs.Prelude.{◌⊎◌}
 use Rattle.ber_core.specs.declared.fault.Fault.{Fault}
 use Rattle.ber_core.specs.declared.fault.Cause.{Cause}
@@ -24,3 +24,13 @@ bind_err {A = A} (Err h) f g e = inl (let same : h ≡ g = cc in let both : ◌�
 -- the fault that a refusal answers
 pub fault_is : {A : Type 0} (p : _) (why : Cause) (f : Fault) → refused {A = A} p why ≡ Err f → f ≡ fault_of p why
 fault_is p why f e = cc
+
+-- equal answers hold equal values, or equal faults
+pub ok_is : {A : Type 0} (x y : A) → ◌≡◌ {A = Result A Fault} (Ok x) (Ok y) → x ≡ y
+ok_is x y e = cc
+
+pub err_is : {A : Type 0} (f g : Fault) → ◌≡◌ {A = Result A Fault} (Err f) (Err g) → g ≡ f
+err_is f g e = cc
+
+pub pair_is : {A B : Type 0} (a c : A) (b d : B) → ◌≡◌ {A = Result (A × B) Fault} (Ok (a, b)) (Ok (c, d)) → (c ≡ a) × (d ≡ b)
+pair_is {A = A} {B = B} a c b d h = let same : ◌≡◌ {A = A × B} (a, b) (c, d) = cc in (sym (ap (λ x. x.0) same), sym (ap (λ x. x.1) same))

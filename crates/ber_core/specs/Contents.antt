@@ -32,13 +32,17 @@ IntegerFault f low high at from c =
 abbrev pub IsVisible : ℕ → Type 0
 IsVisible x = (0x20 ≤ x) × (x ≤ 0x7e)
 
+-- each of the octets is visible
+abbrev pub AreVisible : List ℕ → Type 0
+AreVisible o = AllByRecursion IsVisible o
+
 -- c is the text itself, and each of its octets is visible (ISO/IEC 8825-1, 8.23)
 abbrev pub SpellsVisible : List ℕ → List ℕ → Type 0
-SpellsVisible text c = (c ≡ text) × AllByRecursion IsVisible text
+SpellsVisible text c = (c ≡ text) × AreVisible text
 
 -- the fault of a text is its first octet that is not visible
 abbrev pub VisibleFault : Fault → ℕ → List ℕ → Type 0
-VisibleFault f from c = (a b : List ℕ) × (x : ℕ) × (c ≡ a ++ x ∷ b) × AllByRecursion IsVisible a × ¬ IsVisible x × (f ≡ fault_of (from + length a) causes.NotVisible)
+VisibleFault f from c = (a b : List ℕ) × (x : ℕ) × (c ≡ a ++ x ∷ b) × AreVisible a × ¬ IsVisible x × (f ≡ fault_of (from + length a) causes.NotVisible)
 
 -- c is these octets, and their count is the stated one
 abbrev pub SpellsCounted : ℕ → List ℕ → List ℕ → Type 0

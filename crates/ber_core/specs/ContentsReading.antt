@@ -1,6 +1,6 @@
 -- Reading the contents of one element as functions on octets. Laws in both directions tie each to what contents
 -- spell and to their fault. The element stands at the place at, and its contents at the place from.
-use Rattle.std.specs.Prelude.{◌+◌, ◌==◌, ◌||◌, ◌&&◌, ℕ, ℤ, Bool, not, List, [], ◌∷◌, length, Result, Ok, nat_lt, nat_le, if◌then◌else◌}
+use Rattle.std.specs.Prelude.{◌+◌, ◌==◌, ◌||◌, ◌&&◌, ℕ, ℤ, pos, negsuc, Bool, not, List, [], ◌∷◌, length, Result, Ok, nat_lt, nat_le, if◌then◌else◌}
 use lib.Signed.{le_z}
 use Rattle.byteorder.specs.Endian.{twos_complement}
 use Rattle.ber_core.specs.Length.{number}
@@ -18,11 +18,18 @@ boolean_at at (n ∷ m ∷ more) = refused (at + 1) causes.BooleanLength
 abbrev pub in_range : ℤ → ℤ → ℕ → ℤ → Result ℤ Fault
 in_range low high from n = if le_z low n && le_z n high then Ok n else refused from causes.IntegerRange
 
--- the integer of contents, which has to lie between low and high
+-- the integer of contents
+unfoldable pub any_integer_at : ℕ → List ℕ → Result ℤ Fault
+any_integer_at at c = if length c == 0 || nat_lt 9 (length c) then refused (at + 1) causes.IntegerLength else Ok (twos_complement (length c) (number c))
+
+-- the same, where it has to lie between low and high
 unfoldable pub integer_at : ℤ → ℤ → ℕ → ℕ → List ℕ → Result ℤ Fault
-integer_at low high at from c =
-    if length c == 0 || nat_lt 9 (length c) then refused (at + 1) causes.IntegerLength
-    else in_range low high from (twos_complement (length c) (number c))
+integer_at low high at from c = any_integer_at at c >>= in_range low high from
+
+-- a number that is no less than 0, without its sign
+abbrev pub natural : ℤ → ℕ
+natural (pos n) = n
+natural (negsuc n) = 0
 
 abbrev pub is_visible : ℕ → Bool
 is_visible x = nat_le 0x20 x && nat_le x 0x7e

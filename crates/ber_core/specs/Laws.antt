@@ -1,5 +1,5 @@
 -- What the definitions say together: readings are single, and written forms are shortest.
-use Rattle.std.specs.Prelude.{◌≡◌, ◌≤◌, ◌<◌, ◌^◌, ◌≤ℤ◌, ◌<ℤ◌, ◌-◌, ℕ, ℤ, pos, negsuc, List, length, slice_range}
+use Rattle.std.specs.Prelude.{◌≡◌, ◌⊎◌, ◌≤◌, ◌<◌, ◌^◌, ◌≤ℤ◌, ◌<ℤ◌, ◌-◌, ℕ, ℤ, pos, negsuc, List, length, slice_range}
 use Rattle.ber_core.specs.Length.{Len}
 use Rattle.ber_core.specs.Integer.{Int}
 use Rattle.ber_core.specs.Element.{IsHeader}
@@ -15,6 +15,10 @@ ElementIsOne = (octets : List ℕ) (at end : ℕ) (h k : Header) → at ≤ end 
 -- where an element stands there is no fault
 abbrev pub ElementOrFault : Type 0
 ElementOrFault = (octets : List ℕ) (at end : ℕ) (h : Header) (f : Fault) → at ≤ end → end ≤ length octets → IsHeader octets at end h → HeaderFault f at (slice_range octets at end) → ⊥
+
+-- where no element stands there is one
+abbrev pub ElementElseFault : Type 0
+ElementElseFault = (octets : List ℕ) (at end : ℕ) → at ≤ end → end ≤ length octets → ((h : Header) × IsHeader octets at end h) ⊎ ((f : Fault) × HeaderFault f at (slice_range octets at end))
 
 -- no region has two first faults
 abbrev pub FaultIsOne : Type 0

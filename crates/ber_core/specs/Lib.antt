@@ -10,3 +10,4 @@ pub mod ContentsReading
 pub mod Fields
 pub mod FieldReading
 pub mod Sequences
+pub mod Repeated

@@ -1,6 +1,6 @@
 //! The contents of one element: a boolean, an integer, a visible text, octets of a stated count.
 
-ghost use Rattle.std.specs.Prelude.{◌≡◌, ◌≤◌, ◌<◌, ◌+◌, ◌^◌, ℤ, Bool, List, ℕ, Ok, Err, length, IfOk, IfErr, IsOk};
+ghost use Rattle.std.specs.Prelude.{◌≡◌, ◌≤◌, ◌<◌, ◌+◌, ◌^◌, ◌≤ℤ◌, ℤ, Bool, List, ℕ, Ok, Err, length, IfOk, IfErr, IsOk};
 ghost use Rattle.ber_core.specs.Contents.{SpellsBoolean, BooleanFault, SpellsInteger, IntegerFault, SpellsVisible, VisibleFault, SpellsCounted, CountedFault, IsContents};
 ghost use Rattle.ber_core.specs.ContentsReading.{all_visible_at, boolean_at, counted_at, integer_at, is_visible, visible_at};
 ghost use Rattle.ber_core.specs.Element.{contents_of};
@@ -9,7 +9,7 @@ ghost use Rattle.ber_core.specs.declared.fault.Fault.{Fault};
 
 use crate::element::Header;
 use crate::fault::{Cause, Fault};
-use byteorder::{BigEndian, ByteOrder};
+use crate::reading::any_integer;
 
 /// The boolean that the contents behind `header` spell (ISO/IEC 8825-1, 8.2).
 ///
@@ -26,20 +26,22 @@ pub fn boolean(octets: &[u8], header: &Header) -> Result<bool, Fault>
     ensures fault_only { (f : Fault) → BooleanFault f header.now.at (contents_of octets.now header.now) → result ≡ Err f }
     ensures exact { result ≡ boolean_at header.now.at (contents_of octets.now header.now) }
 {
-    boolean_behind(octets, header)
+    boolean_of(&octets[header.contents_from..header.contents_to], header.at)
 }
 
-// The boolean, as reading gives it.
+/// The boolean that contents spell whose identifier stands at the place `at`.
+///
+/// # Errors
+///
+/// `BooleanLength` at that place plus 1, where the contents are not one octet.
 #[tactic(auto, unfolding(crate::specs::ContentsReading::boolean_at))]
-fn boolean_behind(octets: &[u8], header: &Header) -> Result<bool, Fault>
-    requires behind { header.now.at < header.now.contents_from }
-    requires ordered { header.now.contents_from ≤ header.now.contents_to }
-    requires inside { header.now.contents_to ≤ length octets.now }
-    ensures { result ≡ boolean_at header.now.at (contents_of octets.now header.now) }
+pub fn boolean_of(contents: &[u8], at: usize) -> Result<bool, Fault>
+    requires fits { at + 1 < 2 ^ 64 }
+    ensures exact { result ≡ boolean_at at contents.now }
 {
-    match &octets[header.contents_from..header.contents_to] {
+    match contents {
         [number] => Ok(*number != 0),
-        _ => Err(Cause::BooleanLength.at(header.at + 1)),
+        _ => Err(Cause::BooleanLength.at(at + 1)),
     }
 }
 
@@ -59,28 +61,34 @@ pub fn integer_in(octets: &[u8], header: &Header, low: i128, high: i128) -> Resu
     ensures fault_only { (f : Fault) → IntegerFault f low high header.now.at header.now.contents_from (contents_of octets.now header.now) → result ≡ Err f }
     ensures exact { result ≡ integer_at low high header.now.at header.now.contents_from (contents_of octets.now header.now) }
 {
-    integer_behind(octets, header, low, high)
+    let contents = &octets[header.contents_from..header.contents_to];
+    integer_of(contents, header.at, header.contents_from, low, high)
 }
 
-// The integer, as reading gives it.
+/// The integer from `low` to `high` that contents spell whose identifier stands at the place `at`, and whose first
+/// octet stands at `from`.
+///
+/// # Errors
+///
+/// `IntegerLength` at the identifier's place plus 1, where the contents have no octet or over nine;
+/// `IntegerRange` at the first octet of the contents, where the integer lies outside the range.
 #[tactic(auto, unfolding(crate::specs::ContentsReading::integer_at))]
-fn integer_behind(octets: &[u8], header: &Header, low: i128, high: i128) -> Result<i128, Fault>
-    requires behind { header.now.at < header.now.contents_from }
-    requires ordered { header.now.contents_from ≤ header.now.contents_to }
-    requires inside { header.now.contents_to ≤ length octets.now }
-    ensures { result ≡ integer_at low high header.now.at header.now.contents_from (contents_of octets.now header.now) }
+pub fn integer_of(
+    contents: &[u8],
+    at: usize,
+    from: usize,
+    low: i128,
+    high: i128,
+) -> Result<i128, Fault>
+    requires fits { at + 1 < 2 ^ 64 }
+    ensures exact { result ≡ integer_at low high at from contents.now }
+    ensures within { IfOk result (λ n. (low ≤ℤ n) × (n ≤ℤ high)) }
 {
-    let contents = &octets[header.contents_from..header.contents_to];
-    match contents.len() {
-        count @ 1..=9 => {
-            let number = BigEndian::read_int128(contents, count);
-            if low <= number && number <= high {
-                Ok(number)
-            } else {
-                Err(Cause::IntegerRange.at(header.contents_from))
-            }
-        }
-        _ => Err(Cause::IntegerLength.at(header.at + 1)),
+    let number = any_integer(contents, at)?;
+    if low <= number && number <= high {
+        Ok(number)
+    } else {
+        Err(Cause::IntegerRange.at(from))
     }
 }
 

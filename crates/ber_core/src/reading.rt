@@ -1,6 +1,7 @@
 // Headers and integers, read from a slice.
 
 ghost use Rattle.std.specs.Prelude.{◌≡◌, ◌≤◌, ◌<◌, ◌+◌, ◌^◌, ◌⊎◌, ℤ, Ok, Err, length, slice_range, IfOk, IfErr};
+ghost use Rattle.ber_core.specs.ContentsReading.{any_integer_at};
 ghost use Rattle.ber_core.specs.Element.{IsHeader, contents_of};
 ghost use Rattle.ber_core.specs.Faults.{HeaderFault, fault_of};
 ghost use Rattle.ber_core.specs.Integer.{Int};
@@ -138,10 +139,19 @@ pub fn integer(octets: &[u8], header: &Header) -> Result<i128, Fault>
     ensures only { (n : ℤ) → Int n (contents_of octets.now header.now) → result ≡ Ok n }
     ensures fault { IfErr result (λ f. (f ≡ fault_of (header.now.at + 1) Cause.IntegerLength)
         × ((length (contents_of octets.now header.now) ≡ 0) ⊎ (9 < length (contents_of octets.now header.now)))) }
+    ensures exact { result ≡ any_integer_at header.now.at (contents_of octets.now header.now) }
 {
-    let contents = &octets[header.contents_from..header.contents_to];
+    any_integer(&octets[header.contents_from..header.contents_to], header.at)
+}
+
+// The number that contents spell whose identifier stands at the place `at`.
+#[tactic(auto, unfolding(crate::specs::ContentsReading::any_integer_at))]
+pub(crate) fn any_integer(contents: &[u8], at: usize) -> Result<i128, Fault>
+    requires { at + 1 < 2 ^ 64 }
+    ensures { result ≡ any_integer_at at contents.now }
+{
     match contents.len() {
         count @ 1..=9 => Ok(BigEndian::read_int128(contents, count)),
-        _ => Err(Cause::IntegerLength.at(header.at + 1)),
+        _ => Err(Cause::IntegerLength.at(at + 1)),
     }
 }

@@ -45,8 +45,8 @@ pub fn put_header<const N: usize>(
         .map_err(|_| Full)
 }
 
-// The fewest octets that hold the number.
-fn octet_count(number: usize) -> usize
+/// The fewest octets that hold the number, which is at most 4294967295.
+pub fn octet_count(number: usize) -> usize
     requires { number < 2 ^ 32 }
     ensures { result ≡ number_size number }
 {
@@ -86,9 +86,11 @@ pub fn put_integer<const N: usize>(
         .map_err(|_| Full)
 }
 
-// The fewest octets that hold the number in two's complement, from 1 to 9.
+/// The fewest octets that hold the number in two's complement, from 1 to 9 (ISO/IEC 8825-1, 8.3).
+///
+/// The number lies from -2^71 to 2^71 - 1.
 #[tactic(auto, unfolding(crate::specs::Written::integer_size))]
-fn signed_count(number: i128) -> usize
+pub fn signed_count(number: i128) -> usize
     requires low { negsuc (2 ^ 71 - 1) ≤ℤ number }
     requires high { number <ℤ pos (2 ^ 71) }
     ensures value { result ≡ integer_size number }

@@ -11,6 +11,7 @@ pub mod Stops
 pub mod WrittenLines
 pub mod LineShapes
 pub mod Answered
+pub mod ApduLaws
 pub mod EnvelopeLaws
 pub mod FrameLaws
 pub mod FrameParts
@@ -19,3 +20,4 @@ pub mod WrittenLaws
 pub mod PutLaws
 pub mod ReadingLaws
 pub mod SpelledSpellable
+pub mod Pairs

@@ -10,6 +10,7 @@ pub mod EventList
 pub mod EventReader
 pub mod ListReader
 pub mod VlanTag
+pub mod Apdu
 pub mod Envelope
 pub mod Frame
 pub mod FrameFault

@@ -1,9 +1,11 @@
 -- The written form of a frame: its spelling whose APDU is written in the fewest octets.
 use Rattle.std.specs.Prelude.{◌≡◌, ◌<◌, ◌+◌, ◌⊎◌, ℕ, Bool, List, [], ◌++◌, length, Option, Some, None, nat_le, ◌&&◌}
 use Rattle.byteorder.specs.Endian.{big_bytes}
+use Rattle.pdu_core.specs.SampledSpellable.{SpellableSv, is_spelled_sv}
+use Rattle.pdu_core.specs.SampledWritten.{written_sv}
 use Rattle.pdu_core.specs.Spellable.{Spellable, is_spelled}
 use Rattle.pdu_core.specs.Written.{written_goose}
-use Rattle.frame_core.specs.Frame.{ether_type_of}
+use Rattle.frame_core.specs.Apdu.{ether_type_of}
 use Rattle.frame_core.specs.declared.frame.Apdu.{Apdu}
 use Rattle.frame_core.specs.declared.frame.Apdu.TheVariants as apdus
 use Rattle.frame_core.specs.declared.frame.Frame.{Frame}
@@ -19,14 +21,17 @@ written_tag (Some tag) = written_word 0x8100 ++ written_word tag.control
 
 abbrev pub written_apdu : {A : Type 0} → Apdu A → List ℕ
 written_apdu (apdus.Goose p) = written_goose p
+written_apdu (apdus.Sampled p) = written_sv p
 
 -- each field of the APDU has a spelling
 abbrev pub ApduIsSpellable : {A : Type 0} → Apdu A → Type 0
 ApduIsSpellable (apdus.Goose p) = Spellable p
+ApduIsSpellable (apdus.Sampled p) = SpellableSv p
 
 -- the same as a test
 abbrev pub apdu_is_spelled : {A : Type 0} → Apdu A → Bool
 apdu_is_spelled (apdus.Goose p) = is_spelled p
+apdu_is_spelled (apdus.Sampled p) = is_spelled_sv p
 
 -- what stands before an APDU of so many octets
 abbrev pub written_head : {A : Type 0} → Frame A → ℕ → List ℕ

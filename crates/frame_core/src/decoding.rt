@@ -5,7 +5,7 @@ ghost use Rattle.ber_core.specs.declared.fault.Fault.{Fault};
 ghost use Rattle.frame_core.specs.Frame.{SpellsFrame, apdu_of, frame_of};
 ghost use Rattle.frame_core.specs.FrameFault.{FrameFault};
 ghost use Rattle.frame_core.specs.declared.frame.Frame.{Frame};
-ghost use Rattle.pdu_core.specs.Answers.{IfRefused, Reads, Refuses};
+ghost use Rattle.mms_data.specs.Answers.{IfRefused, Reads, Refuses};
 
 use crate::frame::{Apdu, Frame};
 use crate::frame_view::{ApduView, FrameView};
@@ -22,8 +22,10 @@ impl<'a> ApduView<'a> {
     pub fn to_apdu<A: Allocator + Copy>(&self, alloc: A) -> Result<Apdu<A>, AllocError>
         ensures { IfOk result (λ a. a ≡ apdu_of self.now) }
     {
-        let ApduView::Goose(view) = self;
-        Ok(Apdu::Goose(view.to_pdu(alloc)?))
+        match self {
+            ApduView::Goose(view) => Ok(Apdu::Goose(view.to_pdu(alloc)?)),
+            ApduView::Sampled(view) => Ok(Apdu::Sampled(view.to_pdu(alloc)?)),
+        }
     }
 }
 

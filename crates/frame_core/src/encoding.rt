@@ -2,22 +2,25 @@
 
 ghost use Rattle.std.specs.Prelude.{◌≡◌, ◌≤◌, ◌<◌, ◌+◌, ◌↔◌, ◌++◌, [], length, true, false, IfOk, IsOk, OnOk, Err, is_ok};
 ghost use Rattle.arrayvec.specs.ArrayVec.{array_vec_len};
-ghost use Rattle.frame_core.specs.Frame.{SpellsFrame, ether_type_of};
+ghost use Rattle.frame_core.specs.Apdu.{ether_type_of};
+ghost use Rattle.frame_core.specs.Frame.{SpellsFrame};
+ghost use Rattle.pdu_core.specs.SampledSpellable.{SpellableSv};
+ghost use Rattle.pdu_core.specs.SampledWritten.{written_sv};
 ghost use Rattle.pdu_core.specs.Spellable.{Spellable};
 ghost use Rattle.pdu_core.specs.Written.{written_goose};
 ghost use Rattle.frame_core.specs.Written.{ApduIsSpellable, IsHeld, IsTooLong, TagIsHeld, fits, written_apdu, written_frame, written_head, written_tag, written_word};
 
-use crate::envelope::{GOOSE, MOST_OCTETS, TAGGED};
+use crate::envelope::{GOOSE, MOST_OCTETS, SAMPLED, TAGGED};
 use crate::frame::{Apdu, Frame};
 use crate::vlan_tag::VlanTag;
 use arrayvec::ArrayVec;
 use mms_data::PutFault;
-use pdu_core::{GoosePdu, put_goose};
+use pdu_core::{GoosePdu, SvPdu, put_goose, put_sv};
 use std::alloc::Allocator;
 use thiserror::Error;
 
 /// The most octets of an APDU: Length is at most 1,500 and counts eight octets before it.
-const MOST_APDU: usize = 1492;
+pub(crate) const MOST_APDU: usize = 1492;
 
 /// Why a frame is not written.
 #[derive(Clone, Copy, PartialEq, Eq, Debug, Error)]
@@ -80,12 +83,13 @@ fn put_apdu<A: Allocator>(out: &mut ArrayVec<u8, MOST_APDU>, apdu: &Apdu<A>) -> 
     ensures written { OnOk result (out.new.items ≡ written_apdu apdu.now) }
 {
     match apdu {
-        Apdu::Goose(pdu) => put_unit(out, pdu),
+        Apdu::Goose(pdu) => put_goose_unit(out, pdu),
+        Apdu::Sampled(pdu) => put_sampled_unit(out, pdu),
     }
 }
 
 // Appends a unit of GOOSE alone.
-fn put_unit<A: Allocator>(
+fn put_goose_unit<A: Allocator>(
     out: &mut ArrayVec<u8, MOST_APDU>,
     pdu: &GoosePdu<A>,
 ) -> Result<(), PutFault>
@@ -98,8 +102,32 @@ fn put_unit<A: Allocator>(
     put_goose(out, pdu)
 }
 
+// Appends a unit of Sampled Values alone.
+fn put_sampled_unit<A: Allocator>(
+    out: &mut ArrayVec<u8, MOST_APDU>,
+    pdu: &SvPdu<A>,
+) -> Result<(), PutFault>
+    requires { array_vec_len out.old ≡ 0 }
+    ensures not_spellable { (result ≡ Err PutFault.NotSpellable) ↔ (¬ SpellableSv pdu.now) }
+    ensures full { (result ≡ Err PutFault.Full) ↔ (SpellableSv pdu.now × (1492 < length (written_sv pdu.now))) }
+    ensures spellable { OnOk result (SpellableSv pdu.now) }
+    ensures written { OnOk result (out.new.items ≡ written_sv pdu.now) }
+{
+    put_sv(out, pdu)
+}
+
+// The EtherType that announces a unit.
+fn ether_type<A: Allocator>(apdu: &Apdu<A>) -> u16
+    ensures { result ≡ ether_type_of apdu.now }
+{
+    match apdu {
+        Apdu::Goose(_) => GOOSE,
+        Apdu::Sampled(_) => SAMPLED,
+    }
+}
+
 // Appends a word.
-fn put_word(out: &mut ArrayVec<u8, MOST_OCTETS>, word: u16)
+pub(crate) fn put_word(out: &mut ArrayVec<u8, MOST_OCTETS>, word: u16)
     requires { array_vec_len out.old + 2 ≤ 1600 }
     ensures items { out.new.items ≡ out.old.items ++ written_word word }
     ensures len { array_vec_len out.new ≡ array_vec_len out.old + 2 }
@@ -108,7 +136,7 @@ fn put_word(out: &mut ArrayVec<u8, MOST_OCTETS>, word: u16)
 }
 
 // Appends the tag, if there is one.
-fn put_tag(out: &mut ArrayVec<u8, MOST_OCTETS>, tag: Option<VlanTag>)
+pub(crate) fn put_tag(out: &mut ArrayVec<u8, MOST_OCTETS>, tag: Option<VlanTag>)
     requires { array_vec_len out.old + 4 ≤ 1600 }
     ensures items { out.new.items ≡ out.old.items ++ written_tag tag }
     ensures held { TagIsHeld tag }
@@ -133,8 +161,7 @@ fn put_head<A: Allocator>(out: &mut ArrayVec<u8, MOST_OCTETS>, frame: &Frame<A>,
     out.try_extend_from_slice(&frame.destination).unwrap();
     out.try_extend_from_slice(&frame.source).unwrap();
     put_tag(out, frame.tag);
-    let Apdu::Goose(_) = &frame.apdu;
-    put_word(out, GOOSE);
+    put_word(out, ether_type(&frame.apdu));
     put_word(out, frame.app_id);
     put_word(out, 8 + size as u16);
     put_word(out, frame.reserved1);
@@ -142,7 +169,7 @@ fn put_head<A: Allocator>(out: &mut ArrayVec<u8, MOST_OCTETS>, frame: &Frame<A>,
 }
 
 // Appends the APDU and the trailer, if both fit.
-fn put_body(
+pub(crate) fn put_body(
     out: &mut ArrayVec<u8, MOST_OCTETS>,
     apdu: &[u8],
     trailer: &[u8],

@@ -1,5 +1,5 @@
-//! Frames of GOOSE as they stand on the wire (IEC 61850-8-1, IEEE 802.1Q), and the lists that frames and
-//! clock moments are kept in.
+//! Frames of GOOSE (IEC 61850-8-1) and of Sampled Values (IEC 61850-9-2) as they stand on the wire, and the lists
+//! that frames and clock moments are kept in.
 //!
 //! A list is octets in lines:
 //!
@@ -19,6 +19,7 @@ mod event;
 mod first_line;
 mod frame;
 mod frame_view;
+mod hexadecimal;
 pub mod laws;
 mod line_reader;
 mod list_fault;
@@ -26,6 +27,7 @@ mod list_line;
 mod list_reader;
 mod list_writer;
 mod std_io;
+mod view_encoding;
 mod viewing;
 mod vlan_tag;
 mod whole_write;
@@ -41,6 +43,7 @@ pub use crate::list_fault::{ListCause, ListFault};
 pub use crate::list_reader::{ListError, ListReader};
 pub use crate::list_writer::write_event;
 pub use crate::std_io::{FromRead, ToWrite};
+pub use crate::view_encoding::encode_view;
 pub use crate::viewing::view_frame;
 pub use crate::vlan_tag::VlanTag;
 pub use crate::whole_write::{WriteFault, put_all};

@@ -8,6 +8,7 @@ ghost use Rattle.frame_core.specs.LineAnswer.{Answers, fields_after};
 
 use crate::cutting::find;
 use crate::event::{Event, EventKind};
+use crate::hexadecimal::octets_in;
 use crate::list_fault::ListCause;
 use hex::FromHexError;
 use mms_data::Octets;
@@ -29,7 +30,10 @@ pub(crate) enum LineError {
 }
 
 /// The event that a line says, if it is neither empty nor a comment.
-pub(crate) fn event_in<A: Allocator>(alloc: A, line: &[u8]) -> Result<Option<Event<A>>, LineError>
+pub(crate) fn event_in<A: Allocator + Copy>(
+    alloc: A,
+    line: &[u8],
+) -> Result<Option<Event<A>>, LineError>
     ensures { Answers result (event_of line.now) }
 {
     match line {
@@ -39,7 +43,10 @@ pub(crate) fn event_in<A: Allocator>(alloc: A, line: &[u8]) -> Result<Option<Eve
 }
 
 /// The event that the fields of a line say.
-fn event_in_fields<A: Allocator>(alloc: A, line: &[u8]) -> Result<Option<Event<A>>, LineError>
+fn event_in_fields<A: Allocator + Copy>(
+    alloc: A,
+    line: &[u8],
+) -> Result<Option<Event<A>>, LineError>
     ensures { Answers result (event_of_fields (fields line.now)) }
 {
     let (name, rest) = first_field(line);
@@ -76,7 +83,7 @@ fn clock_in<A: Allocator>(rest: &[u8]) -> Result<Option<Event<A>>, LineError>
 }
 
 /// The frame event whose moment and octets are the two fields here.
-fn frame_in<A: Allocator>(alloc: A, rest: &[u8]) -> Result<Option<Event<A>>, LineError>
+fn frame_in<A: Allocator + Copy>(alloc: A, rest: &[u8]) -> Result<Option<Event<A>>, LineError>
     ensures { Answers result (event_of_fields ((70 ∷ []) ∷ fields rest.now)) }
 {
     let (moment, rest) = first_field(rest);
@@ -97,7 +104,7 @@ fn frame_in<A: Allocator>(alloc: A, rest: &[u8]) -> Result<Option<Event<A>>, Lin
 }
 
 /// The frame event of these two fields.
-fn frame_of<A: Allocator>(
+fn frame_of<A: Allocator + Copy>(
     alloc: A,
     moment: &[u8],
     digits: &[u8],
@@ -110,7 +117,7 @@ fn frame_of<A: Allocator>(
     if digits.is_empty() || digits.len() > MOST_HEX_DIGITS {
         return Err(LineError::Cause(ListCause::Hex));
     }
-    match hex::decode(alloc, digits) {
+    match octets_in(alloc, digits) {
         Ok(octets) => Ok(Some(Event {
             moment,
             kind: EventKind::Frame(Octets::from(octets)),

@@ -71,7 +71,7 @@ impl<R: Source> ListReader<R> {
     }
 
     /// Tries the next line.
-    fn try_line<A: Allocator>(&mut self, alloc: A) -> Tried<A>
+    fn try_line<A: Allocator + Copy>(&mut self, alloc: A) -> Tried<A>
         ensures { Tries (list_stream R.left R.ending self.old) (list_number self.old) result (list_stream R.left R.ending self.new) (list_number self.new) }
     {
         match self.lines.fill() {

@@ -8,3 +8,6 @@ mod line_reading;
 mod list_reading;
 mod list_writing;
 mod refused_memory;
+mod sampled_frames;
+mod sampled_reading;
+mod sampled_writing;

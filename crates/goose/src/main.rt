@@ -1,4 +1,4 @@
-//! The program `goose`: reads recorded GOOSE frames from standard input and writes what its
+//! The program `goose`: reads recorded GOOSE and Sampled Values frames from standard input and writes what its
 //! subcommand asks for to standard output. Exit statuses: 0 done, also after help and the version;
 //! 1 findings; 2 a mistake in the words; 3 an input fault; 4 a read or write fault; 5 want of memory.
 #![tactic(auto)]

@@ -4,3 +4,7 @@ pub mod BitLemmas
 pub mod EngineLemmas
 pub mod RewriteLemmas
 pub mod ReadFaults
+pub mod Spaced
+pub mod WordLemmas
+pub mod LoneFlags
+pub mod AskingWords

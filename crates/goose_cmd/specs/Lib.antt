@@ -9,3 +9,4 @@ pub mod ShowText
 pub mod RewriteText
 pub mod EngineText
 pub mod EngineStep
+pub mod SampledText

@@ -1,10 +1,12 @@
 //! The command line of the program `goose`. The parser of words, `clap`, is named here alone.
-ghost use Rattle.std.specs.Prelude.{◌≡◌, Some, IfOk, map, option_map};
-ghost use Rattle.clap.specs.Words.{app_of, subcommand_of};
-ghost use Rattle.goose_cmd.specs.CommandLine.{command_line, task_named};
+ghost use Rattle.std.specs.Prelude.{◌≡◌, ◌≢◌, true, Some, [], ◌∷◌, IfOk, IfErr, List, option_and_then, slice_get};
+ghost use Rattle.clap.specs.Words.{Row, Text, app_of, kind_of, subcommand_rows_of, takes};
+ghost use Rattle.clap.specs.Walk.{texts};
+ghost use Rattle.clap.specs.declared.error.kind.ErrorKind.TheVariants.{OutOfMemory};
+ghost use Rattle.goose_cmd.specs.CommandLine.{AnswersTask, Asks, MayRefuse, command_line, faults, task_asked, task_of_words};
 
 use clap::error::ErrorKind;
-use clap::{Command, Error};
+use clap::{ArgMatches, Command, Error};
 use std::alloc::{AllocError, Global};
 
 /// What a command line asks for.
@@ -37,7 +39,9 @@ fn command<'a>(alloc: Global) -> Result<Command<'a>, AllocError>
     Command::new(alloc, "goose")
         .version("0.1.0")
         .before_help("Example: goose show < examples/one_frame.list")
-        .about("Reads recorded GOOSE frames from standard input, one event a line")
+        .about(
+            "Reads recorded GOOSE and Sampled Values frames from standard input, one event a line",
+        )
         .disable_help_subcommand(true)
         .subcommand_required(true)
         .subcommand(show)?
@@ -45,37 +49,52 @@ fn command<'a>(alloc: Global) -> Result<Command<'a>, AllocError>
 }
 
 // The task of a subcommand's name.
-fn task_of(name: Option<&str>) -> Option<Task>
-    ensures { result ≡ task_named (option_map (λ n. n.now) name.entry) }
+fn task_of(name: &str) -> Option<Task>
+    ensures { (rows : List Row) → result ≡ task_asked (name.now, rows) }
 {
     match name {
-        Some("show") => Some(Task::Show),
-        Some("rewrite") => Some(Task::Rewrite),
+        "show" => Some(Task::Show),
+        "rewrite" => Some(Task::Rewrite),
         _ => None,
     }
 }
 
+// The task of the subcommand that the words named.
+fn task_met(matches: &ArgMatches<'_>) -> Option<Task>
+    ensures { result ≡ option_and_then task_asked (subcommand_rows_of matches.now) }
+{
+    task_of(matches.subcommand_name()?)
+}
+
 // Want of memory is told apart from a mistake in the words.
-fn refusal(error: Result<Error, AllocError>) -> WordsError {
-    match error {
-        Ok(error) if error.kind() != ErrorKind::OutOfMemory => WordsError::Words(error),
-        _ => WordsError::Memory,
+fn refusal(error: Error) -> WordsError
+    ensures memory { kind_of error ≡ OutOfMemory → result ≡ WordsError.Memory }
+    ensures words { (kind_of error ≢ OutOfMemory) → result ≡ WordsError.Words error }
+{
+    match error.kind() {
+        ErrorKind::OutOfMemory => WordsError::Memory,
+        _ => WordsError::Words(error),
     }
 }
 
 /// The task that the words ask for. The first word is the program's name.
 pub fn read_words<'a>(alloc: Global, words: &'a [&'a str]) -> Result<Task, WordsError>
-    ensures task { IfOk result (λ t. task_named (option_map (λ s. s.0) (subcommand_of command_line (map (λ w. w.now) words.now))) ≡ Some t) }
+    ensures found { IfOk result (Asks (texts words.now)) }
+    ensures only { (t : Task) → Asks (texts words.now) t → AnswersTask t result }
+    ensures task { IfOk result (λ t. task_of_words (texts words.now) ≡ Some t) }
+    ensures faultless { IfOk result (λ t. faults (texts words.now) ≡ []) }
+    ensures taken { takes command_line (texts words.now) ≡ true → IfErr result (λ e. e ≡ WordsError.Memory) }
+    ensures refused { IfErr result (MayRefuse (texts words.now)) }
 {
-    let Ok(mut command) = command(alloc) else {
+    let Ok(command) = command(alloc) else {
         return Err(WordsError::Memory);
     };
-    let error = match command.try_get_matches_from_mut(words) {
-        Ok(matches) => match task_of(matches.subcommand_name()) {
-            Some(task) => return Ok(task),
-            None => command.error(ErrorKind::MissingSubcommand, "a subcommand is required"),
+    match command.try_get_matches_from(words) {
+        Ok(matches) => match task_met(&matches) {
+            Some(task) => Ok(task),
+            // A subcommand is required, and each has its task.
+            None => unreachable!(),
         },
-        Err(error) => Ok(error),
-    };
-    Err(refusal(error))
+        Err(error) => Err(refusal(error)),
+    }
 }

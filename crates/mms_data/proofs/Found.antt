@@ -6,8 +6,8 @@ use Rattle.ber_core.specs.declared.element.Header.{Header}
 use Rattle.ber_core.specs.declared.fault.Fault.{Fault}
 use Rattle.ber_core.specs.Length.{Len}
 use Rattle.ber_core.specs.Reading.{header_at}
-use Rattle.ber_core.proofs.Headers.{header_for, Parts, length_inv}
-use Rattle.ber_core.proofs.Steps.{bind_ok}
+use Rattle.ber_core.proofs.Headers.{header_for, low_found, Parts}
+use Rattle.ber_core.proofs.Steps.{bind_ok, pair_is}
 use Rattle.mms_data.specs.Data.{Data, simple, array, structure, items_of}
 use Rattle.mms_data.specs.Kinds.{identifier_of, simple_kind, simple_identifier}
 use Rattle.mms_data.specs.ContentsReading.{simple_at}
@@ -61,10 +61,6 @@ module _ (k L p : ℕ) (size c : List ℕ) (levels : L + suc k ≡ 17) (len : Le
       let id = low_number (of_kind (simple_kind x.0)) (low_tag (of_kind (simple_kind x.0))) in
       rw is (omega arith, c, record { identifier = id; size = size; sized = len; parts = ap (λ j. simple_identifier j ∷ size ++ c) (sym v.kind) }, v.spelled)
 
-pub header_found : (p id : ℕ) (o : List ℕ) (h : Header) → eqb (id % 32) 31 ≡ false → header_at p (id ∷ o) ≡ Ok h → Parts p id o h
-unfolding header_at
-header_found p id o h low e = length_inv p id o h (sym (rw low refl) ∙ e)
-
 members_at_found : (k L : ℕ) → ((p : ℕ) (o : List ℕ) (d : Data) (next : ℕ) → member_at k p o ≡ Ok (d, next) → Taken L p o d next) → (q : ℕ) (c : List ℕ) (ds : List Data) → members_at k q c ≡ Ok ds → SpellsAll ds L c
 unfolding members_at
 members_at_found k L law q c ds e = members_found (member_at k) L law (length c) q c ds e
@@ -89,9 +85,6 @@ pub member_step : (k p : ℕ) (o : List ℕ) → member_at (suc k) p o ≡ membe
 unfolding member_at members_at
 member_step k p o = refl
 
-pub place_is : (d e : Data) (m n : ℕ) → ◌≡◌ {A = Result (Data × ℕ) Fault} (Ok (d, m)) (Ok (e, n)) → (d ≡ e) × (n ≡ m)
-place_is d e m n h = let same : ◌≡◌ {A = Data × ℕ} (d, m) (e, n) = cc in (ap (λ x. x.0) same, sym (ap (λ x. x.1) same))
-
 pub no_levels : (p : ℕ) (o : List ℕ) (x : Data × ℕ) → member_at zero p o ≡ Ok x → ⊥
 unfolding member_at
 no_levels p o x e = cc
@@ -104,10 +97,10 @@ member_inv k L p (id ∷ o) d next levels inner e =
     let x = bind_ok (known_at p (id ∷ o)) _ (d, next) e in
     let kn = here_found p id x.0 x.1 in
     let y = bind_ok (header_at p (id ∷ o)) _ (d, next) x.2 in
-    let t = header_found p id o y.0 kn.1 y.1 in
+    let t = low_found p id o y.0 kn.1 y.1 in
     let z = bind_ok (contents_at (members_at k) x.0 y.0 (contents_within y.0 (id ∷ o))) _ (d, next) y.2 in
-    let same = place_is z.0 d y.0.contents_to next z.2 in
-    taken_of k L p id o x.0 y.0 d next levels kn.0 t inner (z.1 ∙ ap (λ v. Ok v) same.0) same.1
+    let same = pair_is z.0 d y.0.contents_to next z.2 in
+    taken_of k L p id o x.0 y.0 d next levels kn.0 t inner (z.1 ∙ ap (λ v. Ok v) (sym same.0)) same.1
 
 pub member_found : (k L : ℕ) → L + k ≡ 17 → (p : ℕ) (o : List ℕ) (d : Data) (next : ℕ) → member_at k p o ≡ Ok (d, next) → Taken L p o d next
 member_found zero L levels p o d next e = absurd (no_levels p o (d, next) e)

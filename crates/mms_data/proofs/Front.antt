@@ -5,7 +5,8 @@ use Rattle.std.specs.Prelude.{slice_range}
 use Rattle.ber_core.specs.declared.element.Header.{Header}
 use Rattle.ber_core.specs.declared.fault.Fault.{Fault}
 use Rattle.ber_core.specs.Reading.{header_at}
-use Rattle.ber_core.proofs.Steps.{bind_ok}
+use Rattle.ber_core.proofs.Headers.{low_found}
+use Rattle.ber_core.proofs.Steps.{bind_ok, pair_is}
 use Rattle.mms_data.specs.Data.{Data, array, structure, items_of}
 use Rattle.mms_data.specs.Left.{data_or_none, is_read, data_in, AreMembers}
 use Rattle.mms_data.specs.Reading.{known_at, contents_within, contents_at, member_with, members_with, member_at, members_at}
@@ -14,7 +15,7 @@ use Rattle.mms_data.specs.declared.kinds.Kind.{Kind}
 use Rattle.mms_data.specs.declared.kinds.Kind.TheVariants.{Array, Structure}
 use Rattle.mms_data.proofs.KindLaws.{here_found}
 use Rattle.mms_data.proofs.Again.{all_again}
-use Rattle.mms_data.proofs.Found.{all_found, header_found, member_step, member_found, members_found, no_levels, place_is}
+use Rattle.mms_data.proofs.Found.{all_found, member_step, member_found, members_found, no_levels}
 
 read_ok : (r : Result (List Data) Fault) → is_read r ≡ true → r ≡ Ok (data_or_none r)
 read_ok (Ok ds) e = refl
@@ -77,9 +78,9 @@ with_read k (id ∷ ls) d next e =
     let x = bind_ok (known_at 0 (id ∷ ls)) _ (d, next) e in
     let kn = here_found 0 id x.0 x.1 in
     let y = bind_ok (header_at 0 (id ∷ ls)) _ (d, next) x.2 in
-    let t = header_found 0 id ls y.0 kn.1 y.1 in
+    let t = low_found 0 id ls y.0 kn.1 y.1 in
     let z = bind_ok (contents_at (members_at k) x.0 y.0 (contents_within y.0 (id ∷ ls))) _ (d, next) y.2 in
-    let same = place_is z.0 d y.0.contents_to next z.2 in
+    let same = pair_is z.0 d y.0.contents_to next z.2 in
     let at : y.0.at ≡ 0 = ap (λ (h : Header). h.at) t.header in
     record {
       some_levels = omega arith;
@@ -87,7 +88,7 @@ with_read k (id ∷ ls) d next e =
       header = y.0;
       announced = x.1;
       reads = y.1;
-      contents = less_one k (λ n. contents_at (members_at n) x.0 y.0 (slice_range (id ∷ ls) y.0.contents_from y.0.contents_to) ≡ Ok d) (ap (contents_at (members_at k) x.0 y.0) (sym (at_none y.0 at (id ∷ ls))) ∙ z.1 ∙ ap (λ v. Ok v) same.0);
+      contents = less_one k (λ n. contents_at (members_at n) x.0 y.0 (slice_range (id ∷ ls) y.0.contents_from y.0.contents_to) ≡ Ok d) (ap (contents_at (members_at k) x.0 y.0) (sym (at_none y.0 at (id ∷ ls))) ∙ z.1 ∙ ap (λ v. Ok v) (sym same.0));
       after = same.1;
     }
 

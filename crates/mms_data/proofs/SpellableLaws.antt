@@ -5,21 +5,23 @@ use Rattle.std.proofs.lemmas.Int.{ints}
 use Rattle.std.specs.Prelude.{ℤ, pos, negsuc, slice_index}
 use Rattle.ber_core.specs.declared.fault.Fault.{Fault}
 use Rattle.mms_data.specs.Data.{Simple, boolean, bits, integer, unsigned, floating, octets, visible, binary_time, mms_text, utc, Data, simple, array, structure, Items, no_items, item}
-use Rattle.mms_data.specs.Contents.{IsSigned, AreVisible, IsUnused, cleared}
-use Rattle.mms_data.specs.ContentsReading.{visible_at}
+use Rattle.ber_core.specs.Contents.{AreVisible}
+use Rattle.ber_core.specs.ContentsReading.{all_visible_at}
+use Rattle.ber_core.proofs.ContentsLaws.{all_visible_found, all_visible_again}
+use Rattle.mms_data.specs.Contents.{IsSigned, IsUnused, cleared}
 use Rattle.mms_data.specs.Spellable.{IsTime, IsSpellable, Spellable, SpellableItems, is_text_read, is_text, are_bits, is_time, is_signed, is_simple, is_spelled, are_spelled}
 use Rattle.mms_data.specs.declared.time.UtcTime.{UtcTime}
-use Rattle.mms_data.proofs.ContentsLaws.{floating_true, floating_is, time_true, time_is, text_again, text_found}
+use Rattle.mms_data.proofs.ContentsLaws.{floating_true, floating_is, time_true, time_is}
 
 text_true : (ns : List ℕ) → AreVisible ns → is_text ns ≡ true
-text_true ns h = ap is_text_read (text_again 0 ns h)
+text_true ns h = ap is_text_read (all_visible_again 0 ns h)
 
 read_ok : (r : Result (Unit {0}) Fault) → is_text_read r ≡ true → (u : Unit {0}) × (r ≡ Ok u)
 read_ok (Ok u) e = (u, refl)
 read_ok (Err f) e = absurd (cc)
 
 text_is : (ns : List ℕ) → is_text ns ≡ true → AreVisible ns
-text_is ns e = let x = read_ok (visible_at 0 ns) e in text_found 0 ns x.0 x.1
+text_is ns e = let x = read_ok (all_visible_at 0 ns) e in all_visible_found 0 ns x.0 x.1
 
 power_some : (u : ℕ) → 0 < 2 ^ u
 power_some zero = omega arith

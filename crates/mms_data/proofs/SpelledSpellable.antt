@@ -1,9 +1,9 @@
 -- What octets spell has a spelling in the sense of the test: nothing is read that could not be written.
-use Rattle.std.proofs.Common.{◌≡◌, ℕ, zero, suc, ◌+◌, ◌-◌, ◌*◌, ◌/◌, ◌%◌, ◌^◌, ◌<◌, List, [], ◌∷◌, ◌++◌, length, refl, sym, ap, subst, ◌∙◌, arith}
+use Rattle.std.proofs.Common.{◌≡◌, ℕ, zero, suc, ◌+◌, ◌-◌, ◌*◌, ◌/◌, ◌%◌, ◌^◌, ◌<◌, List, [], ◌∷◌, ◌++◌, refl, sym, ap, subst, ◌∙◌, arith}
 use Rattle.std.proofs.Math.Nat.{mul-mod_right, one-le-pow}
-use Rattle.byteorder.specs.Numbers.{big_from-lt}
 use Rattle.ber_core.specs.Element.{Elem}
 use Rattle.ber_core.specs.Length.{AreOctets, number}
+use Rattle.ber_core.proofs.Shortest.{number_small}
 use Rattle.mms_data.specs.Contents.{IsUnused, SpellsSimple, cleared}
 use Rattle.mms_data.specs.Data.{Simple, boolean, bits, integer, unsigned, floating, octets, visible, binary_time, mms_text, utc, Data, simple, array, structure, Items, no_items, item}
 use Rattle.mms_data.specs.Spellable.{IsSpellable, Spellable, SpellableItems}
@@ -23,9 +23,6 @@ back_octets (x ∷ a) b h = back_octets a b (λ j. h (suc j))
 -- the contents of an element
 pub contents_octets : (id : ℕ) (c o : List ℕ) → AreOctets o → Elem id c o → AreOctets c
 contents_octets id c o h e = back_octets (id ∷ e.size) c (subst AreOctets e.parts h)
-
-number_small : (o : List ℕ) → AreOctets o → number o < 256 ^ length o
-number_small o small = big_from-lt 0 (length o) o small
 
 -- ---- unused bits that were set to 0 are 0
 
@@ -56,8 +53,8 @@ simple_spellable (bits unused ns) (count ∷ more) h (same, fits, is) =
     let at : ns ≡ cleared unused more = is ∙ ap (λ (u : ℕ). cleared u more) same in
     let fit : IsUnused unused more = subst (λ (u : ℕ). IsUnused u more) same fits in
     (subst (IsUnused unused) (sym at) (cleared_unused unused more fit), ap (cleared unused) at ∙ cleared_again unused more ∙ sym at)
-simple_spellable (integer n) c h s = s.1
-simple_spellable (unsigned n) c h s = s.1
+simple_spellable (integer n) c h s = (s.0, s.1)
+simple_spellable (unsigned n) c h s = (s.0, s.1)
 simple_spellable (floating ns) c h s = s.1
 simple_spellable (octets ns) c h s = tt
 simple_spellable (visible ns) c h s = s.1

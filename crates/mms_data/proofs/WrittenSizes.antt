@@ -17,12 +17,9 @@ by_test true n = refl
 by_test false n = omega (arith, length-bytes_high_first (number_size n) n)
 
 -- the octets of a header
-pub length_size : (n : ℕ) → header_size n ≡ 1 + length (short_length n)
+length_size : (n : ℕ) → header_size n ≡ 1 + length (short_length n)
 unfolding short_length
 length_size n = by_test (ltb n 128) n
-
-pub header_sizes : (id n : ℕ) → length (id ∷ short_length n) ≡ header_size n
-header_sizes id n = omega (arith, length_size n)
 
 pub element_size : (id : ℕ) (c : List ℕ) → length (element id c) ≡ header_size (length c) + length c
 unfolding element

@@ -1,15 +1,14 @@
 -- The written form of a value spells it.
-use Rattle.std.proofs.Common.{◌≡◌, ℕ, ◌+◌, ◌%◌, ◌<◌, ◌^◌, Bool, true, false, not, List, [], length, refl, sym, ap, ◌∙◌, arith}
-use Rattle.std.proofs.lemmas.List.{length-append, append-nil}
+use Rattle.std.proofs.Common.{◌≡◌, ℕ, ◌+◌, ◌%◌, ◌<◌, ◌^◌, Bool, true, false, not, List, length, refl, sym, arith}
+use Rattle.std.proofs.lemmas.List.{length-append}
 use Rattle.std.proofs.lemmas.Bool.{eqb-false}
 use Rattle.std.proofs.lemmas.Int.{ints}
 use Rattle.std.specs.Prelude.{◌==◌, pos}
-use Rattle.byteorder.specs.Endian.{big_bytes, big_number}
-use Rattle.byteorder.specs.Numbers.{length-bytes_high_first, big_number-reads_back}
+use Rattle.byteorder.specs.Endian.{big_bytes}
+use Rattle.byteorder.specs.Numbers.{length-bytes_high_first}
 use Rattle.ber_core.specs.Element.{Elem}
-use Rattle.ber_core.specs.Length.{number}
 use Rattle.ber_core.specs.Written.{short_length}
-use Rattle.ber_core.proofs.Shortest.{length_shortest, integer_shortest}
+use Rattle.ber_core.proofs.Shortest.{length_shortest, integer_shortest, number-big_bytes}
 use Rattle.mms_data.specs.Data.{Simple, boolean, bits, integer, unsigned, floating, octets, visible, binary_time, mms_text, utc, Data, simple, array, structure, Items, no_items, item, items_of}
 use Rattle.mms_data.specs.Kinds.{identifier_of, simple_kind}
 use Rattle.mms_data.specs.Contents.{SpellsSimple}
@@ -38,26 +37,22 @@ truth_is : (b : Bool) → b ≡ not (truth_octet b == 0)
 truth_is true = refl
 truth_is false = refl
 
-number_back : (n x : ℕ) → x < 256 ^ n → number (big_bytes n x) ≡ x
-number_back n x few =
-    ap (λ k. big_number k (big_bytes n x)) (length-bytes_high_first n x) ∙ ap (big_number n) (sym (append-nil (big_bytes n x))) ∙ big_number-reads_back n x [] few
-
 time_spelled : (t : UtcTime) → IsTime t → SpellsUtc t (written_time t)
 time_spelled t h = (
   big_bytes 4 t.seconds,
   big_bytes 3 t.fraction,
   length-bytes_high_first 4 t.seconds,
   length-bytes_high_first 3 t.fraction,
-  number_back 4 t.seconds h.0,
-  number_back 3 t.fraction h.1,
+  number-big_bytes 4 t.seconds h.0,
+  number-big_bytes 3 t.fraction h.1,
   refl,
 )
 
 simple_spelled : (s : Simple) → IsSpellable s → SpellsSimple s (simple_contents s)
 simple_spelled (boolean b) h = (truth_octet b, refl, truth_is b)
 simple_spelled (bits unused ns) h = (refl, h.0, sym h.1)
-simple_spelled (integer n) h = ((integer_shortest n (omega (arith, ints, h.0)) (omega (arith, ints, h.1))).spells, h)
-simple_spelled (unsigned n) h = ((integer_shortest (pos n) (omega (arith, ints)) (omega (arith, ints, h.1))).spells, h)
+simple_spelled (integer n) h = (h.0, h.1, (integer_shortest n (omega (arith, ints, h.0)) (omega (arith, ints, h.1))).spells)
+simple_spelled (unsigned n) h = (h.0, h.1, (integer_shortest (pos n) (omega (arith, ints)) (omega (arith, ints, h.1))).spells)
 simple_spelled (floating ns) h = (refl, h)
 simple_spelled (octets ns) h = refl
 simple_spelled (visible ns) h = (refl, h)

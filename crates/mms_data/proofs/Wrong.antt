@@ -4,7 +4,7 @@ use Rattle.std.proofs.lemmas.List.{length-append}
 use Rattle.ber_core.specs.declared.fault.Fault.{Fault}
 use Rattle.ber_core.specs.Length.{Len}
 use Rattle.ber_core.specs.Reading.{header_at}
-use Rattle.ber_core.proofs.Headers.{header_for, length_wrong}
+use Rattle.ber_core.proofs.Headers.{header_for, length_wrong, low_found}
 use Rattle.ber_core.proofs.Steps.{bind_err, fault_is}
 use Rattle.mms_data.specs.Data.{Data}
 use Rattle.mms_data.specs.Kinds.{identifier_of, IsKnown}
@@ -16,7 +16,7 @@ use Rattle.mms_data.specs.declared.kinds.Kind.TheVariants.{Array, Structure, Sim
 use Rattle.mms_data.proofs.KindLaws.{here_found, here_wrong}
 use Rattle.mms_data.proofs.ContentsLaws.{simple_wrong}
 use Rattle.mms_data.proofs.Again.{contents_again, left_over, spelled_some}
-use Rattle.mms_data.proofs.Found.{header_found, member_found, member_step}
+use Rattle.mms_data.proofs.Found.{member_found, member_step}
 
 known_wrong : (L p id : ℕ) (o : List ℕ) (f : Fault) → L ≤ 16 → known_at p (id ∷ o) ≡ Err f → FaultIn f L p (id ∷ o)
 known_wrong L p id o f le e = elim (here_wrong p id f e) [
@@ -56,7 +56,7 @@ member_wrong_at k L p id o f levels inner e =
           elim (bind_err (header_at p (id ∷ o)) _ f x.2) [
             | inl h ↦ header_wrong L p id o f le (x.0, kn.0) kn.1 h
             | inr y ↦
-                let t = header_found p id o y.0 kn.1 y.1 in
+                let t = low_found p id o y.0 kn.1 y.1 in
                 elim (bind_err (contents_at (members_at k) x.0 y.0 (contents_within y.0 (id ∷ o))) _ f y.2) [
                   | inl h ↦
                       let c-is : contents_within y.0 (id ∷ o) ≡ t.contents = ap₂ (λ a b. contents_within a (id ∷ b)) t.header t.parts ∙ contents_again p id t.size t.contents t.rest in

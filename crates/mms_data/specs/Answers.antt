@@ -1,34 +1,27 @@
--- What a call that reads members answers, whatever memory it is given.
-use Rattle.std.specs.Prelude.{◌≡◌, List, Result, Ok, Err, Vec}
+-- What a call that reads into memory answers. Where memory was refused nothing is said.
+use Rattle.std.specs.Prelude.{◌≡◌, Result, Ok, Err}
 use Rattle.ber_core.specs.declared.fault.Fault.{Fault}
 use Rattle.mms_data.specs.declared.fault.ReadFault.{ReadFault}
 use Rattle.mms_data.specs.declared.fault.ReadFault.TheVariants as errors
-use Rattle.mms_data.specs.declared.value.Value.{Value}
-use Rattle.mms_data.specs.Data.{Data}
-use Rattle.mms_data.specs.Value.{datas}
 
-abbrev pub Answer : Type 0 → Type 0
-Answer A = Result (Vec (Value A) A) ReadFault
+-- it answers what is seen as this value, unless memory was refused
+abbrev pub ReadsAs : {X Y : Type 0} → (X → Y) → Result X ReadFault → Y → Type 0
+ReadsAs view (Ok v) x = view v ≡ x
+ReadsAs view (Err (errors.Memory e)) x = Unit {0}
+ReadsAs view (Err (errors.Fault f)) x = ⊥
 
--- it answers these data, unless memory ran out
-abbrev pub Reads : {A : Type 0} → Answer A → List Data → Type 0
-Reads (Ok v) ds = datas v.items ≡ ds
-Reads (Err (errors.Memory e)) ds = Unit {0}
-Reads (Err (errors.Fault f)) ds = ⊥
+-- it answers this value, unless memory was refused
+abbrev pub Reads : {X : Type 0} → Result X ReadFault → X → Type 0
+Reads r x = ReadsAs (λ v. v) r x
 
--- it answers this fault, unless memory ran out
-abbrev pub Refuses : {A : Type 0} → Answer A → Fault → Type 0
+-- it answers this fault, unless memory was refused
+abbrev pub Refuses : {X : Type 0} → Result X ReadFault → Fault → Type 0
 Refuses (Ok v) f = ⊥
 Refuses (Err (errors.Memory e)) f = Unit {0}
 Refuses (Err (errors.Fault g)) f = g ≡ f
 
--- the data that it answers, if any, are such
-abbrev pub IfRead : {A : Type 0} → Answer A → (List Data → Type 0) → Type 0
-IfRead (Ok v) P = P (datas v.items)
-IfRead (Err e) P = Unit {0}
-
 -- the fault that it answers, if any, is such
-abbrev pub IfRefused : {A : Type 0} → Answer A → (Fault → Type 0) → Type 0
+abbrev pub IfRefused : {X : Type 0} → Result X ReadFault → (Fault → Type 0) → Type 0
 IfRefused (Ok v) P = Unit {0}
 IfRefused (Err (errors.Memory e)) P = Unit {0}
 IfRefused (Err (errors.Fault f)) P = P f

@@ -1,7 +1,7 @@
--- The contents of the kinds without members (ISO 9506-2, Data; ISO/IEC 8825-1, 8.2, 8.3 and 8.6), and what is
+-- The contents of the kinds without members (ISO 9506-2, Data; ISO/IEC 8825-1, 8.2, 8.3, 8.6 and 8.23), and what is
 -- wrong with contents.
-use Rattle.std.specs.Prelude.{◌≡◌, ◌≢◌, ◌≤◌, ◌<◌, ◌≤ℤ◌, ◌<ℤ◌, ◌+◌, ◌-◌, ◌^◌, ◌%◌, ◌⊎◌, ℕ, ℤ, pos, negsuc, not, ◌==◌, List, [], ◌∷◌, ◌++◌, length}
-use Rattle.ber_core.specs.Integer.{Int}
+use Rattle.std.specs.Prelude.{◌≡◌, ◌≤◌, ◌≤ℤ◌, ◌+◌, ◌-◌, ◌^◌, ◌%◌, ◌⊎◌, ℕ, ℤ, pos, negsuc, List, [], ◌∷◌, length}
+use Rattle.ber_core.specs.Contents.{SpellsBoolean, BooleanFault, SpellsInteger, IntegerFault, SpellsVisible, VisibleFault}
 use Rattle.ber_core.specs.Faults.{fault_of}
 use Rattle.ber_core.specs.declared.fault.Fault.{Fault}
 use Rattle.ber_core.specs.declared.fault.Cause.TheVariants as causes
@@ -10,13 +10,21 @@ use Rattle.mms_data.specs.declared.kinds.SimpleKind.{SimpleKind}
 use Rattle.mms_data.specs.declared.kinds.SimpleKind.TheVariants as kinds
 use Rattle.mms_data.specs.Utc.{SpellsUtc, UtcFault}
 
--- profile: the integers that are accepted as signed
-abbrev pub IsSigned : ℤ → Type 0
-IsSigned n = (negsuc (2 ^ 63 - 1) ≤ℤ n) × (n <ℤ pos (2 ^ 63))
+-- profile: a signed number lies from -2^63 to 2^63 - 1, an unsigned one from 0 to 2^64 - 1
+abbrev pub least_signed : ℤ
+least_signed = negsuc (2 ^ 63 - 1)
 
--- profile: the integers that are accepted as unsigned
+abbrev pub most_signed : ℤ
+most_signed = pos (2 ^ 63 - 1)
+
+abbrev pub most_unsigned : ℤ
+most_unsigned = pos (2 ^ 64 - 1)
+
+abbrev pub IsSigned : ℤ → Type 0
+IsSigned n = (least_signed ≤ℤ n) × (n ≤ℤ most_signed)
+
 abbrev pub IsUnsigned : ℤ → Type 0
-IsUnsigned n = (pos 0 ≤ℤ n) × (n <ℤ pos (2 ^ 64))
+IsUnsigned n = (pos 0 ≤ℤ n) × (n ≤ℤ most_unsigned)
 
 -- profile: a floating-point number has 1 to 16 octets
 abbrev pub IsFloatingCount : ℕ → Type 0
@@ -25,15 +33,6 @@ IsFloatingCount n = (1 ≤ n) × (n ≤ 16)
 -- a binary time has 4 or 6 octets
 abbrev pub IsTimeCount : ℕ → Type 0
 IsTimeCount n = (n ≡ 4) ⊎ (n ≡ 6)
-
--- a character of visible text
-abbrev pub IsVisible : ℕ → Type 0
-IsVisible octet = (32 ≤ octet) × (octet ≤ 126)
-
--- each octet is a character of visible text
-abbrev pub AreVisible : List ℕ → Type 0
-AreVisible [] = Unit {0}
-AreVisible (octet ∷ more) = IsVisible octet × AreVisible more
 
 -- octets, the unused low bits of the last set to 0
 abbrev pub cleared : ℕ → List ℕ → List ℕ
@@ -53,34 +52,18 @@ SpellsBits unused ns (count ∷ more) = (count ≡ unused) × IsUnused count mor
 
 -- the contents of a value, c, by its kind
 abbrev pub SpellsSimple : Simple → List ℕ → Type 0
-SpellsSimple (boolean b) c = (octet : ℕ) × (c ≡ octet ∷ []) × (b ≡ not (octet == 0))
+SpellsSimple (boolean b) c = SpellsBoolean b c
 SpellsSimple (bits unused ns) c = SpellsBits unused ns c
-SpellsSimple (integer n) c = Int n c × IsSigned n
-SpellsSimple (unsigned n) c = Int (pos n) c × IsUnsigned (pos n)
+SpellsSimple (integer n) c = SpellsInteger least_signed most_signed n c
+SpellsSimple (unsigned n) c = SpellsInteger (pos 0) most_unsigned (pos n) c
 SpellsSimple (floating ns) c = (c ≡ ns) × IsFloatingCount (length ns)
 SpellsSimple (octets ns) c = c ≡ ns
-SpellsSimple (visible ns) c = (c ≡ ns) × AreVisible ns
+SpellsSimple (visible ns) c = SpellsVisible ns c
 SpellsSimple (binary_time ns) c = (c ≡ ns) × IsTimeCount (length ns)
 SpellsSimple (mms_text ns) c = c ≡ ns
 SpellsSimple (utc t) c = SpellsUtc t c
 
 -- ---- faults: p is the identifier's place, s that of the first octet of contents
-
--- an integer has 1 to 9 octets, and is in range
-abbrev pub IntegerFault : (ℤ → Type 0) → Fault → ℕ → ℕ → List ℕ → Type 0
-IntegerFault InRange f p s c =
-    ((f ≡ fault_of (p + 1) causes.IntegerLength) × ((length c ≡ 0) ⊎ (9 < length c)))
-    ⊎ ((f ≡ fault_of s causes.IntegerRange) × (n : ℤ) × Int n c × ¬ InRange n)
-
--- the first octet that is no character
-pub record VisibleFault (f : Fault) (s : ℕ) (c : List ℕ) : Type 0 where
-  pub before : List ℕ
-  pub octet : ℕ
-  pub after : List ℕ
-  pub parts : c ≡ before ++ octet ∷ after
-  pub good : AreVisible before
-  pub bad : ¬ IsVisible octet
-  pub fault : f ≡ fault_of (s + length before) causes.NotVisible
 
 -- no count of unused bits, or a wrong one
 abbrev pub BitsFault : Fault → ℕ → List ℕ → Type 0
@@ -89,10 +72,10 @@ BitsFault f s (unused ∷ more) = (f ≡ fault_of s causes.BitUnused) × ¬ IsUn
 
 -- what is wrong with contents, by the kind
 abbrev pub SimpleFault : Fault → SimpleKind → ℕ → ℕ → List ℕ → Type 0
-SimpleFault f kinds.Boolean p s c = (f ≡ fault_of (p + 1) causes.BooleanLength) × (length c ≢ 1)
+SimpleFault f kinds.Boolean p s c = BooleanFault f p c
 SimpleFault f kinds.BitString p s c = BitsFault f s c
-SimpleFault f kinds.Integer p s c = IntegerFault IsSigned f p s c
-SimpleFault f kinds.Unsigned p s c = IntegerFault IsUnsigned f p s c
+SimpleFault f kinds.Integer p s c = IntegerFault f least_signed most_signed p s c
+SimpleFault f kinds.Unsigned p s c = IntegerFault f (pos 0) most_unsigned p s c
 SimpleFault f kinds.FloatingPoint p s c = (f ≡ fault_of (p + 1) causes.FixedLength) × ¬ IsFloatingCount (length c)
 SimpleFault f kinds.OctetString p s c = ⊥
 SimpleFault f kinds.VisibleString p s c = VisibleFault f s c

@@ -1,8 +1,10 @@
 -- Which values have a spelling.
 use Rattle.std.specs.Prelude.{◌≡◌, ◌≤◌, ◌<◌, ◌+◌, ◌-◌, ◌%◌, ◌^◌, ◌==◌, ◌&&◌, ℕ, ℤ, pos, negsuc, Bool, true, false, nat_le, nat_lt, List, [], ◌∷◌, length, slice_index, Result, Ok, Err}
 use Rattle.ber_core.specs.declared.fault.Fault.{Fault}
-use Rattle.mms_data.specs.Contents.{IsSigned, IsUnsigned, IsFloatingCount, IsTimeCount, AreVisible, IsUnused, cleared}
-use Rattle.mms_data.specs.ContentsReading.{is_floating_count, is_time_count, visible_at}
+use Rattle.ber_core.specs.Contents.{AreVisible}
+use Rattle.ber_core.specs.ContentsReading.{all_visible_at}
+use Rattle.mms_data.specs.Contents.{IsSigned, IsUnsigned, IsFloatingCount, IsTimeCount, IsUnused, cleared}
+use Rattle.mms_data.specs.ContentsReading.{is_floating_count, is_time_count}
 use Rattle.mms_data.specs.Data.{Simple, boolean, bits, integer, unsigned, floating, octets, visible, binary_time, mms_text, utc, Data, simple, array, structure, Items, no_items, item, items_of}
 use Rattle.mms_data.specs.declared.time.UtcTime.{UtcTime}
 
@@ -45,7 +47,7 @@ is_text_read (Ok u) = true
 is_text_read (Err f) = false
 
 abbrev pub is_text : List ℕ → Bool
-is_text ns = is_text_read (visible_at 0 ns)
+is_text ns = is_text_read (all_visible_at 0 ns)
 
 abbrev pub are_bits : ℕ → List ℕ → Bool
 are_bits unused [] = unused == 0

@@ -2,8 +2,10 @@
 // identifier's, `from` that of the first octet of contents.
 
 ghost use Rattle.std.specs.Prelude.{◌≡◌, ◌+◌, ◌<◌, ◌≤◌, ◌^◌, length, Ok, Err, IfOk};
+ghost use Rattle.ber_core.specs.ContentsReading.{integer_at};
 ghost use Rattle.ber_core.specs.Reading.{Gives};
-ghost use Rattle.mms_data.specs.ContentsReading.{bits_at, boolean_at, integer_at, signed_at, unsigned_at, visible_at};
+ghost use Rattle.mms_data.specs.Contents.{least_signed, most_signed};
+ghost use Rattle.mms_data.specs.ContentsReading.{bits_at, unsigned_at};
 ghost use Rattle.mms_data.specs.Meaning.{meaning};
 ghost use Rattle.mms_data.specs.Place.{IsPart, ViewIsPart};
 ghost use Rattle.mms_data.specs.Reading.{simple_data_at};
@@ -11,8 +13,8 @@ ghost use Rattle.mms_data.specs.Reading.{simple_data_at};
 use crate::kinds::SimpleKind;
 use crate::utc::eight_octets;
 use crate::view::{BitView, View};
+use ber_core::contents::{boolean_of, check_visible, integer_of};
 use ber_core::{Cause, Fault};
-use byteorder::{BigEndian, ByteOrder};
 
 // The view of the contents of a kind.
 #[tactic(auto, unfolding(crate::specs::ContentsReading::simple_at))]
@@ -28,7 +30,7 @@ pub(crate) fn simple<'a>(
     ensures part { IfOk result (λ v. ViewIsPart v contents.entry) }
 {
     match kind {
-        SimpleKind::Boolean => Ok(View::Boolean(boolean(contents, at)?)),
+        SimpleKind::Boolean => Ok(View::Boolean(boolean_of(contents, at)?)),
         SimpleKind::BitString => Ok(View::Bits(bits(contents, from)?)),
         SimpleKind::Integer => Ok(View::Integer(signed(contents, at, from)?)),
         SimpleKind::Unsigned => Ok(View::Unsigned(unsigned(contents, at, from)?)),
@@ -38,7 +40,7 @@ pub(crate) fn simple<'a>(
         },
         SimpleKind::OctetString => Ok(View::Octets(contents)),
         SimpleKind::VisibleString => {
-            visible(contents, from)?;
+            check_visible(contents, from)?;
             Ok(View::Visible(contents))
         }
         SimpleKind::BinaryTime => match contents.len() {
@@ -47,17 +49,6 @@ pub(crate) fn simple<'a>(
         },
         SimpleKind::MmsString => Ok(View::MmsText(contents)),
         SimpleKind::UtcTime => Ok(View::Utc(eight_octets(contents, at)?)),
-    }
-}
-
-// A truth value: any octet but 0 is true.
-fn boolean(contents: &[u8], at: usize) -> Result<bool, Fault>
-    requires { at + 1 < 2 ^ 64 }
-    ensures { result ≡ boolean_at at contents.now }
-{
-    match contents {
-        [octet] => Ok(*octet != 0),
-        _ => Err(Cause::BooleanLength.at(at + 1)),
     }
 }
 
@@ -79,48 +70,20 @@ fn bits<'a>(contents: &'a [u8], from: usize) -> Result<BitView<'a>, Fault>
     }
 }
 
-// The integer that one to nine octets spell.
-fn integer(contents: &[u8], at: usize) -> Result<i128, Fault>
-    requires { at + 1 < 2 ^ 64 }
-    ensures { result ≡ integer_at at contents.now }
-{
-    match contents.len() {
-        count @ 1..=9 => Ok(BigEndian::read_int128(contents, count)),
-        _ => Err(Cause::IntegerLength.at(at + 1)),
-    }
-}
-
-// The same in the range of signed numbers.
+// The signed number, which has 64 bits.
 fn signed(contents: &[u8], at: usize, from: usize) -> Result<i64, Fault>
     requires { at + 1 < 2 ^ 64 }
-    ensures { result ≡ signed_at at from contents.now }
+    ensures { result ≡ integer_at least_signed most_signed at from contents.now }
 {
-    match integer(contents, at)? {
-        number @ -0x8000_0000_0000_0000..=0x7fff_ffff_ffff_ffff => Ok(number as i64),
-        _ => Err(Cause::IntegerRange.at(from)),
-    }
+    let number = integer_of(contents, at, from, i64::MIN as i128, i64::MAX as i128)?;
+    Ok(number as i64)
 }
 
-// The same in the range of unsigned numbers.
+// The unsigned number, which has 64 bits.
 fn unsigned(contents: &[u8], at: usize, from: usize) -> Result<u64, Fault>
     requires { at + 1 < 2 ^ 64 }
     ensures { result ≡ unsigned_at at from contents.now }
 {
-    match integer(contents, at)? {
-        number @ 0..=0xffff_ffff_ffff_ffff => Ok(number as u64),
-        _ => Err(Cause::IntegerRange.at(from)),
-    }
-}
-
-// Whether each octet is a character of visible text.
-pub(crate) fn visible(contents: &[u8], from: usize) -> Result<(), Fault>
-    requires { from + length contents.now < 2 ^ 64 }
-    ensures { result ≡ visible_at from contents.now }
-{
-    for (index, octet) in contents.iter().enumerate() {
-        if *octet < 0x20 || 0x7e < *octet {
-            return Err(Cause::NotVisible.at(from + index));
-        }
-    }
-    Ok(())
+    let number = integer_of(contents, at, from, 0, u64::MAX as i128)?;
+    Ok(number as u64)
 }

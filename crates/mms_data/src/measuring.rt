@@ -1,11 +1,11 @@
 // How many octets written forms have, where they have no more than a limit.
 
 ghost use Rattle.std.specs.Prelude.{◌≡◌, ◌≤◌, ◌<◌, ◌+◌, ◌^◌, ◌-◌, ◌≤ℤ◌, ◌<ℤ◌, pos, negsuc, length, SomeIff};
-ghost use Rattle.ber_core.specs.Written.{integer_size};
 ghost use Rattle.mms_data.specs.Value.{data_of};
 ghost use Rattle.mms_data.specs.Written.{header_size, written, written_all, written_contents};
 
 use crate::value::{Value, ValueList};
+use ber_core::{octet_count, signed_count};
 use std::alloc::Allocator;
 
 // How many octets an identifier and the length of `size` octets of contents have.
@@ -16,10 +16,7 @@ pub(crate) fn header_length(size: usize) -> usize
 {
     match size {
         0..=0x7f => 2,
-        0x80..=0xff => 3,
-        0x100..=0xffff => 4,
-        0x1_0000..=0xff_ffff => 5,
-        _ => 6,
+        _ => 2 + octet_count(size),
     }
 }
 
@@ -40,26 +37,6 @@ fn within(size: usize, limit: usize) -> Option<usize>
     Some(size)
 }
 
-// The fewest octets that hold the number in two's complement.
-#[tactic(auto, unfolding(ber_core::specs::Written::integer_size))]
-fn integer_length(number: i128) -> usize
-    requires low { negsuc (2 ^ 71 - 1) ≤ℤ number }
-    requires high { number <ℤ pos (2 ^ 71) }
-    ensures { result ≡ integer_size number }
-{
-    match number {
-        -0x80..=0x7f => 1,
-        -0x8000..=0x7fff => 2,
-        -0x80_0000..=0x7f_ffff => 3,
-        -0x8000_0000..=0x7fff_ffff => 4,
-        -0x80_0000_0000..=0x7f_ffff_ffff => 5,
-        -0x8000_0000_0000..=0x7fff_ffff_ffff => 6,
-        -0x80_0000_0000_0000..=0x7f_ffff_ffff_ffff => 7,
-        -0x8000_0000_0000_0000..=0x7fff_ffff_ffff_ffff => 8,
-        _ => 9,
-    }
-}
-
 // How many octets the contents of the written form have.
 #[cycle(measuring)]
 #[tactic(auto, using(crate::proofs::WrittenSizes::time_size, crate::proofs::WrittenSizes::integer_count))]
@@ -78,8 +55,8 @@ pub(crate) fn contents_length<A: Allocator>(value: &Value<A>, limit: usize) -> O
             }
             Some(count + 1)
         }
-        Value::Integer(number) => within(integer_length(*number as i128), limit),
-        Value::Unsigned(number) => within(integer_length(*number as i128), limit),
+        Value::Integer(number) => within(signed_count(*number as i128), limit),
+        Value::Unsigned(number) => within(signed_count(*number as i128), limit),
         Value::Floating(octets) => within(octets.as_slice().len(), limit),
         Value::Octets(octets) => within(octets.as_slice().len(), limit),
         Value::Visible(octets) => within(octets.as_slice().len(), limit),

@@ -1,12 +1,13 @@
 // Members of Data, seen where they stand, and in memory of their own.
 
-ghost use Rattle.std.specs.Prelude.{◌≡◌, ◌≤◌, List, length, slice_range};
+ghost use Rattle.std.specs.Prelude.{◌≡◌, ◌≤◌, List, length, slice_range, IfOk};
 ghost use Rattle.ber_core.specs.declared.fault.Fault.{Fault};
-ghost use Rattle.mms_data.specs.Answers.{IfRead, IfRefused, Reads, Refuses};
+ghost use Rattle.mms_data.specs.Answers.{IfRefused, ReadsAs, Refuses};
 ghost use Rattle.mms_data.specs.Data.{Data};
 ghost use Rattle.mms_data.specs.Meaning.{left};
 ghost use Rattle.mms_data.specs.Place.{IsPart, source_of};
 ghost use Rattle.mms_data.specs.Spelling.{FaultIn, SpellSome, SpellsAll};
+ghost use Rattle.mms_data.specs.Value.{datas};
 
 use crate::checking::check_members;
 use crate::fault::ReadFault;
@@ -48,8 +49,8 @@ pub fn read_members<A: Allocator + Copy>(
     requires last { level ≤ 17 }
 
     // What is read is spelled so, and what is spelled so is read, unless memory runs out.
-    ensures found { IfRead result (λ ds. SpellsAll ds level (slice_range octets.now at end)) }
-    ensures only { (ds : List Data) → SpellsAll ds level (slice_range octets.now at end) → Reads result ds }
+    ensures found { IfOk result (λ v. SpellsAll (datas v.items) level (slice_range octets.now at end)) }
+    ensures only { (ds : List Data) → SpellsAll ds level (slice_range octets.now at end) → ReadsAs (λ v. datas v.items) result ds }
 
     // The fault that is answered is there, and the fault that is there is answered, unless memory runs out.
     ensures fault { IfRefused result (λ f. FaultIn f level at (slice_range octets.now at end)) }

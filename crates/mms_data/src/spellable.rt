@@ -4,9 +4,9 @@ ghost use Rattle.std.specs.Prelude.{◌≡◌, ◌≤◌, ◌^◌, ◌↔◌, na
 ghost use Rattle.mms_data.specs.Spellable.{AllSpellable, Spellable, all_spelled, are_bits, is_signed, is_spelled, is_text, is_time};
 ghost use Rattle.mms_data.specs.Value.{data_of};
 
-use crate::contents::visible;
 use crate::time::UtcTime;
 use crate::value::{Value, ValueList};
+use ber_core::contents::check_visible;
 use std::alloc::Allocator;
 
 /// Whether the value, standing at the level, has a spelling (ISO 9506-2): the level is at most 16, members have
@@ -95,7 +95,7 @@ fn test_unsigned(_number: u64) -> bool
 fn test_text(octets: &[u8]) -> bool
     ensures { result ≡ is_text octets.now }
 {
-    match visible(octets, 0) {
+    match check_visible(octets, 0) {
         Ok(()) => true,
         Err(_) => false,
     }

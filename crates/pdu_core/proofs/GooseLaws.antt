@@ -16,7 +16,7 @@ use Rattle.ber_core.proofs.Headers.{header_for}
 use Rattle.ber_core.proofs.Steps.{chosen, bind_ok, bind_err}
 use Rattle.pdu_core.specs.declared.goose.GoosePdu.{GoosePdu}
 use Rattle.ber_core.specs.Fields.{SpellsFields}
-use Rattle.pdu_core.specs.Contents.{Item, a_text, a_number, a_flag, a_time, some_members, contents_grammar}
+use Rattle.pdu_core.specs.Contents.{Item, a_text, a_number, a_flag, a_time, some_members, a_fixed, some_octets, contents_grammar}
 use Rattle.pdu_core.specs.Goose.{goose_front, goose_end, goose_fields, goose_items, text_if, SpellsGoose, apdu_grammar, apdu_fields, CountFault, GooseFault}
 use Rattle.ber_core.specs.FieldReading.{Read, required_at, there_at, if_there, fields_at, ends_at}
 use Rattle.pdu_core.specs.ContentsReading.{item_at}
@@ -103,10 +103,14 @@ end_form (u ∷ v ∷ []) o (a, b, inl (x, c1, is1, elem1, spelled1), (c, d, inl
 end_form (u ∷ v ∷ []) o (a, b, inl (x, c1, is1, elem1, spelled1), (c, d, inl (a_number n, c2, is2, elem2, spelled2), more, parts'), parts) = absurd spelled2
 end_form (u ∷ v ∷ []) o (a, b, inl (x, c1, is1, elem1, spelled1), (c, d, inl (a_flag t, c2, is2, elem2, spelled2), more, parts'), parts) = absurd spelled2
 end_form (u ∷ v ∷ []) o (a, b, inl (x, c1, is1, elem1, spelled1), (c, d, inl (a_time t, c2, is2, elem2, spelled2), more, parts'), parts) = absurd spelled2
+end_form (u ∷ v ∷ []) o (a, b, inl (x, c1, is1, elem1, spelled1), (c, d, inl (a_fixed z t, c2, is2, elem2, spelled2), more, parts'), parts) = absurd spelled2
+end_form (u ∷ v ∷ []) o (a, b, inl (x, c1, is1, elem1, spelled1), (c, d, inl (some_octets t, c2, is2, elem2, spelled2), more, parts'), parts) = absurd spelled2
 end_form (u ∷ v ∷ []) o (a, b, inl (a_text t, c1, is1, elem1, spelled1), (c, d, inl (x, c2, is2, elem2, spelled2), more, parts'), parts) = absurd spelled1
 end_form (u ∷ v ∷ []) o (a, b, inl (a_flag t, c1, is1, elem1, spelled1), (c, d, inl (x, c2, is2, elem2, spelled2), more, parts'), parts) = absurd spelled1
 end_form (u ∷ v ∷ []) o (a, b, inl (a_time t, c1, is1, elem1, spelled1), (c, d, inl (x, c2, is2, elem2, spelled2), more, parts'), parts) = absurd spelled1
 end_form (u ∷ v ∷ []) o (a, b, inl (some_members t, c1, is1, elem1, spelled1), (c, d, inl (x, c2, is2, elem2, spelled2), more, parts'), parts) = absurd spelled1
+end_form (u ∷ v ∷ []) o (a, b, inl (a_fixed z t, c1, is1, elem1, spelled1), (c, d, inl (x, c2, is2, elem2, spelled2), more, parts'), parts) = absurd spelled1
+end_form (u ∷ v ∷ []) o (a, b, inl (some_octets t, c1, is1, elem1, spelled1), (c, d, inl (x, c2, is2, elem2, spelled2), more, parts'), parts) = absurd spelled1
 
 -- what the count says, where the values are those of the front and these
 counted_is : (place n : ℕ) (xs : List (Option Item)) (ds : List Data) → length xs ≡ 10 → counted place (xs ++ (Some (a_number n) ∷ Some (some_members ds) ∷ [])) ≡ (count_at place n ds >>= λ _. Ok (xs ++ (Some (a_number n) ∷ Some (some_members ds) ∷ [])))
@@ -124,7 +128,7 @@ count_differs place n ds vs f is = elim (bind_err (count_at place n ds) _ f is) 
 count_ok : (place n : ℕ) (ds : List Data) (vs us : List (Option Item)) → (count_at place n ds >>= λ _. Ok vs) ≡ Ok us → us ≡ vs
 count_ok place n ds vs us is = let x = bind_ok (count_at place n ds) _ us is in sym (ok_is vs us x.2)
 
-not_both : (r : Result (Unit {0}) Fault) (f : Fault) → r ≡ Err f → r ≡ Ok tt → ⊥
+pub not_both : (r : Result (Unit {0}) Fault) (f : Fault) → r ≡ Err f → r ≡ Ok tt → ⊥
 not_both r f a b = let wrong : ◌≡◌ {A = Result (Unit {0}) Fault} (Err f) (Ok tt) = sym a ∙ b in cc
 
 -- ---- the element 61
@@ -154,9 +158,9 @@ record Split (octets : List ℕ) (p e : ℕ) (values all : List (Option Item)) (
   at : place ≡ p + 1 + length size + length front
   ten : length values ≡ 10
 
-left_count : (octets : List ℕ) (p e : ℕ) → p ≤ e → e ≤ length octets → (size c rest : List ℕ) → slice_range octets p e ≡ 0x61 ∷ size ++ (c ++ rest) → p + 1 + length size + length c + length rest ≡ e
-left_count octets p e order within size c rest parts =
-    let on = behind_front octets p e (0x61 ∷ size ++ (c ++ rest)) [] order within (parts ∙ sym (append-nil (0x61 ∷ size ++ (c ++ rest)))) in
+pub left_count : (id : ℕ) (octets : List ℕ) (p e : ℕ) → p ≤ e → e ≤ length octets → (size c rest : List ℕ) → slice_range octets p e ≡ id ∷ size ++ (c ++ rest) → p + 1 + length size + length c + length rest ≡ e
+left_count id octets p e order within size c rest parts =
+    let on = behind_front octets p e (id ∷ size ++ (c ++ rest)) [] order within (parts ∙ sym (append-nil (id ∷ size ++ (c ++ rest)))) in
     omega (arith, on.1, length-append size (c ++ rest), length-append c rest)
 
 module _ (octets : List ℕ) (p e : ℕ) (order : p ≤ e) (within : e ≤ length octets) where
@@ -182,7 +186,7 @@ module _ (octets : List ℕ) (p e : ℕ) (order : p ≤ e) (within : e ≤ lengt
       let back : l.back ≡ [] = nothing l.back (omega (arith, l-on.1, l-next, l-end)) in
       let f-back : f.back ≡ l.front = sym f-on.0 ∙ ap (λ (x : ℕ). slice_range octets x t.h.contents_to) (sym f.next) ∙ l.parts ∙ ap (λ (x : List ℕ). l.front ++ x) back ∙ append-nil l.front in
       let c-is : s.contents ≡ f.front ++ l.front = sym contents ∙ f.parts ∙ ap (λ (x : List ℕ). f.front ++ x) f-back in
-      let r-count : p + 1 + length s.size + length s.contents + length s.rest ≡ e = left_count octets p e order within s.size s.contents s.rest region in
+      let r-count : p + 1 + length s.size + length s.contents + length s.rest ≡ e = left_count 0x61 octets p e order within s.size s.contents s.rest region in
       let none : s.rest ≡ [] = nothing s.rest (omega (arith, r-count, to, end)) in
       let form = end_form l.values l.front l.spelled in
       record {
@@ -255,7 +259,7 @@ module _ (octets : List ℕ) (p e : ℕ) (order : p ≤ e) (within : e ≤ lengt
         })
   ]
 
-required_again : (id p e : ℕ) (octets : List ℕ) (h : Header) → if_there id p (slice_range octets p e) ≡ Ok (Some h) → required_at id octets p e ≡ Ok h
+pub required_again : (id p e : ℕ) (octets : List ℕ) (h : Header) → if_there id p (slice_range octets p e) ≡ Ok (Some h) → required_at id octets p e ≡ Ok h
 unfolding required_at there_at
 required_again id p e octets h is = rw is refl
 
@@ -269,7 +273,7 @@ end_begins [] o s = absurd s
 end_begins (v ∷ vs) o (a, b, inl (x, c, is, elem, spelled), more, parts) = rw (parts ∙ ap (λ (s : List ℕ). s ++ b) elem.parts) refl
 end_begins (v ∷ vs) o (a, b, inr (means, none), more, parts) = absurd means
 
-ends_here : (q e : ℕ) → e ≤ q → ends_at q e ≡ Ok tt
+pub ends_here : (q e : ℕ) → e ≤ q → ends_at q e ≡ Ok tt
 ends_here q e h = rw (le-ltb q e h) refl
 
 count_wrong : (place n : ℕ) (ds : List Data) (vs : List (Option Item)) → n ≢ length ds → (count_at place n ds >>= λ _. Ok vs) ≡ Err (fault_of place causes.EntryCount)
@@ -284,7 +288,7 @@ module _ (octets : List ℕ) (p e : ℕ) (order : p ≤ e) (within : e ≤ lengt
       let r1 = required_again 0x61 p e octets h (if_there_again 0x61 p refl (slice_range octets p e) k.size c [] region k.sized) in
       let contents = contents_are octets p e 0x61 k.size c [] order within region in
       let rest = rest_is octets p e 0x61 k.size c [] order within region in
-      let all = left_count octets p e order within k.size c [] region in
+      let all = left_count 0x61 octets p e order within k.size c [] region in
       let low : h.contents_from ≤ h.contents_to = omega arith in
       let high : h.contents_to ≤ length octets = omega (arith, rest.1, within) in
       let place = h.contents_from + length k.front in

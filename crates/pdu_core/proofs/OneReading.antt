@@ -13,7 +13,7 @@ use Rattle.pdu_core.specs.declared.goose.GoosePdu.{GoosePdu}
 use Rattle.pdu_core.proofs.GooseLaws.{goose_again, goose_wrong_again, items_one}
 
 -- so many octets, to stand before others
-zeros : ℕ → List ℕ
+pub zeros : ℕ → List ℕ
 zeros zero = []
 zeros (suc n) = 0 ∷ zeros n
 
@@ -23,13 +23,13 @@ count_zeros zero = refl
 count_zeros (suc n) = ap suc (count_zeros n)
 
 -- octets that stand at a place
-region_is : (at : ℕ) (o : List ℕ) → slice_range (zeros at ++ o) at (at + length o) ≡ o
+pub region_is : (at : ℕ) (o : List ℕ) → slice_range (zeros at ++ o) at (at + length o) ≡ o
 region_is at o =
     let count : (at + length o) - at ≡ length o = omega arith in
     let front : drop at (zeros at ++ o) ≡ o = drop_at (zeros at) o at (count_zeros at) in
     rw (count, front) (ap (take (length o)) (sym (append-nil o)) ∙ take_at o [] (length o) refl)
 
-region_fits : (at : ℕ) (o : List ℕ) → at + length o ≤ length (zeros at ++ o)
+pub region_fits : (at : ℕ) (o : List ℕ) → at + length o ≤ length (zeros at ++ o)
 region_fits at o = omega (arith, length-append (zeros at) o, count_zeros at)
 
 module _ (o : List ℕ) (at : ℕ) where

@@ -9,7 +9,7 @@ use Rattle.pdu_core.specs.GooseValue.{goose_value, pdu_of_items, text_if_there}
 use Rattle.pdu_core.specs.declared.goose.GoosePdu.{GoosePdu}
 use Rattle.pdu_core.proofs.GooseLaws.{goose_again, goose_wrong_again}
 
-text_back : (t : Option (List ℕ)) → text_if_there (text_if t) ≡ t
+pub text_back : (t : Option (List ℕ)) → text_if_there (text_if t) ≡ t
 text_back None = refl
 text_back (Some t) = refl
 

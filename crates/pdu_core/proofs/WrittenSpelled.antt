@@ -14,10 +14,11 @@ use Rattle.ber_core.proofs.Shortest.{integer_shortest, length_shortest}
 use Rattle.mms_data.specs.Utc.{SpellsUtc}
 use Rattle.mms_data.specs.declared.time.UtcTime.{UtcTime}
 use Rattle.mms_data.proofs.WrittenSpelled.{all_written_are_spelled}
-use Rattle.pdu_core.specs.Contents.{Kind, text, flag, time, members, Item, a_text, a_number, a_flag, a_time, some_members, SpellsContents, contents_grammar}
+use Rattle.pdu_core.specs.Contents.{Kind, text, flag, time, members, fixed, raw, few, Item, a_text, a_number, a_flag, a_time, some_members, a_fixed, some_octets, SpellsContents, SpellsFixed, contents_grammar}
 use Rattle.pdu_core.specs.Contents.{number as a_kind_of_number}
 use Rattle.pdu_core.specs.Goose.{goose_fields, goose_items, text_if}
 use Rattle.pdu_core.specs.Laws.{WrittenIsSpelled}
+use Rattle.pdu_core.specs.SampledSpellable.{AreFew, IsFixed}
 use Rattle.pdu_core.specs.Spellable.{IsNumber, IsText, Spellable}
 use Rattle.mms_data.specs.Spellable.{AllSpellable, IsTime}
 use Rattle.mms_data.specs.Written.{element, written_time}
@@ -42,27 +43,31 @@ time_written : (t : UtcTime) → t.seconds < 2 ^ 32 → t.fraction < 2 ^ 24 → 
 time_written t seconds fraction =
     (big_bytes 4 t.seconds, big_bytes 3 t.fraction, length-bytes_high_first 4 t.seconds, length-bytes_high_first 3 t.fraction, number_back 4 t.seconds seconds, number_back 3 t.fraction fraction, refl)
 
-abbrev pub kind_of : Item → Kind
-kind_of (a_text t) = text
-kind_of (a_number n) = a_kind_of_number
-kind_of (a_flag b) = flag
-kind_of (a_time t) = time
-kind_of (some_members ds) = members
+fixed_written : (size n : ℕ) → IsFixed size n → SpellsFixed size n (big_bytes size n)
+fixed_written size n small = (length-bytes_high_first size n, number_back size n small)
 
--- the value of a field has a spelling
-abbrev pub IsSpellable : Item → Type 0
-IsSpellable (a_text t) = IsText t
-IsSpellable (a_number n) = IsNumber n
-IsSpellable (a_flag b) = Unit {0}
-IsSpellable (a_time t) = IsTime t
-IsSpellable (some_members ds) = AllSpellable ds 1
+-- the value is of the kind, and has a spelling
+abbrev pub IsSpellable : Kind → Item → Type 0
+IsSpellable text (a_text t) = IsText t
+IsSpellable a_kind_of_number (a_number n) = IsNumber n
+IsSpellable flag (a_flag b) = Unit {0}
+IsSpellable time (a_time t) = IsTime t
+IsSpellable members (some_members ds) = AllSpellable ds 1
+IsSpellable (fixed size) (a_fixed count n) = (count ≡ size) × IsFixed count n
+IsSpellable raw (some_octets o) = Unit {0}
+IsSpellable few (some_octets o) = AreFew o
+IsSpellable _ _ = ⊥
 
-item_written : (x : Item) → IsSpellable x → length (written_item x) < 2 ^ 32 → SpellsContents (kind_of x) x (written_item x)
-item_written (a_text t) s small = (refl, s)
-item_written (a_number n) s small = number_written n s
-item_written (a_flag b) s small = flag_written b
-item_written (a_time t) s small = time_written t s.0 s.1
-item_written (some_members ds) s small = all_written_are_spelled ds 1 s small
+item_written : (k : Kind) (x : Item) → IsSpellable k x → length (written_item x) < 2 ^ 32 → SpellsContents k x (written_item x)
+item_written text (a_text t) s small = (refl, s)
+item_written a_kind_of_number (a_number n) s small = number_written n s
+item_written flag (a_flag b) s small = flag_written b
+item_written time (a_time t) s small = time_written t s.0 s.1
+item_written members (some_members ds) s small = all_written_are_spelled ds 1 s small
+item_written (fixed size) (a_fixed count n) (same, s) small = (same, subst (λ (k : ℕ). SpellsFixed k n (big_bytes count n)) same (fixed_written count n s))
+item_written raw (some_octets o) s small = refl
+item_written few (some_octets o) s small = (refl, s)
+item_written _ _ s small = absurd s
 
 -- ---- elements and fields
 
@@ -76,60 +81,46 @@ Suit [] [] = Unit {0}
 Suit [] (v ∷ vs) = ⊥
 Suit (g ∷ gs) [] = ⊥
 Suit (g ∷ gs) (None ∷ vs) = AbsenceMeans g.presence None × Suit gs vs
-Suit (g ∷ gs) (Some x ∷ vs) = (kind_of x ≡ g.kind) × IsIdentifier g.identifier × IsSpellable x × Suit gs vs
+Suit (g ∷ gs) (Some x ∷ vs) = IsIdentifier g.identifier × IsSpellable g.kind x × Suit gs vs
 
-fields_written : (gs : List (Field Kind Item)) (vs : List (Option Item)) → Suit gs vs → length (written_fields gs vs) < 2 ^ 32 → SpellsFields contents_grammar gs vs (written_fields gs vs)
+pub fields_written : (gs : List (Field Kind Item)) (vs : List (Option Item)) → Suit gs vs → length (written_fields gs vs) < 2 ^ 32 → SpellsFields contents_grammar gs vs (written_fields gs vs)
 fields_written [] [] suit small = refl
 fields_written [] (v ∷ vs) suit small = absurd suit
 fields_written (g ∷ gs) [] suit small = absurd suit
 fields_written (g ∷ gs) (None ∷ vs) (means, suit) small = ([], written_fields gs vs, inr (means, refl), fields_written gs vs suit small, refl)
-fields_written (g ∷ gs) (Some x ∷ vs) (kind, identifier, spellable, suit) small =
+fields_written (g ∷ gs) (Some x ∷ vs) (identifier, spellable, suit) small =
     let first = element g.identifier (written_item x) in
     let size : length (written_fields (g ∷ gs) (Some x ∷ vs)) ≡ length first + length (written_fields gs vs) = length-append first (written_fields gs vs) in
     let holds = element_size g.identifier (written_item x) in
     let few : length (written_item x) < 2 ^ 32 = omega (arith, size, holds, small) in
-    let spelled : SpellsContents g.kind x (written_item x) = subst (λ (k : Kind). SpellsContents k x (written_item x)) kind (item_written x spellable few) in
-    (first, written_fields gs vs, inl (x, written_item x, refl, element_written g.identifier (written_item x) identifier few, spelled), fields_written gs vs suit (omega (arith, size, small)), refl)
+    (first, written_fields gs vs, inl (x, written_item x, refl, element_written g.identifier (written_item x) identifier few, item_written g.kind x spellable few), fields_written gs vs suit (omega (arith, size, small)), refl)
 
 -- ---- the PDU
 
-one_octet : (id : ℕ) → eqb (id % 32) 31 ≡ false → IsIdentifier id
+pub one_octet : (id : ℕ) → eqb (id % 32) 31 ≡ false → IsIdentifier id
 one_octet id e = eqb-false (id % 32) 31 e
 
 -- the fields from t on
 rest_suits : {A : Type 0} (p : GoosePdu A) → Spellable p → Suit (drop 4 goose_fields) (drop 4 (goose_items p))
 rest_suits p s = (
-  refl,
   one_octet 0x84 refl,
   s.t,
   (
-    refl,
     one_octet 0x85 refl,
     s.st_num,
     (
-      refl,
       one_octet 0x86 refl,
       s.sq_num,
-      (
-        refl,
-        one_octet 0x87 refl,
-        tt,
-        (
-          refl,
-          one_octet 0x88 refl,
-          s.conf_rev,
-          (refl, one_octet 0x89 refl, tt, (refl, one_octet 0x8a refl, s.entries, (refl, one_octet 0xab refl, s.members, tt))),
-        ),
-      ),
+      (one_octet 0x87 refl, tt, (one_octet 0x88 refl, s.conf_rev, (one_octet 0x89 refl, tt, (one_octet 0x8a refl, s.entries, (one_octet 0xab refl, s.members, tt))))),
     ),
   ),
 )
 
 goose_suits : {A : Type 0} (p : GoosePdu A) → Spellable p → Suit goose_fields (goose_items p)
-goose_suits p s = (refl, one_octet 0x80 refl, s.gocb_ref, (refl, one_octet 0x81 refl, s.live, (refl, one_octet 0x82 refl, s.dat_set, with_id p.go_id s.go_id))) where
+goose_suits p s = (one_octet 0x80 refl, s.gocb_ref, (one_octet 0x81 refl, s.live, (one_octet 0x82 refl, s.dat_set, with_id p.go_id s.go_id))) where
   with_id : (id : Option (List ℕ)) → IfSome id IsText → Suit (drop 3 goose_fields) (text_if id ∷ drop 4 (goose_items p))
   with_id None t = (refl, rest_suits p s)
-  with_id (Some t) visible = (refl, one_octet 0x83 refl, visible, rest_suits p s)
+  with_id (Some t) visible = (one_octet 0x83 refl, visible, rest_suits p s)
 
 pub written_is_spelled : {A : Type 0} → WrittenIsSpelled A
 written_is_spelled p s small = (written_contents p, element_written 0x61 (written_contents p) (one_octet 0x61 refl) small, fields_written goose_fields (goose_items p) (goose_suits p s) small)

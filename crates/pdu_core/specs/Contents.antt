@@ -1,20 +1,27 @@
 -- The kinds of contents that the fields of a PDU have, what they spell, and their faults.
-use Rattle.std.specs.Prelude.{ℕ, pos, ◌^◌, ◌-◌, Bool, List}
-use Rattle.ber_core.specs.Contents.{SpellsBoolean, BooleanFault, SpellsInteger, IntegerFault, SpellsVisible, VisibleFault}
+use Rattle.std.specs.Prelude.{◌≡◌, ◌≤◌, ℕ, pos, ◌^◌, ◌+◌, ◌-◌, Bool, List, length}
+use Rattle.ber_core.specs.Contents.{SpellsBoolean, BooleanFault, SpellsInteger, IntegerFault, SpellsVisible, VisibleFault, CountedFault}
+use Rattle.ber_core.specs.Faults.{fault_of}
 use Rattle.ber_core.specs.Fields.{Grammar}
+use Rattle.ber_core.specs.Length.{number as octets_number}
 use Rattle.ber_core.specs.declared.fault.Fault.{Fault}
+use Rattle.ber_core.specs.declared.fault.Cause.TheVariants as causes
 use Rattle.mms_data.specs.Data.{Data}
 use Rattle.mms_data.specs.Spelling.{SpellsAll, FaultIn}
 use Rattle.mms_data.specs.Utc.{SpellsUtc, UtcFault}
 use Rattle.mms_data.specs.declared.time.UtcTime.{UtcTime}
 
--- a visible text, a number, a boolean, a time, members of Data
+-- a visible text, an integer, a boolean, a time, members of Data, a number in a stated count of octets, octets of
+-- any count, and one to sixteen octets
 pub data Kind : Type 0 where
   text : Kind
   number : Kind
   flag : Kind
   time : Kind
   members : Kind
+  fixed : ℕ → Kind
+  raw : Kind
+  few : Kind
 
 -- the value of a field that is there
 pub data Item : Type 0 where
@@ -23,6 +30,20 @@ pub data Item : Type 0 where
   a_flag : Bool → Item
   a_time : UtcTime → Item
   some_members : List Data → Item
+  a_fixed : ℕ → ℕ → Item
+  some_octets : List ℕ → Item
+
+-- profile: contents that are kept as they are and have a bound have one to sixteen octets
+abbrev pub IsFew : ℕ → Type 0
+IsFew n = (1 ≤ n) × (n ≤ 16)
+
+-- c is the number n in so many octets, the most significant first
+abbrev pub SpellsFixed : ℕ → ℕ → List ℕ → Type 0
+SpellsFixed size n c = (length c ≡ size) × (octets_number c ≡ n)
+
+-- contents of no octet, or of more than sixteen, are at fault
+abbrev pub FewFault : Fault → ℕ → List ℕ → Type 0
+FewFault f at c = ¬ IsFew (length c) × (f ≡ fault_of (at + 1) causes.FixedLength)
 
 -- the contents of a kind spell the value (profile: a number is at most 4294967295)
 abbrev pub SpellsContents : Kind → Item → List ℕ → Type 0
@@ -31,6 +52,9 @@ SpellsContents number (a_number n) c = SpellsInteger (pos 0) (pos (2 ^ 32 - 1)) 
 SpellsContents flag (a_flag b) c = SpellsBoolean b c
 SpellsContents time (a_time t) c = SpellsUtc t c
 SpellsContents members (some_members ds) c = SpellsAll ds 1 c
+SpellsContents (fixed size) (a_fixed count n) c = (count ≡ size) × SpellsFixed size n c
+SpellsContents raw (some_octets o) c = c ≡ o
+SpellsContents few (some_octets o) c = (c ≡ o) × IsFew (length o)
 SpellsContents _ _ c = ⊥
 
 -- the fault of contents of a kind that spell nothing, where the element stands at one place and its contents at another
@@ -40,6 +64,9 @@ ContentsFault f number at from c = IntegerFault f (pos 0) (pos (2 ^ 32 - 1)) at 
 ContentsFault f flag at from c = BooleanFault f at c
 ContentsFault f time at from c = UtcFault f at c
 ContentsFault f members at from c = FaultIn f 1 from c
+ContentsFault f (fixed size) at from c = CountedFault f size at c
+ContentsFault f raw at from c = ⊥
+ContentsFault f few at from c = FewFault f at c
 
 abbrev pub contents_grammar : Grammar Kind Item
 contents_grammar = record { spells = SpellsContents; fault = ContentsFault }

@@ -3,8 +3,15 @@ pub mod Goose
 pub mod ContentsReading
 pub mod GooseReading
 pub mod Views
-pub mod Answers
 pub mod Laws
 pub mod Spellable
 pub mod Written
 pub mod GooseValue
+pub mod Asdu
+pub mod Sampled
+pub mod SampledReading
+pub mod SampledValue
+pub mod SampledViews
+pub mod SampledSpellable
+pub mod SampledWritten
+pub mod SampledLaws

@@ -1,10 +1,11 @@
 -- The written form of a PDU: its spelling with the fewest octets everywhere, FF for true, and each boolean
 -- there (profile).
 use Rattle.std.specs.Prelude.{◌<◌, ◌^◌, ℕ, pos, true, false, List, [], ◌∷◌, ◌++◌, length, Option, Some, None}
+use Rattle.byteorder.specs.Endian.{big_bytes}
 use Rattle.ber_core.specs.Fields.{Field}
 use Rattle.ber_core.specs.Written.{short_integer}
 use Rattle.mms_data.specs.Written.{element, written_all, written_time}
-use Rattle.pdu_core.specs.Contents.{Kind, Item, a_text, a_number, a_flag, a_time, some_members}
+use Rattle.pdu_core.specs.Contents.{Kind, Item, a_text, a_number, a_flag, a_time, some_members, a_fixed, some_octets}
 use Rattle.pdu_core.specs.Goose.{goose_fields, goose_items}
 use Rattle.pdu_core.specs.declared.goose.GoosePdu.{GoosePdu}
 
@@ -16,6 +17,8 @@ written_item (a_flag true) = 255 ∷ []
 written_item (a_flag false) = 0 ∷ []
 written_item (a_time t) = written_time t
 written_item (some_members ds) = written_all ds
+written_item (a_fixed size n) = big_bytes size n
+written_item (some_octets o) = o
 
 -- a field that is there as its element, and else nothing
 abbrev pub written_field : ℕ → Option Item → List ℕ

@@ -1,23 +1,35 @@
-//! The PDU of GOOSE (IEC 61850-8-1): seen where it stands, read into memory of its own, and written.
+//! The PDUs of GOOSE (IEC 61850-8-1) and of Sampled Values (IEC 61850-9-2): seen where they stand, read into memory
+//! of their own, and written.
 #![tactic(auto)]
 
 mod elements;
 mod fields;
 mod goose;
 pub mod laws;
+mod members;
 mod owning;
 mod putting;
 mod reading;
+mod sampled;
 mod spellable;
 #[cfg(test)]
 mod tests;
 mod view;
+mod view_writing;
 mod viewing;
 mod writing;
 
 pub use crate::goose::GoosePdu;
 pub use crate::reading::read_goose;
+pub use crate::sampled::asdu::{Asdu, AsduList, SvPdu};
+pub use crate::sampled::reading::read_sv;
+pub use crate::sampled::spellable::is_spellable_sv;
+pub use crate::sampled::view::{AsduView, Asdus, SvView};
+pub use crate::sampled::view_writing::put_sv_view;
+pub use crate::sampled::viewing::view_sv;
+pub use crate::sampled::writing::put_sv;
 pub use crate::spellable::is_spellable;
 pub use crate::view::GooseView;
+pub use crate::view_writing::put_goose_view;
 pub use crate::viewing::view_goose;
 pub use crate::writing::put_goose;

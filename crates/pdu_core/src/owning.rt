@@ -9,14 +9,17 @@ use mms_data::{Octets, ValueList};
 use std::alloc::{AllocError, Allocator};
 
 // The octets in memory of their own.
-fn own<A: Allocator>(alloc: A, octets: &[u8]) -> Result<Octets<A>, AllocError>
+pub(crate) fn own<A: Allocator>(alloc: A, octets: &[u8]) -> Result<Octets<A>, AllocError>
     ensures { IfOk result (λ o. o ≡ octets.now) }
 {
     Ok(Octets::from(Vec::from_slice(alloc, octets)?))
 }
 
 // The same of octets that may be absent.
-fn own_if<A: Allocator>(alloc: A, octets: Option<&[u8]>) -> Result<Option<Octets<A>>, AllocError>
+pub(crate) fn own_if<A: Allocator>(
+    alloc: A,
+    octets: Option<&[u8]>,
+) -> Result<Option<Octets<A>>, AllocError>
     ensures { IfOk result (λ o. o ≡ octets_if octets.entry) }
 {
     match octets {

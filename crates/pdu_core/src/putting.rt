@@ -7,6 +7,7 @@ ghost use Rattle.ber_core.specs.Element.{IsIdentifier};
 ghost use Rattle.mms_data.specs.Spellable.{AllSpellable};
 ghost use Rattle.pdu_core.specs.Contents.{a_flag, a_number, a_text, a_time, some_members};
 ghost use Rattle.pdu_core.specs.Goose.{text_if};
+ghost use Rattle.pdu_core.specs.Views.{octets_if};
 ghost use Rattle.mms_data.specs.Written.{written_time};
 ghost use Rattle.pdu_core.specs.Written.{written_field};
 
@@ -44,6 +45,23 @@ pub fn put_text_if<A: Allocator, const N: usize>(
 {
     match text {
         Some(text) => put_element(out, identifier, text.as_slice()),
+        None => Ok(()),
+    }
+}
+
+// Appends the field of a text where it stands, if there is one.
+#[tactic(auto, using(crate::proofs::Sizes::element_size))]
+pub fn put_text_there<const N: usize>(
+    out: &mut ArrayVec<u8, N>,
+    identifier: u8,
+    text: Option<&[u8]>,
+) -> Result<(), Full>
+    requires identifier { IsIdentifier identifier }
+    ensures enough { length (written_field identifier (text_if (octets_if text.entry))) < 2 ^ 32 → array_vec_len out.old + length (written_field identifier (text_if (octets_if text.entry))) ≤ N → IsOk result }
+    ensures written { OnOk result (out.new.items ≡ out.old.items ++ written_field identifier (text_if (octets_if text.entry))) }
+{
+    match text {
+        Some(text) => put_element(out, identifier, text),
         None => Ok(()),
     }
 }
@@ -86,13 +104,12 @@ pub fn put_time<const N: usize>(
     time: UtcTime,
 ) -> Result<(), Full>
     requires identifier { IsIdentifier identifier }
-    requires fraction { time.fraction < 2 ^ 24 }
     ensures enough { array_vec_len out.old + length (written_field identifier (Some (a_time time))) ≤ N → IsOk result }
     ensures written { OnOk result (out.new.items ≡ out.old.items ++ written_field identifier (Some (a_time time))) }
 {
     let mut contents = [0; 8];
+    BigEndian::write_u32(&mut contents[3..], time.fraction);
     BigEndian::write_u32(&mut contents, time.seconds);
-    BigEndian::write_u24(&mut contents[4..], time.fraction);
     contents[7] = time.quality;
     put_element(out, identifier, &contents)
 }

@@ -2,7 +2,7 @@
 
 ghost use Rattle.std.specs.Prelude.{◌≡◌, ◌≤◌, length, slice_range, IfOk};
 ghost use Rattle.ber_core.specs.declared.fault.Fault.{Fault};
-ghost use Rattle.pdu_core.specs.Answers.{IfRefused, Reads, Refuses};
+ghost use Rattle.mms_data.specs.Answers.{IfRefused, Reads, Refuses};
 ghost use Rattle.pdu_core.specs.Goose.{GooseFault, SpellsGoose};
 ghost use Rattle.pdu_core.specs.declared.goose.GoosePdu.{GoosePdu};
 

@@ -9,7 +9,7 @@ use mms_data::{Octets, UtcTime, are_spellable};
 use std::alloc::Allocator;
 
 // Whether the octets are all visible.
-fn is_visible(text: &[u8]) -> bool
+pub(crate) fn is_visible(text: &[u8]) -> bool
     ensures { IsTrue result ↔ IsText text.now }
 {
     match check_visible(text, 0) {
@@ -19,7 +19,7 @@ fn is_visible(text: &[u8]) -> bool
 }
 
 // The same of octets that may be absent.
-fn is_visible_if<A: Allocator>(text: &Option<Octets<A>>) -> bool
+pub(crate) fn is_visible_if<A: Allocator>(text: &Option<Octets<A>>) -> bool
     ensures { IsTrue result ↔ IfSome text.now IsText }
 {
     match text {

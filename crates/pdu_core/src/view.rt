@@ -1,5 +1,8 @@
 // The PDU of GOOSE where it stands.
 
+ghost use Rattle.std.specs.Prelude.{◌≡◌, length};
+ghost use Rattle.mms_data.specs.Meaning.{left};
+
 use mms_data::{Members, UtcTime};
 
 /// An IECGoosePdu (IEC 61850-8-1) where it stands: the fields of `GoosePdu`, texts and members as parts of
@@ -30,4 +33,5 @@ pub struct GooseView<'a> {
     pub entries: usize,
     /// allData, the members of the data set.
     pub members: Members<'a>,
+    pub ghost counted: { entries ≡ length (left members) },
 }

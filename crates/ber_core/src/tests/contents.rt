@@ -1,6 +1,8 @@
 // Contents of elements: their values, and their faults at their places.
 
-use crate::contents::{boolean, check_visible, counted, integer_in, visible};
+use crate::contents::{
+    boolean, boolean_of, check_visible, counted, integer_in, integer_of, visible,
+};
 use crate::{Cause, header};
 use std::test::Fail;
 
@@ -33,6 +35,16 @@ fn integers_in_a_range(rt: HostRuntime) -> Result<(), Fail> {
     let fault = Err(Cause::IntegerLength.at(1));
     assert_eq!(rt; integer_in(&none, &header(&none, 0, 2)?, 0, 1), fault);
     Ok(())
+}
+
+#[test]
+fn contents_without_a_header(rt: HostRuntime) {
+    assert_eq!(rt; boolean_of(&[5], 7), Ok(true));
+    let fault = Err(Cause::BooleanLength.at(8));
+    assert_eq!(rt; boolean_of(&[], 7), fault);
+    assert_eq!(rt; integer_of(&[0xff], 7, 9, -1, 1), Ok(-1));
+    let fault = Err(Cause::IntegerRange.at(9));
+    assert_eq!(rt; integer_of(&[2], 7, 9, -1, 1), fault);
 }
 
 #[test]

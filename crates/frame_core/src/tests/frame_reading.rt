@@ -2,27 +2,14 @@
 
 ghost use Rattle.std.specs.Prelude.{◌≤◌, length};
 
-use crate::tests::frames::{FRAME, LONG, TAGGED, changed, changed_twice, fault, with_one_more};
+use crate::tests::frames::{
+    FRAME, LONG, MISSING, TAGGED, changed, changed_twice, fault, read, seen, with_one_more,
+};
 use crate::{Apdu, ApduView, VlanTag, decode, view_frame};
-use ber_core::{Cause, Fault};
-use mms_data::ReadFault;
+use ber_core::Cause;
 use std::alloc::Global;
 use std::process::Abort;
 use std::test::Fail;
-
-/// The fault of the octets, by the view, if they have one.
-fn seen(octets: &[u8]) -> Result<(), Fault> {
-    view_frame(octets)?;
-    Ok(())
-}
-
-/// The same by the owned frame.
-fn read(alloc: Global, octets: &[u8]) -> Result<(), Fault> {
-    match decode(alloc, octets) {
-        Err(ReadFault::Fault(fault)) => Err(fault),
-        _ => Ok(()),
-    }
-}
 
 /// Whether the view of these octets is of the frame of one boolean.
 fn is_seen<H: Abort>(rt: &H, octets: &[u8]) -> Result<(), Fail> {
@@ -32,7 +19,9 @@ fn is_seen<H: Abort>(rt: &H, octets: &[u8]) -> Result<(), Fail> {
     assert_eq!(rt; view.tag, None);
     assert_eq!(rt; view.app_id, 1);
     assert_eq!(rt; view.trailer.len(), 0);
-    let ApduView::Goose(goose) = view.apdu;
+    let ApduView::Goose(goose) = view.apdu else {
+        return Err(Fail::from("no GOOSE"));
+    };
     assert_eq!(rt; goose.gocb_ref, b"G".as_slice());
     assert_eq!(rt; goose.live, 2000);
     assert_eq!(rt; goose.dat_set, b"D".as_slice());
@@ -45,7 +34,9 @@ fn is_seen<H: Abort>(rt: &H, octets: &[u8]) -> Result<(), Fail> {
 /// Whether the frame of one boolean is read from these octets.
 fn is_read<H: Abort>(rt: &H, alloc: Global, octets: &[u8]) -> Result<(), Fail> {
     let frame = decode(alloc, octets)?;
-    let Apdu::Goose(goose) = &frame.apdu;
+    let Apdu::Goose(goose) = &frame.apdu else {
+        return Err(Fail::from("no GOOSE"));
+    };
     assert_eq!(rt; goose.gocb_ref.as_slice(), b"G".as_slice());
     assert_eq!(rt; goose.members.as_slice().len(), 1);
     Ok(())
@@ -119,6 +110,15 @@ fn what_is_behind_the_last_field_is_a_fault(rt: HostRuntime) {
     assert_eq!(rt; seen(&with_one_more(0x36)), fault(67, Cause::ExtraOctets));
     assert_eq!(rt; seen(&with_one_more(0x35)), Ok(()));
     assert_eq!(rt; seen(&[0; 1601]), fault(1600, Cause::FrameTooLong));
+}
+
+#[test]
+fn a_field_may_be_missing(rt: HostRuntime) {
+    assert_eq!(rt; seen(&MISSING), fault(27, Cause::ElementMissing));
+    assert_eq!(rt;
+        read(rt.alloc(), &MISSING),
+        fault(27, Cause::ElementMissing)
+    );
 }
 
 #[test]

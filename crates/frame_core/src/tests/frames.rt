@@ -2,7 +2,10 @@
 
 ghost use Rattle.std.specs.Prelude.{◌<◌};
 
+use crate::{decode, view_frame};
 use ber_core::{Cause, Fault};
+use mms_data::ReadFault;
+use std::alloc::Global;
 
 /// The frame of control block G, status number 1, sequence number 0, one boolean that is true.
 pub const FRAME: [u8; 67] = [
@@ -31,6 +34,12 @@ pub const TAGGED: [u8; 75] = [
     0x01, 0x01, 0xab, 0x03, 0x83, 0x01, 0xff, 0x00, 0x00, 0x00, 0x00,
 ];
 
+/// The first field of the unit, and then nothing where others are always there.
+pub const MISSING: [u8; 27] = [
+    0x01, 0x0c, 0xcd, 0x01, 0x00, 0x01, 0x02, 0x00, 0x00, 0x00, 0x00, 0x01, 0x88, 0xb8, 0x00, 0x01,
+    0x00, 0x0d, 0x00, 0x00, 0x00, 0x00, 0x61, 0x03, 0x80, 0x01, 0x47,
+];
+
 /// The frame with another octet at a place.
 pub fn changed(place: usize, octet: u8) -> [u8; 67]
     requires { place < 67 }
@@ -56,6 +65,20 @@ pub fn with_one_more(size: u8) -> [u8; 68] {
     frame[..67].copy_from_slice(&FRAME);
     frame[17] = size;
     frame
+}
+
+/// The fault of the octets, by the view, if they have one.
+pub fn seen(octets: &[u8]) -> Result<(), Fault> {
+    view_frame(octets)?;
+    Ok(())
+}
+
+/// The same by the owned frame.
+pub fn read(alloc: Global, octets: &[u8]) -> Result<(), Fault> {
+    match decode(alloc, octets) {
+        Err(ReadFault::Fault(fault)) => Err(fault),
+        _ => Ok(()),
+    }
 }
 
 /// What is answered where the first fault is this one.

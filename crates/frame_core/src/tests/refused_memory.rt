@@ -5,7 +5,8 @@ use crate::list_writer::write_event;
 use crate::std_io::ToWrite;
 use crate::tests::devices::{NEVER, source_of};
 use crate::tests::frames::TAGGED;
-use crate::{Frame, FrameView, Source, decode, encode, view_frame};
+use crate::tests::sampled_frames::TAGGED_SAMPLED;
+use crate::{Frame, Source, decode, encode, view_frame};
 use mms_data::ReadFault;
 use refusing_alloc::RefusingAlloc;
 use std::alloc::{Allocator, Global};
@@ -20,70 +21,86 @@ fn is_written_as<A: Allocator>(frame: &Frame<A>, octets: &[u8]) -> bool {
     }
 }
 
-/// Whether the tagged frame is decoded at once; else it is once memory is granted.
-fn is_decoded_at_once<H: Abort>(rt: &H, alloc: &RefusingAlloc<Global>) -> Result<bool, Fail> {
-    match decode(alloc, &TAGGED) {
+/// Whether the octets are decoded at once; else they are once memory is granted.
+fn is_decoded_at_once<H: Abort>(
+    rt: &H,
+    alloc: &RefusingAlloc<Global>,
+    octets: &[u8],
+) -> Result<bool, Fail> {
+    match decode(alloc, octets) {
         Ok(frame) => {
             assert!(rt; !alloc.has_refused());
-            assert!(rt; is_written_as(&frame, &TAGGED));
+            assert!(rt; is_written_as(&frame, octets));
             Ok(true)
         }
         Err(ReadFault::Memory(_)) => {
             assert!(rt; alloc.has_refused());
             alloc.allow();
-            let frame = decode(alloc, &TAGGED)?;
-            assert!(rt; is_written_as(&frame, &TAGGED));
+            let frame = decode(alloc, octets)?;
+            assert!(rt; is_written_as(&frame, octets));
             Ok(false)
         }
         Err(ReadFault::Fault(_)) => Err(Fail::from("a fault of good octets")),
     }
 }
 
-#[test]
-fn decode_where_each_growth_is_refused(rt: HostRuntime) -> Result<(), Fail> {
+/// How many growths it takes to decode the octets, where each is refused in turn.
+fn growths_to_decode<H: Abort>(rt: &H, memory: Global, octets: &[u8]) -> Result<usize, Fail> {
     for first_refused in 0..100usize {
-        let alloc = RefusingAlloc::new(rt.alloc(), first_refused);
-        if is_decoded_at_once(&rt, &alloc)? {
-            assert!(rt; first_refused > 3);
-            return Ok(());
+        let alloc = RefusingAlloc::new(memory, first_refused);
+        if is_decoded_at_once(rt, &alloc, octets)? {
+            return Ok(first_refused);
         }
     }
     Err(Fail::from("each call was refused memory"))
 }
 
-/// Whether the view's frame is made at once; else it is once memory is granted.
+#[test]
+fn decode_where_each_growth_is_refused(rt: HostRuntime) -> Result<(), Fail> {
+    assert!(rt; growths_to_decode(&rt, rt.alloc(), &TAGGED)? > 3);
+    assert!(rt; growths_to_decode(&rt, rt.alloc(), &TAGGED_SAMPLED)? > 3);
+    Ok(())
+}
+
+/// Whether the frame of the view of these octets is made at once; else it is once memory is granted.
 fn is_made_at_once<H: Abort>(
     rt: &H,
     alloc: &RefusingAlloc<Global>,
-    view: &FrameView<'_>,
+    octets: &[u8],
 ) -> Result<bool, Fail> {
+    let view = view_frame(octets)?;
     match view.to_frame(alloc) {
         Ok(frame) => {
             assert!(rt; !alloc.has_refused());
-            assert!(rt; is_written_as(&frame, &TAGGED));
+            assert!(rt; is_written_as(&frame, octets));
             Ok(true)
         }
         Err(_) => {
             assert!(rt; alloc.has_refused());
             alloc.allow();
             let frame = view.to_frame(alloc)?;
-            assert!(rt; is_written_as(&frame, &TAGGED));
+            assert!(rt; is_written_as(&frame, octets));
             Ok(false)
         }
     }
 }
 
-#[test]
-fn to_frame_where_each_growth_is_refused(rt: HostRuntime) -> Result<(), Fail> {
-    let view = view_frame(&TAGGED)?;
+/// How many growths it takes to make the frame of the view of these octets, where each is refused in turn.
+fn growths_to_make<H: Abort>(rt: &H, memory: Global, octets: &[u8]) -> Result<usize, Fail> {
     for first_refused in 0..100usize {
-        let alloc = RefusingAlloc::new(rt.alloc(), first_refused);
-        if is_made_at_once(&rt, &alloc, &view)? {
-            assert!(rt; first_refused > 3);
-            return Ok(());
+        let alloc = RefusingAlloc::new(memory, first_refused);
+        if is_made_at_once(rt, &alloc, octets)? {
+            return Ok(first_refused);
         }
     }
     Err(Fail::from("each call was refused memory"))
+}
+
+#[test]
+fn to_frame_where_each_growth_is_refused(rt: HostRuntime) -> Result<(), Fail> {
+    assert!(rt; growths_to_make(&rt, rt.alloc(), &TAGGED)? > 3);
+    assert!(rt; growths_to_make(&rt, rt.alloc(), &TAGGED_SAMPLED)? > 3);
+    Ok(())
 }
 
 /// The next answer, with memory for it from the second allocator: an event as its line, `end`, `memory`,

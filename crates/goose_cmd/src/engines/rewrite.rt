@@ -1,43 +1,27 @@
 //! `rewrite`: the list again, each grammatical frame in its written form.
-ghost use Rattle.std.specs.Prelude.{◌≡◌, ◌++◌, ℕ, List, true, false, not, is_some, OnOk, Ok, IfOk, codes, option_map};
+ghost use Rattle.std.specs.Prelude.{◌≡◌, ◌++◌, ℕ, List, true, false, not, is_some, OnOk, IfOk, codes, option_map};
 ghost use Rattle.std.specs.Fmt.{decimal};
 ghost use Rattle.hex.specs.Hex.{encode_lower};
 ghost use Rattle.frame_core.specs.declared.device.InputEnd.{InputEnd};
 ghost use Rattle.frame_core.specs.Device.{Gives};
 ghost use Rattle.goose_cmd.specs.EngineText.{Writes};
-ghost use Rattle.goose_cmd.specs.RewriteText.{fitting_form, written_form, form_or, rewrite_text};
+ghost use Rattle.goose_cmd.specs.RewriteText.{written_form, form_or, rewrite_text};
 
 use crate::ending::Ending;
 use crate::engines::run::{EventText, run};
 use crate::text::line::put_list_line;
 use crate::text::pieces::{put_decimal, put_hexadecimal};
 use arrayvec::ArrayVec;
-use frame_core::{Event, EventKind, Frame, ListFault, Sink, Source, encode, view_frame};
+use frame_core::{Event, EventKind, ListFault, Sink, Source, encode_view, view_frame};
 use std::alloc::{AllocError, Allocator};
 
-// The written form of a frame, where it fits.
-fn fitting<A: Allocator>(frame: &Frame<A>) -> Option<ArrayVec<u8, 1600>>
-    ensures { option_map (λ a. a.items) result ≡ fitting_form (Ok frame.now) }
-{
-    match encode(frame) {
-        Ok(form) => Some(form),
-        Err(_) => None,
-    }
-}
-
 // The written form of the frame that octets spell, where there is one and it fits.
-fn form_of<A: Allocator + Copy>(
-    alloc: A,
-    octets: &[u8],
-) -> Result<Option<ArrayVec<u8, 1600>>, AllocError>
-    ensures { IfOk result (λ form. option_map (λ a. a.items) form ≡ written_form octets.now) }
+fn form_of(octets: &[u8]) -> Option<ArrayVec<u8, 1600>>
+    ensures { option_map (λ a. a.items) result ≡ written_form octets.now }
 {
     match view_frame(octets) {
-        Ok(view) => match view.to_frame(alloc) {
-            Ok(frame) => Ok(fitting(&frame)),
-            Err(error) => Err(error),
-        },
-        Err(_) => Ok(None),
+        Ok(view) => encode_view(&view),
+        Err(_) => None,
     }
 }
 
@@ -67,8 +51,7 @@ fn put_frame_event<A: Allocator>(
 
 // Appends the line of a frame in its written form, or else of its own octets, and answers whether
 // it keeps these.
-fn put_rewritten<A: Allocator + Copy>(
-    alloc: A,
+fn put_rewritten<A: Allocator>(
     line: &mut Vec<u8, A>,
     moment: u64,
     octets: &[u8],
@@ -77,7 +60,7 @@ fn put_rewritten<A: Allocator + Copy>(
         ++ (codes "F " ++ decimal moment ++ codes " " ++ encode_lower (form_or (written_form octets.now) octets.now) ++ codes "\n")) }
     ensures kept { IfOk result (λ kept. kept ≡ not (is_some (written_form octets.now))) }
 {
-    match form_of(alloc, octets)? {
+    match form_of(octets) {
         Some(form) => {
             put_frame_event(line, moment, form.as_slice())?;
             Ok(false)
@@ -89,13 +72,10 @@ fn put_rewritten<A: Allocator + Copy>(
     }
 }
 
-/// What `rewrite` writes, with memory for the frames that it reads.
-#[derive(Drop)]
-struct RewriteText<A: Allocator> {
-    alloc: A,
-}
+/// What `rewrite` writes.
+struct RewriteText;
 
-impl<A: Allocator + Copy> EventText<A> for RewriteText<A> {
+impl<A: Allocator> EventText<A> for RewriteText {
     ghost text = { λ _. rewrite_text };
 
     fn put_event(
@@ -109,12 +89,7 @@ impl<A: Allocator + Copy> EventText<A> for RewriteText<A> {
                 put_clock(line, event.moment)?;
                 Ok(false)
             }
-            EventKind::Frame(octets) => put_rewritten(
-                self.alloc,
-                line,
-                event.moment,
-                octets.as_slice(),
-            ),
+            EventKind::Frame(octets) => put_rewritten(line, event.moment, octets.as_slice()),
         }
     }
 
@@ -144,6 +119,5 @@ pub fn rewrite<A: Allocator + Copy, R: Source, W: Sink>(
     ensures read_fault { result.0 ≡ Ending.ReadFault → R.ending result.1 ≡ InputEnd.Failed }
     ensures fault { result.0 ≡ Ending.WriteFault → W.failed writer.new ≡ true }
 {
-    let engine = RewriteText { alloc };
-    run(alloc, &engine, reader, writer)
+    run(alloc, &RewriteText, reader, writer)
 }

@@ -1,5 +1,5 @@
 //! The small texts of which lines are made. Each call appends to `out`.
-ghost use Rattle.std.specs.Prelude.{◌≡◌, ◌/◌, ◌%◌, ◌++◌, ◌∷◌, [], OnOk, slice_index};
+ghost use Rattle.std.specs.Prelude.{◌≡◌, ◌<◌, ◌*◌, ◌++◌, OnOk, length, slice_index, true};
 ghost use Rattle.std.specs.Fmt.{decimal, signed_decimal};
 ghost use Rattle.hex.specs.Hex.{encode_lower, lower_digits};
 ghost use Rattle.goose_cmd.specs.Pieces.{octet_bits, bits_text, quoted, boolean_text, four_digits, utc_text};
@@ -31,23 +31,45 @@ pub fn put_signed<A: Allocator>(out: &mut Vec<u8, A>, number: i64) -> Result<(),
     put_decimal(out, number.unsigned_abs())
 }
 
-// The two hexadecimal digits of an octet.
-fn hexadecimal_digits(octet: u8) -> [u8; 2]
-    ensures { result ≡ slice_index lower_digits (octet / 16) ∷ slice_index lower_digits (octet % 16) ∷ [] }
+// The hexadecimal digit of a number below 16.
+fn hexadecimal_digit(number: u8) -> u8
+    requires { number < 16 }
+    ensures { result ≡ slice_index lower_digits number }
 {
-    let digits = b"0123456789abcdef";
-    [digits[(octet / 16) as usize], digits[(octet % 16) as usize]]
+    if number < 10 {
+        b'0' + number
+    } else {
+        b'a' + (number - 10)
+    }
+}
+
+// Writes octets in lower case hexadecimal over these digits, if they are two for each octet, and answers whether. No
+// step hangs on another one, so that the compiler takes several at once.
+fn write_digits(octets: &[u8], digits: &mut [u8]) -> bool
+    ensures { result ≡ true → digits.new ≡ encode_lower octets.now }
+{
+    if digits.len() % 2 != 0 || digits.len() / 2 != octets.len() {
+        return false;
+    }
+    for at in 0..octets.len() {
+        digits[2 * at] = hexadecimal_digit(octets[at] / 16);
+        digits[2 * at + 1] = hexadecimal_digit(octets[at] % 16);
+    }
+    true
 }
 
 /// Appends octets in lower case hexadecimal.
-#[tactic(auto, using(crate::proofs::PieceLemmas::hexadecimal_steps))]
 pub fn put_hexadecimal<A: Allocator>(out: &mut Vec<u8, A>, octets: &[u8]) -> Result<(), AllocError>
     ensures { OnOk result (out.new.items ≡ out.old.items ++ encode_lower octets.now) }
 {
-    for octet in octets {
-        out.extend_from_slice(&hexadecimal_digits(*octet))?;
+    let start = out.len();
+    // A sum that no number holds is no size of a vector either.
+    out.resize(start.saturating_add(octets.len().saturating_mul(2)), 0)?;
+    if write_digits(octets, &mut out.as_mut_slice()[start..]) {
+        Ok(())
+    } else {
+        Err(AllocError)
     }
-    Ok(())
 }
 
 /// Appends a number in four hexadecimal digits.

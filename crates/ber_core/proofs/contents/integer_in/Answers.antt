@@ -11,14 +11,14 @@ returns-clause-found c =
     let h = c.args.header.now in
     let o = contents_of c.args.octets.now h in
     let reading = integer_at c.args.low c.args.high h.at h.contents_from o in
-    let is : c.integer_behind.result ≡ reading = search rules in
-    answer_found (λ n. n) reading (λ n. SpellsInteger c.args.low c.args.high n o) (integer_found c.args.low c.args.high h.at h.contents_from o) c.integer_behind.result (gives_same reading c.integer_behind.result is)
+    let is : c.integer_of.result ≡ reading = search rules in
+    answer_found (λ n. n) reading (λ n. SpellsInteger c.args.low c.args.high n o) (integer_found c.args.low c.args.high h.at h.contents_from o) c.integer_of.result (gives_same reading c.integer_of.result is)
 
 pub returns-clause-only : goal.returns-clause-only
 returns-clause-only c =
     let h = c.args.header.now in
     let o = contents_of c.args.octets.now h in
-    let is : c.integer_behind.result ≡ integer_at c.args.low c.args.high h.at h.contents_from o = search rules in
+    let is : c.integer_of.result ≡ integer_at c.args.low c.args.high h.at h.contents_from o = search rules in
     λ n s. is ∙ integer_again c.args.low c.args.high h.at h.contents_from o n s
 
 pub returns-clause-fault : goal.returns-clause-fault
@@ -26,12 +26,12 @@ returns-clause-fault c =
     let h = c.args.header.now in
     let o = contents_of c.args.octets.now h in
     let reading = integer_at c.args.low c.args.high h.at h.contents_from o in
-    let is : c.integer_behind.result ≡ reading = search rules in
-    answer_fault (λ n. n) reading (λ f. IntegerFault f c.args.low c.args.high h.at h.contents_from o) (integer_wrong c.args.low c.args.high h.at h.contents_from o) c.integer_behind.result (gives_same reading c.integer_behind.result is)
+    let is : c.integer_of.result ≡ reading = search rules in
+    answer_fault (λ n. n) reading (λ f. IntegerFault f c.args.low c.args.high h.at h.contents_from o) (integer_wrong c.args.low c.args.high h.at h.contents_from o) c.integer_of.result (gives_same reading c.integer_of.result is)
 
 pub returns-clause-fault_only : goal.returns-clause-fault_only
 returns-clause-fault_only c =
     let h = c.args.header.now in
     let o = contents_of c.args.octets.now h in
-    let is : c.integer_behind.result ≡ integer_at c.args.low c.args.high h.at h.contents_from o = search rules in
+    let is : c.integer_of.result ≡ integer_at c.args.low c.args.high h.at h.contents_from o = search rules in
     λ f wrong. is ∙ integer_wrong_again c.args.low c.args.high h.at h.contents_from o f wrong

@@ -1,7 +1,6 @@
-use Rattle.std.proofs.Common.{◌∙◌}
 use Rattle.goose_cmd.proofs.RewriteLemmas.{form_read}
 use Rattle.goose_cmd.proofs.engines.rewrite.form_of.Goals as goal
 
-pub returns-in-Ok-to_frame : goal.returns-in-Ok-to_frame
-returns-in-Ok-to_frame g c =
-    c.fitting.ensures ∙ form_read c.args.octets.now c.in-Ok.view c.in-Ok-to_frame.frame c.in-Ok.ensures.exact c.in-Ok-to_frame.ensures
+pub returns-in-Ok : goal.returns-in-Ok
+returns-in-Ok c =
+    form_read c.args.octets.now c.in-Ok.view (λ a. a.items) c.encode_view.result c.in-Ok.ensures.exact c.in-Ok.ensures.spellable c.encode_view.ensures.too_long c.encode_view.ensures.written

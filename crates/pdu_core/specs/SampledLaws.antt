@@ -1,0 +1,28 @@
+-- What the definitions of Sampled Values say together: octets have one reading, and what is written is spelled.
+use Rattle.std.specs.Prelude.{◌≡◌, ℕ, List}
+use Rattle.ber_core.specs.declared.fault.Fault.{Fault}
+use Rattle.ber_core.specs.Length.{AreOctets}
+use Rattle.pdu_core.specs.Sampled.{SpellsSv, SvFault}
+use Rattle.pdu_core.specs.SampledSpellable.{SpellableSv}
+use Rattle.pdu_core.specs.SampledWritten.{HasWrittenSv, written_sv}
+use Rattle.pdu_core.specs.declared.sampled.asdu.SvPdu.{SvPdu}
+
+-- no octets spell two PDUs
+abbrev pub SvPduIsOne : Type 0 → Type 0
+SvPduIsOne A = (o : List ℕ) (p q : SvPdu A) → SpellsSv p o → SpellsSv q o → p ≡ q
+
+-- octets that spell a PDU have no fault, wherever they stand
+abbrev pub SvPduOrFault : Type 0 → Type 0
+SvPduOrFault A = (o : List ℕ) (at : ℕ) (p : SvPdu A) (f : Fault) → SpellsSv p o → SvFault f at o → ⊥
+
+-- no octets have two first faults
+abbrev pub SvFaultIsOne : Type 0
+SvFaultIsOne = (o : List ℕ) (at : ℕ) (f g : Fault) → SvFault f at o → SvFault g at o → f ≡ g
+
+-- the written form of a PDU that has a spelling is one, unless its contents have more than 4294967295 octets
+abbrev pub WrittenSvIsSpelled : Type 0 → Type 0
+WrittenSvIsSpelled A = (p : SvPdu A) → SpellableSv p → HasWrittenSv p → SpellsSv p (written_sv p)
+
+-- a PDU that octets spell has a spelling in the sense of its fields: what is read can be written
+abbrev pub SpelledSvIsSpellable : Type 0 → Type 0
+SpelledSvIsSpellable A = (p : SvPdu A) (o : List ℕ) → AreOctets o → SpellsSv p o → SpellableSv p

@@ -1,0 +1,70 @@
+-- The ASDUs and the savPdu that reading gives, from the values of their fields.
+use Rattle.std.specs.Prelude.{◌≡◌, ℕ, Bool, true, false, List, [], ◌∷◌, Option, Some, None, Result, Ok, Err, get_or}
+use Rattle.ber_core.specs.Reading.{◌>>=◌}
+use Rattle.ber_core.specs.declared.fault.Fault.{Fault}
+use Rattle.mms_data.specs.declared.time.UtcTime.{UtcTime}
+use Rattle.pdu_core.specs.Contents.{Item, a_time, a_fixed, some_octets}
+use Rattle.pdu_core.specs.GooseValue.{text_if_there, text_of}
+use Rattle.pdu_core.specs.SampledReading.{asdus_at, sv_at}
+use Rattle.pdu_core.specs.declared.sampled.asdu.Asdu.{Asdu}
+use Rattle.pdu_core.specs.declared.sampled.asdu.SvPdu.{SvPdu}
+
+abbrev pub fixed_of : Option Item → ℕ
+fixed_of (Some (a_fixed size n)) = n
+fixed_of _ = 0
+
+abbrev pub fixed_if_there : Option Item → Option ℕ
+fixed_if_there (Some (a_fixed size n)) = Some n
+fixed_if_there _ = None
+
+abbrev pub time_if_there : Option Item → Option UtcTime
+time_if_there (Some (a_time t)) = Some t
+time_if_there _ = None
+
+abbrev pub octets_of : Option Item → List ℕ
+octets_of (Some (some_octets o)) = o
+octets_of _ = []
+
+abbrev pub octets_if_there : Option Item → Option (List ℕ)
+octets_if_there (Some (some_octets o)) = Some o
+octets_if_there _ = None
+
+-- the ASDU whose fields have these values
+abbrev pub asdu_of_items : {A : Type 0} → List (Option Item) → Asdu A
+asdu_of_items vs = record {
+  sv_id = text_of (get_or vs 0 None);
+  dat_set = text_if_there (get_or vs 1 None);
+  smp_cnt = fixed_of (get_or vs 2 None);
+  conf_rev = fixed_of (get_or vs 3 None);
+  refr_tm = time_if_there (get_or vs 4 None);
+  smp_synch = fixed_of (get_or vs 5 None);
+  smp_rate = fixed_if_there (get_or vs 6 None);
+  sample = octets_of (get_or vs 7 None);
+  smp_mod = octets_if_there (get_or vs 8 None);
+  field_89 = octets_if_there (get_or vs 9 None);
+}
+
+-- the ASDUs whose fields have these values
+abbrev pub asdus_of_items : {A : Type 0} → List (List (Option Item)) → List (Asdu A)
+asdus_of_items [] = []
+asdus_of_items (vs ∷ more) = asdu_of_items vs ∷ asdus_of_items more
+
+abbrev pub values_or_none : Result (List (List (Option Item))) Fault → List (List (Option Item))
+values_or_none (Ok vss) = vss
+values_or_none (Err f) = []
+
+-- the ASDUs that stand in the octets from p to e
+abbrev pub asdus_in : {A : Type 0} → List ℕ → ℕ → ℕ → List (Asdu A)
+asdus_in octets p e = asdus_of_items (values_or_none (asdus_at octets p e))
+
+abbrev pub are_read : Result (List (List (Option Item))) Fault → Bool
+are_read (Ok vss) = true
+are_read (Err f) = false
+
+-- ASDUs fill the octets from p to e
+abbrev pub AreAsdus : List ℕ → ℕ → ℕ → Type 0
+AreAsdus octets p e = are_read (asdus_at octets p e) ≡ true
+
+-- the PDU that fills the octets from p to e
+abbrev pub sv_value : {A : Type 0} → List ℕ → ℕ → ℕ → Result (SvPdu A) Fault
+sv_value octets p e = sv_at octets p e >>= λ vss. Ok (record { asdus = asdus_of_items vss })
