@@ -8,6 +8,7 @@ pub mod AsdusRead
 pub mod SvShown
 pub mod Shown
 pub mod OneReading
+pub mod Owned
 pub mod Read
 pub mod Appends
 pub mod AsduParts
