@@ -1,6 +1,6 @@
 // Frames, written in their one form.
 
-ghost use Rattle.std.specs.Prelude.{◌≡◌, ◌≤◌, ◌<◌, ◌+◌, ◌↔◌, ◌++◌, [], length, true, false, IfOk, IsOk, OnOk, Err, is_ok};
+ghost use Rattle.std.specs.Prelude.{◌≡◌, ◌≤◌, ◌<◌, ◌+◌, ◌↔◌, ◌++◌, [], length, IfOk, IsOk, OnOk, Err, is_ok};
 ghost use Rattle.arrayvec.specs.ArrayVec.{array_vec_len};
 ghost use Rattle.frame_core.specs.Apdu.{ether_type_of};
 ghost use Rattle.frame_core.specs.Frame.{SpellsFrame};

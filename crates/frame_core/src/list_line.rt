@@ -3,7 +3,7 @@ ghost use Rattle.std.specs.Prelude.{◌≡◌, true, ◌≤◌, ◌<◌, length,
 ghost use Rattle.std.specs.List.{list_all};
 ghost use Rattle.std.specs.Char.{is_ascii_digit};
 ghost use Rattle.std.specs.Str.Parse.{digits_value};
-ghost use Rattle.frame_core.specs.EventLine.{event_of, event_of_fields, fields, frame_at, is_moment, moment_of, octets_of};
+ghost use Rattle.frame_core.specs.EventLine.{event_of, event_of_fields, fields, frame_at, moment_of, octets_of};
 ghost use Rattle.frame_core.specs.LineAnswer.{Answers, fields_after};
 
 use crate::cutting::find;

@@ -1,11 +1,9 @@
 //! Writing an event as its line.
-ghost use Rattle.std.specs.Prelude.{◌≡◌, ℕ, ◌+◌, ◌*◌, ◌^◌, ◌<◌, ◌≤◌, ◌↔◌, false, length, ◌++◌, ◌∷◌, [], MatchResult, codes};
+ghost use Rattle.std.specs.Prelude.{◌≡◌, ◌+◌, ◌*◌, ◌^◌, ◌<◌, ◌≤◌, false, length, ◌++◌, ◌∷◌, [], codes};
 ghost use Rattle.std.specs.Fmt.{decimal};
-ghost use Rattle.std.specs.Io.KnownBytes.{Appends};
 ghost use Rattle.arrayvec.specs.ArrayVec.{array_vec_len};
 ghost use Rattle.hex.specs.Hex.{encode_lower};
-ghost use Rattle.frame_core.specs.Device.{AppendsFront};
-ghost use Rattle.frame_core.specs.EventLine.{event_text, kind_text, IsListable, IsListableKind};
+ghost use Rattle.frame_core.specs.EventLine.{event_text, IsListable};
 ghost use Rattle.frame_core.specs.WriteAnswer.{WritesListable, write_failed};
 ghost use Rattle.frame_core.specs.declared.event.EventKind.TheVariants.{Frame, Clock};
 

@@ -1,6 +1,6 @@
 // Frames, written in their one form from where they stand.
 
-ghost use Rattle.std.specs.Prelude.{◌≡◌, ◌≤◌, ◌<◌, ◌+◌, ◌↔◌, ◌++◌, [], length, None, IfSome, IsOk, OnOk};
+ghost use Rattle.std.specs.Prelude.{◌≡◌, ◌≤◌, ◌<◌, ◌+◌, ◌↔◌, [], length, None, IfSome, IsOk, OnOk};
 ghost use Rattle.arrayvec.specs.ArrayVec.{array_vec_len};
 ghost use Rattle.frame_core.specs.Frame.{apdu_of, frame_of};
 ghost use Rattle.frame_core.specs.Written.{IsTooLong, written_apdu, written_frame, written_head};

@@ -1,6 +1,6 @@
 //! The command line of the program `goose`. The parser of words, `clap`, is named here alone.
-ghost use Rattle.std.specs.Prelude.{◌≡◌, ◌≢◌, true, Some, [], ◌∷◌, IfOk, IfErr, List, option_and_then, slice_get};
-ghost use Rattle.clap.specs.Words.{Row, Text, app_of, kind_of, subcommand_rows_of, takes};
+ghost use Rattle.std.specs.Prelude.{◌≡◌, ◌≢◌, true, Some, [], IfOk, IfErr, List, option_and_then};
+ghost use Rattle.clap.specs.Words.{Row, app_of, kind_of, subcommand_rows_of, takes};
 ghost use Rattle.clap.specs.Walk.{texts};
 ghost use Rattle.clap.specs.declared.error.kind.ErrorKind.TheVariants.{OutOfMemory};
 ghost use Rattle.goose_cmd.specs.CommandLine.{AnswersTask, Asks, MayRefuse, command_line, faults, task_asked, task_of_words};

@@ -1,6 +1,6 @@
 // Whether octets spell members, with no memory.
 
-ghost use Rattle.std.specs.Prelude.{◌≡◌, ◌<◌, ◌≤◌, ◌+◌, ◌-◌, ◌*◌, ◌^◌, List, length, slice_range, Ok, Err, IfOk, IfErr};
+ghost use Rattle.std.specs.Prelude.{◌≡◌, ◌<◌, ◌≤◌, ◌+◌, ◌-◌, List, length, slice_range, Ok, Err, IfOk, IfErr};
 ghost use Rattle.ber_core.specs.declared.fault.Fault.{Fault};
 ghost use Rattle.mms_data.specs.Data.{Data};
 ghost use Rattle.mms_data.specs.Left.{less};

@@ -1,7 +1,7 @@
 // The contents of the kinds without members, judged and seen where they stand. Places: `at` is the
 // identifier's, `from` that of the first octet of contents.
 
-ghost use Rattle.std.specs.Prelude.{◌≡◌, ◌+◌, ◌<◌, ◌≤◌, ◌^◌, length, Ok, Err, IfOk};
+ghost use Rattle.std.specs.Prelude.{◌≡◌, ◌+◌, ◌<◌, ◌^◌, length, Ok, Err, IfOk};
 ghost use Rattle.ber_core.specs.ContentsReading.{integer_at};
 ghost use Rattle.ber_core.specs.Reading.{Gives};
 ghost use Rattle.mms_data.specs.Contents.{least_signed, most_signed};

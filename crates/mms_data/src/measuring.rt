@@ -1,6 +1,6 @@
 // How many octets written forms have, where they have no more than a limit.
 
-ghost use Rattle.std.specs.Prelude.{◌≡◌, ◌≤◌, ◌<◌, ◌+◌, ◌^◌, ◌-◌, ◌≤ℤ◌, ◌<ℤ◌, pos, negsuc, length, SomeIff};
+ghost use Rattle.std.specs.Prelude.{◌≡◌, ◌≤◌, ◌<◌, ◌+◌, ◌^◌, ◌-◌, length, SomeIff};
 ghost use Rattle.mms_data.specs.Value.{data_of};
 ghost use Rattle.mms_data.specs.Written.{header_size, written, written_all, written_contents};
 

@@ -1,6 +1,6 @@
 // Members of Data, seen where they stand, and in memory of their own.
 
-ghost use Rattle.std.specs.Prelude.{◌≡◌, ◌≤◌, List, length, slice_range, IfOk};
+ghost use Rattle.std.specs.Prelude.{◌≤◌, List, length, slice_range, IfOk};
 ghost use Rattle.ber_core.specs.declared.fault.Fault.{Fault};
 ghost use Rattle.mms_data.specs.Answers.{IfRefused, ReadsAs, Refuses};
 ghost use Rattle.mms_data.specs.Data.{Data};

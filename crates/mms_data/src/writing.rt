@@ -1,6 +1,6 @@
 //! Values, appended in their written form.
 
-ghost use Rattle.std.specs.Prelude.{◌≡◌, ◌≤◌, ◌<◌, ◌+◌, ◌^◌, ◌++◌, ◌↔◌, true, false, length, Err, SomeIff, IsOk, OnOk, OnErr};
+ghost use Rattle.std.specs.Prelude.{◌≡◌, ◌≤◌, ◌<◌, ◌+◌, ◌^◌, ◌++◌, ◌↔◌, length, Err, SomeIff, IsOk, OnOk, OnErr};
 ghost use Rattle.arrayvec.specs.ArrayVec.{array_vec_len};
 ghost use Rattle.mms_data.specs.Spellable.{AllSpellable, Spellable};
 ghost use Rattle.mms_data.specs.Value.{data_of};

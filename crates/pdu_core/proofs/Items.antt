@@ -13,7 +13,7 @@ use Rattle.std.specs.Prelude.{◌≤ℤ◌, ◌&&◌}
 use Rattle.byteorder.specs.Endian.{big_number}
 use Rattle.ber_core.specs.Faults.{fault_of}
 use Rattle.ber_core.specs.declared.fault.Cause.TheVariants as causes
-use Rattle.ber_core.specs.ContentsReading.{boolean_at, counted_at, integer_at, visible_at}
+use Rattle.ber_core.specs.ContentsReading.{boolean_at, counted_at, integer_at, visible_at, natural}
 use Rattle.ber_core.specs.Contents.{SpellsInteger, CountedFault, IsContents}
 use Rattle.ber_core.specs.Element.{contents_of}
 use Rattle.ber_core.specs.Reading.{◌>>=◌}
@@ -32,7 +32,7 @@ use Rattle.mms_data.proofs.Wrong.{all_wrong}
 use Rattle.mms_data.proofs.WrongAgain.{all_wrong_again}
 use Rattle.mms_data.proofs.UtcLaws.{utc_found, utc_again, utc_wrong, utc_wrong_again}
 use Rattle.pdu_core.specs.Contents.{Kind, text, number, flag, time, members, fixed, raw, few, Item, a_text, a_number, a_flag, a_time, some_members, a_fixed, some_octets, IsFew, SpellsFixed, FewFault, SpellsContents, ContentsFault, contents_grammar}
-use Rattle.pdu_core.specs.ContentsReading.{natural, number_in, members_in, fixed_in, few_at, item_at}
+use Rattle.pdu_core.specs.ContentsReading.{number_in, members_in, fixed_in, few_at, item_at}
 
 -- one step behind which nothing fails
 pub not_behind : {X Y : Type 0} (r : Result X Fault) (make : X → Y) (f : Fault) → (r >>= λ x. Ok (make x)) ≡ Err f → r ≡ Err f

@@ -1,5 +1,5 @@
 -- The test of a PDU of Sampled Values passes exactly where the PDU has a spelling.
-use Rattle.std.proofs.Common.{◌≡◌, ℕ, ◌^◌, true, leb, ltb, List, [], ◌∷◌, length, Option, Some, None, refl}
+use Rattle.std.proofs.Common.{◌≡◌, ℕ, ◌^◌, true, leb, List, [], ◌∷◌, length, Option, Some, None, refl}
 use Rattle.std.proofs.lemmas.Bool.{and_from, le-leb, leb-true, lt-ltb, ltb-true}
 use Rattle.std.specs.List.{AllByRecursion}
 use Rattle.std.specs.Prelude.{IfSome}

@@ -4,7 +4,7 @@ use Rattle.std.proofs.lemmas.Int.{ints}
 use Rattle.std.proofs.lemmas.List.{append-nil, length-append}
 use Rattle.std.specs.List.{AllByRecursion}
 use Rattle.std.specs.Prelude.{IfSome}
-use Rattle.ber_core.specs.Contents.{SpellsInteger}
+use Rattle.ber_core.specs.Contents.{SpellsInteger, AreVisible}
 use Rattle.ber_core.specs.Repeated.{SpellsEach}
 use Rattle.ber_core.specs.Written.{short_integer}
 use Rattle.ber_core.proofs.Shortest.{integer_shortest}
@@ -17,7 +17,6 @@ use Rattle.pdu_core.specs.Sampled.{a_count, asdu_grammar, items_of_each, some_as
 use Rattle.pdu_core.specs.SampledLaws.{WrittenSvIsSpelled}
 use Rattle.pdu_core.specs.SampledSpellable.{AreFew, IsAsduCount, IsFixed, SpellableAsdu}
 use Rattle.pdu_core.specs.SampledWritten.{asdu_contents, sv_contents, written_asdu, written_asdus}
-use Rattle.pdu_core.specs.Spellable.{IsText}
 use Rattle.pdu_core.specs.declared.sampled.asdu.Asdu.{Asdu}
 use Rattle.pdu_core.proofs.Sizes.{element_size}
 use Rattle.pdu_core.proofs.WrittenSpelled.{Suit, element_written, fields_written, one_octet}
@@ -51,7 +50,7 @@ asdu_suits a s = (one_octet 0x80 refl, s.sv_id, with_set a.dat_set s.dat_set) wh
   counts : Suit (drop 2 asdu_fields) (drop 2 (asdu_items a))
   counts = (one_octet 0x82 refl, (refl, s.smp_cnt), (one_octet 0x83 refl, (refl, s.conf_rev), with_time a.refr_tm s.refr_tm))
 
-  with_set : (t : Option (List ℕ)) → IfSome t IsText → Suit (drop 1 asdu_fields) (text_if t ∷ drop 2 (asdu_items a))
+  with_set : (t : Option (List ℕ)) → IfSome t AreVisible → Suit (drop 1 asdu_fields) (text_if t ∷ drop 2 (asdu_items a))
   with_set None h = (refl, counts)
   with_set (Some t) visible = (one_octet 0x81 refl, visible, counts)
 

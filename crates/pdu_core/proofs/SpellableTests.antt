@@ -4,9 +4,11 @@ use Rattle.std.proofs.lemmas.Bool.{ltb-true, lt-ltb}
 use Rattle.std.specs.Prelude.{IfSome}
 use Rattle.ber_core.specs.ContentsReading.{all_visible_at}
 use Rattle.ber_core.specs.declared.fault.Fault.{Fault}
+use Rattle.ber_core.specs.Contents.{AreVisible}
+use Rattle.mms_data.specs.Spellable.{is_text, is_text_read}
 use Rattle.mms_data.specs.Data.{items_of}
 use Rattle.mms_data.proofs.SpellableLaws.{all_is, all_true, moment_is, moment_true}
-use Rattle.pdu_core.specs.Spellable.{IsText, Spellable, are_numbers, are_texts, is_read, is_spelled, is_text, is_text_if}
+use Rattle.pdu_core.specs.Spellable.{Spellable, are_numbers, are_texts, is_spelled, is_text_if}
 use Rattle.pdu_core.specs.declared.goose.GoosePdu.{GoosePdu}
 use Rattle.pdu_core.proofs.Texts.{text_is, text_is_not}
 
@@ -14,23 +16,23 @@ pub both : (a b : Bool) → (a && b) ≡ true → (a ≡ true) × (b ≡ true)
 both true b e = (refl, e)
 both false b e = absurd (cc)
 
-pub test_text : (t : List ℕ) → is_text t ≡ true → IsText t
+pub test_text : (t : List ℕ) → is_text t ≡ true → AreVisible t
 test_text t e = in_case (all_visible_at 0 t) refl e where
-  in_case : (r : Result (Unit {0}) Fault) → all_visible_at 0 t ≡ r → is_read r ≡ true → IsText t
+  in_case : (r : Result (Unit {0}) Fault) → all_visible_at 0 t ≡ r → is_text_read r ≡ true → AreVisible t
   in_case (Ok u) is passes = text_is t u is
   in_case (Err f) is passes = absurd (cc)
 
-pub text_test : (t : List ℕ) → IsText t → is_text t ≡ true
+pub text_test : (t : List ℕ) → AreVisible t → is_text t ≡ true
 text_test t s = in_case (all_visible_at 0 t) refl where
-  in_case : (r : Result (Unit {0}) Fault) → all_visible_at 0 t ≡ r → is_read r ≡ true
+  in_case : (r : Result (Unit {0}) Fault) → all_visible_at 0 t ≡ r → is_text_read r ≡ true
   in_case (Ok u) is = refl
   in_case (Err f) is = absurd (text_is_not t f is s)
 
-pub test_text_if : (t : Option (List ℕ)) → is_text_if t ≡ true → IfSome t IsText
+pub test_text_if : (t : Option (List ℕ)) → is_text_if t ≡ true → IfSome t AreVisible
 test_text_if None e = tt
 test_text_if (Some t) e = test_text t e
 
-pub text_if_test : (t : Option (List ℕ)) → IfSome t IsText → is_text_if t ≡ true
+pub text_if_test : (t : Option (List ℕ)) → IfSome t AreVisible → is_text_if t ≡ true
 text_if_test None s = refl
 text_if_test (Some t) s = text_test t s
 

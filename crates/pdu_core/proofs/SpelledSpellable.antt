@@ -5,13 +5,14 @@ use Rattle.std.specs.Prelude.{IfSome}
 use Rattle.byteorder.specs.Numbers.{big_from-lt}
 use Rattle.ber_core.specs.Fields.{AbsenceMeans, Field, Presence, SpellsField, SpellsFields, always, default, optional}
 use Rattle.ber_core.specs.Length.{AreOctets, number as octets_number}
+use Rattle.ber_core.specs.Contents.{AreVisible}
 use Rattle.mms_data.proofs.SpelledSpellable.{back_octets, contents_octets, front_octets, items_spellable, simple_spellable}
 use Rattle.mms_data.specs.Data.{items_of, utc}
 use Rattle.pdu_core.specs.Contents.{Item, Kind, SpellsContents, SpellsFixed, a_fixed, a_flag, a_number, a_text, a_time, contents_grammar, few, fixed, flag, members, raw, some_members, some_octets, text, time}
 use Rattle.pdu_core.specs.Contents.{number as a_kind_of_number}
 use Rattle.pdu_core.specs.Goose.{SpellsGoose, goose_fields, goose_items, text_if}
 use Rattle.pdu_core.specs.SampledSpellable.{IsFixed}
-use Rattle.pdu_core.specs.Spellable.{IsText, Spellable}
+use Rattle.pdu_core.specs.Spellable.{Spellable}
 use Rattle.pdu_core.specs.declared.goose.GoosePdu.{GoosePdu}
 use Rattle.pdu_core.proofs.WrittenSpelled.{IsSpellable}
 
@@ -71,7 +72,7 @@ fields_spellable (g ∷ gs) (v ∷ vs) o d h (a, b, first, rest, parts) =
     let all : AreOctets (a ++ b) = subst AreOctets parts h in
     (field_spellable g v a d.0 (front_octets a b all) first, fields_spellable gs vs b d.1 (back_octets a b all) rest)
 
-pub text_there : (t : Option (List ℕ)) → There text (text_if t) → IfSome t IsText
+pub text_there : (t : Option (List ℕ)) → There text (text_if t) → IfSome t AreVisible
 text_there None h = tt
 text_there (Some t) h = h
 

@@ -11,6 +11,7 @@ use Rattle.ber_core.specs.Fields.{Field, AbsenceMeans, SpellsFields}
 use Rattle.ber_core.specs.Length.{number}
 use Rattle.ber_core.specs.Written.{short_integer, short_length}
 use Rattle.ber_core.proofs.Shortest.{integer_shortest, length_shortest}
+use Rattle.ber_core.specs.Contents.{AreVisible}
 use Rattle.mms_data.specs.Utc.{SpellsUtc}
 use Rattle.mms_data.specs.declared.time.UtcTime.{UtcTime}
 use Rattle.mms_data.proofs.WrittenSpelled.{all_written_are_spelled}
@@ -19,7 +20,7 @@ use Rattle.pdu_core.specs.Contents.{number as a_kind_of_number}
 use Rattle.pdu_core.specs.Goose.{goose_fields, goose_items, text_if}
 use Rattle.pdu_core.specs.Laws.{WrittenIsSpelled}
 use Rattle.pdu_core.specs.SampledSpellable.{AreFew, IsFixed}
-use Rattle.pdu_core.specs.Spellable.{IsNumber, IsText, Spellable}
+use Rattle.pdu_core.specs.Spellable.{IsNumber, Spellable}
 use Rattle.mms_data.specs.Spellable.{AllSpellable, IsTime}
 use Rattle.mms_data.specs.Written.{element, written_time}
 use Rattle.pdu_core.specs.Written.{written_contents, written_fields, written_item}
@@ -48,7 +49,7 @@ fixed_written size n small = (length-bytes_high_first size n, number_back size n
 
 -- the value is of the kind, and has a spelling
 abbrev pub IsSpellable : Kind → Item → Type 0
-IsSpellable text (a_text t) = IsText t
+IsSpellable text (a_text t) = AreVisible t
 IsSpellable a_kind_of_number (a_number n) = IsNumber n
 IsSpellable flag (a_flag b) = Unit {0}
 IsSpellable time (a_time t) = IsTime t
@@ -118,7 +119,7 @@ rest_suits p s = (
 
 goose_suits : {A : Type 0} (p : GoosePdu A) → Spellable p → Suit goose_fields (goose_items p)
 goose_suits p s = (one_octet 0x80 refl, s.gocb_ref, (one_octet 0x81 refl, s.live, (one_octet 0x82 refl, s.dat_set, with_id p.go_id s.go_id))) where
-  with_id : (id : Option (List ℕ)) → IfSome id IsText → Suit (drop 3 goose_fields) (text_if id ∷ drop 4 (goose_items p))
+  with_id : (id : Option (List ℕ)) → IfSome id AreVisible → Suit (drop 3 goose_fields) (text_if id ∷ drop 4 (goose_items p))
   with_id None t = (refl, rest_suits p s)
   with_id (Some t) visible = (one_octet 0x83 refl, visible, rest_suits p s)
 

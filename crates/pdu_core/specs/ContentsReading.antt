@@ -1,7 +1,7 @@
 -- Reading the contents of a field, by their kind.
-use Rattle.std.specs.Prelude.{◌&&◌, ℕ, ℤ, pos, negsuc, ◌^◌, ◌+◌, ◌-◌, List, length, nat_le, Result, Ok, if◌then◌else◌}
+use Rattle.std.specs.Prelude.{◌&&◌, ℕ, pos, ◌^◌, ◌+◌, ◌-◌, List, length, nat_le, Result, Ok, if◌then◌else◌}
 use Rattle.byteorder.specs.Endian.{big_number}
-use Rattle.ber_core.specs.ContentsReading.{boolean_at, counted_at, integer_at, visible_at}
+use Rattle.ber_core.specs.ContentsReading.{boolean_at, counted_at, integer_at, visible_at, natural}
 use Rattle.ber_core.specs.Element.{contents_of}
 use Rattle.ber_core.specs.FieldReading.{Read}
 use Rattle.ber_core.specs.Reading.{refused, ◌>>=◌}
@@ -12,10 +12,6 @@ use Rattle.mms_data.specs.Data.{Data}
 use Rattle.mms_data.specs.Reading.{members_at}
 use Rattle.mms_data.specs.Utc.{utc_at}
 use Rattle.pdu_core.specs.Contents.{Kind, text, number, flag, time, members, fixed, raw, few, Item, a_text, a_number, a_flag, a_time, some_members, a_fixed, some_octets}
-
-abbrev pub natural : ℤ → ℕ
-natural (pos n) = n
-natural (negsuc n) = 0
 
 -- the number of contents
 unfoldable pub number_in : List ℕ → Header → Result ℕ Fault

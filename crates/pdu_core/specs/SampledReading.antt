@@ -1,7 +1,7 @@
 -- Reading a savPdu from left to right, with the first fault that is met. Laws in both directions tie it to the
 -- spellings and the faults.
 use Rattle.std.specs.Prelude.{◌==◌, ℕ, pos, List, [], ◌∷◌, length, Option, Some, Result, Ok, if◌then◌else◌}
-use Rattle.ber_core.specs.ContentsReading.{integer_at}
+use Rattle.ber_core.specs.ContentsReading.{integer_at, natural}
 use Rattle.ber_core.specs.Element.{contents_of}
 use Rattle.ber_core.specs.FieldReading.{Read, ends_at, fields_at, required_at}
 use Rattle.ber_core.specs.Reading.{refused, ◌>>=◌}
@@ -11,7 +11,7 @@ use Rattle.ber_core.specs.declared.fault.Fault.{Fault}
 use Rattle.ber_core.specs.declared.fault.Cause.TheVariants as causes
 use Rattle.pdu_core.specs.Asdu.{asdu_fields}
 use Rattle.pdu_core.specs.Contents.{Item}
-use Rattle.pdu_core.specs.ContentsReading.{item_at, natural}
+use Rattle.pdu_core.specs.ContentsReading.{item_at}
 use Rattle.pdu_core.specs.Sampled.{SvKind, asdu_count, asdus, SvItem, a_count, some_asdus, sv_fields}
 
 -- the values of the fields of the ASDU behind a header

@@ -1,10 +1,11 @@
 -- Which PDUs of Sampled Values have a spelling.
 use Rattle.std.specs.Prelude.{◌<◌, ◌≤◌, ◌^◌, ◌&&◌, ℕ, Bool, true, nat_le, nat_lt, List, [], ◌∷◌, length, Option, Some, None, IfSome}
 use Rattle.std.specs.List.{AllByRecursion}
-use Rattle.mms_data.specs.Spellable.{IsTime, is_time}
+use Rattle.ber_core.specs.Contents.{AreVisible}
+use Rattle.mms_data.specs.Spellable.{IsTime, is_time, is_text}
 use Rattle.mms_data.specs.declared.time.UtcTime.{UtcTime}
 use Rattle.pdu_core.specs.Contents.{IsFew}
-use Rattle.pdu_core.specs.Spellable.{IsText, is_text, is_text_if}
+use Rattle.pdu_core.specs.Spellable.{is_text_if}
 use Rattle.pdu_core.specs.declared.sampled.asdu.Asdu.{Asdu}
 use Rattle.pdu_core.specs.declared.sampled.asdu.SvPdu.{SvPdu}
 
@@ -18,8 +19,8 @@ AreFew o = IsFew (length o)
 
 -- each field of the ASDU has a spelling
 pub record SpellableAsdu {A : Type 0} (a : Asdu A) : Type 0 where
-  pub sv_id : IsText a.sv_id
-  pub dat_set : IfSome a.dat_set IsText
+  pub sv_id : AreVisible a.sv_id
+  pub dat_set : IfSome a.dat_set AreVisible
   pub smp_cnt : IsFixed 2 a.smp_cnt
   pub conf_rev : IsFixed 4 a.conf_rev
   pub refr_tm : IfSome a.refr_tm IsTime

@@ -1,15 +1,8 @@
 -- Which PDUs have a spelling.
-use Rattle.std.specs.Prelude.{◌<◌, ◌^◌, ◌&&◌, ℕ, Bool, true, false, nat_lt, List, length, Option, Some, None, IfSome, Result, Ok, Err}
-use Rattle.std.specs.List.{AllByRecursion}
-use Rattle.ber_core.specs.Contents.{IsVisible}
-use Rattle.ber_core.specs.ContentsReading.{all_visible_at}
-use Rattle.ber_core.specs.declared.fault.Fault.{Fault}
-use Rattle.mms_data.specs.Spellable.{AllSpellable, IsTime, all_spelled, is_time}
+use Rattle.std.specs.Prelude.{◌<◌, ◌^◌, ◌&&◌, ℕ, Bool, true, nat_lt, List, length, Option, Some, None, IfSome}
+use Rattle.ber_core.specs.Contents.{AreVisible}
+use Rattle.mms_data.specs.Spellable.{AllSpellable, IsTime, all_spelled, is_time, is_text}
 use Rattle.pdu_core.specs.declared.goose.GoosePdu.{GoosePdu}
-
--- each octet of the text is visible
-abbrev pub IsText : List ℕ → Type 0
-IsText t = AllByRecursion IsVisible t
 
 -- profile: a number is at most 4294967295
 abbrev pub IsNumber : ℕ → Type 0
@@ -17,10 +10,10 @@ IsNumber n = n < 2 ^ 32
 
 -- each field of the PDU has a spelling
 pub record Spellable {A : Type 0} (p : GoosePdu A) : Type 0 where
-  pub gocb_ref : IsText p.gocb_ref
+  pub gocb_ref : AreVisible p.gocb_ref
   pub live : IsNumber p.live
-  pub dat_set : IsText p.dat_set
-  pub go_id : IfSome p.go_id IsText
+  pub dat_set : AreVisible p.dat_set
+  pub go_id : IfSome p.go_id AreVisible
   pub t : IsTime p.t
   pub st_num : IsNumber p.st_num
   pub sq_num : IsNumber p.sq_num
@@ -29,13 +22,6 @@ pub record Spellable {A : Type 0} (p : GoosePdu A) : Type 0 where
   pub members : AllSpellable p.members 1
 
 -- ---- the same as a test
-
-abbrev pub is_read : Result (Unit {0}) Fault → Bool
-is_read (Ok u) = true
-is_read (Err f) = false
-
-abbrev pub is_text : List ℕ → Bool
-is_text t = is_read (all_visible_at 0 t)
 
 abbrev pub is_text_if : Option (List ℕ) → Bool
 is_text_if None = true

@@ -1,7 +1,6 @@
 // The fields of a PDU, kind by kind: the value of each, and the place behind it.
 
-ghost use Rattle.std.specs.Prelude.{◌≡◌, ◌<◌, ◌≤◌, length, IfOk, IfSome, Some, None, false};
-ghost use Rattle.ber_core.specs.Element.{contents_of};
+ghost use Rattle.std.specs.Prelude.{◌≡◌, ◌<◌, ◌≤◌, length, IfOk, Some, None, false};
 ghost use Rattle.ber_core.specs.FieldReading.{field_as};
 ghost use Rattle.ber_core.specs.Fields.{always, optional, default};
 ghost use Rattle.ber_core.specs.Reading.{Gives};

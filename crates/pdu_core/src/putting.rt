@@ -8,7 +8,6 @@ ghost use Rattle.mms_data.specs.Spellable.{AllSpellable};
 ghost use Rattle.pdu_core.specs.Contents.{a_flag, a_number, a_text, a_time, some_members};
 ghost use Rattle.pdu_core.specs.Goose.{text_if};
 ghost use Rattle.pdu_core.specs.Views.{octets_if};
-ghost use Rattle.mms_data.specs.Written.{written_time};
 ghost use Rattle.pdu_core.specs.Written.{written_field};
 
 use crate::elements::put_element;

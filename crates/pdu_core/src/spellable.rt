@@ -1,7 +1,8 @@
 // Whether a PDU has a spelling.
 
 ghost use Rattle.std.specs.Prelude.{◌↔◌, ◌<◌, ◌^◌, IfSome, IsTrue};
-ghost use Rattle.pdu_core.specs.Spellable.{IsText, Spellable};
+ghost use Rattle.ber_core.specs.Contents.{AreVisible};
+ghost use Rattle.pdu_core.specs.Spellable.{Spellable};
 
 use crate::goose::GoosePdu;
 use ber_core::contents::check_visible;
@@ -10,7 +11,7 @@ use std::alloc::Allocator;
 
 // Whether the octets are all visible.
 pub(crate) fn is_visible(text: &[u8]) -> bool
-    ensures { IsTrue result ↔ IsText text.now }
+    ensures { IsTrue result ↔ AreVisible text.now }
 {
     match check_visible(text, 0) {
         Ok(()) => true,
@@ -20,7 +21,7 @@ pub(crate) fn is_visible(text: &[u8]) -> bool
 
 // The same of octets that may be absent.
 pub(crate) fn is_visible_if<A: Allocator>(text: &Option<Octets<A>>) -> bool
-    ensures { IsTrue result ↔ IfSome text.now IsText }
+    ensures { IsTrue result ↔ IfSome text.now AreVisible }
 {
     match text {
         Some(text) => is_visible(text.as_slice()),

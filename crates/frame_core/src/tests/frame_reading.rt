@@ -1,6 +1,5 @@
 //! Frames that are read, and the first fault of those that are not.
 
-ghost use Rattle.std.specs.Prelude.{◌≤◌, length};
 
 use crate::tests::frames::{
     FRAME, LONG, MISSING, TAGGED, changed, changed_twice, fault, read, seen, with_one_more,

@@ -1,6 +1,5 @@
 //! Frames of Sampled Values that are read, and the first fault of those that are not.
 
-ghost use Rattle.std.specs.Prelude.{◌≤◌, length};
 
 use crate::tests::frames::{changed, changed_twice, fault, read, seen};
 use crate::tests::sampled_frames::{SAMPLED, TAGGED_SAMPLED, changed_sampled, of_eight};

@@ -6,7 +6,7 @@ ghost use Rattle.frame_core.specs.Device.{Gives};
 ghost use Rattle.frame_core.specs.EventReader.{Answer, AnswersEvent};
 ghost use Rattle.frame_core.specs.ListReader.{list_stream};
 ghost use Rattle.goose_cmd.specs.EngineText.{Text, Writes, ending_of};
-ghost use Rattle.goose_cmd.specs.EngineStep.{StepWrites, Breaks};
+ghost use Rattle.goose_cmd.specs.EngineStep.{StepWrites};
 
 use crate::ending::Ending;
 use frame_core::{Event, ListCause, ListError, ListFault, ListReader, Sink, Source, put_all};

@@ -1,6 +1,6 @@
 // Reading a savPdu into memory of its own.
 
-ghost use Rattle.std.specs.Prelude.{◌≡◌, ◌≤◌, length, slice_range, IfOk};
+ghost use Rattle.std.specs.Prelude.{◌≤◌, length, slice_range, IfOk};
 ghost use Rattle.ber_core.specs.declared.fault.Fault.{Fault};
 ghost use Rattle.mms_data.specs.Answers.{IfRefused, Reads, Refuses};
 ghost use Rattle.pdu_core.specs.Sampled.{SpellsSv, SvFault};

@@ -1,4 +1,3 @@
-use Rattle.std.proofs.Common.{ℕ}
 use Rattle.mms_data.proofs.tests.round_trips.+nested.Given as goal
 
 -- each level has fewer levels below it
