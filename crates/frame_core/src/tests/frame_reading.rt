@@ -100,11 +100,9 @@ fn what_is_left_of_a_trailer_is_kept(rt: HostRuntime) -> Result<(), Fail> {
 fn a_cut_may_fit_the_field_length(rt: HostRuntime) {
     for size in 24..67 {
         let frame = changed(17, (size - 14) as u8);
-        assert_eq!(rt; seen(&frame[..size]), fault(23, Cause::LengthPastEnd));
-        assert_eq!(rt;
-            read(rt.alloc(), &frame[..size]),
-            fault(23, Cause::LengthPastEnd)
-        );
+        let cut = &frame[..size];
+        assert_eq!(rt; seen(cut), fault(23, Cause::LengthPastEnd));
+        assert_eq!(rt; read(rt.alloc(), cut), fault(23, Cause::LengthPastEnd));
     }
 }
 
@@ -174,8 +172,9 @@ fn a_field_may_be_missing(rt: HostRuntime) {
 #[test]
 fn octets_may_end_inside_a_length(rt: HostRuntime) {
     let frame = changed_twice(17, 0x0a, 23, 0x82);
-    assert_eq!(rt; seen(&frame[..24]), fault(24, Cause::Ends));
-    assert_eq!(rt; read(rt.alloc(), &frame[..24]), fault(24, Cause::Ends));
+    let cut = &frame[..24];
+    assert_eq!(rt; seen(cut), fault(24, Cause::Ends));
+    assert_eq!(rt; read(rt.alloc(), cut), fault(24, Cause::Ends));
 }
 
 #[test]

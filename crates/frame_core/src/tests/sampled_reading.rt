@@ -81,11 +81,9 @@ fn cut_sampled_values_are_truncated(rt: HostRuntime) {
 fn eight_cut_asdus_are_truncated(rt: HostRuntime) {
     let eight = of_eight();
     for size in 0..231 {
-        assert_eq!(rt; seen(&eight[..size]), fault(size, Cause::Truncated));
-        assert_eq!(rt;
-            read(rt.alloc(), &eight[..size]),
-            fault(size, Cause::Truncated)
-        );
+        let cut = &eight[..size];
+        assert_eq!(rt; seen(cut), fault(size, Cause::Truncated));
+        assert_eq!(rt; read(rt.alloc(), cut), fault(size, Cause::Truncated));
     }
 }
 
