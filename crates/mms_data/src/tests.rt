@@ -5,10 +5,10 @@ mod round_trips;
 
 use crate::{
     Octets, PutFault, ReadFault, UtcTime, Value, ValueList, View, are_spellable, check_members,
-    is_spellable, laws, members, put_value, put_values, read_members, spelled_length,
+    is_spellable, laws, members, put_value, put_values, read_members, spelled_length, utc,
 };
 use arrayvec::ArrayVec;
-use ber_core::{Cause, Fault};
+use ber_core::{Cause, Fault, header};
 use std::alloc::Allocator;
 use std::test::Fail;
 
@@ -176,6 +176,18 @@ fn a_fraction_over_a_second_is_not_written(rt: HostRuntime) -> Result<(), Fail> 
 }
 
 #[test]
+fn a_time_is_read(rt: HostRuntime) -> Result<(), Fail> {
+    let octets = [0x91, 8, 0, 0, 0, 1, 0x80, 0, 0, 0x0a];
+    let time = UtcTime {
+        seconds: 1,
+        fraction: 0x80_0000,
+        quality: 0x0a,
+    };
+    assert_eq!(rt; utc::utc_time(&octets, &header(&octets, 0, 10)?), Ok(time));
+    Ok(())
+}
+
+#[test]
 fn a_written_form_of_65535_octets(rt: HostRuntime) -> Result<(), Fail> {
     let fits = Value::Octets(Octets::from(vec![in rt.alloc(); 0; 65531]?));
     assert_eq!(rt; spelled_length(&fits), Some(65535));
@@ -188,5 +200,6 @@ fn a_written_form_of_65535_octets(rt: HostRuntime) -> Result<(), Fail> {
 fn laws_hold(rt: HostRuntime) {
     laws::one_reading();
     laws::written_is_spelled();
+    laws::spelled_is_spellable();
     assert!(rt; count(&[]) == Ok(0));
 }
