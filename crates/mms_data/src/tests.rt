@@ -9,7 +9,7 @@ use crate::{
 };
 use arrayvec::ArrayVec;
 use ber_core::{Cause, Fault, header};
-use std::alloc::Allocator;
+use std::alloc::{AllocError, Allocator};
 use std::test::Fail;
 
 // Bits of which three are unused, and set.
@@ -184,6 +184,19 @@ fn a_time_is_read(rt: HostRuntime) -> Result<(), Fail> {
         quality: 0x0a,
     };
     assert_eq!(rt; utc::utc_time(&octets, &header(&octets, 0, 10)?), Ok(time));
+    Ok(())
+}
+
+// Whether a copy of these octets holds as many.
+fn are_copied<A: Allocator + Copy>(alloc: A, octets: &Octets<A>) -> Result<bool, AllocError> {
+    let copy = octets.try_copy(alloc)?.into_vec();
+    Ok(copy.as_slice() == octets.as_slice())
+}
+
+#[test]
+fn octets_are_copied_and_given_back(rt: HostRuntime) -> Result<(), Fail> {
+    let octets = Octets::from(vec![in rt.alloc(); 1, 2]?);
+    assert!(rt; are_copied(rt.alloc(), &octets)?);
     Ok(())
 }
 
