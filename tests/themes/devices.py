@@ -112,6 +112,10 @@ def reading():
         yield Pieces(f"input in pieces of {size}", ["show"], failing * 3 + b"C 7", text(
             [f"{n} {WORKED_LINE}" for n in (1, 2, 3)] + ["4 clock 7"]), size)
 
+    many = failing * 200
+    for size in (1, 2, 3, 7, 4096, 8192):
+        yield Pieces(f"a long list, rewritten from pieces of {size}", ["rewrite"], many, many, size)
+
 
 def writing():
     for command in ("show", "rewrite"):

@@ -1,6 +1,6 @@
 """Addresses, tag, reserved fields and trailer are shown and kept."""
-from frames import WORKED, WORKED_LINE, framed, put, with_fields
-from harness import rewrite, show
+from frames import SAMPLED, WORKED, WORKED_LINE, framed, put, with_fields
+from harness import Case, listed, rewrite, show
 
 APDU = WORKED[22:]
 
@@ -33,7 +33,22 @@ def frames():
     yield "a time", time, WORKED_LINE.replace("t=0000000000000000", "t=6553f1008000000a")
 
 
+def never_judged():
+    """A name, and frames in written form in which an octet of the envelope that is never judged has each value."""
+    for sort, frame in (("GOOSE", WORKED), ("Sampled Values", SAMPLED)):
+        tagged = framed(frame[22:], tag=b"\x81\x00\x80\x04", trailer=b"\1\2", envelope=frame[:22])
+        for name, places in (
+            ("destination", range(6)), ("source", range(6, 12)), ("tag control", range(14, 16)), ("APPID", range(18, 20)),
+            ("reserved fields", range(22, 26)), ("trailer", range(len(tagged) - 2, len(tagged))),
+        ):
+            yield f"{name} of {sort}", [put(tagged, **{f"at{at}": octet}) for at in places for octet in range(256)]
+        sizes = [1, 2, 3, 46, 255, 1600 - len(frame)]
+        yield f"trailer's size of {sort}", [frame + (bytes(range(256)) * 7)[:size] for size in sizes]
+
+
 def cases():
     for name, frame, line in frames():
         yield show(name, frame, line)
         yield rewrite(f"{name}, rewritten", frame, frame)
+    for name, kept in never_judged():
+        yield Case(f"any {name} is kept", ["rewrite"], listed(*kept), listed(*kept))

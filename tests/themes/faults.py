@@ -50,6 +50,8 @@ def each_cause():
     yield refuse("a Length of seven", with_length(WORKED, 7), 16, "LengthField")
     yield refuse("a Length of 1,501", with_length(WORKED, 1501), 16, "LengthField")
     yield refuse("a Length past the frame", with_length(WORKED, 0x36), 67, "Truncated")
+    yield refuse("a Length before the APDU's end", with_length(WORKED, 0x34), 23, "LengthPastEnd")
+    yield refuse("a length in five following octets", framed(b"\x61\x85\0\0\0\0\x2b" + WORKED[24:]), 23, "LengthForm")
 
 
 def levels():

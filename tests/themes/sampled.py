@@ -92,6 +92,8 @@ def faults_of_the_apdu():
     yield "the ASDUs past the APDU", put(SAMPLED, at23=0x1D), 28, "LengthPastEnd"
     yield "octets behind the ASDUs", inside(SAMPLED[24:] + b"\x1f"), 54, "ExtraOctets"
     yield "octets behind the APDU", framed(SAMPLED[22:] + b"\0", envelope=SAMPLED_ENVELOPE), 54, "ExtraOctets"
+    yield "a Length past the frame", with_length(SAMPLED, 0x29), 54, "Truncated"
+    yield "a Length before the APDU's end", with_length(SAMPLED, 0x27), 23, "LengthPastEnd"
     yield "octets behind the APDU before another count", put(with_length(SAMPLED, 0x29), at26=2) + b"\0", 54, "ExtraOctets"
 
 
@@ -153,7 +155,8 @@ def cases():
         yield rewrite(f"{name}, rewritten", frame, SAMPLED) if is_read else unread(f"{name}, not rewritten", frame)
     for name, frame, place, cause in [*faults_of_the_apdu(), *faults_of_the_asdus(), *faults_of_fields()]:
         yield refuse(name, frame, place, cause) if is_read else unread(name, frame)
-    cuts = [SAMPLED[:size] for size in range(1, 54)]
-    lines = [f"{size} fault {size if is_read or size < 14 else 12} {cause}" for size in range(1, 54)
-             for cause in ["Truncated" if is_read or size < 14 else "EtherType"]]
-    yield Case("each cut", ["show"], listed(*cuts), text(lines))
+    for name, frame in (("each cut", SAMPLED), ("each cut of eight ASDUs", with_asdus(*[asdu()] * 8))):
+        sizes = range(1, len(frame))
+        lines = [f"{size} fault {size if is_read or size < 14 else 12} {cause}" for size in sizes
+                 for cause in ["Truncated" if is_read or size < 14 else "EtherType"]]
+        yield Case(name, ["show"], listed(*[frame[:size] for size in sizes]), text(lines))

@@ -5,11 +5,11 @@ mod round_trips;
 
 use crate::{
     Octets, PutFault, ReadFault, UtcTime, Value, ValueList, View, are_spellable, check_members,
-    is_spellable, laws, members, put_value, put_values, read_members, spelled_length,
+    is_spellable, laws, members, put_value, put_values, read_members, spelled_length, utc,
 };
 use arrayvec::ArrayVec;
-use ber_core::{Cause, Fault};
-use std::alloc::Allocator;
+use ber_core::{Cause, Fault, header};
+use std::alloc::{AllocError, Allocator};
 use std::test::Fail;
 
 // Bits of which three are unused, and set.
@@ -176,6 +176,31 @@ fn a_fraction_over_a_second_is_not_written(rt: HostRuntime) -> Result<(), Fail> 
 }
 
 #[test]
+fn a_time_is_read(rt: HostRuntime) -> Result<(), Fail> {
+    let octets = [0x91, 8, 0, 0, 0, 1, 0x80, 0, 0, 0x0a];
+    let time = UtcTime {
+        seconds: 1,
+        fraction: 0x80_0000,
+        quality: 0x0a,
+    };
+    assert_eq!(rt; utc::utc_time(&octets, &header(&octets, 0, 10)?), Ok(time));
+    Ok(())
+}
+
+// Whether a copy of these octets holds as many.
+fn are_copied<A: Allocator + Copy>(alloc: A, octets: &Octets<A>) -> Result<bool, AllocError> {
+    let copy = octets.try_copy(alloc)?.into_vec();
+    Ok(copy.as_slice() == octets.as_slice())
+}
+
+#[test]
+fn octets_are_copied_and_given_back(rt: HostRuntime) -> Result<(), Fail> {
+    let octets = Octets::from(vec![in rt.alloc(); 1, 2]?);
+    assert!(rt; are_copied(rt.alloc(), &octets)?);
+    Ok(())
+}
+
+#[test]
 fn a_written_form_of_65535_octets(rt: HostRuntime) -> Result<(), Fail> {
     let fits = Value::Octets(Octets::from(vec![in rt.alloc(); 0; 65531]?));
     assert_eq!(rt; spelled_length(&fits), Some(65535));
@@ -188,5 +213,6 @@ fn a_written_form_of_65535_octets(rt: HostRuntime) -> Result<(), Fail> {
 fn laws_hold(rt: HostRuntime) {
     laws::one_reading();
     laws::written_is_spelled();
+    laws::spelled_is_spellable();
     assert!(rt; count(&[]) == Ok(0));
 }

@@ -1,5 +1,6 @@
 // Outside examples: a recorded frame of GOOSE whose octets are changed one at a time.
 
+mod goose_unit;
 mod refused_memory;
 mod sampled;
 mod sampled_faults;

@@ -55,6 +55,7 @@ fn visible_texts(rt: HostRuntime) -> Result<(), Fail> {
     let delete = [0x80, 3, 0x41, 0x7f, 0x1f];
     let at = header(&delete, 0, 5)?;
     assert_eq!(rt; visible(&delete, &at).err(), Some(Cause::NotVisible.at(3)));
+    assert_eq!(rt; check_visible(&[0x20, 0x7e], 7), Ok(()));
     assert_eq!(rt;
         check_visible(&[0x41, 0x1f], 7),
         Err(Cause::NotVisible.at(8))

@@ -22,6 +22,13 @@ fn fields_that_may_be_absent(rt: HostRuntime) {
 
 #[test]
 fn fields_that_are_always_there(rt: HostRuntime) {
+    let found = Header {
+        at: 0,
+        identifier: 0x83,
+        contents_from: 2,
+        contents_to: 3,
+    };
+    assert_eq!(rt; required(&SEQUENCE, 0, 6, 0x83), Ok(found));
     let fault = |place, cause: Cause| Err(cause.at(place));
     assert_eq!(rt;
         required(&SEQUENCE, 0, 6, 0x84),

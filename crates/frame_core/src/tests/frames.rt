@@ -67,6 +67,24 @@ pub fn with_one_more(size: u8) -> [u8; 68] {
     frame
 }
 
+/// Sixteen arrays inside one another, and a boolean inside the last.
+const DEEP: [u8; 35] = [
+    0xa1, 0x21, 0xa1, 0x1f, 0xa1, 0x1d, 0xa1, 0x1b, 0xa1, 0x19, 0xa1, 0x17, 0xa1, 0x15, 0xa1, 0x13,
+    0xa1, 0x11, 0xa1, 0x0f, 0xa1, 0x0d, 0xa1, 0x0b, 0xa1, 0x09, 0xa1, 0x07, 0xa1, 0x05, 0xa1, 0x03,
+    0x83, 0x01, 0xff,
+];
+
+/// The frame with the sixteen arrays for its member.
+pub fn with_deep_member() -> [u8; 99] {
+    let mut frame = [0; 99];
+    frame[..64].copy_from_slice(&FRAME[..64]);
+    frame[64..].copy_from_slice(&DEEP);
+    frame[17] = 0x55;
+    frame[23] = 0x4b;
+    frame[63] = 0x23;
+    frame
+}
+
 /// The fault of the octets, by the view, if they have one.
 pub fn seen(octets: &[u8]) -> Result<(), Fault> {
     view_frame(octets)?;

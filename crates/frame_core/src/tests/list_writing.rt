@@ -56,12 +56,34 @@ fn what_no_list_can_hold_is_not_written(rt: HostRuntime) -> Result<(), Fail> {
 }
 
 #[test]
+fn all_octets_are_put(rt: HostRuntime) -> Result<(), Fail> {
+    let mut sink = sink_of(rt.alloc(), 3, NEVER);
+    assert_eq!(rt; put_all(&mut sink, b"four"), Ok(()));
+    assert_eq!(rt; sink.octets.as_slice(), b"four".as_slice());
+    Ok(())
+}
+
+#[test]
 fn a_failed_write_leaves_a_front(rt: HostRuntime) -> Result<(), Fail> {
     for fails_at in 0..4u64 {
         let mut sink = sink_of(rt.alloc(), 1, fails_at);
         assert_eq!(rt; put_all(&mut sink, b"four"), Err(WriteFault::WriteFailed));
         assert!(rt; sink.has_failed());
         assert!(rt; b"four".starts_with(sink.octets.as_slice()));
+        assert_eq!(rt; sink.octets.len() as u64, fails_at);
+    }
+    Ok(())
+}
+
+#[test]
+fn a_failed_write_leaves_a_front_of_the_line(rt: HostRuntime) -> Result<(), Fail> {
+    for fails_at in 0..4u64 {
+        let mut sink = sink_of(rt.alloc(), 1, fails_at);
+        assert_eq!(rt;
+            write_event(&mut sink, &clock(7)),
+            Err(WriteFault::WriteFailed)
+        );
+        assert!(rt; b"C 7\n".starts_with(sink.octets.as_slice()));
         assert_eq!(rt; sink.octets.len() as u64, fails_at);
     }
     Ok(())

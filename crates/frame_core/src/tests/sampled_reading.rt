@@ -69,6 +69,20 @@ fn a_tag_and_a_trailer_are_kept_with_sampled_values(rt: HostRuntime) -> Result<(
 fn cut_sampled_values_are_truncated(rt: HostRuntime) {
     for size in 0..SAMPLED.len() {
         assert_eq!(rt; seen(&SAMPLED[..size]), fault(size, Cause::Truncated));
+        assert_eq!(rt;
+            read(rt.alloc(), &SAMPLED[..size]),
+            fault(size, Cause::Truncated)
+        );
+    }
+}
+
+#[test]
+fn eight_cut_asdus_are_truncated(rt: HostRuntime) {
+    let eight = of_eight();
+    for size in 0..231 {
+        let cut = &eight[..size];
+        assert_eq!(rt; seen(cut), fault(size, Cause::Truncated));
+        assert_eq!(rt; read(rt.alloc(), cut), fault(size, Cause::Truncated));
     }
 }
 
@@ -83,6 +97,7 @@ fn each_cause_stands_at_its_place_in_sampled_values(rt: HostRuntime) {
         (changed_sampled(35, 3), 35, Cause::FixedLength),
         (changed_sampled(17, 7), 16, Cause::LengthField),
         (changed_sampled(17, 0x29), 54, Cause::Truncated),
+        (changed_sampled(17, 0x27), 23, Cause::LengthPastEnd),
     ];
     for (octets, place, cause) in cases {
         assert_eq!(rt; seen(&octets), fault(place, cause));

@@ -1,17 +1,19 @@
 //! Frames of Sampled Values in their written form.
 
 use crate::tests::sampled_frames::{SAMPLED, TAGGED_SAMPLED, of_eight};
-use crate::{Apdu, EncodeFault, Frame, decode, encode};
+use crate::{Apdu, EncodeFault, Frame, decode, encode, encode_view, view_frame};
 use mms_data::Octets;
 use pdu_core::{Asdu, AsduList, SvPdu};
 use std::alloc::Global;
 use std::process::Abort;
 use std::test::Fail;
 
-/// Whether the frame that the octets spell is written as they are.
+/// Whether the frame that the octets spell is written as they are, owned and as a view.
 fn is_its_form<H: Abort>(rt: &H, alloc: Global, octets: &[u8]) -> Result<(), Fail> {
     let frame = decode(alloc, octets)?;
     assert_eq!(rt; encode(&frame)?.as_slice(), octets);
+    let form = encode_view(&view_frame(octets)?);
+    assert!(rt; matches!(&form, Some(form) if form.as_slice() == octets));
     Ok(())
 }
 

@@ -3,18 +3,20 @@
 use crate::ending::Ending;
 use crate::engines::rewrite::rewrite;
 use crate::tests::devices::{Endless, NEVER, sink_of, source_of};
-use frame_core::{FromRead, ToWrite};
+use frame_core::{FromRead, Sink, ToWrite};
 use std::alloc::Global;
 use std::process::Abort;
 use std::test::Fail;
 
 // Whether `rewrite` writes this text of this list, whatever the reader and the writer move at a time.
 fn rewrites<R: Abort>(rt: &R, alloc: Global, list: &[u8], text: &[u8], wanted: Ending) {
-    for at_most in 1..4usize {
-        let mut sink = sink_of(alloc, at_most, NEVER);
-        let (ending, _source) = rewrite(alloc, source_of(list, at_most, NEVER), &mut sink);
-        assert_eq!(rt; ending, wanted);
-        assert_eq!(rt; sink.octets.as_slice(), text);
+    for at_most in [1usize, 2, 3, 7, 4096, 8192] {
+        if at_most > 0 {
+            let mut sink = sink_of(alloc, at_most, NEVER);
+            let (ending, _source) = rewrite(alloc, source_of(list, at_most, NEVER), &mut sink);
+            assert_eq!(rt; ending, wanted);
+            assert_eq!(rt; sink.octets.as_slice(), text);
+        }
     }
 }
 
@@ -33,6 +35,17 @@ fn a_frame_with_long_lengths(rt: HostRuntime) -> Result<(), Fail> {
     let text =
         b"F 7 010ccd01000102000000000188b80001003500000000612b800147810207d0820144840800000000000000008501018601008701008801018901008a0101ab038301ff\n";
     rewrites(&rt, rt.alloc(), list, text, Ending::Done);
+    Ok(())
+}
+
+#[test]
+fn sampled_values_with_long_lengths(rt: HostRuntime) -> Result<(), Fail> {
+    let list =
+        b"F 0 010ccd04000102000000000188ba4000002d000000006082002180020001a2811a30811780015382020f9e8304000000018501028702002a880100\n";
+    let text =
+        b"F 0 010ccd04000102000000000188ba4000002800000000601e800101a219301780015382020f9e8304000000018501028702002a880100\n";
+    rewrites(&rt, rt.alloc(), list, text, Ending::Done);
+    rewrites(&rt, rt.alloc(), text, text, Ending::Done);
     Ok(())
 }
 
@@ -81,5 +94,23 @@ fn a_line_without_end(rt: HostRuntime) -> Result<(), Fail> {
     let (ending, _source) = rewrite(rt.alloc(), FromRead::new(Endless(b'#')), &mut sink);
     assert_eq!(rt; ending, Ending::InputFault);
     assert_eq!(rt; text.as_slice(), b"# 1 list LineTooLong\n".as_slice());
+    Ok(())
+}
+
+#[test]
+fn each_write_that_fails(rt: HostRuntime) -> Result<(), Fail> {
+    let text = b"C 1\nF 2 00\n# 3 list Hex\n";
+    for fails_at in 0..24u64 {
+        let mut sink = sink_of(rt.alloc(), 1, fails_at);
+        let (ending, _source) = rewrite(
+            rt.alloc(),
+            source_of(b"C 1\nF 2 00\nF 3 0", 9, NEVER),
+            &mut sink,
+        );
+        assert_eq!(rt; ending, Ending::WriteFault);
+        assert!(rt; sink.has_failed());
+        assert!(rt; text.starts_with(sink.octets.as_slice()));
+        assert_eq!(rt; sink.octets.len() as u64, fails_at);
+    }
     Ok(())
 }

@@ -10,11 +10,13 @@ use std::test::Fail;
 
 // Whether `show` writes this text of this list, whatever the reader and the writer move at a time.
 fn shows<R: Abort>(rt: &R, alloc: Global, list: &[u8], text: &[u8], wanted: Ending) {
-    for at_most in 1..4usize {
-        let mut sink = sink_of(alloc, at_most, NEVER);
-        let (ending, _source) = show(alloc, source_of(list, at_most, NEVER), &mut sink);
-        assert_eq!(rt; ending, wanted);
-        assert_eq!(rt; sink.octets.as_slice(), text);
+    for at_most in [1usize, 2, 3, 7, 4096, 8192] {
+        if at_most > 0 {
+            let mut sink = sink_of(alloc, at_most, NEVER);
+            let (ending, _source) = show(alloc, source_of(list, at_most, NEVER), &mut sink);
+            assert_eq!(rt; ending, wanted);
+            assert_eq!(rt; sink.octets.as_slice(), text);
+        }
     }
 }
 
@@ -34,6 +36,16 @@ fn a_tag_and_a_trailer(rt: HostRuntime) -> Result<(), Fail> {
         b"F 0 010ccd0100010200000000018100800088b80001003500000000612b800147810207d0820144840800000000000000008501018601008701008801018901008a0101ab038301ff00000000\n";
     let text =
         b"1 goose 010ccd010001 020000000001 tag=8000 appid=0001 r1=0000 r2=0000 ref=\"G\" live=2000 set=\"D\" id=- t=0000000000000000 st=1 sq=0 sim=false rev=1 com=false {true} trailer=00000000\n";
+    shows(&rt, rt.alloc(), list, text, Ending::Done);
+    Ok(())
+}
+
+#[test]
+fn sampled_values(rt: HostRuntime) -> Result<(), Fail> {
+    let list =
+        b"F 0 010ccd04000102000000000188ba4000002800000000601e800101a219301780015382020f9e8304000000018501028702002a880100\n";
+    let text =
+        b"1 sv 010ccd040001 020000000001 tag=- appid=4000 r1=0000 r2=0000 {(id=\"S\" set=- cnt=3998 rev=1 t=- synch=2 rate=- sample=002a mod=00 f89=-)} trailer=-\n";
     shows(&rt, rt.alloc(), list, text, Ending::Done);
     Ok(())
 }
@@ -126,6 +138,21 @@ fn lines_without_end(rt: HostRuntime) -> Result<(), Fail> {
     let (ending, _source) = show(rt.alloc(), FromRead::new(Endless(b'\n')), &mut sink);
     assert_eq!(rt; ending, Ending::InputFault);
     assert_eq!(rt; text.as_slice(), b"1000001 list ListTooLong\n".as_slice());
+    Ok(())
+}
+
+#[test]
+fn a_million_empty_lines(rt: HostRuntime) -> Result<(), Fail> {
+    let list = vec![in rt.alloc(); b'\n'; 1_000_000]?;
+    let mut sink = sink_of(rt.alloc(), 9, NEVER);
+    let (ending, source) = show(
+        rt.alloc(),
+        source_of(list.as_slice(), 8192, NEVER),
+        &mut sink,
+    );
+    assert_eq!(rt; ending, Ending::Done);
+    assert_eq!(rt; source.ending(), InputEnd::End);
+    assert_eq!(rt; sink.octets.len(), 0);
     Ok(())
 }
 

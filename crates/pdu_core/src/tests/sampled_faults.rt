@@ -48,6 +48,8 @@ fn fields_out_of_order_or_twice(rt: HostRuntime) {
     assert_eq!(rt; fault(12, 0x83), Some(Cause::UnexpectedTag.at(12)));
     assert_eq!(rt; fault(15, 0x81), Some(Cause::UnexpectedTag.at(15)));
     assert_eq!(rt; fault(25, 0x86), Some(Cause::UnexpectedTag.at(25)));
+    assert_eq!(rt; fault(35, 0x84), Some(Cause::UnexpectedTag.at(35)));
+    assert_eq!(rt; fault(38, 0x84), Some(Cause::UnexpectedTag.at(38)));
     assert_eq!(rt; fault(38, 0x88), Some(Cause::UnexpectedTag.at(38)));
     assert_eq!(rt; fault(42, 0x86), Some(Cause::UnexpectedTag.at(42)));
     assert_eq!(rt; fault(47, 0x87), Some(Cause::ExtraOctets.at(47)));
@@ -118,30 +120,32 @@ fn each_cut_is_at_fault(rt: HostRuntime) {
     }
 }
 
-// The recorded PDU with so many octets as smpMod.
-fn with_mod(count: u8) -> ArrayVec<u8, 64>
+// The recorded PDU with so many octets behind the sample, as smpMod or as the field 89.
+fn with_few(identifier: u8, count: u8) -> ArrayVec<u8, 64>
     requires { count ≤ 17 }
 {
     let mut pdu = ArrayVec::<u8, 64>::new();
     let _ = pdu.try_extend_from_slice(&[0x60, 0x1d + count, 0x80, 0x01, 0x01, 0xa2, 0x18 + count]);
     let _ = pdu.try_extend_from_slice(&[0x30, 0x16 + count]);
     let _ = pdu.try_extend_from_slice(&FRAME[31..51]);
-    let _ = pdu.try_extend_from_slice(&[0x88, count]);
+    let _ = pdu.try_extend_from_slice(&[identifier, count]);
     let _ = pdu.try_extend_from_slice(&[0xff; 17][..count as usize]);
     pdu
 }
 
 #[test]
 fn one_to_sixteen_octets_are_few(rt: HostRuntime) {
-    assert_eq!(rt;
-        fault_of(with_mod(0).as_slice()),
-        Some(Cause::FixedLength.at(30))
-    );
-    for count in 1..=16u8 {
-        assert_eq!(rt; fault_of(with_mod(count).as_slice()), None);
+    for identifier in [0x88, 0x89] {
+        assert_eq!(rt;
+            fault_of(with_few(identifier, 0).as_slice()),
+            Some(Cause::FixedLength.at(30))
+        );
+        for count in 1..=16u8 {
+            assert_eq!(rt; fault_of(with_few(identifier, count).as_slice()), None);
+        }
+        assert_eq!(rt;
+            fault_of(with_few(identifier, 17).as_slice()),
+            Some(Cause::FixedLength.at(30))
+        );
     }
-    assert_eq!(rt;
-        fault_of(with_mod(17).as_slice()),
-        Some(Cause::FixedLength.at(30))
-    );
 }

@@ -1,6 +1,6 @@
 // Sampled Values written from their values, against octets that were spelled by hand.
 
-use crate::{Asdu, AsduList, SvPdu, is_spellable_sv, put_sv};
+use crate::{Asdu, AsduList, SvPdu, is_spellable_sv, put_sv, view_sv};
 use arrayvec::ArrayVec;
 use mms_data::{Octets, PutFault, UtcTime};
 use std::alloc::{AllocError, Allocator};
@@ -161,7 +161,24 @@ fn unless<A: Allocator>(
     Ok(Some(octets_of(alloc, octets)?))
 }
 
-// Whether an ASDU with all fields but the one at this place is written as those fields.
+// Whether the octets spell one ASDU, which lacks the field at this place alone.
+fn lacks(octets: &[u8], absent: usize) -> bool {
+    let Ok(view) = view_sv(octets, 0, octets.len()) else {
+        return false;
+    };
+    let mut asdus = view.asdus;
+    let Some(asdu) = asdus.next() else {
+        return false;
+    };
+    asdus.next().is_none()
+        && asdu.dat_set.is_none() == (absent == 1)
+        && asdu.refr_tm.is_none() == (absent == 4)
+        && asdu.smp_rate.is_none() == (absent == 6)
+        && asdu.smp_mod.is_none() == (absent == 8)
+        && asdu.field_89.is_none() == (absent == 9)
+}
+
+// Whether an ASDU with all fields but the one at this place is written as those fields, and seen as them.
 fn is_written_without<A: Allocator + Copy>(alloc: A, absent: usize) -> Result<bool, AllocError> {
     let asdu = Asdu {
         sv_id: octets_of(alloc, b"S")?,
@@ -193,7 +210,7 @@ fn is_written_without<A: Allocator + Copy>(alloc: A, absent: usize) -> Result<bo
             None => return Ok(false),
         }
     }
-    Ok(fields.is_empty())
+    Ok(fields.is_empty() && lacks(out.as_slice(), absent))
 }
 
 #[test]
