@@ -1,6 +1,5 @@
 //! Frames that are read, and the first fault of those that are not.
 
-
 use crate::tests::frames::{
     FRAME, LONG, MISSING, TAGGED, changed, changed_twice, fault, read, seen, with_deep_member,
     with_one_more,
