@@ -1,6 +1,8 @@
 """One run of the program, held against what it must write and how it must end."""
 import contextlib
 import os
+import pathlib
+import struct
 import subprocess
 
 import reference
@@ -42,6 +44,23 @@ def run(program, words, given=b"", **how):
         how["input"] = given
     done = subprocess.run([*program, *words], timeout=SECONDS, **how)
     return done.stdout, done.stderr or b"", done.returncode
+
+
+def peak_memory(words, octets):
+    """The most memory of a run over an open file, in kilobytes, as the system tells it while the program runs: unlike
+    what it tells afterwards, that begins anew where the program does."""
+    peak = 0
+    started = subprocess.Popen(words, stdin=octets, stdout=subprocess.DEVNULL, stderr=subprocess.DEVNULL)
+    while started.poll() is None:
+        told = pathlib.Path(f"/proc/{started.pid}/status").read_text(encoding="ascii", errors="replace")
+        peak = max([peak] + [int(line.split()[1]) for line in told.splitlines() if line.startswith("VmHWM")])
+    return peak
+
+
+def classic_pcap(frames):
+    """A capture file of Ethernet frames, one a second."""
+    header = struct.pack("<IHHiIII", 0xA1B2C3D4, 2, 4, 0, 0, 65535, 1)
+    return header + b"".join(struct.pack("<IIII", at, 0, len(it), len(it)) + it for at, it in enumerate(frames))
 
 
 class Case:

@@ -1,11 +1,10 @@
 """A list is answered while it is read: text comes before the input ends, and memory does not grow with the list."""
-import os
 import subprocess
 import tempfile
 import threading
 
 from frames import WORKED, WORKED_LINE
-from harness import SECONDS, first_difference, listed, text
+from harness import SECONDS, first_difference, listed, peak_memory, text
 
 FRAMES = 4000
 SEEN_FIRST = 65536
@@ -58,15 +57,12 @@ class DoesNotGrow:
 
     def peak(self, program, count):
         """The most memory that a run over so many frames takes, in kilobytes."""
-        with tempfile.TemporaryFile() as octets, open(os.devnull, "wb") as nowhere:
+        with tempfile.TemporaryFile() as octets:
             line = listed(WORKED)
             for _ in range(count // 1000):
                 octets.write(line * 1000)
             octets.seek(0)
-            started = subprocess.Popen([*program, self.command], stdin=octets, stdout=nowhere, stderr=nowhere)
-            _, status, used = os.wait4(started.pid, 0)
-            started.returncode = os.WEXITSTATUS(status)
-        return used.ru_maxrss
+            return peak_memory([*program, self.command], octets)
 
     def why_wrong(self, program):
         short, long = self.peak(program, 1000), self.peak(program, 100000)

@@ -7,14 +7,13 @@ import os
 import pathlib
 import random
 import re
-import struct
 import subprocess
 import tempfile
 import time
 from xml.etree import ElementTree
 
 import by_chance
-from harness import SECONDS, Skipped, listed, run
+from harness import SECONDS, Skipped, classic_pcap, listed, run
 from reference import APDUS_READ
 
 SEED, COUNT = 850, 1000
@@ -45,12 +44,6 @@ def ours(line):
 
 
 # ---- The reading of tshark ---------------------------------------------------
-
-
-def classic_pcap(frames):
-    """A capture file of Ethernet frames, one a second."""
-    header = struct.pack("<IHHiIII", 0xA1B2C3D4, 2, 4, 0, 0, 65535, 1)
-    return header + b"".join(struct.pack("<IIII", at, 0, len(it), len(it)) + it for at, it in enumerate(frames))
 
 
 def packets(frames):

@@ -1,7 +1,7 @@
 -- What does not fit into the room for an APDU, and what is written of a frame.
 use Rattle.std.proofs.Common.{◌≡◌, ℕ, ◌+◌, ◌<◌, ◌≤◌, Bool, true, false, ◌&&◌, leb, List, length, Result, Ok, Err, refl, sym, subst, arith, inl, inr}
 use Rattle.std.proofs.lemmas.Bool.{cases_lt, le-leb, lt-leb}
-use Rattle.std.specs.Prelude.{◌⊎◌, ◌↔◌, IsOk, IfOk, is_ok}
+use Rattle.std.specs.Prelude.{◌⊎◌, ◌↔◌, IsOk, IfOk, IfSome, Option, Some, None, is_ok}
 use Rattle.ber_core.specs.declared.fault.Full.{Full}
 use Rattle.mms_data.specs.declared.fault.PutFault.{PutFault}
 use Rattle.mms_data.specs.declared.fault.PutFault.TheVariants as faults
@@ -70,21 +70,24 @@ pub too_long_fails : {A : Type 0} (f : Frame A) → IsTooLong f → fits f ≡ f
 too_long_fails f (inl more) = rw (lt-leb (8 + length (written_apdu f.apdu)) 1500 more) (and_false (apdu_is_spelled f.apdu))
 too_long_fails f (inr more) = rw (lt-leb (length (written_frame f)) 1600 more, and_false (leb (8 + length (written_apdu f.apdu)) 1500)) (and_false (apdu_is_spelled f.apdu))
 
+-- what is not too long keeps both limits
+short : {A : Type 0} (f : Frame A) → (IsTooLong f → ⊥) → (8 + length (written_apdu f.apdu) ≤ 1500) × (length (written_frame f) ≤ 1600)
+short f fit = (
+  elim (cases_lt 1500 (8 + length (written_apdu f.apdu))) [
+    | inl more ↦ absurd (fit (inl more))
+    | inr few ↦ few
+  ],
+  elim (cases_lt 1600 (length (written_frame f))) [
+    | inl more ↦ absurd (fit (inr more))
+    | inr few ↦ few
+  ],
+)
+
 -- a frame that is not passes it, where its fields have spellings
 pub fits_short : {A : Type 0} (f : Frame A) → ApduIsSpellable f.apdu → (IsTooLong f → ⊥) → fits f ≡ true
-fits_short f spelled short =
-    rw (apdu_passes f.apdu spelled, le-leb (8 + length (written_apdu f.apdu)) 1500 in_length, le-leb (length (written_frame f)) 1600 in_all) refl where
-      in_length : 8 + length (written_apdu f.apdu) ≤ 1500
-      in_length = elim (cases_lt 1500 (8 + length (written_apdu f.apdu))) [
-        | inl more ↦ absurd (short (inl more))
-        | inr fit ↦ fit
-      ]
-
-      in_all : length (written_frame f) ≤ 1600
-      in_all = elim (cases_lt 1600 (length (written_frame f))) [
-        | inl more ↦ absurd (short (inr more))
-        | inr fit ↦ fit
-      ]
+fits_short f spelled fit =
+    let s = short f fit in
+    rw (apdu_passes f.apdu spelled, le-leb (8 + length (written_apdu f.apdu)) 1500 s.0, le-leb (length (written_frame f)) 1600 s.1) refl
 
 -- a small unit has a written form
 pub goose_small : {A : Type 0} (p : GoosePdu A) → length (written_goose p) ≤ 1492 → HasWritten p
@@ -126,27 +129,32 @@ apdu_written : {A : Type 0} (a : Apdu A) → ApduIsSpellable a → length (writt
 apdu_written (apdus.Goose p) spelled fit = written_is_spelled p spelled (goose_small p fit)
 apdu_written (apdus.Sampled p) spelled fit = written_sv_is_spelled p spelled (sampled_small p fit)
 
+-- the written form of a frame spells it, where it has one that is not too long
+pub frame_spelled : {A : Type 0} (f : Frame A) → IsHeld f → ApduIsSpellable f.apdu → (¬ IsTooLong f) → SpellsFrame f (written_frame f)
+frame_spelled f held spelled fit =
+    let s = short f fit in
+    frame_written f held (apdu_written f.apdu spelled (omega (arith, s.0))) s.0 s.1
+
+-- and the test passes exactly then
+pub fits_known : {A : Type 0} (f : Frame A) → (fits f ≡ true) ↔ (ApduIsSpellable f.apdu × (¬ IsTooLong f))
+fits_known f = (λ passed. (spelled passed, λ many. let fails = too_long_fails f many in cc), λ s. fits_short f s.0 s.1) where
+  spelled : fits f ≡ true → ApduIsSpellable f.apdu
+  spelled passed = elim (apdu_tested f.apdu) [
+    | inl s ↦ s
+    | inr n ↦ absurd (let fails : fits f ≡ false = rw (apdu_fails f.apdu n) refl in cc)
+  ]
+
 module _ {A X : Type 0} (f : Frame A) (items : X → List ℕ) where
   -- a frame that is written is spellable and not too long
   written_suits : (r : Result X EncodeFault) (o : X) → r ≡ Ok o
       → ((r ≡ Err encode_faults.NotSpellable) ↔ (¬ ApduIsSpellable f.apdu))
       → ((r ≡ Err encode_faults.TooLong) ↔ (ApduIsSpellable f.apdu × IsTooLong f))
-      → ApduIsSpellable f.apdu × (8 + length (written_apdu f.apdu) ≤ 1500) × (length (written_frame f) ≤ 1600)
+      → ApduIsSpellable f.apdu × (¬ IsTooLong f)
   written_suits r o is wrong long =
       let spelled : ApduIsSpellable f.apdu = elim (apdu_tested f.apdu) [
         | inl s ↦ s
         | inr n ↦ absurd (let same = wrong.1 n in cc)
-      ] in (
-        spelled,
-        elim (cases_lt 1500 (8 + length (written_apdu f.apdu))) [
-          | inl more ↦ absurd (let same = long.1 (spelled, inl more) in cc)
-          | inr fit ↦ fit
-        ],
-        elim (cases_lt 1600 (length (written_frame f))) [
-          | inl more ↦ absurd (let same = long.1 (spelled, inr more) in cc)
-          | inr fit ↦ fit
-        ],
-      )
+      ] in (spelled, λ many. let same = long.1 (spelled, many) in cc)
 
   -- what is written of a frame spells it
   pub written_spells : (r : Result X EncodeFault)
@@ -156,7 +164,7 @@ module _ {A X : Type 0} (f : Frame A) (items : X → List ℕ) where
   written_spells (Err e) wrong long is held = tt
   written_spells (Ok o) wrong long is held =
       let s = written_suits (Ok o) o refl wrong long in
-      subst (SpellsFrame f) (sym is) (frame_written f held (apdu_written f.apdu s.0 (omega (arith, s.1))) s.1 s.2)
+      subst (SpellsFrame f) (sym is) (frame_spelled f held s.0 s.1)
 
   -- and it is written exactly where the test passes
   pub written_fits : (r : Result X EncodeFault)
@@ -165,6 +173,12 @@ module _ {A X : Type 0} (f : Frame A) (items : X → List ℕ) where
       → is_ok r ≡ fits f
   written_fits (Ok o) wrong long =
       let s = written_suits (Ok o) o refl wrong long in
-      sym (rw (apdu_passes f.apdu s.0, le-leb (8 + length (written_apdu f.apdu)) 1500 s.1, le-leb (length (written_frame f)) 1600 s.2) refl)
+      sym (fits_short f s.0 s.1)
   written_fits (Err encode_faults.NotSpellable) wrong long = sym (rw (apdu_fails f.apdu (wrong.0 refl)) refl)
   written_fits (Err encode_faults.TooLong) wrong long = sym (too_long_fails f (long.0 refl).1)
+
+  -- what is written of a frame that is seen spells it, where each field has a spelling
+  pub seen_spells : (r : Option X) → ((r ≡ None) ↔ IsTooLong f) → IfSome r (λ o. items o ≡ written_frame f) → IfSome r (λ _. IsHeld f) → ApduIsSpellable f.apdu → IfSome r (λ o. SpellsFrame f (items o))
+  seen_spells None long is held spelled = tt
+  seen_spells (Some o) long is held spelled =
+      subst (SpellsFrame f) (sym is) (frame_spelled f held spelled (λ many. let none = long.1 many in cc))

@@ -9,7 +9,7 @@ ghost use Rattle.frame_core.specs.EventList.{listing, put_event};
 ghost use Rattle.frame_core.specs.Lines.{finished, faulty};
 ghost use Rattle.frame_core.specs.declared.list_fault.ListCause.{ListCause};
 ghost use Rattle.frame_core.specs.declared.list_fault.ListFault.{ListFault};
-ghost use Rattle.frame_core.specs.Laws.{FaultIsOne, FrameIsOne, FrameOrFault, PartsMakeTheControl, ReadingTells, SpelledIsSpellable};
+ghost use Rattle.frame_core.specs.Laws.{FaultIsOne, FitsIsKnown, FrameIsOne, FrameOrFault, PartsMakeTheControl, ReadingTells, SpelledIsSpellable, WrittenIsSpelled};
 
 use std::alloc::Allocator;
 
@@ -24,6 +24,13 @@ pub fn one_reading<A: Allocator>()
 /// that they have.
 pub fn reading_tells<A: Allocator>()
     ensures { ReadingTells A }
+{}
+
+/// The written form of a frame is a spelling of it, where each field of its APDU has one and the form is not too long;
+/// and those are the frames that pass the test by which `rewrite` keeps others as they are.
+pub fn written_is_spelled<A: Allocator>()
+    ensures frame { WrittenIsSpelled A }
+    ensures fits { FitsIsKnown A }
 {}
 
 /// A frame that octets spell has a spelling in the sense of its fields: nothing but its length keeps it from being

@@ -4,8 +4,8 @@
 //! A list is octets in lines:
 //!
 //! ```text
-//! # a comment, then a frame at 0 ms, then the clock at 2000 ms
-//! F 0 010ccd010001020000000001 88b8 ..
+//! # a comment, then the first octets of a frame, at 0 ms, then the clock at 2000 ms
+//! F 0 010ccd01000102000000000188b8
 //! C 2000
 //! ```
 #![tactic(auto)]

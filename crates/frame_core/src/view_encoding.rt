@@ -2,8 +2,8 @@
 
 ghost use Rattle.std.specs.Prelude.{◌≡◌, ◌≤◌, ◌<◌, ◌+◌, ◌↔◌, [], length, None, IfSome, IsOk, OnOk};
 ghost use Rattle.arrayvec.specs.ArrayVec.{array_vec_len};
-ghost use Rattle.frame_core.specs.Frame.{apdu_of, frame_of};
-ghost use Rattle.frame_core.specs.Written.{IsTooLong, written_apdu, written_frame, written_head};
+ghost use Rattle.frame_core.specs.Frame.{SpellsFrame, apdu_of, frame_of};
+ghost use Rattle.frame_core.specs.Written.{ApduIsSpellable, IsHeld, IsTooLong, written_apdu, written_frame, written_head};
 ghost use Rattle.frame_core.specs.Apdu.{ether_type_of};
 ghost use Rattle.pdu_core.specs.SampledViews.{sv_of};
 ghost use Rattle.pdu_core.specs.SampledWritten.{written_sv};
@@ -17,11 +17,24 @@ use arrayvec::ArrayVec;
 use ber_core::Full;
 use pdu_core::{GooseView, SvView, put_goose_view, put_sv_view};
 
-/// The written form of the frame that the view stands for; `None` exactly where it would be too long, as `encode`
-/// has it. Takes no memory.
+/// The written form of the frame that the view stands for; `None` exactly where its field Length would be over 1,500,
+/// or the written frame over 1,600 octets. Takes no memory. Whether each field has a spelling is not judged: those of
+/// a view that `view_frame` answers do.
 pub fn encode_view(view: &FrameView<'_>) -> Option<ArrayVec<u8, 1600>>
     ensures too_long { (result ≡ None) ↔ IsTooLong (frame_of {A = Unit {0}} view.now) }
     ensures written { IfSome result (λ o. o.items ≡ written_frame (frame_of {A = Unit {0}} view.now)) }
+
+    // What is written spells the frame, where it can be spelled.
+    ensures spelled { ApduIsSpellable (apdu_of {A = Unit {0}} view.now.apdu) → IfSome result (λ o. SpellsFrame (frame_of {A = Unit {0}} view.now) o.items) }
+{
+    write_view(view)
+}
+
+// The written form, from its addresses to its trailer.
+fn write_view(view: &FrameView<'_>) -> Option<ArrayVec<u8, 1600>>
+    ensures too_long { (result ≡ None) ↔ IsTooLong (frame_of {A = Unit {0}} view.now) }
+    ensures written { IfSome result (λ o. o.items ≡ written_frame (frame_of {A = Unit {0}} view.now)) }
+    ensures held { IfSome result (λ _. IsHeld (frame_of {A = Unit {0}} view.now)) }
 {
     let mut apdu = ArrayVec::<u8, MOST_APDU>::new();
     if put_apdu(&mut apdu, &view.apdu).is_err() {
@@ -79,7 +92,8 @@ fn ether_type(apdu: &ApduView<'_>) -> u16
 fn put_head(out: &mut ArrayVec<u8, MOST_OCTETS>, view: &FrameView<'_>, size: usize)
     requires empty { out.old.items ≡ [] }
     requires size { size ≤ 1492 }
-    ensures { out.new.items ≡ written_head (frame_of {A = Unit {0}} view.now) size }
+    ensures items { out.new.items ≡ written_head (frame_of {A = Unit {0}} view.now) size }
+    ensures held { IsHeld (frame_of {A = Unit {0}} view.now) }
 {
     out.try_extend_from_slice(&view.destination).unwrap();
     out.try_extend_from_slice(&view.source).unwrap();

@@ -18,7 +18,7 @@ use crate::vlan_tag::VlanTag;
 use ber_core::Fault;
 use pdu_core::{view_goose, view_sv};
 
-/// The frame that the octets spell (IEEE 802.1Q, IEC 61850-8-1), where it stands. Takes no memory.
+/// The frame that the octets spell (IEEE 802.1Q, IEC 61850-8-1, IEC 61850-9-2), where it stands. Takes no memory.
 ///
 /// # Errors
 ///

@@ -1,5 +1,5 @@
 //! Values of Data (ISO 9506-2), nested up to sixteen levels: read from their spellings, seen where they
-//! stand, copied, and written in the spelling with the fewest octets.
+//! stand, copied, and written in one form.
 #![tactic(auto)]
 
 mod checking;

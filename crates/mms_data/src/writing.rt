@@ -25,7 +25,7 @@ pub fn spelled_length<A: Allocator>(value: &Value<A>) -> Option<usize>
     value_length(value, 0xffff)
 }
 
-/// Appends the written form of the value: the spelling with the fewest octets, FF for true (profile).
+/// Appends the written form of the value: each length and number in the fewest octets, FF for true (profile).
 ///
 /// # Errors
 ///

@@ -1,5 +1,5 @@
--- The written form of a PDU: its spelling with the fewest octets everywhere, FF for true, and each boolean
--- there (profile).
+-- The written form of a PDU: each length and number in the fewest octets, FF for true, and each boolean there
+-- (profile).
 use Rattle.std.specs.Prelude.{◌<◌, ◌^◌, ℕ, pos, true, false, List, [], ◌∷◌, ◌++◌, length, Option, Some, None}
 use Rattle.byteorder.specs.Endian.{big_bytes}
 use Rattle.ber_core.specs.Fields.{Field}

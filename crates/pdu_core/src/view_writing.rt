@@ -48,8 +48,9 @@ fn put_entries<const N: usize>(out: &mut ArrayVec<u8, N>, view: &GooseView<'_>) 
     put_members(out, 0xab, view.members)
 }
 
-/// Appends the written form of the PDU that the view stands for, its spelling with the fewest octets, where it
-/// fits; else `out` is unchanged.
+/// Appends the written form of the PDU that the view stands for, each length and number in the fewest octets and both
+/// booleans there, where it fits; else `out` is unchanged. Whether each field has a spelling is not judged: those of a
+/// view that `view_goose` answers do, and of a changed view what is written may spell nothing.
 ///
 /// # Errors
 ///

@@ -63,8 +63,8 @@ fn put_entries<A: Allocator, const N: usize>(
     put_members(out, 0xab, &pdu.members)
 }
 
-/// Appends the written form of the PDU, its spelling with the fewest octets, where it is spellable and fits;
-/// else `out` is unchanged.
+/// Appends the written form of the PDU, each length and number in the fewest octets and both booleans there, where it
+/// is spellable and fits; else `out` is unchanged.
 ///
 /// # Errors
 ///

@@ -208,6 +208,7 @@ fn a_unit_is_made_from_its_view(rt: HostRuntime) -> Result<(), Fail> {
 fn laws_hold(rt: HostRuntime) {
     laws::one_reading::<Global>();
     laws::reading_tells::<Global>();
+    laws::written_is_spelled::<Global>();
     laws::spelled_is_spellable::<Global>();
     laws::parts_make_the_control();
     laws::written_event_reads_back::<Global>();

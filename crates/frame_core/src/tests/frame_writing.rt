@@ -17,7 +17,7 @@ fn has_form<H: Abort>(rt: &H, alloc: Global, octets: &[u8], form: &[u8]) -> Resu
 }
 
 #[test]
-fn the_written_form_has_the_fewest_octets(rt: HostRuntime) -> Result<(), Fail> {
+fn a_frame_has_one_written_form(rt: HostRuntime) -> Result<(), Fail> {
     has_form(&rt, rt.alloc(), &FRAME, &FRAME)?;
     has_form(&rt, rt.alloc(), &LONG, &FRAME)?;
     has_form(&rt, rt.alloc(), &TAGGED, &TAGGED)

@@ -100,8 +100,7 @@ impl<A: Allocator> EventText<A> for RewriteText {
 }
 
 /// Writes a list again: each event as its one line, a grammatical frame with the octets of its
-/// written form, which has the fewest; a frame that is faulty, or whose written form would be too
-/// long, with its own octets. Where the list has a fault, the last line is a comment with it.
+/// written form; a frame that is faulty, or whose written form would be too long, with its own octets. Where the list has a fault, the last line is a comment with it.
 ///
 /// Ends with `Findings` where a frame kept its own octets for one of these two reasons, and else
 /// with `Done`. The reader is Open and the writer has not failed. The text is that of the octets

@@ -11,6 +11,7 @@ use std::test::Fail;
 // Whether `rewrite` writes this text of this list, whatever the reader and the writer move at a time.
 fn rewrites<R: Abort>(rt: &R, alloc: Global, list: &[u8], text: &[u8], wanted: Ending) {
     for at_most in [1usize, 2, 3, 7, 4096, 8192] {
+        // So the prover knows it, as a source asks.
         if at_most > 0 {
             let mut sink = sink_of(alloc, at_most, NEVER);
             let (ending, _source) = rewrite(alloc, source_of(list, at_most, NEVER), &mut sink);

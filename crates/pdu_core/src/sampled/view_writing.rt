@@ -21,7 +21,7 @@ fn put_each<const N: usize>(out: &mut ArrayVec<u8, N>, asdus: Asdus<'_>) -> Resu
     Ok(())
 }
 
-/// Appends the written form of the PDU that the view stands for, its spelling with the fewest octets, where it
+/// Appends the written form of the PDU that the view stands for, each length and noASDU in the fewest octets, where it
 /// fits; else `out` is unchanged.
 ///
 /// # Errors

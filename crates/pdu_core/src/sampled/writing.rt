@@ -44,7 +44,7 @@ fn put_pdu<A: Allocator, const N: usize>(
     put_unit(out, asdus.len(), contents.as_slice())
 }
 
-/// Appends the written form of the PDU, its spelling with the fewest octets, where it is spellable and fits;
+/// Appends the written form of the PDU, each length and noASDU in the fewest octets, where it is spellable and fits;
 /// else `out` is unchanged.
 ///
 /// # Errors
