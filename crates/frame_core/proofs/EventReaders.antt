@@ -1,5 +1,5 @@
 -- The answers of a reader of events: one, and several.
-use Rattle.std.proofs.Common.{Option, Some, None, Ok, Err, Result, MatchResult, ◌≡◌, ℕ, ◌+◌, ◌≤◌, List, [], ◌∷◌, ◌++◌, length, ap, sym, ◌∙◌, refl, arith}
+use Rattle.std.proofs.Common.{Option, Some, None, Ok, Err, Result, ◌≡◌, ℕ, ◌+◌, ◌≤◌, List, [], ◌∷◌, ◌++◌, length, inl, ap, sym, ◌∙◌, refl, arith}
 use Rattle.std.proofs.lemmas.List.{append_assoc, append-nil}
 use Rattle.std.specs.Io.KnownBytes.{Consumes}
 use Rattle.frame_core.specs.declared.device.InputEnd.{InputEnd}
@@ -7,14 +7,14 @@ use Rattle.frame_core.specs.declared.event.Event.{Event}
 use Rattle.frame_core.specs.declared.list_fault.ListCause.{ListCause}
 use Rattle.frame_core.specs.declared.list_fault.ListFault.{ListFault}
 use Rattle.frame_core.specs.Device.{Gives, OnlyOpen}
-use Rattle.frame_core.specs.Lines.{Reading, reading, put_line, fault_at, finished, faulty, CanFollow, Stop}
+use Rattle.frame_core.specs.Lines.{Reading, reading, put_line, fault_at, finished, faulty, CanFollow, Stop, StartsLine}
 use Rattle.frame_core.specs.FirstLine.{ReadsAs}
 use Rattle.frame_core.specs.Reader.{Stream}
 use Rattle.frame_core.specs.EventLine.{event_of}
 use Rattle.frame_core.specs.EventList.{Listing, put_event, put_events, stops, put_said, events_of, events_in, listing}
-use Rattle.frame_core.specs.EventReader.{Answer, TakesEvents, ReadsList, ListsBefore, Tells, CountsTo, lines_before, TakesOff, AnswersEvent, SkipsLines}
+use Rattle.frame_core.specs.EventReader.{Answer, TakesEvents, ReadsList, ListsBefore, Tells, CountsTo, GivesFor, lines_before, TakesOff, AnswersEvent, SkipsLines}
 use Rattle.frame_core.proofs.Devices.{Consumes-append, Gives-append, Consumes-none, Gives-from_Consumes}
-use Rattle.frame_core.proofs.Readers.{OnlyOpen-append, off_after, OnlyOpen-none, CanFollow-given, CanFollow-none, regroup}
+use Rattle.frame_core.proofs.Readers.{OnlyOpen-append, off_after, starts_after, OnlyOpen-none, CanFollow-given, CanFollow-none, regroup}
 
 pub events_in-end : {A : Type 0} (n : ℕ) (stop : Stop) → events_in {A = A} n (record { lines = []; stop = stop }) ≡ stops stop
 unfolding events_of
@@ -30,9 +30,9 @@ same_fault n f e = ap (λ (k : ℕ). record { lines = []; stop = faulty (record 
 
 -- what is held after a read stands for what was held before it, and what was given
 pub tells : {A : Type 0} (old mid new : Stream) (answer : Answer A) (given : List ℕ) → mid.held ≡ old.held ++ given → mid.taken ≡ old.taken →
-    OnlyOpen old.ending given mid.ending → MatchResult answer (λ _. Consumes old.left mid.left given) (λ _. Gives old.left mid.left given) →
+    OnlyOpen old.ending given mid.ending → GivesFor answer old.left mid.left given →
     new.left ≡ mid.left → new.ending ≡ mid.ending → length mid.held ≤ 8192 → CountsTo answer mid.taken new.taken →
-    lines_before answer new.taken ≡ mid.taken → TakesOff answer mid.held new.held →
+    lines_before answer new.taken ≡ mid.taken → TakesOff answer mid.ending mid.held new.held →
     ((more : List ℕ) (z : InputEnd) → CanFollow mid.ending more z → Tells answer (listing z mid.taken (mid.held ++ more)) (listing z new.taken (new.held ++ more))) →
     AnswersEvent old answer new
 tells {A = A} old mid new answer given h t o k l e b n p x f = record {
@@ -43,24 +43,26 @@ tells {A = A} old mid new answer given h t o k l e b n p x f = record {
   skipped = [];
   rest = mid.held;
   off = sym h;
+  starts = inl refl;
   bounded = b;
-  takes_off = x;
+  takes_off = rw e x;
   skips = λ more z _. ap (λ (k : ℕ). listing {A = A} z k (old.held ++ given ++ more)) (sym t ∙ sym p) ∙ ap (λ (l : List ℕ). listing {A = A} z (lines_before answer new.taken) (l ++ more)) (sym h);
   reads = λ more z c. rw (← h, ← t) (f more z (rw e at c));
 }
 
 pub skips : (A : Type 0) (old mid new : Stream) (given : List ℕ) → mid.held ≡ old.held ++ given → mid.taken ≡ old.taken →
     OnlyOpen old.ending given mid.ending → Consumes old.left mid.left given → new.left ≡ mid.left → new.ending ≡ mid.ending →
-    new.taken ≡ mid.taken + 1 → (line : List ℕ) → mid.held ≡ line ++ new.held →
+    new.taken ≡ mid.taken + 1 → (line : List ℕ) → mid.held ≡ line ++ new.held → StartsLine mid.ending line new.held →
     ((more : List ℕ) (z : InputEnd) → CanFollow mid.ending more z → listing {A = A} z mid.taken (mid.held ++ more) ≡ listing z new.taken (new.held ++ more)) →
     SkipsLines A old new
-skips A old mid new given h t o k l e n line x f = record {
+skips A old mid new given h t o k l e n line x s f = record {
   given = given;
   took = rw l k;
   only_open = rw e o;
   counted = omega arith;
   skipped = line;
   off = sym h ∙ x;
+  starts = rw e s;
   reads = λ more z c. rw (← h, ← t) (f more z (rw e at c));
 }
 
@@ -83,10 +85,10 @@ listing-line {A = A} ending n held line rest said e r more z c =
 pub told_fault : {A : Type 0} (n : ℕ) (why : ListCause) (f : ListFault) → f.line ≡ n + 1 → f.cause ≡ why → stops {A = A} (faulty (record { line = n + 1; cause = why })) ≡ stops (faulty f)
 told_fault n why f a b = rw (← a, ← b) refl
 
-took_after : {A : Type 0} (answer : Answer A) (a b c : Option (List ℕ)) (xs ys : List ℕ) → Consumes a b xs → MatchResult answer (λ _. Consumes b c ys) (λ _. Gives b c ys) →
-    MatchResult answer (λ _. Consumes a c (xs ++ ys)) (λ _. Gives a c (xs ++ ys))
+took_after : {A : Type 0} (answer : Answer A) (a b c : Option (List ℕ)) (xs ys : List ℕ) → Consumes a b xs → GivesFor answer b c ys → GivesFor answer a c (xs ++ ys)
 took_after (Ok o) a b c xs ys p q = Consumes-append a b c xs ys p q
-took_after (Err e) a b c xs ys p q = Gives-append a b c xs ys p q
+took_after (Err (Some f)) a b c xs ys p q = Gives-append a b c xs ys p q
+took_after (Err None) a b c xs ys p q = Consumes-append a b c xs ys p q
 
 Tells-from : {A : Type 0} (answer : Answer A) (w v r : Listing A) → w ≡ v → Tells answer v r → Tells answer w r
 Tells-from answer w v r e t = rw e t
@@ -113,6 +115,7 @@ skips-then {A = A} a b c answer p q = record {
   skipped = p.skipped ++ q.skipped;
   rest = q.rest;
   off = off_after a.held p.given p.skipped b.held q.given q.skipped q.rest p.off q.off;
+  starts = starts_after b.ending c.ending p.skipped b.held q.given q.skipped q.rest p.starts q.only_open q.off q.starts;
   bounded = q.bounded;
   takes_off = q.takes_off;
   skips = λ more z f. before A a b c p q.given q.only_open more z f ∙ q.skips more z f;
@@ -127,6 +130,7 @@ skips-skips A a b c p q = record {
   counted = omega (arith, p.counted, q.counted);
   skipped = p.skipped ++ q.skipped;
   off = off_after a.held p.given p.skipped b.held q.given q.skipped c.held p.off q.off;
+  starts = starts_after b.ending c.ending p.skipped b.held q.given q.skipped c.held p.starts q.only_open q.off q.starts;
   reads = λ more z f. before A a b c p q.given q.only_open more z f ∙ q.reads more z f;
 }
 
@@ -138,6 +142,7 @@ skips-none A s = record {
   counted = omega arith;
   skipped = [];
   off = append-nil s.held;
+  starts = inl refl;
   reads = λ more z _. ap (listing {A = A} z s.taken) (ap (λ l. l ++ more) (append-nil s.held));
 }
 
@@ -150,6 +155,7 @@ TakesEvents-none A s = record {
   counted = omega arith;
   taken = [];
   off = append-nil s.held;
+  starts = inl refl;
   reads = λ more z _. ap (listing {A = A} z s.taken) (ap (λ l. l ++ more) (append-nil s.held));
 }
 
@@ -166,6 +172,13 @@ put_events-put_event es e r = ap (λ l. record { events = l; stop = r.stop }) (s
 put_events-stops : {A : Type 0} (es : List (ℕ × Event A)) (s : Stop) → put_events es (stops s) ≡ record { events = es; stop = s }
 put_events-stops es s = ap (λ l. record { events = l; stop = s }) (append-nil es)
 
+-- the octets that an answer takes off with its event
+event_off : {A : Type 0} (b c : Stream) (e : ℕ × Event A) (q : AnswersEvent b (Ok (Some e)) c) → b.held ++ q.given ≡ (q.skipped ++ q.takes_off.0) ++ c.held
+event_off b c e q = q.off ∙ ap (λ l. q.skipped ++ l) q.takes_off.1 ∙ sym (append_assoc q.skipped q.takes_off.0 c.held)
+
+event_starts : {A : Type 0} (b c : Stream) (e : ℕ × Event A) (q : AnswersEvent b (Ok (Some e)) c) → StartsLine c.ending (q.skipped ++ q.takes_off.0) c.held
+event_starts b c e q = starts_after c.ending c.ending q.skipped q.rest [] q.takes_off.0 c.held q.starts (OnlyOpen-none c.ending) (append-nil q.rest ∙ q.takes_off.1) q.takes_off.2
+
 -- an event more
 pub TakesEvents-push : {A : Type 0} (a b c : Stream) (es : List (ℕ × Event A)) (e : ℕ × Event A) → TakesEvents a es b → AnswersEvent b (Ok (Some e)) c → TakesEvents a (es ++ e ∷ []) c
 TakesEvents-push a b c es e p q = record {
@@ -174,8 +187,8 @@ TakesEvents-push a b c es e p q = record {
   only_open = OnlyOpen-append _ _ _ _ _ p.only_open q.only_open;
   counted = omega (arith, p.counted, q.counted.0);
   taken = p.taken ++ (q.skipped ++ q.takes_off.0);
-  off = off_after a.held p.given p.taken b.held q.given (q.skipped ++ q.takes_off.0) c.held p.off
-      (q.off ∙ ap (λ l. q.skipped ++ l) q.takes_off.1 ∙ sym (append_assoc q.skipped q.takes_off.0 c.held));
+  off = off_after a.held p.given p.taken b.held q.given (q.skipped ++ q.takes_off.0) c.held p.off (event_off b c e q);
+  starts = starts_after b.ending c.ending p.taken b.held q.given (q.skipped ++ q.takes_off.0) c.held p.starts q.only_open (event_off b c e q) (event_starts b c e q);
   reads = λ more z f. after_events a b c es p q.given q.only_open more z f ∙ ap (put_events es) (q.reads more z f)
       ∙ put_events-put_event es e (listing z c.taken (c.held ++ more));
 }
@@ -209,9 +222,10 @@ ReadsList-events {A = A} a b es p = record {
       ∙ ap (λ l. put_events es (listing b.ending b.taken l)) (append-nil b.held);
 }
 
-gives_of : {A : Type 0} (answer : Answer A) (a b : Option (List ℕ)) (xs : List ℕ) → MatchResult answer (λ _. Consumes a b xs) (λ _. Gives a b xs) → Gives a b xs
+pub gives_of : {A : Type 0} (answer : Answer A) (a b : Option (List ℕ)) (xs : List ℕ) → GivesFor answer a b xs → Gives a b xs
 gives_of (Ok o) a b xs p = Gives-from_Consumes a b xs p
-gives_of (Err e) a b xs p = p
+gives_of (Err (Some f)) a b xs p = p
+gives_of (Err None) a b xs p = Gives-from_Consumes a b xs p
 
 -- whatever is answered after several events, their lines stand before the answered one, from whose start on few octets were given
 pub ListsBefore-answer : {A : Type 0} (a b c : Stream) (es : List (ℕ × Event A)) (answer : Answer A) (p : TakesEvents a es b) (q : AnswersEvent b answer c) → ListsBefore a (p.given ++ q.given) es c
@@ -220,6 +234,7 @@ ListsBefore-answer {A = A} a b c es answer p q = record {
   taken = p.taken ++ q.skipped;
   rest = q.rest;
   off = off_after a.held p.given p.taken b.held q.given q.skipped q.rest p.off q.off;
+  starts = starts_after b.ending c.ending p.taken b.held q.given q.skipped q.rest p.starts q.only_open q.off q.starts;
   bounded = q.bounded;
   lines = lines_before answer c.taken;
   whole = list_whole a b c es p q.given q.only_open _ (q.skips [] c.ending (CanFollow-none c.ending)

@@ -1,11 +1,11 @@
 -- What the answers of a reader of events say of its text.
-use Rattle.std.specs.Prelude.{◌≡◌, ℕ, ◌+◌, ◌-◌, ◌<◌, ◌≤◌, List, ◌++◌, length, Option, Some, None, Result, Ok, Err, MatchResult}
+use Rattle.std.specs.Prelude.{◌≡◌, ℕ, ◌+◌, ◌-◌, ◌<◌, ◌≤◌, List, ◌++◌, length, Option, Some, None, Result, Ok, Err}
 use Rattle.std.specs.Io.KnownBytes.{Consumes}
 use Rattle.frame_core.specs.declared.device.InputEnd.{InputEnd}
 use Rattle.frame_core.specs.declared.event.Event.{Event}
 use Rattle.frame_core.specs.declared.list_fault.ListFault.{ListFault}
 use Rattle.frame_core.specs.Device.{Gives, OnlyOpen}
-use Rattle.frame_core.specs.Lines.{finished, faulty, CanFollow}
+use Rattle.frame_core.specs.Lines.{finished, faulty, CanFollow, StartsLine}
 use Rattle.frame_core.specs.EventList.{Listing, put_event, put_events, stops, listing}
 use Rattle.frame_core.specs.Reader.{Stream}
 
@@ -27,31 +27,38 @@ CountsTo (Ok None) old new = old ≤ new
 CountsTo (Err (Some f)) old new = (old ≤ new) × (f.line ≡ new + 1)
 CountsTo (Err None) old new = old ≤ new
 
+-- the octets that a source gave for an answer; which others are left may be no longer told where a fault is answered
+abbrev pub GivesFor : {A : Type 0} → Answer A → Option (List ℕ) → Option (List ℕ) → List ℕ → Type 0
+GivesFor (Ok o) old new given = Consumes old new given
+GivesFor (Err (Some f)) old new given = Gives old new given
+GivesFor (Err None) old new given = Consumes old new given
+
 -- how many lines stand before the answered one, of those that were taken
 abbrev pub lines_before : {A : Type 0} → Answer A → ℕ → ℕ
 lines_before (Ok (Some e)) taken = taken - 1
 lines_before (Ok None) taken = taken
 lines_before (Err f) taken = taken
 
--- the octets from the start of the answered line on: a line is taken off their front, or none
-abbrev pub TakesOff : {A : Type 0} → Answer A → List ℕ → List ℕ → Type 0
-TakesOff (Ok (Some e)) rest held = (line : List ℕ) × (rest ≡ line ++ held)
-TakesOff (Ok None) rest held = held ≡ rest
-TakesOff (Err f) rest held = held ≡ rest
+-- the octets from the start of the answered line on: a whole line is taken off their front, or none
+abbrev pub TakesOff : {A : Type 0} → Answer A → InputEnd → List ℕ → List ℕ → Type 0
+TakesOff (Ok (Some e)) z rest held = (line : List ℕ) × (rest ≡ line ++ held) × StartsLine z line held
+TakesOff (Ok None) z rest held = held ≡ rest
+TakesOff (Err f) z rest held = held ≡ rest
 
 -- An answer takes its line, and those without events before it, off the front of the text. The end, a fault and want of memory stay.
 pub record AnswersEvent {A : Type 0} (old : Stream) (answer : Answer A) (new : Stream) : Type 0 where
   -- the octets that were read
   pub given : List ℕ
-  pub took : MatchResult answer (λ _. Consumes old.left new.left given) (λ _. Gives old.left new.left given)
+  pub took : GivesFor answer old.left new.left given
   pub only_open : OnlyOpen old.ending given new.ending
   pub counted : CountsTo answer old.taken new.taken
   -- the octets before the answered line, and those from its start on, which are few
   pub skipped : List ℕ
   pub rest : List ℕ
   pub off : old.held ++ given ≡ skipped ++ rest
+  pub starts : StartsLine new.ending skipped rest
   pub bounded : length rest ≤ 8192
-  pub takes_off : TakesOff answer rest new.held
+  pub takes_off : TakesOff answer new.ending rest new.held
   -- whatever still comes, the octets before the line have no event
   pub skips : (more : List ℕ) (z : InputEnd) → CanFollow new.ending more z →
       listing {A = A} z old.taken (old.held ++ given ++ more) ≡ listing z (lines_before answer new.taken) (rest ++ more)
@@ -67,6 +74,7 @@ pub record SkipsLines (A : Type 0) (old new : Stream) : Type 0 where
   pub counted : old.taken ≤ new.taken
   pub skipped : List ℕ
   pub off : old.held ++ given ≡ skipped ++ new.held
+  pub starts : StartsLine new.ending skipped new.held
   pub reads : (more : List ℕ) (z : InputEnd) → CanFollow new.ending more z →
       listing {A = A} z old.taken (old.held ++ given ++ more) ≡ listing z new.taken (new.held ++ more)
 
@@ -78,6 +86,7 @@ pub record TakesEvents {A : Type 0} (old : Stream) (events : List (ℕ × Event 
   pub counted : old.taken ≤ new.taken
   pub taken : List ℕ
   pub off : old.held ++ given ≡ taken ++ new.held
+  pub starts : StartsLine new.ending taken new.held
   pub reads : (more : List ℕ) (z : InputEnd) → CanFollow new.ending more z →
       listing z old.taken (old.held ++ given ++ more) ≡ put_events events (listing z new.taken (new.held ++ more))
 
@@ -92,6 +101,7 @@ pub record ListsBefore {A : Type 0} (old : Stream) (given : List ℕ) (events : 
   pub taken : List ℕ
   pub rest : List ℕ
   pub off : old.held ++ given ≡ taken ++ rest
+  pub starts : StartsLine new.ending taken rest
   pub bounded : length rest ≤ 8192
   -- the count of lines before that line
   pub lines : ℕ

@@ -1,5 +1,5 @@
 -- A list is a text: its lines, and what ends them.
-use Rattle.std.specs.Prelude.{◌≡◌, ℕ, ◌+◌, List, [], ◌∷◌, length, nat_le, nat_lt, if◌then◌else◌}
+use Rattle.std.specs.Prelude.{◌≡◌, ℕ, ◌+◌, ◌⊎◌, List, [], ◌∷◌, ◌++◌, length, nat_le, nat_lt, if◌then◌else◌}
 use Rattle.frame_core.specs.Cuts.{cut_at}
 use Rattle.std.specs.Io.BufRead.{strip_last}
 use Rattle.frame_core.specs.declared.device.InputEnd.{InputEnd}
@@ -26,6 +26,10 @@ fault_at n why = record { lines = []; stop = faulty (record { line = n + 1; caus
 -- the octets cut at each LF; what follows the last LF comes last
 abbrev pub pieces : List ℕ → List (List ℕ)
 pieces text = cut_at 10 text
+
+-- what follows a front of a text begins with the start of a line: nothing stands before it, an LF does, or the input has ended and nothing follows
+abbrev pub StartsLine : InputEnd → List ℕ → List ℕ → Type 0
+StartsLine z front rest = (front ≡ []) ⊎ ((line : List ℕ) × (front ≡ line ++ 10 ∷ [])) ⊎ ((rest ≡ []) × (z ≡ End))
 
 -- a line without the CR at its end
 abbrev pub without_cr : List ℕ → List ℕ

@@ -1,11 +1,11 @@
 -- What several answers of a reader of lists make an engine write.
-use Rattle.std.proofs.Common.{Option, Some, None, Ok, Err, MatchResult, ◌≡◌, ℕ, Bool, true, false, List, [], ◌∷◌, ◌++◌, inl, inr, ap, sym, ◌∙◌, refl, subst}
+use Rattle.std.proofs.Common.{Option, Some, None, Ok, Err, ◌≡◌, ℕ, Bool, true, false, List, [], ◌∷◌, ◌++◌, inl, inr, ap, sym, ◌∙◌, refl, subst}
 use Rattle.std.specs.Prelude.{◌||◌, if◌then◌else◌}
 use Rattle.std.specs.List.{flat_map, list_any}
 use Rattle.std.proofs.lemmas.List.{append_assoc, append-nil}
 use Rattle.std.proofs.lemmas.List.Concat.{flat_map-append}
 use Rattle.std.proofs.lemmas.List.Folds.{list_any-append}
-use Rattle.std.specs.Io.KnownBytes.{Appends, Consumes}
+use Rattle.std.specs.Io.KnownBytes.{Appends}
 use Rattle.frame_core.specs.declared.device.InputEnd.{InputEnd}
 use Rattle.frame_core.specs.declared.event.Event.{Event}
 use Rattle.frame_core.specs.declared.list_fault.ListCause.{ListCause}
@@ -16,9 +16,9 @@ use Rattle.frame_core.specs.Lines.{faulty}
 use Rattle.frame_core.specs.Reader.{Stream}
 use Rattle.frame_core.specs.EventList.{Listing, listing, put_events}
 use Rattle.frame_core.specs.EventReader.{Answer, AnswersEvent, TakesEvents, lines_before}
-use Rattle.frame_core.proofs.Devices.{Appends-append, AppendsFront-append, AppendsFront-more, Gives-append, Gives-from_Consumes}
-use Rattle.frame_core.proofs.Readers.{CanFollow-given, CanFollow-none, regroup}
-use Rattle.frame_core.proofs.EventReaders.{TakesEvents-push, ReadsList-end, ReadsList-fault}
+use Rattle.frame_core.proofs.Devices.{Appends-append, AppendsFront-append, AppendsFront-more, Gives-append}
+use Rattle.frame_core.proofs.Readers.{CanFollow-given, CanFollow-none, regroup, starts_after}
+use Rattle.frame_core.proofs.EventReaders.{TakesEvents-push, ReadsList-end, ReadsList-fault, gives_of}
 use Rattle.goose_cmd.specs.declared.ending.Ending.{Ending}
 use Rattle.goose_cmd.specs.declared.ending.Ending.TheVariants.{Done, Findings, WriteFault, Memory}
 use Rattle.goose_cmd.specs.declared.engines.run.Next.TheVariants as next
@@ -55,10 +55,6 @@ list_whole {A = A} a b c es p g o r h =
 off_after : (h g taken held more skipped rest : List ℕ) → h ++ g ≡ taken ++ held → held ++ more ≡ skipped ++ rest → h ++ (g ++ more) ≡ (taken ++ skipped) ++ rest
 off_after h g taken held more skipped rest e f =
     sym (append_assoc h g more) ∙ ap (λ l. l ++ more) e ∙ append_assoc taken held more ∙ ap (λ l. taken ++ l) f ∙ sym (append_assoc taken skipped rest)
-
-gives_of : {A : Type 0} (answer : Answer A) (a b : Option (List ℕ)) (xs : List ℕ) → MatchResult answer (λ _. Consumes a b xs) (λ _. Gives a b xs) → Gives a b xs
-gives_of (Ok o) a b xs p = Gives-from_Consumes a b xs p
-gives_of (Err e) a b xs p = p
 
 or_false : (b : Bool) → (b || false) ≡ b
 or_false true = refl
@@ -117,6 +113,7 @@ module _ {A : Type 0} (t : Text A) (a b c : Stream) (es : List (ℕ × Event A))
           front = p.taken ++ q.skipped;
           rest = q.rest;
           parts = off_after a.held p.given p.taken b.held q.given q.skipped q.rest p.off q.off;
+          starts = starts_after b.ending c.ending p.taken b.held q.given q.skipped q.rest p.starts q.only_open q.off q.starts;
           few = q.bounded;
           earlier = list_whole a b c es p q.given q.only_open _ (sym rest);
         },

@@ -8,7 +8,7 @@ use Rattle.frame_core.specs.declared.list_fault.ListCause.{ListCause}
 use Rattle.frame_core.specs.declared.list_fault.ListCause.TheVariants.{LineTooLong, LineForm, Moment, Hex, ListTooLong, ReadFailed}
 use Rattle.frame_core.specs.declared.list_fault.ListFault.{ListFault}
 use Rattle.frame_core.specs.Device.{AppendsFront}
-use Rattle.frame_core.specs.Lines.{Stop, finished, unfinished, faulty}
+use Rattle.frame_core.specs.Lines.{Stop, StartsLine, finished, unfinished, faulty}
 use Rattle.frame_core.specs.EventList.{Listing, listing, put_events}
 use Rattle.goose_cmd.specs.declared.ending.Ending.{Ending}
 use Rattle.goose_cmd.specs.declared.ending.Ending.TheVariants.{Done, Findings, InputFault, ReadFault, WriteFault, Memory}
@@ -47,6 +47,7 @@ pub record StopsAt {A : Type 0} (t : Text A) (n : ℕ) (z : InputEnd) (text : Li
   pub front : List ℕ
   pub rest : List ℕ
   pub parts : text ≡ front ++ rest
+  pub starts : StartsLine z front rest
   pub few : length rest ≤ 8192
   pub earlier : listing z n text ≡ put_events events (listing z number rest)
 

@@ -1,4 +1,4 @@
-use Rattle.std.proofs.Common.{Ok, Err, Some, None, refl, sym, ◌∙◌, ap, ◌++◌, drop, ◌+◌, arith}
+use Rattle.std.proofs.Common.{Ok, Err, Some, None, refl, sym, ◌∙◌, ap, ◌++◌, take, drop, ◌+◌, arith}
 use Rattle.frame_core.specs.Lines.{finished}
 use Rattle.frame_core.specs.Reader.{stream, Stream}
 use Rattle.frame_core.specs.EventLine.{event_of}
@@ -35,7 +35,7 @@ returns-in-Ok-None-event_in g c =
     let mid = stream g.R.Source.left g.R.Source.ending c.fill.new.self in
     let rest = drop (c.in-Ok-Some.size + 1) mid.held in (
       skips _ _ mid _ p.0 p.1 e.taken p.2 p.3 (ap g.R.Source.left c.take.ensures.reader) (ap g.R.Source.ending c.take.ensures.reader)
-          c.take.ensures.taken _ c.take.ensures.off
+          c.take.ensures.taken (take (c.in-Ok-Some.size + 1) mid.held) c.take.ensures.off (rw c.take.ensures.held e.front.4)
           (λ more z f. rw (c.take.ensures.taken, c.take.ensures.held)
           (listing-line mid.ending mid.taken mid.held _ rest (Ok None) (ap event_of (sym c.front.ensures) ∙ said) e.front.3 more z f)),
       c.take.ensures.taken ∙ ap (λ n. n + 1) e.taken,
@@ -53,7 +53,7 @@ returns-in-Ok-Some-event_in g c =
     let rest = drop (c.in-Ok-Some.size + 1) mid.held in
     let number = c.line_number-self.ensures ∙ took.number in (
       tells _ mid _ _ p.0 p.1 e.taken p.2 p.3 (ap g.R.Source.left took.reader) (ap g.R.Source.ending took.reader) e.bounded
-          (omega (arith, took.taken), number ∙ sym took.taken, omega (arith, took.taken, e.front.2)) (omega (arith, took.taken)) (_, took.off)
+          (omega (arith, took.taken), number ∙ sym took.taken, omega (arith, took.taken, e.front.2)) (omega (arith, took.taken)) (take (c.in-Ok-Some.size + 1) mid.held, took.off, rw took.held e.front.4)
           (λ more z f. rw (number, took.taken, took.held)
           (listing-line mid.ending mid.taken mid.held _ rest (Ok (Some c.in-Ok-Some-event_in.event)) (ap event_of (sym c.front.ensures) ∙ said) e.front.3 more z f)),
       refl,
@@ -64,7 +64,7 @@ returns-in-Err-Memory g c =
     let e = rw c.in-Ok-Some.field-0-is at c.in-Ok-Some.ensures in
     let p = e.given in
     let mid = stream g.R.Source.left g.R.Source.ending c.fill.new.self in
-    (tells _ mid _ _ p.0 p.1 e.taken p.2 (Gives-from_Consumes _ _ _ p.3) refl refl e.bounded (omega arith) refl refl (λ more z f. refl), refl)
+    (tells _ mid _ _ p.0 p.1 e.taken p.2 p.3 refl refl e.bounded (omega arith) refl refl (λ more z f. refl), refl)
 
 pub returns-in-Err-Cause : goal.returns-in-Err-Cause
 returns-in-Err-Cause g c =
