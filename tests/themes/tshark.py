@@ -157,39 +157,41 @@ def members(tree):
     return [*found, *([] if int(tree.get("show")) == len(found) else [f"count {tree.get('show')}"])]
 
 
+def shown(field):
+    """A field as tshark shows it."""
+    return "-" if field is None else field.get("show")
+
+
+def named(tree, protocol, *rows):
+    """The texts of the fields of these words, readings and names."""
+    return [f"{word}={reading(child(tree, f'{protocol}.{name}'))}" for word, reading, name in rows]
+
+
 def goose(apdu):
     """The texts of an IECGoosePdu."""
-    of = lambda name: child(apdu, "goose." + name)
-    found = members(of("allData"))
+    found = members(child(apdu, "goose.allData"))
+    count = number(child(apdu, "goose.numDatSetEntries"))
     return [
-        "ref=" + text(of("gocbRef")),
-        "live=" + number(of("timeAllowedtoLive")),
-        "set=" + text(of("datSet")),
-        "id=" + text(of("goID")),
-        "t=" + moment(of("t")),
-        "st=" + of("stNum").get("show"),
-        "sq=" + of("sqNum").get("show"),
-        "sim=" + truth(of("simulation")),
-        "rev=" + number(of("confRev")),
-        "com=" + truth(of("ndsCom")),
-        ["{", *found, *([] if number(of("numDatSetEntries")) == str(len(found)) else ["another numDatSetEntries"])],
+        *named(
+            apdu, "goose", ("ref", text, "gocbRef"), ("live", number, "timeAllowedtoLive"), ("set", text, "datSet"),
+            ("id", text, "goID"), ("t", moment, "t"), ("st", shown, "stNum"), ("sq", shown, "sqNum"),
+            ("sim", truth, "simulation"), ("rev", number, "confRev"), ("com", truth, "ndsCom"),
+        ),
+        ["{", *found, *([] if count == str(len(found)) else ["another numDatSetEntries"])],
     ]
 
 
 def asdu(tree):
     """The texts of an ASDU."""
-    of = lambda name: child(tree, "sv." + name)
     return [
         "(",
-        "id=" + text(of("svID")),
-        "set=" + text(of("datSet")),
-        "cnt=" + of("smpCnt").get("show"),
-        "rev=" + of("confRev").get("show"),
-        "t=" + moment(of("refrTm")),
-        "synch=" + synchronised(of("smpSynch")),
-        "rate=" + ("-" if of("smpRate") is None else of("smpRate").get("show")),
-        "sample=" + octets(of("seqData")).hex(),
-        "mod=" + mode(of("smpMod"), child(tree, "ber.64bit_uint_as_bytes")),
+        *named(
+            tree, "sv", ("id", text, "svID"), ("set", text, "datSet"), ("cnt", shown, "smpCnt"),
+            ("rev", shown, "confRev"), ("t", moment, "refrTm"), ("synch", synchronised, "smpSynch"),
+            ("rate", shown, "smpRate"),
+        ),
+        "sample=" + octets(child(tree, "sv.seqData")).hex(),
+        "mod=" + mode(child(tree, "sv.smpMod"), child(tree, "ber.64bit_uint_as_bytes")),
         "f89=" + identity(tree),
     ]
 
