@@ -4,6 +4,7 @@ pub mod Headers
 pub mod OneReading
 pub mod Regions
 pub mod Shortest
+pub mod OneSize
 pub mod Steps
 pub mod WrittenLemmas
 pub mod FieldRegions

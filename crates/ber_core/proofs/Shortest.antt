@@ -15,7 +15,7 @@ use Rattle.ber_core.specs.Written.{IsShortest, integer_size, number_size, short_
 use Rattle.ber_core.proofs.WrittenLemmas.{integer_size_bounds, signed_size_bounds, length-short_integer, short_length-small}
 
 -- two ways to write how many numbers n octets spell
-pow256 : (n : ℕ) → 256 ^ n ≡ 2 ^ (8 * n)
+pub pow256 : (n : ℕ) → 256 ^ n ≡ 2 ^ (8 * n)
 pow256 zero = refl
 pow256 (suc n) =
     let e : 8 * suc n ≡ 8 * n + 8 = omega arith in
@@ -26,7 +26,7 @@ byte_at_small : (i n : ℕ) → byte_at i n < 256
 byte_at_small zero n = mod-lt n (omega arith)
 byte_at_small (suc i) n = mod-lt (n / 256 ^ suc i) (omega arith)
 
-big_bytes_octets : (k n : ℕ) → AreOctets (big_bytes k n)
+pub big_bytes_octets : (k n : ℕ) → AreOctets (big_bytes k n)
 big_bytes_octets zero n i = omega arith
 big_bytes_octets (suc k) n zero = byte_at_small k n
 big_bytes_octets (suc k) n (suc i) = big_bytes_octets k n i
@@ -115,14 +115,14 @@ signed_size_least n (suc (suc (suc (suc (suc (suc (suc (suc zero)))))))) low fit
 signed_size_least n (suc (suc (suc (suc (suc (suc (suc (suc (suc m))))))))) low fits = omega (arith, signed_size_bounds n)
 
 -- 256 ^ s is twice the place of the sign
-twice : (s : ℕ) → 1 ≤ s → 2 ^ (8 * s) ≡ 2 * 2 ^ (8 * s - 1)
+pub twice : (s : ℕ) → 1 ≤ s → 2 ^ (8 * s) ≡ 2 * 2 ^ (8 * s - 1)
 twice s low = ap (λ (e : ℕ). 2 ^ e) (omega arith) ∙ pow-succ' 2 (8 * s - 1)
 
 -- two's complement below the sign, and above it
-twos_low : (s x : ℕ) → x < 2 ^ (8 * s - 1) → twos_complement s x ≡ pos x
+pub twos_low : (s x : ℕ) → x < 2 ^ (8 * s - 1) → twos_complement s x ≡ pos x
 twos_low s x small = grind arith
 
-twos_high : (s x k : ℕ) → 2 ^ (8 * s - 1) ≤ x → x + suc k ≡ 2 ^ (8 * s) → twos_complement s x ≡ negsuc k
+pub twos_high : (s x k : ℕ) → 2 ^ (8 * s - 1) ≤ x → x + suc k ≡ 2 ^ (8 * s) → twos_complement s x ≡ negsuc k
 twos_high s x k large sum = grind (arith, ints)
 
 -- what is left of a number that falls short of a multiple

@@ -17,3 +17,5 @@ pub mod WrittenSizes
 pub mod OneReading
 pub mod WrittenSpelled
 pub mod SpelledSpellable
+pub mod Least
+pub mod AsWritten

@@ -17,7 +17,7 @@ by_test true n = refl
 by_test false n = omega (arith, length-bytes_high_first (number_size n) n)
 
 -- the octets of a header
-length_size : (n : ℕ) → header_size n ≡ 1 + length (short_length n)
+pub length_size : (n : ℕ) → header_size n ≡ 1 + length (short_length n)
 unfolding short_length
 length_size n = by_test (ltb n 128) n
 

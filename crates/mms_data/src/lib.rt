@@ -14,6 +14,7 @@ mod owning;
 mod putting;
 mod reading;
 mod spellable;
+mod standing;
 #[cfg(test)]
 mod tests;
 mod time;

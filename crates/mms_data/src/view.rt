@@ -5,6 +5,7 @@ ghost use Rattle.mms_data.specs.Left.{AreMembers};
 
 use crate::contents::simple;
 use crate::kinds::{Kind, member_kind};
+use crate::standing::are_written;
 use crate::time::UtcTime;
 use ber_core::{Header, header};
 
@@ -44,12 +45,25 @@ pub struct Members<'a> {
 }
 
 impl<'a> Members<'a> {
-    ghost use Rattle.std.specs.Prelude.{Ok};
+    ghost use Rattle.std.specs.Prelude.{Ok, ◌↔◌, IfSome, IsSome};
     ghost use Rattle.mms_data.specs.Data.{Data};
     ghost use Rattle.mms_data.specs.Meaning.{left, meaning};
     ghost use Rattle.mms_data.specs.Place.{IsPart, ViewIsPart, source_of};
     ghost use Rattle.mms_data.specs.Reading.{contents_at, members_at};
     ghost use Rattle.mms_data.specs.Spelling.{SpellSome, SpellsAll};
+    ghost use Rattle.mms_data.specs.Written.{written_all};
+
+    /// The octets of the members, exactly where they are the written forms of the members, one after the other.
+    pub fn as_written(self) -> Option<&'a [u8]>
+        ensures exactly { IsSome result ↔ ((source_of self.entry).now ≡ written_all (left self.entry)) }
+        ensures octets { IfSome result (λ o. o.now ≡ written_all (left self.entry)) }
+    {
+        if are_written(self.octets, self.levels) {
+            Some(self.octets)
+        } else {
+            None
+        }
+    }
 
     // The members that the octets from `at` to `end` spell, the first at the level.
     pub(crate) fn new(octets: &'a [u8], at: usize, end: usize, level: u8) -> Members<'a>
