@@ -13,7 +13,7 @@ use Rattle.pdu_core.specs.declared.goose.GoosePdu.{GoosePdu}
 use Rattle.pdu_core.specs.declared.sampled.asdu.SvPdu.{SvPdu}
 use Rattle.pdu_core.proofs.SampledSpellableTests.{spelled_sv_test, test_spelled_sv}
 use Rattle.pdu_core.proofs.SampledWrittenSpelled.{written_sv_is_spelled}
-use Rattle.pdu_core.proofs.Sizes.{element_size}
+use Rattle.mms_data.proofs.Sizes.{element_size}
 use Rattle.pdu_core.proofs.SpellableTests.{spelled_test, test_spelled}
 use Rattle.pdu_core.proofs.WrittenSpelled.{written_is_spelled}
 use Rattle.frame_core.specs.Apdu.{SpellsApdu}

@@ -19,3 +19,5 @@ pub mod WrittenSpelled
 pub mod SpelledSpellable
 pub mod Least
 pub mod AsWritten
+pub mod Sizes
+pub mod Appends

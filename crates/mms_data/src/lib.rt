@@ -5,6 +5,7 @@
 mod checking;
 mod contents;
 mod copying;
+mod elements;
 mod fault;
 mod kinds;
 pub mod laws;
@@ -21,9 +22,11 @@ mod time;
 pub mod utc;
 mod value;
 mod view;
+mod view_writing;
 pub mod writing;
 
 pub use crate::checking::check_members;
+pub use crate::elements::put_element;
 pub use crate::fault::{PutFault, ReadFault};
 pub use crate::octets::Octets;
 pub use crate::reading::{members, read_members};
@@ -31,4 +34,5 @@ pub use crate::spellable::{are_spellable, is_spellable};
 pub use crate::time::UtcTime;
 pub use crate::value::{BitText, Value, ValueList};
 pub use crate::view::{BitView, Members, View};
+pub use crate::view_writing::put_members;
 pub use crate::writing::{put_value, put_values, spelled_length};

@@ -12,7 +12,6 @@ use crate::time::UtcTime;
 use crate::value::{Value, ValueList};
 use arrayvec::ArrayVec;
 use ber_core::{put_header, put_integer};
-use byteorder::{BigEndian, ByteOrder};
 use std::alloc::Allocator;
 
 fn put_front<const N: usize>(out: &mut ArrayVec<u8, N>, identifier: u8, size: usize)
@@ -24,7 +23,7 @@ fn put_front<const N: usize>(out: &mut ArrayVec<u8, N>, identifier: u8, size: us
     let _fits = put_header(out, identifier, size);
 }
 
-fn put_slice<const N: usize>(out: &mut ArrayVec<u8, N>, octets: &[u8])
+pub(crate) fn put_slice<const N: usize>(out: &mut ArrayVec<u8, N>, octets: &[u8])
     requires { array_vec_len out.old + length octets.now ≤ N }
     ensures { out.new.items ≡ out.old.items ++ octets.now }
 {
@@ -72,11 +71,7 @@ fn put_time<const N: usize>(out: &mut ArrayVec<u8, N>, time: UtcTime)
     requires room { array_vec_len out.old + length (element 145 (written_time time)) ≤ N }
     ensures { out.new.items ≡ out.old.items ++ element 145 (written_time time) }
 {
-    let mut octets = [0; 8];
-    BigEndian::write_u32(&mut octets[3..], time.fraction);
-    BigEndian::write_u32(&mut octets, time.seconds);
-    octets[7] = time.quality;
-    put_octets(out, 0x91, &octets);
+    put_octets(out, 0x91, &time.to_octets());
 }
 
 // The written form of a value.

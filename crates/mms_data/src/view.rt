@@ -53,8 +53,8 @@ impl<'a> Members<'a> {
     ghost use Rattle.mms_data.specs.Spelling.{SpellSome, SpellsAll};
     ghost use Rattle.mms_data.specs.Written.{written_all};
 
-    /// The octets of the members, exactly where they are the written forms of the members, one after the other.
-    pub fn as_written(self) -> Option<&'a [u8]>
+    // The octets of the members, exactly where they are the written forms of the members, one after the other.
+    pub(crate) fn as_written(self) -> Option<&'a [u8]>
         ensures exactly { IsSome result ↔ ((source_of self.entry).now ≡ written_all (left self.entry)) }
         ensures octets { IfSome result (λ o. o.now ≡ written_all (left self.entry)) }
     {

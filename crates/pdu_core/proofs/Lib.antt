@@ -10,13 +10,11 @@ pub mod Shown
 pub mod OneReading
 pub mod Owned
 pub mod Read
-pub mod Appends
 pub mod AsduParts
 pub mod Each
 pub mod SampledWrittenSpelled
 pub mod SampledSpelledSpellable
 pub mod SampledSpellableTests
-pub mod Sizes
 pub mod WrittenSpelled
 pub mod Texts
 pub mod UnitSizes

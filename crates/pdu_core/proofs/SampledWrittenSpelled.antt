@@ -18,7 +18,7 @@ use Rattle.pdu_core.specs.SampledLaws.{WrittenSvIsSpelled}
 use Rattle.pdu_core.specs.SampledSpellable.{AreFew, IsAsduCount, IsFixed, SpellableAsdu}
 use Rattle.pdu_core.specs.SampledWritten.{asdu_contents, sv_contents, written_asdu, written_asdus}
 use Rattle.pdu_core.specs.declared.sampled.asdu.Asdu.{Asdu}
-use Rattle.pdu_core.proofs.Sizes.{element_size}
+use Rattle.mms_data.proofs.Sizes.{element_size}
 use Rattle.pdu_core.proofs.WrittenSpelled.{Suit, element_written, fields_written, one_octet}
 
 -- ---- an ASDU

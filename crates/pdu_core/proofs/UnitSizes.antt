@@ -5,7 +5,7 @@ use Rattle.ber_core.specs.Written.{short_integer}
 use Rattle.mms_data.specs.Written.{element}
 use Rattle.pdu_core.specs.SampledWritten.{sv_contents, written_asdus, written_sv}
 use Rattle.pdu_core.specs.declared.sampled.asdu.SvPdu.{SvPdu}
-use Rattle.pdu_core.proofs.Sizes.{element_size}
+use Rattle.mms_data.proofs.Sizes.{element_size}
 
 pub asdus_within : {A : Type 0} (p : SvPdu A) → length (written_asdus p.asdus) ≤ length (sv_contents p)
 asdus_within p =

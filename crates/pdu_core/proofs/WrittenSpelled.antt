@@ -25,7 +25,7 @@ use Rattle.mms_data.specs.Spellable.{AllSpellable, IsTime}
 use Rattle.mms_data.specs.Written.{element, written_time}
 use Rattle.pdu_core.specs.Written.{written_contents, written_fields, written_item}
 use Rattle.pdu_core.specs.declared.goose.GoosePdu.{GoosePdu}
-use Rattle.pdu_core.proofs.Sizes.{element_size}
+use Rattle.mms_data.proofs.Sizes.{element_size}
 
 -- ---- contents, kind by kind
 

@@ -2,11 +2,9 @@
 //! of their own, and written.
 #![tactic(auto)]
 
-mod elements;
 mod fields;
 mod goose;
 pub mod laws;
-mod members;
 mod owning;
 mod putting;
 mod reading;

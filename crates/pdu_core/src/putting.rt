@@ -10,15 +10,13 @@ ghost use Rattle.pdu_core.specs.Goose.{text_if};
 ghost use Rattle.pdu_core.specs.Views.{octets_if};
 ghost use Rattle.pdu_core.specs.Written.{written_field};
 
-use crate::elements::put_element;
 use arrayvec::ArrayVec;
 use ber_core::{Full, put_integer};
-use byteorder::{BigEndian, ByteOrder};
-use mms_data::{Octets, UtcTime, ValueList, put_values};
+use mms_data::{Octets, UtcTime, ValueList, put_element, put_values};
 use std::alloc::Allocator;
 
 // Appends the field of a text.
-#[tactic(auto, using(crate::proofs::Sizes::element_size))]
+#[tactic(auto, using(mms_data::proofs::Sizes::element_size))]
 pub fn put_text<const N: usize>(
     out: &mut ArrayVec<u8, N>,
     identifier: u8,
@@ -32,7 +30,7 @@ pub fn put_text<const N: usize>(
 }
 
 // Appends the field of a text, if there is one.
-#[tactic(auto, using(crate::proofs::Sizes::element_size))]
+#[tactic(auto, using(mms_data::proofs::Sizes::element_size))]
 pub fn put_text_if<A: Allocator, const N: usize>(
     out: &mut ArrayVec<u8, N>,
     identifier: u8,
@@ -49,7 +47,7 @@ pub fn put_text_if<A: Allocator, const N: usize>(
 }
 
 // Appends the field of a text where it stands, if there is one.
-#[tactic(auto, using(crate::proofs::Sizes::element_size))]
+#[tactic(auto, using(mms_data::proofs::Sizes::element_size))]
 pub fn put_text_there<const N: usize>(
     out: &mut ArrayVec<u8, N>,
     identifier: u8,
@@ -106,15 +104,11 @@ pub fn put_time<const N: usize>(
     ensures enough { array_vec_len out.old + length (written_field identifier (Some (a_time time))) ≤ N → IsOk result }
     ensures written { OnOk result (out.new.items ≡ out.old.items ++ written_field identifier (Some (a_time time))) }
 {
-    let mut contents = [0; 8];
-    BigEndian::write_u32(&mut contents[3..], time.fraction);
-    BigEndian::write_u32(&mut contents, time.seconds);
-    contents[7] = time.quality;
-    put_element(out, identifier, &contents)
+    put_element(out, identifier, &time.to_octets())
 }
 
 // Appends the field of members.
-#[tactic(auto, using(crate::proofs::Sizes::element_size))]
+#[tactic(auto, using(mms_data::proofs::Sizes::element_size))]
 pub fn put_members<A: Allocator, const N: usize>(
     out: &mut ArrayVec<u8, N>,
     identifier: u8,

@@ -6,12 +6,11 @@ ghost use Rattle.pdu_core.specs.Goose.{goose_fields, goose_items};
 ghost use Rattle.pdu_core.specs.Views.{pdu_of};
 ghost use Rattle.pdu_core.specs.Written.{HasWritten, written_contents, written_fields, written_goose};
 
-use crate::elements::put_element;
-use crate::members::put_members;
 use crate::putting::{put_flag, put_number, put_text, put_text_there, put_time};
 use crate::view::GooseView;
 use arrayvec::ArrayVec;
 use ber_core::Full;
+use mms_data::{put_element, put_members};
 
 // Appends the fields from gocbRef on.
 fn put_fields<const N: usize>(out: &mut ArrayVec<u8, N>, view: &GooseView<'_>) -> Result<(), Full>
@@ -55,7 +54,7 @@ fn put_entries<const N: usize>(out: &mut ArrayVec<u8, N>, view: &GooseView<'_>) 
 /// # Errors
 ///
 /// `Full`, where the contents have more than 4294967295 octets, or the written form does not fit in what is left.
-#[tactic(auto, using(crate::proofs::Sizes::element_size))]
+#[tactic(auto, using(mms_data::proofs::Sizes::element_size))]
 pub fn put_goose_view<const N: usize>(
     out: &mut ArrayVec<u8, N>,
     view: &GooseView<'_>,

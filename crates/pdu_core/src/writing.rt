@@ -6,13 +6,12 @@ ghost use Rattle.pdu_core.specs.Goose.{goose_fields, goose_items};
 ghost use Rattle.pdu_core.specs.Spellable.{Spellable};
 ghost use Rattle.pdu_core.specs.Written.{HasWritten, written_contents, written_fields, written_goose};
 
-use crate::elements::put_element;
 use crate::goose::GoosePdu;
 use crate::putting::{put_flag, put_members, put_number, put_text, put_text_if, put_time};
 use crate::spellable::is_spellable;
 use arrayvec::ArrayVec;
 use ber_core::Full;
-use mms_data::PutFault;
+use mms_data::{PutFault, put_element};
 use std::alloc::Allocator;
 
 // Appends the fields from gocbRef on.
@@ -71,7 +70,7 @@ fn put_entries<A: Allocator, const N: usize>(
 /// `NotSpellable` where a text has an octet outside 20 to 7E, the fraction of `t` is not below 2^24, a member
 /// has no spelling, or there are more than 4294967295 members. Otherwise `Full`, where the contents have more
 /// than 4294967295 octets, or the written form does not fit in what is left.
-#[tactic(auto, using(crate::proofs::Sizes::element_size))]
+#[tactic(auto, using(mms_data::proofs::Sizes::element_size))]
 pub fn put_goose<A: Allocator, const N: usize>(
     out: &mut ArrayVec<u8, N>,
     pdu: &GoosePdu<A>,

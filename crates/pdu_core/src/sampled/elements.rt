@@ -9,7 +9,6 @@ ghost use Rattle.pdu_core.specs.SampledViews.{asdu_of};
 ghost use Rattle.pdu_core.specs.SampledWritten.{asdu_contents, written_asdu};
 ghost use Rattle.pdu_core.specs.Written.{written_fields};
 
-use crate::elements::put_element;
 use crate::putting::{put_number, put_text, put_text_there};
 use crate::sampled::putting::{
     put_octets, put_octets_if, put_time_if, put_u8, put_u16, put_u16_if, put_u32,
@@ -17,6 +16,7 @@ use crate::sampled::putting::{
 use crate::sampled::view::AsduView;
 use arrayvec::ArrayVec;
 use ber_core::Full;
+use mms_data::put_element;
 
 // Appends the fields from svID on.
 fn put_fields<const N: usize>(out: &mut ArrayVec<u8, N>, asdu: &AsduView<'_>) -> Result<(), Full>
@@ -44,7 +44,7 @@ fn put_samples<const N: usize>(out: &mut ArrayVec<u8, N>, asdu: &AsduView<'_>) -
 }
 
 // Appends an ASDU.
-#[tactic(auto, using(crate::proofs::Sizes::element_size))]
+#[tactic(auto, using(mms_data::proofs::Sizes::element_size))]
 pub fn put_asdu<const N: usize>(out: &mut ArrayVec<u8, N>, asdu: &AsduView<'_>) -> Result<(), Full>
     ensures enough { length (written_asdu (asdu_of {A = Unit {0}} asdu.now)) < 2 ^ 32 → array_vec_len out.old + length (written_asdu (asdu_of {A = Unit {0}} asdu.now)) ≤ N → IsOk result }
     ensures written { OnOk result (out.new.items ≡ out.old.items ++ written_asdu (asdu_of {A = Unit {0}} asdu.now)) }
@@ -68,7 +68,7 @@ fn put_contents<const N: usize>(
 }
 
 // Appends the unit of so many ASDUs, which stand in their written form, where it fits; else `out` is unchanged.
-#[tactic(auto, using(crate::proofs::Sizes::element_size))]
+#[tactic(auto, using(mms_data::proofs::Sizes::element_size))]
 pub fn put_unit<const N: usize>(
     out: &mut ArrayVec<u8, N>,
     count: usize,

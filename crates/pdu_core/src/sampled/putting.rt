@@ -9,12 +9,11 @@ ghost use Rattle.pdu_core.specs.Contents.{a_fixed, some_octets};
 ghost use Rattle.pdu_core.specs.Views.{octets_if};
 ghost use Rattle.pdu_core.specs.Written.{written_field};
 
-use crate::elements::put_element;
 use crate::putting::put_time;
 use arrayvec::ArrayVec;
 use ber_core::Full;
 use byteorder::{BigEndian, ByteOrder};
-use mms_data::UtcTime;
+use mms_data::{UtcTime, put_element};
 
 // Appends the field of a number of one octet.
 pub fn put_u8<const N: usize>(
@@ -92,7 +91,7 @@ pub fn put_time_if<const N: usize>(
 }
 
 // Appends the field of octets.
-#[tactic(auto, using(crate::proofs::Sizes::element_size))]
+#[tactic(auto, using(mms_data::proofs::Sizes::element_size))]
 pub fn put_octets<const N: usize>(
     out: &mut ArrayVec<u8, N>,
     identifier: u8,
@@ -106,7 +105,7 @@ pub fn put_octets<const N: usize>(
 }
 
 // Appends the field of octets, if there are any.
-#[tactic(auto, using(crate::proofs::Sizes::element_size))]
+#[tactic(auto, using(mms_data::proofs::Sizes::element_size))]
 pub fn put_octets_if<const N: usize>(
     out: &mut ArrayVec<u8, N>,
     identifier: u8,

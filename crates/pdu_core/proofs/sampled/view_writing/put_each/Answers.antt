@@ -2,7 +2,7 @@ use Rattle.std.proofs.Common.{◌≡◌, ◌^◌, ◌++◌, ap, sym, ◌∙◌}
 use Rattle.std.proofs.lemmas.List.{append-nil}
 use Rattle.pdu_core.specs.SampledViews.{asdu_of, asdus_left}
 use Rattle.pdu_core.specs.SampledWritten.{written_asdu, written_asdus}
-use Rattle.pdu_core.proofs.Appends.{part_behind, part_fits, part_grows, part_within}
+use Rattle.mms_data.proofs.Appends.{part_behind, part_fits, part_grows, part_within}
 use Rattle.pdu_core.proofs.sampled.view_writing.put_each.Goals as goal
 
 pub returns-in_err-put_asdu-clause-enough : goal.returns-in_err-put_asdu-clause-enough

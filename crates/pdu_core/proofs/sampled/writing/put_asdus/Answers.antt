@@ -1,6 +1,6 @@
 use Rattle.std.proofs.Common.{◌≡◌, ◌+◌, ◌<◌, ◌≤◌, ◌^◌, ◌++◌, drop, length, ap, sym, subst, ◌∙◌}
 use Rattle.pdu_core.specs.SampledWritten.{written_asdu, written_asdus}
-use Rattle.pdu_core.proofs.Appends.{part_behind, part_fits, part_grows, part_within}
+use Rattle.mms_data.proofs.Appends.{part_behind, part_fits, part_grows, part_within}
 use Rattle.pdu_core.proofs.AsduParts.{asdu_next}
 use Rattle.pdu_core.proofs.sampled.writing.put_asdus.Goals as goal
 

@@ -8,9 +8,14 @@ ghost use Rattle.mms_data.specs.Written.{element};
 use arrayvec::ArrayVec;
 use ber_core::{Full, put_header};
 
-// Appends the element of this identifier and these contents, where they have at most 4294967295 octets and
-// it fits; else `out` is unchanged.
-#[tactic(auto, unfolding(mms_data::specs::Written::element))]
+/// Appends the element of this identifier and these contents, its length in the fewest octets; the identifier's low
+/// five bits are not all ones.
+///
+/// # Errors
+///
+/// `Full` exactly where the contents have more than 4294967295 octets, or the element does not fit; `out` is then
+/// unchanged.
+#[tactic(auto, unfolding(crate::specs::Written::element))]
 pub fn put_element<const N: usize>(
     out: &mut ArrayVec<u8, N>,
     identifier: u8,

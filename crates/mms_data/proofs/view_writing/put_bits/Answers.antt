@@ -2,8 +2,8 @@ use Rattle.std.proofs.Common.{◌∷◌, ◌+◌, ◌++◌, ℕ, List, [], lengt
 use Rattle.std.proofs.lemmas.List.{length-append}
 use Rattle.mms_data.specs.Contents.{cleared}
 use Rattle.ber_core.specs.Written.{short_length}
-use Rattle.pdu_core.proofs.Sizes.{bits_size, bits_parts}
-use Rattle.pdu_core.proofs.members.put_bits.Goals as goal
+use Rattle.mms_data.proofs.Sizes.{bits_size, bits_parts}
+use Rattle.mms_data.proofs.view_writing.put_bits.Goals as goal
 
 pub returns-then-bits-gt4294967294-clause-enough : goal.returns-then-bits-gt4294967294-clause-enough
 returns-then-bits-gt4294967294-clause-enough g c = λ few room.
