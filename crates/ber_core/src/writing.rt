@@ -77,6 +77,57 @@ pub fn put_integer<const N: usize>(
     ensures written { OnOk result (out.new.items ≡ out.old.items ++ written_element identifier (short_integer number)) }
     ensures unchanged { OnErr result (out.new ≡ out.old) }
 {
+    match number {
+        0..=0x7f => put_one_octet(out, identifier, number as u8),
+        0x80..=0x7fff => put_two_octets(out, identifier, number as u16),
+        _ => put_any(out, identifier, number),
+    }
+}
+
+// The same for a number of one octet.
+fn put_one_octet<const N: usize>(
+    out: &mut ArrayVec<u8, N>,
+    identifier: u8,
+    number: u8,
+) -> Result<(), Full>
+    requires { number < 128 }
+    ensures fits { IsOk result ↔ (array_vec_len out.old + length (written_element identifier (short_integer (pos number))) ≤ N) }
+    ensures written { OnOk result (out.new.items ≡ out.old.items ++ written_element identifier (short_integer (pos number))) }
+    ensures unchanged { OnErr result (out.new ≡ out.old) }
+{
+    out.try_extend_from_slice(&[identifier, 1, number])
+        .map_err(|_| Full)
+}
+
+// The same for a number of two octets.
+fn put_two_octets<const N: usize>(
+    out: &mut ArrayVec<u8, N>,
+    identifier: u8,
+    number: u16,
+) -> Result<(), Full>
+    requires low { 128 ≤ number }
+    requires high { number < 2 ^ 15 }
+    ensures fits { IsOk result ↔ (array_vec_len out.old + length (written_element identifier (short_integer (pos number))) ≤ N) }
+    ensures written { OnOk result (out.new.items ≡ out.old.items ++ written_element identifier (short_integer (pos number))) }
+    ensures unchanged { OnErr result (out.new ≡ out.old) }
+{
+    out.try_extend_from_slice(&[identifier, 2, (number / 256) as u8, (number % 256) as u8])
+        .map_err(|_| Full)
+}
+
+// The same for any number.
+fn put_any<const N: usize>(
+    out: &mut ArrayVec<u8, N>,
+    identifier: u8,
+    number: i128,
+) -> Result<(), Full>
+    requires identifier { IsIdentifier identifier }
+    requires low { negsuc (2 ^ 71 - 1) ≤ℤ number }
+    requires high { number <ℤ pos (2 ^ 71) }
+    ensures fits { IsOk result ↔ (array_vec_len out.old + length (written_element identifier (short_integer number)) ≤ N) }
+    ensures written { OnOk result (out.new.items ≡ out.old.items ++ written_element identifier (short_integer number)) }
+    ensures unchanged { OnErr result (out.new ≡ out.old) }
+{
     let count = signed_count(number);
     let mut element = [0; 11];
     element[0] = identifier;

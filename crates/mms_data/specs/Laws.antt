@@ -1,4 +1,4 @@
--- What the definitions say together: octets have one reading, and written forms are spellings.
+-- What the definitions say together: octets have one reading, and written forms are spellings, none of which is shorter.
 use Rattle.std.specs.Prelude.{◌≡◌, ◌≤◌, ◌<◌, ◌^◌, ◌⊎◌, ℕ, List, length}
 use Rattle.ber_core.specs.declared.fault.Fault.{Fault}
 use Rattle.ber_core.specs.Length.{AreOctets}
@@ -34,3 +34,11 @@ AllWrittenAreSpelled = (ds : List Data) (L : ℕ) → AllSpellable ds L → leng
 -- a value that octets spell at a level has a spelling there in the sense of its fields: what is read can be written
 abbrev pub SpelledIsSpellable : Type 0
 SpelledIsSpellable = (d : Data) (L : ℕ) (o : List ℕ) → AreOctets o → Spells d L o → Spellable d L
+
+-- no spelling of a value has fewer octets than its written form
+abbrev pub WrittenIsShortest : Type 0
+WrittenIsShortest = (d : Data) (L : ℕ) (o : List ℕ) → AreOctets o → Spells d L o → length (written d) ≤ length o
+
+-- the same of members, one after the other
+abbrev pub AllWrittenAreShortest : Type 0
+AllWrittenAreShortest = (ds : List Data) (L : ℕ) (o : List ℕ) → AreOctets o → SpellsAll ds L o → length (written_all ds) ≤ length o

@@ -1,6 +1,6 @@
 //! Laws about the definitions that the contracts of this crate cite. The functions compute nothing.
 
-ghost use Rattle.mms_data.specs.Laws.{AllWrittenAreSpelled, FaultIsOne, MembersAreOne, MembersElseFault, MembersOrFault, SpelledIsSpellable, WrittenIsSpelled};
+ghost use Rattle.mms_data.specs.Laws.{AllWrittenAreShortest, AllWrittenAreSpelled, FaultIsOne, MembersAreOne, MembersElseFault, MembersOrFault, SpelledIsSpellable, WrittenIsShortest, WrittenIsSpelled};
 
 /// Octets spell one list of members, or have one first fault, and never both.
 pub fn one_reading()
@@ -14,6 +14,12 @@ pub fn one_reading()
 pub fn written_is_spelled()
     ensures value { WrittenIsSpelled }
     ensures members { AllWrittenAreSpelled }
+{}
+
+/// No spelling of a value has fewer octets than its written form.
+pub fn written_is_shortest()
+    ensures value { WrittenIsShortest }
+    ensures members { AllWrittenAreShortest }
 {}
 
 /// A value that octets spell has a spelling in the sense of its fields: what is read can be written.

@@ -213,6 +213,7 @@ fn a_written_form_of_65535_octets(rt: HostRuntime) -> Result<(), Fail> {
 fn laws_hold(rt: HostRuntime) {
     laws::one_reading();
     laws::written_is_spelled();
+    laws::written_is_shortest();
     laws::spelled_is_spellable();
     assert!(rt; count(&[]) == Ok(0));
 }

@@ -1,5 +1,5 @@
 //! `rewrite`: the list again, each grammatical frame in its written form.
-ghost use Rattle.std.specs.Prelude.{◌≡◌, ◌++◌, ℕ, List, true, false, not, is_some, OnOk, IfOk, codes, option_map};
+ghost use Rattle.std.specs.Prelude.{◌≡◌, ◌++◌, ℕ, List, true, false, not, is_some, Some, None, OnOk, IfOk, codes, if◌then◌else◌};
 ghost use Rattle.std.specs.Fmt.{decimal};
 ghost use Rattle.hex.specs.Hex.{encode_lower};
 ghost use Rattle.frame_core.specs.declared.device.InputEnd.{InputEnd};
@@ -15,13 +15,13 @@ use arrayvec::ArrayVec;
 use frame_core::{Event, EventKind, ListFault, Sink, Source, encode_view, view_frame};
 use std::alloc::{AllocError, Allocator};
 
-// The written form of the frame that octets spell, where there is one and it fits.
-fn form_of(octets: &[u8]) -> Option<ArrayVec<u8, 1600>>
-    ensures { option_map (λ a. a.items) result ≡ written_form octets.now }
+// Puts the written form of the frame that octets spell into `form`, where there is one and it fits, and answers whether.
+fn put_form(form: &mut ArrayVec<u8, 1600>, octets: &[u8]) -> bool
+    ensures { written_form octets.now ≡ (if result then Some form.new.items else None) }
 {
     match view_frame(octets) {
-        Ok(view) => encode_view(&view),
-        Err(_) => None,
+        Ok(view) => encode_view(&view, form).is_ok(),
+        Err(_) => false,
     }
 }
 
@@ -60,15 +60,13 @@ fn put_rewritten<A: Allocator>(
         ++ (codes "F " ++ decimal moment ++ codes " " ++ encode_lower (form_or (written_form octets.now) octets.now) ++ codes "\n")) }
     ensures kept { IfOk result (λ kept. kept ≡ not (is_some (written_form octets.now))) }
 {
-    match form_of(octets) {
-        Some(form) => {
-            put_frame_event(line, moment, form.as_slice())?;
-            Ok(false)
-        }
-        None => {
-            put_frame_event(line, moment, octets)?;
-            Ok(true)
-        }
+    let mut form = ArrayVec::new();
+    if put_form(&mut form, octets) {
+        put_frame_event(line, moment, form.as_slice())?;
+        Ok(false)
+    } else {
+        put_frame_event(line, moment, octets)?;
+        Ok(true)
     }
 }
 

@@ -4,7 +4,7 @@ use Rattle.std.specs.Int.{w128}
 use Rattle.std.proofs.lemmas.Int.{to_z-of_z}
 use Rattle.ber_core.specs.Written.{short_integer, written_element}
 use Rattle.ber_core.proofs.WrittenLemmas.{take-written_integer}
-use Rattle.ber_core.proofs.writing.put_integer.Goals as goal
+use Rattle.ber_core.proofs.writing.put_any.Goals as goal
 
 pub returns-clause-written : goal.returns-clause-written
 unfolding short_integer
