@@ -2,7 +2,7 @@
 
 use crate::tests::sampled::FULL;
 use crate::{Asdu, AsduView, SvPdu, SvView, read_sv, view_sv};
-use mms_data::{Octets, ReadFault, UtcTime};
+use mms_data::{Octets, ReadFault};
 use refusing_alloc::RefusingAlloc;
 use std::alloc::{Allocator, Global};
 use std::process::Abort;
