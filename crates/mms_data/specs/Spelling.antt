@@ -11,7 +11,7 @@ use Rattle.mms_data.specs.Contents.{SpellsSimple, SimpleFault}
 use Rattle.mms_data.specs.declared.kinds.SimpleKind.{SimpleKind}
 
 abbrev mutual
-  -- o spells the value, which stands at the level L, from 1 to 16 (profile: at most sixteen levels)
+  -- o spells the value, which stands at the level L, at most 16 (profile)
   pub Spells : Data → ℕ → List ℕ → Type 0
   Spells (simple s) L o = (L ≤ 16) × (c : List ℕ) × Elem (simple_identifier (simple_kind s)) c o × SpellsSimple s c
   Spells (array ds) L o = (L ≤ 16) × (c : List ℕ) × Elem 161 c o × SpellsItems ds (L + 1) c

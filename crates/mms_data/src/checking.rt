@@ -11,8 +11,8 @@ use crate::contents::simple;
 use crate::kinds::{Kind, member_kind};
 use ber_core::{Cause, Fault, Header, header};
 
-/// How many members the octets from `at` to `end` spell, the first at the level (ISO 9506-2). Nothing but the
-/// octets is read, each once, and no memory is taken.
+/// How many members the octets from `at` to `end` spell, the first at the level (ISO 9506-2). Nothing but those
+/// octets is read, and no memory is taken.
 ///
 /// # Errors
 ///

@@ -1,8 +1,10 @@
 //! The contents of a UtcTime.
 
-ghost use Rattle.std.specs.Prelude.{◌≡◌, ◌≤◌, ◌<◌, ◌+◌, ◌^◌, length};
+ghost use Rattle.std.specs.Prelude.{◌≡◌, ◌≤◌, ◌<◌, ◌+◌, ◌^◌, Ok, Err, IfOk, IfErr, length};
 ghost use Rattle.ber_core.specs.Element.{contents_of};
-ghost use Rattle.mms_data.specs.Utc.{utc_at};
+ghost use Rattle.ber_core.specs.declared.fault.Fault.{Fault};
+ghost use Rattle.mms_data.specs.Utc.{SpellsUtc, UtcFault, utc_at};
+ghost use Rattle.mms_data.specs.declared.time.UtcTime.{UtcTime};
 
 use crate::time::UtcTime;
 use ber_core::{Cause, Fault, Header};
@@ -17,6 +19,16 @@ pub fn utc_time(octets: &[u8], header: &Header) -> Result<UtcTime, Fault>
     requires behind { header.now.at < header.now.contents_from }
     requires ordered { header.now.contents_from ≤ header.now.contents_to }
     requires inside { header.now.contents_to ≤ length octets.now }
+
+    // The time that is answered is spelled there, and the time that is spelled there is answered.
+    ensures found { IfOk result (λ t. SpellsUtc t (contents_of octets.now header.now)) }
+    ensures only { (t : UtcTime) → SpellsUtc t (contents_of octets.now header.now) → result ≡ Ok t }
+
+    // The same of the fault.
+    ensures fault { IfErr result (λ f. UtcFault f header.now.at (contents_of octets.now header.now)) }
+    ensures fault_only { (f : Fault) → UtcFault f header.now.at (contents_of octets.now header.now) → result ≡ Err f }
+
+    // For callers: the function on octets that it computes.
     ensures exact { result ≡ utc_at header.now.at (contents_of octets.now header.now) }
 {
     eight_octets(&octets[header.contents_from..header.contents_to], header.at)
