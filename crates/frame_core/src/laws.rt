@@ -9,7 +9,7 @@ ghost use Rattle.frame_core.specs.EventList.{listing, put_event};
 ghost use Rattle.frame_core.specs.Lines.{finished, faulty};
 ghost use Rattle.frame_core.specs.declared.list_fault.ListCause.{ListCause};
 ghost use Rattle.frame_core.specs.declared.list_fault.ListFault.{ListFault};
-ghost use Rattle.frame_core.specs.Laws.{FaultIsOne, FitsIsKnown, FrameIsOne, FrameOrFault, PartsMakeTheControl, ReadingTells, SpelledIsSpellable, WrittenIsSpelled};
+ghost use Rattle.frame_core.specs.Laws.{FaultIsOne, FitsIsKnown, FrameIsOne, FrameOrFault, PartsMakeTheControl, ReadingIsTrue, ReadingTells, SpelledIsSpellable, WrittenIsSpelled};
 
 use std::alloc::Allocator;
 
@@ -21,9 +21,11 @@ pub fn one_reading<A: Allocator>()
 {}
 
 /// The function on octets, by which texts are defined, gives the frame that octets spell, and the first fault
-/// that they have.
+/// that they have; and what it gives stands in the octets: they spell the frame that it gives, and they have the
+/// fault that it gives as their first.
 pub fn reading_tells<A: Allocator>()
-    ensures { ReadingTells A }
+    ensures told { ReadingTells A }
+    ensures only { ReadingIsTrue A }
 {}
 
 /// The written form of a frame is a spelling of it, where each field of its APDU has one and the form is not too long;

@@ -19,5 +19,6 @@ pub mod WrittenSpelled
 pub mod Texts
 pub mod UnitSizes
 pub mod ValueLaws
+pub mod KeptValues
 pub mod SpellableTests
 pub mod SpelledSpellable
