@@ -1,5 +1,6 @@
 // Outside examples: spellings and faults of each kind, and written forms.
 
+mod member_writing;
 mod refused_memory;
 mod round_trips;
 
