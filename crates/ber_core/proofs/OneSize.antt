@@ -8,7 +8,7 @@ use Rattle.byteorder.specs.Numbers.{big_from-cons}
 use Rattle.ber_core.specs.Length.{AreOctets, Len, number}
 use Rattle.ber_core.specs.Integer.{Int}
 use Rattle.ber_core.specs.Written.{integer_size, short_integer}
-use Rattle.ber_core.proofs.Shortest.{integer_shortest, number_small, pow256, twice, twos_low, twos_high}
+use Rattle.ber_core.proofs.Shortest.{integer_shortest, number_small, pow256, twos_low, twos_high}
 use Rattle.ber_core.proofs.WrittenLemmas.{length-short_integer}
 
 -- what stands before a number below P, and the number

@@ -1,4 +1,4 @@
-use Rattle.std.proofs.Common.{◌≡◌, sym, ap, rules, ◌∙◌}
+use Rattle.std.proofs.Common.{◌≡◌, sym, rules, ◌∙◌}
 use Rattle.ber_core.specs.Length.{AreOctets}
 use Rattle.ber_core.specs.Written.{integer_size}
 use Rattle.mms_data.proofs.AsWritten.{short_iff, not_refused}
