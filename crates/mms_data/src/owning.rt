@@ -83,7 +83,7 @@ fn cleared_octets<A: Allocator>(alloc: A, bits: &BitView) -> Result<Octets<A>, A
 }
 
 // The octet, its low `unused` bits set to 0.
-fn clear(octet: u8, unused: u8) -> u8
+pub(crate) fn clear(octet: u8, unused: u8) -> u8
     requires { unused ≤ 7 }
     ensures { result ≡ octet - octet % 2 ^ unused }
 {

@@ -1,7 +1,7 @@
 // Members of Data, appended in their written form from where they stand. Where a function that is not public finds no
 // room, nothing is said of `out`, which then is given up.
 
-ghost use Rattle.std.specs.Prelude.{◌≡◌, ◌≤◌, ◌<◌, ◌+◌, ◌-◌, ◌%◌, ◌^◌, ◌++◌, ◌∷◌, ◌↔◌, length, IsOk, OnOk, OnErr};
+ghost use Rattle.std.specs.Prelude.{◌≡◌, ◌≤◌, ◌<◌, ◌+◌, ◌^◌, ◌++◌, ◌∷◌, ◌↔◌, length, IsOk, OnOk, OnErr};
 ghost use Rattle.arrayvec.specs.ArrayVec.{array_vec_len};
 ghost use Rattle.ber_core.specs.Element.{IsIdentifier};
 ghost use Rattle.mms_data.specs.Contents.{cleared};
@@ -9,18 +9,11 @@ ghost use Rattle.mms_data.specs.Meaning.{left, meaning};
 ghost use Rattle.mms_data.specs.Written.{element, written, written_all};
 
 use crate::elements::put_element;
+use crate::owning::clear;
 use crate::putting::put_slice;
 use crate::view::{BitView, Members, View};
 use arrayvec::ArrayVec;
 use ber_core::{Full, put_header, put_integer};
-
-// The octet, its low `unused` bits set to 0.
-fn clear(octet: u8, unused: u8) -> u8
-    requires { unused ≤ 7 }
-    ensures { result ≡ octet - octet % 2 ^ unused }
-{
-    octet - octet % (1 << unused)
-}
 
 // Appends the octets of the bits, the unused ones set to 0.
 fn put_cleared<const N: usize>(out: &mut ArrayVec<u8, N>, bits: BitView<'_>)
