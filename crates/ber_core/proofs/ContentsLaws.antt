@@ -42,7 +42,7 @@ unfolding all_visible_at
 all_visible_again from [] h = refl
 all_visible_again from (x ∷ xs) h = rw (visible_true x h.0) (all_visible_again (from + 1) xs h.1)
 
-all_visible_wrong : (f : Fault) (from : ℕ) (c : List ℕ) → all_visible_at from c ≡ Err f → VisibleFault f from c
+pub all_visible_wrong : (f : Fault) (from : ℕ) (c : List ℕ) → all_visible_at from c ≡ Err f → VisibleFault f from c
 unfolding all_visible_at
 all_visible_wrong f from [] e = absurd (cc)
 all_visible_wrong f from (x ∷ xs) e = elim (chosen (is_visible x) _ _ _ e) [
@@ -63,6 +63,9 @@ all_visible_wrong_at f from (y ∷ a) b x good bad is =
     let place : from + length (y ∷ a) ≡ from + 1 + length a = omega arith in
     rw (visible_true y good.0) (all_visible_wrong_at f (from + 1) a b x good.1 bad (is ∙ ap (λ (n : ℕ). fault_of n causes.NotVisible) place))
 
+pub all_visible_wrong_again : (f : Fault) (from : ℕ) (c : List ℕ) → VisibleFault f from c → all_visible_at from c ≡ Err f
+all_visible_wrong_again f from c (a, b, x, parts, good, bad, is) = ap (all_visible_at from) parts ∙ all_visible_wrong_at f from a b x good bad is
+
 pub visible_found : (from : ℕ) (c text : List ℕ) → visible_at from c ≡ Ok text → SpellsVisible text c
 visible_found from c text e =
     let u = bind_ok (all_visible_at from c) _ text e in
@@ -79,9 +82,7 @@ visible_wrong f from c e = elim (bind_err (all_visible_at from c) _ f e) [
 ]
 
 pub visible_wrong_again : (f : Fault) (from : ℕ) (c : List ℕ) → VisibleFault f from c → visible_at from c ≡ Err f
-visible_wrong_again f from c (a, b, x, parts, good, bad, is) =
-    let e : all_visible_at from c ≡ Err f = ap (all_visible_at from) parts ∙ all_visible_wrong_at f from a b x good bad is in
-    rw e refl
+visible_wrong_again f from c wrong = let e = all_visible_wrong_again f from c wrong in rw e refl
 
 -- ---- integers
 

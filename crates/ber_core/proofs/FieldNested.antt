@@ -22,10 +22,6 @@ pub nothing : (o : List ℕ) → length o ≡ 0 → o ≡ []
 nothing [] h = refl
 nothing (x ∷ xs) h = absurd (omega arith)
 
--- a sequence that fills its region
-pub record Fills {K I : Type 0} (G : Grammar K I) (gs : List (Field K I)) (ws : List (Option I)) (o : List ℕ) : Type 0 where
-  pub spelled : SpellsFields G gs ws o
-
 module _ {K I : Type 0} (G : Grammar K I) (read : Read K I) (sound : IsSound G read) (gs : List (Field K I)) (apart : are_apart gs ≡ true) (octets : List ℕ) where
   pub fills_found : (p e q : ℕ) (ws : List (Option I)) → p ≤ e → e ≤ length octets → fields_at read gs [] octets p e ≡ Ok (ws, q) → e ≤ q → SpellsFields G gs ws (slice_range octets p e)
   fills_found p e q ws order within is end =

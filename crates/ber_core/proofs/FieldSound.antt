@@ -90,7 +90,7 @@ required_found id p e octets h is = found_in (if_there id p (slice_range octets 
   found_in (Ok None) s = absurd (cc)
   found_in (Err f) s = absurd (cc)
 
-required_wrong : (id p e : ℕ) (octets : List ℕ) (f : Fault) → required_at id octets p e ≡ Err f → (if_there id p (slice_range octets p e) ≡ Err f) ⊎ ((if_there id p (slice_range octets p e) ≡ Ok None) × (f ≡ absence p (slice_range octets p e)))
+pub required_wrong : (id p e : ℕ) (octets : List ℕ) (f : Fault) → required_at id octets p e ≡ Err f → (if_there id p (slice_range octets p e) ≡ Err f) ⊎ ((if_there id p (slice_range octets p e) ≡ Ok None) × (f ≡ absence p (slice_range octets p e)))
 unfolding required_at there_at
 required_wrong id p e octets f is = wrong_in (if_there id p (slice_range octets p e)) is where
   wrong_in : (r : Result (Option Header) Fault) → (r >>= or_absence p (slice_range octets p e)) ≡ Err f → (r ≡ Err f) ⊎ ((r ≡ Ok None) × (f ≡ absence p (slice_range octets p e)))

@@ -14,4 +14,5 @@ pub mod FieldNested
 pub mod Repeated
 pub mod Visible
 pub mod ContentsLaws
-pub mod SequenceLaws
+pub mod FieldAnswers
+pub mod StandardFacts

@@ -99,10 +99,6 @@ front_of G id k low p o x q (skipped n means next) = absurd means
 pub some_octet : (id : ℕ) (c o : List ℕ) → Elem id c o → 0 < length o
 some_octet id c o elem = omega (arith, ap length elem.parts)
 
-pub few_spelled : {K I : Type 0} (G : Grammar K I) (id : ℕ) (k : K) (xs : List I) (o : List ℕ) → SpellsEach G id k xs o → length xs ≤ length o
-few_spelled G id k [] o s = omega arith
-few_spelled G id k (x ∷ xs) o (c, a, b, elem, spelled, more, parts) = omega (arith, few_spelled G id k xs b more, some_octet id c a elem, ap length parts, length-append a b)
-
 -- ---- the laws
 
 module _ {K I : Type 0} (G : Grammar K I) (read : Read K I) (sound : IsSound G read) (id : ℕ) (k : K) (low : eqb (id % 32) 31 ≡ false) (octets : List ℕ) (e : ℕ) (within : e ≤ length octets) where
@@ -288,7 +284,3 @@ module _ {K I : Type 0} (G : Grammar K I) (read : Read K I) (sound : IsSound G r
             one ∙ rw (h.1, turns_enough (length octets - 1) (length octets) h.0.contents_to at.within (omega (arith, low_place, within)) (omega (arith, within))) refl
         | inr f ↦ one ∙ rw f.1 refl
       ]
-
-  -- no more elements than octets
-  pub few_elements : (p : ℕ) (xs : List I) → p ≤ e → each_at read id k octets p e ≡ Ok xs → length xs ≤ e - p
-  few_elements p xs order is = omega (arith, few_spelled G id k xs (slice_range octets p e) (each_at_found p xs order is), region-length octets p e within)

@@ -2,8 +2,9 @@
 -- contents spell is told apart by kinds, in a grammar that each sequence brings along.
 use Rattle.std.specs.Prelude.{◌≡◌, ◌≢◌, ℕ, ◌+◌, ◌%◌, ◌⊎◌, List, [], ◌∷◌, ◌++◌, length, Option, Some, None}
 use Rattle.ber_core.specs.Length.{Len}
-use Rattle.ber_core.specs.Element.{Elem}
-use Rattle.ber_core.specs.Faults.{LengthFault, fault_of}
+use Rattle.ber_core.specs.Element.{Elem, IsHeader}
+use Rattle.ber_core.specs.Faults.{HeaderFault, LengthFault, fault_of}
+use Rattle.ber_core.specs.declared.element.Header.{Header}
 use Rattle.ber_core.specs.declared.fault.Fault.{Fault}
 use Rattle.ber_core.specs.declared.fault.Cause.TheVariants as causes
 
@@ -41,6 +42,23 @@ MayBeAbsent (default d) = Unit {0}
 abbrev pub BeginsWith : ℕ → List ℕ → Type 0
 BeginsWith id [] = ⊥
 BeginsWith id (first ∷ more) = first ≡ id
+
+-- the element of this identifier stands at this place, inside the region that ends at end, and the header says where
+abbrev pub IsField : ℕ → List ℕ → ℕ → ℕ → Header → Type 0
+IsField id octets at end h = IsHeader octets at end h × (h.identifier ≡ id)
+
+-- the identifier begins o, which stands at the place p, and the front of its element is at fault
+abbrev pub PresentFault : ℕ → Fault → ℕ → List ℕ → Type 0
+PresentFault id f p o = BeginsWith id o × HeaderFault f p o
+
+-- The fault where the element of an identifier must stand at the place p: nothing is there, another identifier is,
+-- of more than one octet or of one, or the front of the element is at fault.
+abbrev pub RequiredFault : ℕ → Fault → ℕ → List ℕ → Type 0
+RequiredFault id f p [] = f ≡ fault_of p causes.ElementMissing
+RequiredFault id f p (b ∷ bs) =
+    ((b ≢ id) × (b % 32 ≡ 31) × (f ≡ fault_of p causes.HighTag))
+    ⊎ (((b ≢ id) × (b % 32 ≢ 31) × (f ≡ fault_of p causes.UnexpectedTag))
+    ⊎ PresentFault id f p (b ∷ bs))
 
 -- o is the field's element with this value, or it is nothing, and the value is what absence means
 abbrev pub SpellsField : {K I : Type 0} → Grammar K I → Field K I → Option I → List ℕ → Type 0

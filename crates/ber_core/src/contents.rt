@@ -1,7 +1,7 @@
 //! The contents of one element: a boolean, an integer, a visible text, octets of a stated count.
 
 ghost use Rattle.std.specs.Prelude.{◌≡◌, ◌≤◌, ◌<◌, ◌+◌, ◌^◌, ◌≤ℤ◌, ℤ, Bool, List, ℕ, Ok, Err, length, IfOk, IfErr, IsOk};
-ghost use Rattle.ber_core.specs.Contents.{SpellsBoolean, BooleanFault, SpellsInteger, IntegerFault, SpellsVisible, VisibleFault, SpellsCounted, CountedFault, IsContents};
+ghost use Rattle.ber_core.specs.Contents.{AreVisible, SpellsBoolean, BooleanFault, SpellsInteger, IntegerFault, SpellsVisible, VisibleFault, SpellsCounted, CountedFault, IsContents};
 ghost use Rattle.ber_core.specs.ContentsReading.{all_visible_at, boolean_at, counted_at, integer_at, is_visible, visible_at};
 ghost use Rattle.ber_core.specs.Element.{contents_of};
 ghost use Rattle.ber_core.specs.Reading.{Gives};
@@ -34,10 +34,22 @@ pub fn boolean(octets: &[u8], header: &Header) -> Result<bool, Fault>
 /// # Errors
 ///
 /// `BooleanLength` at that place plus 1, where the contents are not one octet.
-#[tactic(auto, unfolding(crate::specs::ContentsReading::boolean_at))]
 pub fn boolean_of(contents: &[u8], at: usize) -> Result<bool, Fault>
     requires fits { at + 1 < 2 ^ 64 }
+    ensures found { IfOk result (λ b. SpellsBoolean b contents.now) }
+    ensures only { (b : Bool) → SpellsBoolean b contents.now → result ≡ Ok b }
+    ensures fault { IfErr result (λ f. BooleanFault f at contents.now) }
+    ensures fault_only { (f : Fault) → BooleanFault f at contents.now → result ≡ Err f }
     ensures exact { result ≡ boolean_at at contents.now }
+{
+    truth(contents, at)
+}
+
+// The boolean, as reading gives it.
+#[tactic(auto, unfolding(crate::specs::ContentsReading::boolean_at))]
+fn truth(contents: &[u8], at: usize) -> Result<bool, Fault>
+    requires { at + 1 < 2 ^ 64 }
+    ensures { result ≡ boolean_at at contents.now }
 {
     match contents {
         [number] => Ok(*number != 0),
@@ -72,7 +84,6 @@ pub fn integer_in(octets: &[u8], header: &Header, low: i128, high: i128) -> Resu
 ///
 /// `IntegerLength` at the identifier's place plus 1, where the contents have no octet or over nine;
 /// `IntegerRange` at the first octet of the contents, where the integer lies outside the range.
-#[tactic(auto, unfolding(crate::specs::ContentsReading::integer_at))]
 pub fn integer_of(
     contents: &[u8],
     at: usize,
@@ -81,6 +92,20 @@ pub fn integer_of(
     high: i128,
 ) -> Result<i128, Fault>
     requires fits { at + 1 < 2 ^ 64 }
+    ensures found { IfOk result (λ n. SpellsInteger low high n contents.now) }
+    ensures only { (n : ℤ) → SpellsInteger low high n contents.now → result ≡ Ok n }
+    ensures fault { IfErr result (λ f. IntegerFault f low high at from contents.now) }
+    ensures fault_only { (f : Fault) → IntegerFault f low high at from contents.now → result ≡ Err f }
+    ensures exact { result ≡ integer_at low high at from contents.now }
+    ensures within { IfOk result (λ n. (low ≤ℤ n) × (n ≤ℤ high)) }
+{
+    ranged(contents, at, from, low, high)
+}
+
+// The integer, as reading gives it.
+#[tactic(auto, unfolding(crate::specs::ContentsReading::integer_at))]
+fn ranged(contents: &[u8], at: usize, from: usize, low: i128, high: i128) -> Result<i128, Fault>
+    requires { at + 1 < 2 ^ 64 }
     ensures exact { result ≡ integer_at low high at from contents.now }
     ensures within { IfOk result (λ n. (low ≤ℤ n) × (n ≤ℤ high)) }
 {
@@ -129,6 +154,18 @@ fn visible_behind<'a>(octets: &'a [u8], header: &Header) -> Result<&'a [u8], Fau
 /// `NotVisible` at the first octet outside 20 to 7E.
 pub fn check_visible(octets: &[u8], from: usize) -> Result<(), Fault>
     requires fits { from + length octets.now < 2 ^ 64 }
+    ensures found { IfOk result (λ _. AreVisible octets.now) }
+    ensures only { AreVisible octets.now → result ≡ Ok tt }
+    ensures fault { IfErr result (λ f. VisibleFault f from octets.now) }
+    ensures fault_only { (f : Fault) → VisibleFault f from octets.now → result ≡ Err f }
+    ensures exact { result ≡ all_visible_at from octets.now }
+{
+    each_visible(octets, from)
+}
+
+// The same, as reading from left to right gives it.
+fn each_visible(octets: &[u8], from: usize) -> Result<(), Fault>
+    requires { from + length octets.now < 2 ^ 64 }
     ensures exact { result ≡ all_visible_at from octets.now }
 {
     for i in 0..octets.len() {

@@ -2,9 +2,13 @@
 //! at a place, and the sequence's end. What its contents spell is read by `contents` or by the crate whose
 //! sequence it is.
 
-ghost use Rattle.std.specs.Prelude.{◌≡◌, ◌≤◌, length, slice_range, IfOk, IfSome};
+ghost use Rattle.std.specs.Prelude.{◌≡◌, ◌≤◌, ◌<◌, ◌↔◌, Ok, Err, Some, None, length, slice_range, IfOk, IfErr, IfSome};
+ghost use Rattle.ber_core.specs.Faults.{fault_of};
 ghost use Rattle.ber_core.specs.FieldReading.{absence, ends_at, required_at, there_at};
+ghost use Rattle.ber_core.specs.Fields.{BeginsWith, IsField, PresentFault, RequiredFault};
 ghost use Rattle.ber_core.specs.Reading.{IsWithin};
+ghost use Rattle.ber_core.specs.declared.element.Header.{Header};
+ghost use Rattle.ber_core.specs.declared.fault.Fault.{Fault};
 
 use crate::element::Header;
 use crate::fault::{Cause, Fault};
@@ -16,8 +20,30 @@ use crate::reading::header;
 /// # Errors
 ///
 /// Those of the element's length, as `header` has them.
-#[tactic(auto, unfolding(crate::specs::FieldReading::there_at))]
 pub fn there(octets: &[u8], at: usize, end: usize, identifier: u8) -> Result<Option<Header>, Fault>
+    requires ordered { at ≤ end }
+    requires inside { end ≤ length octets.now }
+
+    // The element that is answered stands there, and the element that stands there is answered; and none exactly
+    // where the identifier does not stand there.
+    ensures found { IfOk result (λ there. IfSome there (IsField identifier octets.now at end)) }
+    ensures only { (h : Header) → IsField identifier octets.now at end h → result ≡ Ok (Some h) }
+    ensures absent { (result ≡ Ok None) ↔ (¬ BeginsWith identifier (slice_range octets.now at end)) }
+
+    // The fault that is answered is there, and the fault that is there is answered.
+    ensures fault { IfErr result (λ f. PresentFault identifier f at (slice_range octets.now at end)) }
+    ensures fault_only { (f : Fault) → PresentFault identifier f at (slice_range octets.now at end) → result ≡ Err f }
+
+    // For callers: the function on octets that it computes, and the order of the places.
+    ensures exact { result ≡ there_at identifier octets.now at end }
+    ensures places { IfOk result (λ there. IfSome there (λ h. IsWithin at end h)) }
+{
+    read_there(octets, at, end, identifier)
+}
+
+// The element, as reading gives it.
+#[tactic(auto, unfolding(crate::specs::FieldReading::there_at))]
+fn read_there(octets: &[u8], at: usize, end: usize, identifier: u8) -> Result<Option<Header>, Fault>
     requires ordered { at ≤ end }
     requires inside { end ≤ length octets.now }
     ensures exact { result ≡ there_at identifier octets.now at end }
@@ -58,14 +84,34 @@ fn absent(octets: &[u8], at: usize, end: usize) -> Fault
 ///
 /// At `at`: `ElementMissing` where the region ends there, `HighTag` or `UnexpectedTag` where another
 /// identifier stands there. Otherwise those of the element's length, as `header` has them.
-#[tactic(auto, unfolding(crate::specs::FieldReading::required_at))]
 pub fn required(octets: &[u8], at: usize, end: usize, identifier: u8) -> Result<Header, Fault>
+    requires ordered { at ≤ end }
+    requires inside { end ≤ length octets.now }
+
+    // The element that is answered stands there, and the element that stands there is answered.
+    ensures found { IfOk result (IsField identifier octets.now at end) }
+    ensures only { (h : Header) → IsField identifier octets.now at end h → result ≡ Ok h }
+
+    // The same of the fault.
+    ensures fault { IfErr result (λ f. RequiredFault identifier f at (slice_range octets.now at end)) }
+    ensures fault_only { (f : Fault) → RequiredFault identifier f at (slice_range octets.now at end) → result ≡ Err f }
+
+    // For callers: the function on octets that it computes, and the order of the places.
+    ensures exact { result ≡ required_at identifier octets.now at end }
+    ensures places { IfOk result (λ h. IsWithin at end h) }
+{
+    read_required(octets, at, end, identifier)
+}
+
+// The element, as reading gives it.
+#[tactic(auto, unfolding(crate::specs::FieldReading::required_at))]
+fn read_required(octets: &[u8], at: usize, end: usize, identifier: u8) -> Result<Header, Fault>
     requires ordered { at ≤ end }
     requires inside { end ≤ length octets.now }
     ensures exact { result ≡ required_at identifier octets.now at end }
     ensures places { IfOk result (λ h. IsWithin at end h) }
 {
-    match there(octets, at, end, identifier)? {
+    match read_there(octets, at, end, identifier)? {
         Some(header) => Ok(header),
         None => Err(absent(octets, at, end)),
     }
@@ -77,6 +123,10 @@ pub fn required(octets: &[u8], at: usize, end: usize, identifier: u8) -> Result<
 ///
 /// `ExtraOctets` at `place`, where octets follow.
 pub fn check_end(place: usize, end: usize) -> Result<(), Fault>
+    ensures found { IfOk result (λ _. end ≤ place) }
+    ensures only { end ≤ place → result ≡ Ok tt }
+    ensures fault { IfErr result (λ f. (place < end) × (f ≡ fault_of place Cause.ExtraOctets)) }
+    ensures fault_only { place < end → result ≡ Err (fault_of place Cause.ExtraOctets) }
     ensures exact { result ≡ ends_at place end }
 {
     if place < end {

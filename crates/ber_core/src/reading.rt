@@ -139,6 +139,7 @@ pub fn integer(octets: &[u8], header: &Header) -> Result<i128, Fault>
     ensures only { (n : ℤ) → Int n (contents_of octets.now header.now) → result ≡ Ok n }
     ensures fault { IfErr result (λ f. (f ≡ fault_of (header.now.at + 1) Cause.IntegerLength)
         × ((length (contents_of octets.now header.now) ≡ 0) ⊎ (9 < length (contents_of octets.now header.now)))) }
+    ensures fault_only { (length (contents_of octets.now header.now) ≡ 0) ⊎ (9 < length (contents_of octets.now header.now)) → result ≡ Err (fault_of (header.now.at + 1) Cause.IntegerLength) }
     ensures exact { result ≡ any_integer_at header.now.at (contents_of octets.now header.now) }
 {
     any_integer(&octets[header.contents_from..header.contents_to], header.at)

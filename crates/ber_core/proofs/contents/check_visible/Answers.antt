@@ -1,22 +1,24 @@
-use Rattle.std.proofs.Common.{◌≡◌, ◌+◌, suc, drop, Err, sym, ap, ap₂, ◌∙◌, arith}
-use Rattle.ber_core.specs.declared.fault.Fault.{Fault}
+use Rattle.std.proofs.Common.{◌∙◌}
+use Rattle.ber_core.specs.Contents.{AreVisible, VisibleFault}
 use Rattle.ber_core.specs.ContentsReading.{all_visible_at}
-use Rattle.ber_core.proofs.Visible.{visible_on, visible_stop, visible_end}
+use Rattle.ber_core.proofs.Exact.{gives_same, answer_found, answer_fault}
+use Rattle.ber_core.proofs.ContentsLaws.{all_visible_found, all_visible_again, all_visible_wrong, all_visible_wrong_again}
 use Rattle.ber_core.proofs.contents.check_visible.Goals as goal
 
-pub returns-then-not-is_visible_octet : goal.returns-then-not-is_visible_octet
-returns-then-not-is_visible_octet c = record {
-  exact = ap (λ (x : Fault). Err x) c.at.ensures ∙ sym (visible_stop c.args.octets.now (c.args.from + c.loop-i.i) c.loop-i.i (omega arith) (sym c.if-not-is_visible_octet.ensures)) ∙ c.loop-i.invariant;
-}
+pub returns-clause-found : goal.returns-clause-found
+returns-clause-found c =
+    let o = c.args.octets.now in
+    let reading = all_visible_at c.args.from o in
+    answer_found (λ u. u) reading (λ _. AreVisible o) (all_visible_found c.args.from o) c.each_visible.result (gives_same reading c.each_visible.result c.each_visible.ensures.exact)
 
-pub loop-i-preserved : goal.loop-i-preserved
-loop-i-preserved c =
-    let i = c.loop-i.i in
-    let at : c.args.from + i + 1 ≡ c.args.from + (i + 1) = omega arith in
-    let next : suc i ≡ i + 1 = omega arith in
-    ap₂ (λ x y. all_visible_at x (drop y c.args.octets.now)) (sym at) (sym next) ∙ sym (visible_on c.args.octets.now (c.args.from + i) i (omega arith) (sym c.if-not-is_visible_octet.ensures)) ∙ c.loop-i.invariant
+pub returns-clause-only : goal.returns-clause-only
+returns-clause-only c = λ good. c.each_visible.ensures.exact ∙ all_visible_again c.args.from c.args.octets.now good
 
-pub returns : goal.returns
-returns c = record {
-  exact = sym (visible_end c.args.octets.now (c.args.from + c.loop-i.i) c.loop-i.i (omega arith)) ∙ c.loop-i.invariant;
-}
+pub returns-clause-fault : goal.returns-clause-fault
+returns-clause-fault c =
+    let o = c.args.octets.now in
+    let reading = all_visible_at c.args.from o in
+    answer_fault (λ u. u) reading (λ f. VisibleFault f c.args.from o) (λ f. all_visible_wrong f c.args.from o) c.each_visible.result (gives_same reading c.each_visible.result c.each_visible.ensures.exact)
+
+pub returns-clause-fault_only : goal.returns-clause-fault_only
+returns-clause-fault_only c = λ f wrong. c.each_visible.ensures.exact ∙ all_visible_wrong_again f c.args.from c.args.octets.now wrong

@@ -1,6 +1,6 @@
 use Rattle.std.proofs.Common.{◌≡◌, ◌+◌, drop}
 use Rattle.ber_core.specs.ContentsReading.{all_visible_at}
-use Rattle.ber_core.proofs.contents.check_visible.Given as goal
+use Rattle.ber_core.proofs.contents.each_visible.Given as goal
 
 abbrev pub invariant-loop-i : goal.invariant-loop-i
 invariant-loop-i l = all_visible_at (l.from + l.i) (drop l.i l.octets) ≡ all_visible_at l.from l.octets
