@@ -88,9 +88,6 @@ module _ (o : List ℕ) (kind : Kind) (h : Header) (small : AreOctets o) (s : St
   pub contents_octets : AreOctets (contents_here o h)
   contents_octets = back_octets s.size (contents_here o h) inside
 
-  pub behind_octets : AreOctets (behind o h)
-  behind_octets = back_octets (identifier_of kind ∷ s.size ++ contents_here o h) (behind o h) (subst AreOctets s.parts small)
-
   -- the contents have at most 4294967295 octets
   pub few_contents : length (contents_here o h) < 2 ^ 32
   few_contents = Len_small (length (contents_here o h)) s.size size_octets s.sized

@@ -16,21 +16,16 @@ use Rattle.mms_data.specs.Contents.{SpellsSimple, cleared}
 use Rattle.mms_data.specs.Data.{Simple, boolean, bits, integer, unsigned, floating, octets, visible, binary_time, mms_text, utc, Data, simple, array, structure, Items, no_items, item}
 use Rattle.mms_data.specs.Spelling.{Spells, SpellsItems}
 use Rattle.mms_data.specs.Written.{element, simple_contents, written, written_items, header_size}
+use Rattle.mms_data.proofs.Sizes.{cleared_size}
 use Rattle.mms_data.proofs.SpelledSpellable.{front_octets, back_octets, contents_octets}
 use Rattle.mms_data.proofs.WrittenSizes.{element_size, length_size, time_size}
 
 -- ---- contents of simple values
 
--- unused bits that are set to 0 are still there
-cleared_count : (unused : ℕ) (o : List ℕ) → length (cleared unused o) ≡ length o
-cleared_count unused [] = refl
-cleared_count unused (last ∷ []) = refl
-cleared_count unused (first ∷ next ∷ more) = ap suc (cleared_count unused (next ∷ more))
-
 pub simple_least : (s : Simple) (c : List ℕ) → AreOctets c → SpellsSimple s c → length (simple_contents s) ≤ length c
 simple_least (boolean b) c h (n, is, truth) = omega (arith, ap length is)
 simple_least (bits unused ns) [] h s = absurd s
-simple_least (bits unused ns) (count ∷ more) h (same, fits, is) = omega (arith, ap length is, cleared_count count more)
+simple_least (bits unused ns) (count ∷ more) h (same, fits, is) = omega (arith, ap length is, cleared_size count more)
 simple_least (integer n) c h (low, high, spelled) = (integer_shortest n (omega (arith, ints, low)) (omega (arith, ints, high))).fewest c h spelled
 simple_least (unsigned n) c h (low, high, spelled) = (integer_shortest (pos n) (omega (arith, ints)) (omega (arith, ints, high))).fewest c h spelled
 simple_least (floating ns) c h s = omega (arith, ap length s.0)

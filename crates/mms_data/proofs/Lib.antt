@@ -21,3 +21,5 @@ pub mod Least
 pub mod AsWritten
 pub mod Sizes
 pub mod Appends
+pub mod NoMemory
+pub mod StandardFacts

@@ -3,12 +3,14 @@ use Rattle.std.proofs.Common.{◌≡◌, ℕ, ◌-◌, List, Result, Ok, Err, re
 use Rattle.std.specs.Prelude.{◌≤◌, ◌⊎◌}
 use Rattle.ber_core.specs.declared.fault.Fault.{Fault}
 use Rattle.mms_data.specs.Data.{Data}
-use Rattle.mms_data.specs.Laws.{MembersOrFault, MembersElseFault, FaultIsOne, MembersAreOne}
+use Rattle.mms_data.specs.Laws.{MembersOrFault, MembersElseFault, FaultIsOne, MembersAreOne, SeenIsOne, SeenIsSpelled}
+use Rattle.mms_data.specs.Meaning.{left}
+use Rattle.mms_data.specs.Place.{level_of, source_of}
 use Rattle.mms_data.specs.Reading.{members_at}
 use Rattle.mms_data.specs.Spelling.{SpellSome, FaultIn}
 use Rattle.mms_data.proofs.Again.{all_again}
 use Rattle.mms_data.proofs.Found.{all_found}
-use Rattle.mms_data.proofs.Front.{one_value}
+use Rattle.mms_data.proofs.Front.{one_value, read_in}
 use Rattle.mms_data.proofs.Wrong.{all_wrong}
 use Rattle.mms_data.proofs.WrongAgain.{all_wrong_again}
 
@@ -27,3 +29,11 @@ either L p o last (Err f) e = inr (f, all_wrong (17 - L) L f (omega arith) p o e
 
 pub members_else_fault : MembersElseFault
 members_else_fault L p o last = either L p o last (members_at (17 - L) p o) refl
+
+pub seen_is_spelled : SeenIsSpelled
+seen_is_spelled m =
+    let few = m.bounded in
+    all_found m.levels (level_of m) (omega arith) 0 (source_of m).now (left m) (read_in m.levels (source_of m).now m.spelled)
+
+pub seen_is_one : SeenIsOne
+seen_is_one m ds s = one_value (level_of m) (omega arith) (source_of m).now (left m) ds (seen_is_spelled m) s

@@ -43,18 +43,6 @@ written_at [] i d h = absurd (omega arith)
 written_at (v ∷ vs) zero d h = refl
 written_at (v ∷ vs) (suc i) d h = written_at vs i d (omega arith)
 
--- While members are put one after the other, the next one fits.
-pub puts_fit : (N : ℕ) (old out all v rest : List ℕ) → length old + length all ≤ N → out ++ (v ++ rest) ≡ old ++ all → length out + length v ≤ N
-puts_fit N old out all v rest room so_far =
-    let c : length out + length (v ++ rest) ≡ length old + length all = sym (length-append out (v ++ rest)) ∙ ap length so_far ∙ length-append old all in
-    omega (arith, length-append v rest)
-
--- A member that is left is no longer than all of them.
-pub part_size : (old out all v rest : List ℕ) → length old ≤ length out → out ++ (v ++ rest) ≡ old ++ all → length v ≤ length all
-part_size old out all v rest grown so_far =
-    let c : length out + length (v ++ rest) ≡ length old + length all = sym (length-append out (v ++ rest)) ∙ ap length so_far ∙ length-append old all in
-    omega (arith, length-append v rest)
-
 -- The contents are no longer than the element.
 pub contents_within : (d : Data) (n : ℕ) → length (written d) < n → length (written_contents d) < n
 contents_within d n h = omega (arith, written_size d)

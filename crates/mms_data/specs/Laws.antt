@@ -6,6 +6,9 @@ use Rattle.mms_data.specs.Data.{Data}
 use Rattle.mms_data.specs.Spelling.{Spells, SpellsAll, SpellSome, FaultIn}
 use Rattle.mms_data.specs.Spellable.{Spellable, AllSpellable}
 use Rattle.mms_data.specs.Written.{HasWritten, written, written_all}
+use Rattle.mms_data.specs.Meaning.{left}
+use Rattle.mms_data.specs.Place.{level_of, source_of}
+use Rattle.mms_data.specs.declared.view.Members.{Members}
 
 -- octets spell one list of members at most
 abbrev pub MembersAreOne : Type 0
@@ -42,3 +45,11 @@ WrittenIsShortest = (d : Data) (L : ℕ) (o : List ℕ) → AreOctets o → Spel
 -- the same of members, one after the other
 abbrev pub AllWrittenAreShortest : Type 0
 AllWrittenAreShortest = (ds : List Data) (L : ℕ) (o : List ℕ) → AreOctets o → SpellsAll ds L o → length (written_all ds) ≤ length o
+
+-- the octets that members are seen in spell the members that they stand for
+abbrev pub SeenIsSpelled : Type 0
+SeenIsSpelled = (m : Members) → SpellsAll (left m) (level_of m) (source_of m).now
+
+-- and no other members
+abbrev pub SeenIsOne : Type 0
+SeenIsOne = (m : Members) (ds : List Data) → SpellsAll ds (level_of m) (source_of m).now → left m ≡ ds

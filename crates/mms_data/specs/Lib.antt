@@ -16,3 +16,4 @@ pub mod Utc
 pub mod Spellable
 pub mod Written
 pub mod Laws
+pub mod Memory

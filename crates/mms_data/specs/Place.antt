@@ -1,5 +1,5 @@
 -- Where the slices of a view stand.
-use Rattle.std.specs.Prelude.{◌≡◌, ℕ, ◌+◌, ◌≤◌, List, length, slice_range, Option, IfSome}
+use Rattle.std.specs.Prelude.{◌≡◌, ℕ, ◌+◌, ◌-◌, ◌≤◌, List, length, slice_range, Option, IfSome}
 use Rattle.std.specs.Borrow.{Bor}
 use Rattle.std.specs.Iterator.{YieldsFirstBy}
 use Rattle.mms_data.specs.Meaning.{left, meaning}
@@ -20,6 +20,10 @@ pub record IsPart (s source : Bor (List ℕ)) : Type 0 where
 -- the octets that members are read from
 abbrev pub source_of : Members → Bor (List ℕ)
 source_of m = m.octets
+
+-- the level at which the members stand
+abbrev pub level_of : Members → ℕ
+level_of m = 17 - m.levels
 
 -- whatever octets the view hands out are a part of the source
 abbrev pub ViewIsPart : View → Bor (List ℕ) → Type 0

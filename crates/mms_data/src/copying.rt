@@ -1,6 +1,8 @@
 // Equal values in further memory.
 
-ghost use Rattle.std.specs.Prelude.{◌≡◌, IfOk};
+ghost use Rattle.std.specs.Prelude.{◌≡◌, [], IfOk, IsOk};
+ghost use Rattle.mms_data.specs.Memory.{NeedsNoMemory};
+ghost use Rattle.mms_data.specs.Value.{data_of};
 
 use crate::value::{BitText, Value, ValueList};
 use std::alloc::{AllocError, Allocator};
@@ -13,7 +15,10 @@ impl<A: Allocator + Copy> Value<A> {
     /// `AllocError` where memory is refused.
     #[cycle(copying)]
     pub fn try_copy(&self, alloc: A) -> Result<Value<A>, AllocError>
-        ensures { IfOk result (λ v. v ≡ self.now) }
+        ensures value { IfOk result (λ v. v ≡ self.now) }
+
+        // A value that needs no memory is copied without any.
+        ensures none { NeedsNoMemory (data_of self.now) → IsOk result }
     {
         match self {
             Value::Array(values) => Ok(Value::Array(values.try_copy(alloc)?)),
@@ -43,7 +48,10 @@ impl<A: Allocator + Copy> ValueList<A> {
     /// `AllocError` where memory is refused.
     #[cycle(copying)]
     pub fn try_copy(&self, alloc: A) -> Result<ValueList<A>, AllocError>
-        ensures { IfOk result (λ l. l ≡ self.now) }
+        ensures value { IfOk result (λ l. l ≡ self.now) }
+
+        // No values need no memory.
+        ensures none { self.now ≡ [] → IsOk result }
     {
         let values = self.as_slice();
         let mut copies = Vec::with_capacity(alloc, values.len())?;

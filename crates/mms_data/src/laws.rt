@@ -1,6 +1,6 @@
 //! Laws about the definitions that the contracts of this crate cite. The functions compute nothing.
 
-ghost use Rattle.mms_data.specs.Laws.{AllWrittenAreShortest, AllWrittenAreSpelled, FaultIsOne, MembersAreOne, MembersElseFault, MembersOrFault, SpelledIsSpellable, WrittenIsShortest, WrittenIsSpelled};
+ghost use Rattle.mms_data.specs.Laws.{AllWrittenAreShortest, AllWrittenAreSpelled, FaultIsOne, MembersAreOne, MembersElseFault, MembersOrFault, SeenIsOne, SeenIsSpelled, SpelledIsSpellable, WrittenIsShortest, WrittenIsSpelled};
 
 /// Octets spell one list of members, or have one first fault, and never both.
 pub fn one_reading()
@@ -25,4 +25,10 @@ pub fn written_is_shortest()
 /// A value that octets spell has a spelling in the sense of its fields: what is read can be written.
 pub fn spelled_is_spellable()
     ensures { SpelledIsSpellable }
+{}
+
+/// The octets that members are seen in spell the members that they stand for, and no others.
+pub fn seen_is_spelled()
+    ensures spelled { SeenIsSpelled }
+    ensures only { SeenIsOne }
 {}

@@ -1,5 +1,7 @@
 // Octets in memory of their own.
 
+ghost use Rattle.std.specs.Prelude.{◌≡◌, [], IfOk, IsOk};
+
 use std::alloc::{AllocError, Allocator};
 use std::marker::Model;
 
@@ -18,7 +20,7 @@ impl<A: Allocator> Model for Octets<A> {
 }
 
 impl<A: Allocator> Octets<A> {
-    ghost use Rattle.std.specs.Prelude.{◌≡◌, IfOk};
+    ghost use Rattle.std.specs.Prelude.{◌≡◌, [], IfOk, IsOk};
 
     /// The octets.
     pub fn as_slice(&self) -> &[u8]
@@ -41,11 +43,23 @@ impl<A: Allocator> Octets<A> {
     ///
     /// `AllocError` where memory is refused.
     pub fn try_copy(&self, alloc: A) -> Result<Octets<A>, AllocError>
-        ensures { IfOk result (λ o. o ≡ self.now) }
+        ensures value { IfOk result (λ o. o ≡ self.now) }
+
+        // No octets need no memory.
+        ensures none { self.now ≡ [] → IsOk result }
     {
-        let octets = Vec::from_slice(alloc, self.octets.as_slice())?;
-        Ok(Octets { octets })
+        copied(alloc, self.octets.as_slice())
     }
+}
+
+// The octets, in memory of their own.
+pub(crate) fn copied<A: Allocator>(alloc: A, octets: &[u8]) -> Result<Octets<A>, AllocError>
+    ensures value { IfOk result (λ o. o ≡ octets.now) }
+    ensures none { octets.now ≡ [] → IsOk result }
+{
+    let mut copy = Vec::with_capacity(alloc, octets.len())?;
+    copy.extend_from_slice(octets)?;
+    Ok(Octets { octets: copy })
 }
 
 impl<A: Allocator> From<Vec<u8, A>> for Octets<A> {

@@ -1,11 +1,12 @@
 // Values in memory of their own, from views.
 
-ghost use Rattle.std.specs.Prelude.{◌≡◌, ◌≤◌, ◌-◌, ◌%◌, ◌^◌, IfOk};
+ghost use Rattle.std.specs.Prelude.{◌≡◌, ◌≤◌, ◌-◌, ◌%◌, ◌^◌, [], IfOk, IsOk};
 ghost use Rattle.mms_data.specs.Contents.{cleared};
 ghost use Rattle.mms_data.specs.Meaning.{left, meaning};
+ghost use Rattle.mms_data.specs.Memory.{NeedsNoMemory};
 ghost use Rattle.mms_data.specs.Value.{data_of, datas};
 
-use crate::octets::Octets;
+use crate::octets::{Octets, copied};
 use crate::value::{BitText, Value, ValueList};
 use crate::view::{BitView, Members, View};
 use std::alloc::{AllocError, Allocator};
@@ -18,7 +19,10 @@ impl<'a> View<'a> {
     /// `AllocError` where memory is refused.
     #[cycle(owning)]
     pub fn to_value<A: Allocator + Copy>(&self, alloc: A) -> Result<Value<A>, AllocError>
-        ensures { IfOk result (λ v. data_of v ≡ meaning self.now) }
+        ensures value { IfOk result (λ v. data_of v ≡ meaning self.now) }
+
+        // A value that needs no memory is made without any.
+        ensures none { NeedsNoMemory (meaning self.now) → IsOk result }
     {
         match self {
             View::Array(members) => Ok(Value::Array(ValueList::from(members.to_values(alloc)?))),
@@ -32,11 +36,11 @@ impl<'a> View<'a> {
             })),
             View::Integer(n) => Ok(Value::Integer(*n)),
             View::Unsigned(n) => Ok(Value::Unsigned(*n)),
-            View::Floating(octets) => Ok(Value::Floating(owned(alloc, octets)?)),
-            View::Octets(octets) => Ok(Value::Octets(owned(alloc, octets)?)),
-            View::Visible(octets) => Ok(Value::Visible(owned(alloc, octets)?)),
-            View::BinaryTime(octets) => Ok(Value::BinaryTime(owned(alloc, octets)?)),
-            View::MmsText(octets) => Ok(Value::MmsText(owned(alloc, octets)?)),
+            View::Floating(octets) => Ok(Value::Floating(copied(alloc, octets)?)),
+            View::Octets(octets) => Ok(Value::Octets(copied(alloc, octets)?)),
+            View::Visible(octets) => Ok(Value::Visible(copied(alloc, octets)?)),
+            View::BinaryTime(octets) => Ok(Value::BinaryTime(copied(alloc, octets)?)),
+            View::MmsText(octets) => Ok(Value::MmsText(copied(alloc, octets)?)),
             View::Utc(time) => Ok(Value::Utc(*time)),
         }
     }
@@ -50,7 +54,10 @@ impl<'a> Members<'a> {
     /// `AllocError` where memory is refused.
     #[cycle(owning)]
     pub fn to_values<A: Allocator + Copy>(self, alloc: A) -> Result<Vec<Value<A>, A>, AllocError>
-        ensures { IfOk result (λ v. datas v.items ≡ left self.entry) }
+        ensures values { IfOk result (λ v. datas v.items ≡ left self.entry) }
+
+        // No members need no memory.
+        ensures none { left self.entry ≡ [] → IsOk result }
     {
         let mut values = Vec::with_capacity(alloc, self.count())?;
         for view in self {
@@ -60,19 +67,13 @@ impl<'a> Members<'a> {
     }
 }
 
-// The octets, in memory of their own.
-fn owned<A: Allocator>(alloc: A, octets: &[u8]) -> Result<Octets<A>, AllocError>
-    ensures { IfOk result (λ o. o ≡ octets.now) }
-{
-    Ok(Octets::from(Vec::from_slice(alloc, octets)?))
-}
-
 // The octets of the bits, the unused ones set to 0.
 fn cleared_octets<A: Allocator>(alloc: A, bits: &BitView) -> Result<Octets<A>, AllocError>
-    ensures { IfOk result (λ o. o ≡ cleared bits.now.unused bits.now.octets.now) }
+    ensures value { IfOk result (λ o. o ≡ cleared bits.now.unused bits.now.octets.now) }
+    ensures none { cleared bits.now.unused bits.now.octets.now ≡ [] → IsOk result }
 {
     match bits.octets {
-        [] => owned(alloc, bits.octets),
+        [] => copied(alloc, bits.octets),
         [front @ .., last] => {
             let mut octets = Vec::with_capacity(alloc, bits.octets.len())?;
             octets.extend_from_slice(front)?;

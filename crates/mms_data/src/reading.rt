@@ -1,8 +1,8 @@
 // Members of Data, seen where they stand, and in memory of their own.
 
-ghost use Rattle.std.specs.Prelude.{◌≤◌, List, length, slice_range, IfOk};
+ghost use Rattle.std.specs.Prelude.{◌≡◌, ◌≤◌, List, Err, length, slice_range, IfOk, IsOk};
 ghost use Rattle.ber_core.specs.declared.fault.Fault.{Fault};
-ghost use Rattle.mms_data.specs.Answers.{IfRefused, ReadsAs, Refuses};
+ghost use Rattle.mms_data.specs.Answers.{IfRefused, ReadsAs};
 ghost use Rattle.mms_data.specs.Data.{Data};
 ghost use Rattle.mms_data.specs.Meaning.{left};
 ghost use Rattle.mms_data.specs.Place.{IsPart, source_of};
@@ -52,9 +52,12 @@ pub fn read_members<A: Allocator + Copy>(
     ensures found { IfOk result (λ v. SpellsAll (datas v.items) level (slice_range octets.now at end)) }
     ensures only { (ds : List Data) → SpellsAll ds level (slice_range octets.now at end) → ReadsAs (λ v. datas v.items) result ds }
 
-    // The fault that is answered is there, and the fault that is there is answered, unless memory runs out.
+    // The fault that is answered is there, and the fault that is there is answered, whatever memory there is.
     ensures fault { IfRefused result (λ f. FaultIn f level at (slice_range octets.now at end)) }
-    ensures fault_only { (f : Fault) → FaultIn f level at (slice_range octets.now at end) → Refuses result f }
+    ensures fault_only { (f : Fault) → FaultIn f level at (slice_range octets.now at end) → result ≡ Err (ReadFault.Fault f) }
+
+    // No members need no memory.
+    ensures none { at ≡ end → IsOk result }
 {
     check_members(octets, at, end, level)?;
     Ok(members(octets, at, end, level).to_values(alloc)?)

@@ -1,5 +1,6 @@
 // Outside examples: spellings and faults of each kind, and written forms.
 
+mod ample_memory;
 mod member_writing;
 mod refused_memory;
 mod round_trips;
@@ -216,5 +217,6 @@ fn laws_hold(rt: HostRuntime) {
     laws::written_is_spelled();
     laws::written_is_shortest();
     laws::spelled_is_spellable();
+    laws::seen_is_spelled();
     assert!(rt; count(&[]) == Ok(0));
 }

@@ -11,7 +11,7 @@ use std::process::Abort;
 use std::test::Fail;
 
 // Lists of members in their written form.
-const WRITTEN: [&[u8]; 29] = [
+pub(super) const WRITTEN: [&[u8]; 29] = [
     &[0x83, 0x01, 0x00],
     &[0x83, 0x01, 0xff],
     &[0x84, 0x02, 0x00, 0xa5],

@@ -3,7 +3,8 @@ use Rattle.mms_data.specs.Value.{data_of, datas}
 use Rattle.mms_data.specs.Weight.{weight, weight_of_all}
 use Rattle.mms_data.specs.Written.{written, written_all, written_contents}
 use Rattle.mms_data.proofs.Weights.{weight_at}
-use Rattle.mms_data.proofs.WrittenSizes.{written_at, puts_fit, part_size, contents_within}
+use Rattle.mms_data.proofs.Appends.{part_fits, part_within}
+use Rattle.mms_data.proofs.WrittenSizes.{written_at, contents_within}
 use Rattle.mms_data.proofs.putting.+putting.Goals as goal
 
 pub put_each-put-requires : goal.put_each-put-requires
@@ -18,7 +19,7 @@ put_each-put-requires g t c κs within =
     let whole : written_all (datas vs) ≡ written_all c.args.values.now = ap written_all c.as_slice-values.ensures in
     let so_far : c.loop-value.out.items ++ (written (data_of v) ++ written_all (datas (drop (suc i) vs))) ≡ c.args.out.now.items ++ written_all c.args.values.now =
     ap (λ x. c.loop-value.out.items ++ x) (sym here) ∙ c.loop-value.invariant.all ∙ ap (λ x. c.args.out.now.items ++ x) whole in
-    let fit : length c.loop-value.out.items + length (written (data_of v)) ≤ g.row.N = puts_fit g.row.N c.args.out.now.items c.loop-value.out.items (written_all c.args.values.now) (written (data_of v)) (written_all (datas (drop (suc i) vs))) c.requires.room so_far in
-    let part : length (written (data_of v)) ≤ length (written_all c.args.values.now) = part_size c.args.out.now.items c.loop-value.out.items (written_all c.args.values.now) (written (data_of v)) (written_all (datas (drop (suc i) vs))) c.loop-value.invariant.grown so_far in
-    let few : length (written_contents (data_of v)) < 2 ^ 32 = contents_within (data_of v) (2 ^ 32) (omega (arith, part, c.requires.size)) in
+    let fit : length c.loop-value.out.items + length (written (data_of v)) ≤ g.row.N = part_fits g.row.N c.args.out.now.items c.loop-value.out.items (written_all c.args.values.now) (written (data_of v)) (written_all (datas (drop (suc i) vs))) so_far c.requires.room in
+    let part : length (written (data_of v)) < 2 ^ 32 = part_within (2 ^ 32) c.args.out.now.items c.loop-value.out.items (written_all c.args.values.now) (written (data_of v)) (written_all (datas (drop (suc i) vs))) c.loop-value.invariant.grown so_far c.requires.size in
+    let few : length (written_contents (data_of v)) < 2 ^ 32 = contents_within (data_of v) (2 ^ 32) part in
     (omega (arith, small, same, dec), (within, (search rules, (search rules, (few, fit)))))

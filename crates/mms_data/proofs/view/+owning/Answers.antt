@@ -3,6 +3,7 @@ use Rattle.mms_data.specs.Left.{data_in}
 use Rattle.mms_data.specs.Value.{datas}
 use Rattle.mms_data.specs.Meaning.{left, meaning}
 use Rattle.mms_data.proofs.Few.{few_members}
+use Rattle.mms_data.proofs.NoMemory.{no_items_of}
 use Rattle.mms_data.proofs.Weights.{weight_in}
 use Rattle.mms_data.proofs.view.+owning.Goals as goal
 
@@ -18,3 +19,9 @@ Members::to_values-count-requires-clause-fits g t c =
     let few : length (data_in s.levels s.octets.now) ≤ length s.octets.now = few_members s.levels s.octets.now s.bounded s.spelled in
     let fits = c.ranges.self in
     inl (omega (arith, few, fits))
+
+pub View::to_value-returns-in_err-to_values-in-Array-clause-none : goal.View::to_value-returns-in_err-to_values-in-Array-clause-none
+View::to_value-returns-in_err-to_values-in-Array-clause-none g t c = λ none. let empty = rw c.in-Array.is at none in absurd (let wrong = c.in_err-to_values-in-Array.ensures.none (no_items_of _ empty) in cc)
+
+pub View::to_value-returns-in_err-to_values-in-Structure-clause-none : goal.View::to_value-returns-in_err-to_values-in-Structure-clause-none
+View::to_value-returns-in_err-to_values-in-Structure-clause-none g t c = λ none. let empty = rw c.in-Structure.is at none in absurd (let wrong = c.in_err-to_values-in-Structure.ensures.none (no_items_of _ empty) in cc)
