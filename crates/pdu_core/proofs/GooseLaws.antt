@@ -65,9 +65,6 @@ module _ (octets : List ℕ) (p e : ℕ) where
   abbrev then_ends : Header → Result (List (Option Item) × ℕ) Fault → Result (List (Option Item)) Fault
   then_ends h r = r >>= λ x. (ends_at x.1 h.contents_to >>= λ _. Ok x.0)
 
-  only_unit : (u : Unit {0}) (r : Result (Unit {0}) Fault) → r ≡ Ok u → r ≡ Ok tt
-  only_unit u r is = is
-
   goose_steps : Stops ⊎ Steps
   unfolding goose_at
   goose_steps = elim (result_cases (required_at 0x61 octets p e)) [

@@ -189,7 +189,7 @@ asdu_kept A (v0 ∷ v1 ∷ []) k = absurd (k.1.1)
 asdu_kept A (v0 ∷ []) k = absurd (k.1)
 asdu_kept A [] k = absurd k
 
-each_kept : (A : Type 0) (vss : List (List (Option Item))) (o : List ℕ) → SpellsEach asdu_grammar 0x30 tt vss o → items_of_each (asdus_of_items {A = A} vss) ≡ vss
+pub each_kept : (A : Type 0) (vss : List (List (Option Item))) (o : List ℕ) → SpellsEach asdu_grammar 0x30 tt vss o → items_of_each (asdus_of_items {A = A} vss) ≡ vss
 each_kept A [] o s = refl
 each_kept A (vs ∷ vss) o (c, a, b, element, spelled, more, parts) = cons_is (asdu_kept A vs (fields_kept asdu_fields vs c spelled)) (each_kept A vss b more)
 

@@ -22,3 +22,7 @@ pub mod ValueLaws
 pub mod KeptValues
 pub mod SpellableTests
 pub mod SpelledSpellable
+pub mod ElseFault
+pub mod SeenAsdus
+pub mod Appended
+pub mod StandardFacts

@@ -2,7 +2,6 @@
 use Rattle.std.proofs.Common.{ℕ, ◌<◌, ◌^◌, List, [], ◌∷◌, ◌++◌, length, Option, Some, None, sym, subst, arith, inl, inr}
 use Rattle.std.proofs.lemmas.Int.{ints}
 use Rattle.std.specs.Prelude.{IfSome}
-use Rattle.byteorder.specs.Numbers.{big_from-lt}
 use Rattle.ber_core.specs.Fields.{AbsenceMeans, Field, Presence, SpellsField, SpellsFields, always, default, optional}
 use Rattle.ber_core.specs.Length.{AreOctets, number as octets_number}
 use Rattle.ber_core.specs.Contents.{AreVisible}
@@ -14,10 +13,8 @@ use Rattle.pdu_core.specs.Goose.{SpellsGoose, goose_fields, goose_items, text_if
 use Rattle.pdu_core.specs.SampledSpellable.{IsFixed}
 use Rattle.pdu_core.specs.Spellable.{Spellable}
 use Rattle.pdu_core.specs.declared.goose.GoosePdu.{GoosePdu}
+use Rattle.ber_core.proofs.Shortest.{number_small}
 use Rattle.pdu_core.proofs.WrittenSpelled.{IsSpellable}
-
-number_small : (o : List ℕ) → AreOctets o → octets_number o < 256 ^ length o
-number_small o small = big_from-lt 0 (length o) o small
 
 fixed_small : (size n : ℕ) (c : List ℕ) → AreOctets c → SpellsFixed size n c → IsFixed size n
 fixed_small size n c h (sized, is) =

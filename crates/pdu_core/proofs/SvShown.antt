@@ -1,6 +1,6 @@
 -- What a call that gives what reading gives says of spellings and faults of a savPdu.
-use Rattle.std.proofs.Common.{◌≡◌, ℕ, ◌≤◌, List, [], ◌∷◌, ◌++◌, append_assoc, length, Option, Result, Ok, Err, sym, ap, subst, ◌∙◌}
-use Rattle.std.proofs.lemmas.List.{append-nil}
+use Rattle.std.proofs.Common.{◌≡◌, ℕ, ◌≤◌, List, [], ◌∷◌, ◌++◌, append_assoc, length, Option, Result, Ok, Err, sym, ap, subst, ◌∙◌, arith}
+use Rattle.std.proofs.lemmas.List.{append-nil, length-append}
 use Rattle.std.specs.Prelude.{slice_range, IfOk, IfErr}
 use Rattle.ber_core.specs.Fields.{SpellsFields}
 use Rattle.ber_core.specs.Reading.{Gives}
@@ -40,6 +40,16 @@ one_owned {A = A} owned start s t v a is made so_far =
 
 pub all_owned : {A : Type 0} (owned : List (Asdu A)) (start s : Asdus) → asdus_left {A = Unit {0}} s ≡ [] → owned ++ asdus_left s ≡ asdus_left start → owned ≡ asdus_left start
 all_owned {A = A} owned start s is so_far = sym (append-nil owned) ∙ ap (λ x. owned ++ x) (sym (none_in (Unit {0}) A s is)) ∙ so_far
+
+-- where one more is left, there were some
+pub some_left : {A : Type 0} (owned : List (Asdu A)) (start s t : Asdus) (v : AsduView) → asdus_left {A = Unit {0}} s ≡ asdu_of v ∷ asdus_left t → owned ++ asdus_left s ≡ asdus_left start → asdus_left {A = A} start ≡ [] → ⊥
+some_left {A = A} owned start s t v is so_far none =
+    let one = steps_in (Unit {0}) A s t v is in
+    absurd (omega (arith, ap length so_far, ap length none, ap length one, length-append owned (asdus_left {A = A} s)))
+
+-- and where there were none, so many are counted
+pub none_counted : (A : Type 0) (s : Asdus) (count : ℕ) → asdus_left {A = A} s ≡ [] → count ≡ length (asdus_left {A = Unit {0}} s) → count ≡ 0
+none_counted A s count none counted = omega (arith, counted, ap length (none_in A (Unit {0}) s none))
 
 module _ (octets : List ℕ) (p e : ℕ) (order : p ≤ e) (within : e ≤ length octets) where
   -- the PDU whose values are read is spelled

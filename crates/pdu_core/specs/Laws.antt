@@ -1,5 +1,5 @@
 -- What the definitions say together: octets have one reading, and what is written is spelled.
-use Rattle.std.specs.Prelude.{◌≡◌, ℕ, List}
+use Rattle.std.specs.Prelude.{◌≡◌, ◌⊎◌, ℕ, List}
 use Rattle.ber_core.specs.declared.fault.Fault.{Fault}
 use Rattle.ber_core.specs.Length.{AreOctets}
 use Rattle.pdu_core.specs.Goose.{SpellsGoose, GooseFault}
@@ -14,6 +14,10 @@ PduIsOne A = (o : List ℕ) (p q : GoosePdu A) → SpellsGoose p o → SpellsGoo
 -- octets that spell a PDU have no fault, wherever they stand
 abbrev pub PduOrFault : Type 0 → Type 0
 PduOrFault A = (o : List ℕ) (at : ℕ) (p : GoosePdu A) (f : Fault) → SpellsGoose p o → GooseFault f at o → ⊥
+
+-- octets that spell no PDU have one, wherever they stand
+abbrev pub PduElseFault : Type 0 → Type 0
+PduElseFault A = (o : List ℕ) (at : ℕ) → ((p : GoosePdu A) × SpellsGoose p o) ⊎ ((f : Fault) × GooseFault f at o)
 
 -- no octets have two first faults
 abbrev pub FaultIsOne : Type 0

@@ -3,6 +3,7 @@ pub mod Goose
 pub mod ContentsReading
 pub mod GooseReading
 pub mod Views
+pub mod Parts
 pub mod Laws
 pub mod Spellable
 pub mod Written
@@ -15,3 +16,4 @@ pub mod SampledViews
 pub mod SampledSpellable
 pub mod SampledWritten
 pub mod SampledLaws
+pub mod Memory

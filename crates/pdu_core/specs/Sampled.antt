@@ -50,6 +50,10 @@ abbrev pub items_of_each : {A : Type 0} → List (Asdu A) → List (List (Option
 items_of_each [] = []
 items_of_each (a ∷ more) = asdu_items a ∷ items_of_each more
 
+-- o is one ASDU after the other
+abbrev pub SpellsAsdus : {A : Type 0} → List (Asdu A) → List ℕ → Type 0
+SpellsAsdus xs o = SpellsEach asdu_grammar 0x30 tt (items_of_each xs) o
+
 -- the values of the fields, in their order
 abbrev pub sv_items : {A : Type 0} → SvPdu A → List (Option SvItem)
 sv_items p = Some (a_count (length p.asdus)) ∷ Some (some_asdus (items_of_each p.asdus)) ∷ []

@@ -1,11 +1,14 @@
 -- What the definitions of Sampled Values say together: octets have one reading, and what is written is spelled.
-use Rattle.std.specs.Prelude.{◌≡◌, ℕ, List}
+use Rattle.std.specs.Prelude.{◌≡◌, ◌⊎◌, ℕ, List}
 use Rattle.ber_core.specs.declared.fault.Fault.{Fault}
 use Rattle.ber_core.specs.Length.{AreOctets}
-use Rattle.pdu_core.specs.Sampled.{SpellsSv, SvFault}
+use Rattle.pdu_core.specs.Sampled.{SpellsAsdus, SpellsSv, SvFault}
 use Rattle.pdu_core.specs.SampledSpellable.{SpellableSv}
+use Rattle.pdu_core.specs.SampledViews.{asdus_left, asdus_region}
 use Rattle.pdu_core.specs.SampledWritten.{HasWrittenSv, written_sv}
+use Rattle.pdu_core.specs.declared.sampled.asdu.Asdu.{Asdu}
 use Rattle.pdu_core.specs.declared.sampled.asdu.SvPdu.{SvPdu}
+use Rattle.pdu_core.specs.declared.sampled.view.Asdus.{Asdus}
 
 -- no octets spell two PDUs
 abbrev pub SvPduIsOne : Type 0 → Type 0
@@ -14,6 +17,10 @@ SvPduIsOne A = (o : List ℕ) (p q : SvPdu A) → SpellsSv p o → SpellsSv q o 
 -- octets that spell a PDU have no fault, wherever they stand
 abbrev pub SvPduOrFault : Type 0 → Type 0
 SvPduOrFault A = (o : List ℕ) (at : ℕ) (p : SvPdu A) (f : Fault) → SpellsSv p o → SvFault f at o → ⊥
+
+-- octets that spell no PDU have one, wherever they stand
+abbrev pub SvPduElseFault : Type 0 → Type 0
+SvPduElseFault A = (o : List ℕ) (at : ℕ) → ((p : SvPdu A) × SpellsSv p o) ⊎ ((f : Fault) × SvFault f at o)
 
 -- no octets have two first faults
 abbrev pub SvFaultIsOne : Type 0
@@ -26,3 +33,11 @@ WrittenSvIsSpelled A = (p : SvPdu A) → SpellableSv p → HasWrittenSv p → Sp
 -- a PDU that octets spell has a spelling in the sense of its fields: what is read can be written
 abbrev pub SpelledSvIsSpellable : Type 0 → Type 0
 SpelledSvIsSpellable A = (p : SvPdu A) (o : List ℕ) → AreOctets o → SpellsSv p o → SpellableSv p
+
+-- the octets that ASDUs are seen in spell the ASDUs that they stand for
+abbrev pub SeenIsSpelled : Type 0 → Type 0
+SeenIsSpelled A = (s : Asdus) → SpellsAsdus {A = A} (asdus_left s) (asdus_region s)
+
+-- and no other ASDUs
+abbrev pub SeenIsOne : Type 0 → Type 0
+SeenIsOne A = (s : Asdus) (xs : List (Asdu A)) → SpellsAsdus xs (asdus_region s) → asdus_left s ≡ xs

@@ -1,5 +1,5 @@
 -- What the views of Sampled Values stand for, and where their slices stand.
-use Rattle.std.specs.Prelude.{◌≡◌, ℕ, List, Option, IfSome, Result, Ok, Err}
+use Rattle.std.specs.Prelude.{◌≡◌, ℕ, List, slice_range, Option, IfSome, Result, Ok, Err}
 use Rattle.std.specs.Borrow.{Bor}
 use Rattle.std.specs.Iterator.{YieldsFirstBy}
 use Rattle.ber_core.specs.declared.fault.Fault.{Fault}
@@ -43,6 +43,10 @@ ShowsSv (Err f) p = ⊥
 -- the octets that ASDUs are read from
 abbrev pub asdus_source : Asdus → Bor (List ℕ)
 asdus_source s = s.octets
+
+-- the octets of the ASDUs that are still to come
+abbrev pub asdus_region : Asdus → List ℕ
+asdus_region s = slice_range s.octets.now s.at s.end
 
 -- whatever octets the view hands out are a part of the source
 pub record AsduIsPart (v : AsduView) (source : Bor (List ℕ)) : Type 0 where

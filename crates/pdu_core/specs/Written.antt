@@ -1,6 +1,6 @@
 -- The written form of a PDU: each length and number in the fewest octets, FF for true, and each boolean there
 -- (profile).
-use Rattle.std.specs.Prelude.{◌<◌, ◌^◌, ℕ, pos, true, false, List, [], ◌∷◌, ◌++◌, length, Option, Some, None}
+use Rattle.std.specs.Prelude.{◌≡◌, ◌<◌, ◌^◌, ℕ, pos, true, false, List, [], ◌∷◌, ◌++◌, length, Option, Some, None}
 use Rattle.byteorder.specs.Endian.{big_bytes}
 use Rattle.ber_core.specs.Fields.{Field}
 use Rattle.ber_core.specs.Written.{short_integer}
@@ -19,6 +19,10 @@ written_item (a_time t) = written_time t
 written_item (some_members ds) = written_all ds
 written_item (a_fixed size n) = big_bytes size n
 written_item (some_octets o) = o
+
+-- octets of this property were appended
+abbrev pub Appends : (List ℕ → Type 0) → List ℕ → List ℕ → Type 0
+Appends Property old new = (o : List ℕ) × Property o × (new ≡ old ++ o)
 
 -- a field that is there as its element, and else nothing
 abbrev pub written_field : ℕ → Option Item → List ℕ

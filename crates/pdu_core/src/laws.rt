@@ -1,19 +1,21 @@
 //! Laws about the definitions that the contracts of this crate cite. The functions compute nothing.
 
-ghost use Rattle.pdu_core.specs.Laws.{FaultIsOne, PduIsOne, PduOrFault, SpelledIsSpellable, WrittenIsSpelled};
-ghost use Rattle.pdu_core.specs.SampledLaws.{SpelledSvIsSpellable, SvFaultIsOne, SvPduIsOne, SvPduOrFault, WrittenSvIsSpelled};
+ghost use Rattle.pdu_core.specs.Laws.{FaultIsOne, PduElseFault, PduIsOne, PduOrFault, SpelledIsSpellable, WrittenIsSpelled};
+ghost use Rattle.pdu_core.specs.SampledLaws.{SeenIsOne, SeenIsSpelled, SpelledSvIsSpellable, SvFaultIsOne, SvPduElseFault, SvPduIsOne, SvPduOrFault, WrittenSvIsSpelled};
 
 use std::alloc::Allocator;
 
-/// Octets spell at most one PDU, or have at most one first fault, and never both.
+/// Octets spell one PDU, or have one first fault, and never both.
 pub fn one_reading<A: Allocator>()
     ensures pdu { PduIsOne A }
     ensures either { PduOrFault A }
+    ensures else_fault { PduElseFault A }
     ensures fault { FaultIsOne }
 
     // The same of Sampled Values.
     ensures sv_pdu { SvPduIsOne A }
     ensures sv_either { SvPduOrFault A }
+    ensures sv_else_fault { SvPduElseFault A }
     ensures sv_fault { SvFaultIsOne }
 {}
 
@@ -27,4 +29,10 @@ pub fn written_is_spelled<A: Allocator>()
 pub fn spelled_is_spellable<A: Allocator>()
     ensures goose { SpelledIsSpellable A }
     ensures sv { SpelledSvIsSpellable A }
+{}
+
+/// The octets that ASDUs are seen in spell the ASDUs that they stand for, and no others.
+pub fn seen_is_spelled<A: Allocator>()
+    ensures spelled { SeenIsSpelled A }
+    ensures only { SeenIsOne A }
 {}

@@ -1,6 +1,7 @@
 // A PDU in memory of its own, from where it stands.
 
-ghost use Rattle.std.specs.Prelude.{◌≡◌, IfOk};
+ghost use Rattle.std.specs.Prelude.{◌≡◌, [], IfOk, IfSome, IsOk};
+ghost use Rattle.pdu_core.specs.Memory.{NeedsNoMemory};
 ghost use Rattle.pdu_core.specs.Views.{octets_if, pdu_of};
 
 use crate::goose::GoosePdu;
@@ -10,9 +11,12 @@ use std::alloc::{AllocError, Allocator};
 
 // The octets in memory of their own.
 pub(crate) fn own<A: Allocator>(alloc: A, octets: &[u8]) -> Result<Octets<A>, AllocError>
-    ensures { IfOk result (λ o. o ≡ octets.now) }
+    ensures value { IfOk result (λ o. o ≡ octets.now) }
+    ensures none { octets.now ≡ [] → IsOk result }
 {
-    Ok(Octets::from(Vec::from_slice(alloc, octets)?))
+    let mut copy = Vec::with_capacity(alloc, octets.len())?;
+    copy.extend_from_slice(octets)?;
+    Ok(Octets::from(copy))
 }
 
 // The same of octets that may be absent.
@@ -20,7 +24,8 @@ pub(crate) fn own_if<A: Allocator>(
     alloc: A,
     octets: Option<&[u8]>,
 ) -> Result<Option<Octets<A>>, AllocError>
-    ensures { IfOk result (λ o. o ≡ octets_if octets.entry) }
+    ensures value { IfOk result (λ o. o ≡ octets_if octets.entry) }
+    ensures none { IfSome (octets_if octets.entry) (λ o. o ≡ []) → IsOk result }
 {
     match octets {
         Some(octets) => Ok(Some(own(alloc, octets)?)),
@@ -35,7 +40,10 @@ impl<'a> GooseView<'a> {
     ///
     /// `AllocError` where memory is refused.
     pub fn to_pdu<A: Allocator + Copy>(&self, alloc: A) -> Result<GoosePdu<A>, AllocError>
-        ensures { IfOk result (λ p. p ≡ pdu_of self.now) }
+        ensures value { IfOk result (λ p. p ≡ pdu_of self.now) }
+
+        // A PDU that needs no memory is made without any.
+        ensures none { NeedsNoMemory (pdu_of {A = A} self.now) → IsOk result }
     {
         Ok(GoosePdu {
             gocb_ref: own(alloc, self.gocb_ref)?,

@@ -29,23 +29,6 @@ pub fn put_text<const N: usize>(
     put_element(out, identifier, text)
 }
 
-// Appends the field of a text, if there is one.
-#[tactic(auto, using(mms_data::proofs::Sizes::element_size))]
-pub fn put_text_if<A: Allocator, const N: usize>(
-    out: &mut ArrayVec<u8, N>,
-    identifier: u8,
-    text: &Option<Octets<A>>,
-) -> Result<(), Full>
-    requires identifier { IsIdentifier identifier }
-    ensures enough { length (written_field identifier (text_if text.now)) < 2 ^ 32 → array_vec_len out.old + length (written_field identifier (text_if text.now)) ≤ N → IsOk result }
-    ensures written { OnOk result (out.new.items ≡ out.old.items ++ written_field identifier (text_if text.now)) }
-{
-    match text {
-        Some(text) => put_element(out, identifier, text.as_slice()),
-        None => Ok(()),
-    }
-}
-
 // Appends the field of a text where it stands, if there is one.
 #[tactic(auto, using(mms_data::proofs::Sizes::element_size))]
 pub fn put_text_there<const N: usize>(

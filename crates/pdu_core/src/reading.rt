@@ -1,8 +1,8 @@
 // Reading a PDU into memory of its own.
 
-ghost use Rattle.std.specs.Prelude.{◌≤◌, length, slice_range, IfOk};
+ghost use Rattle.std.specs.Prelude.{◌≡◌, ◌≤◌, Err, length, slice_range, IfOk};
 ghost use Rattle.ber_core.specs.declared.fault.Fault.{Fault};
-ghost use Rattle.mms_data.specs.Answers.{IfRefused, Reads, Refuses};
+ghost use Rattle.mms_data.specs.Answers.{IfRefused, Reads};
 ghost use Rattle.pdu_core.specs.Goose.{GooseFault, SpellsGoose};
 ghost use Rattle.pdu_core.specs.declared.goose.GoosePdu.{GoosePdu};
 
@@ -30,9 +30,9 @@ pub fn read_goose<A: Allocator + Copy>(
     ensures found { IfOk result (λ p. SpellsGoose p (slice_range octets.now at end)) }
     ensures only { (p : GoosePdu A) → SpellsGoose p (slice_range octets.now at end) → Reads result p }
 
-    // The fault that is answered is there, and the fault that is there is answered, unless memory is refused.
+    // The fault that is answered is there, and the fault that is there is answered, whatever memory there is.
     ensures fault { IfRefused result (λ f. GooseFault f at (slice_range octets.now at end)) }
-    ensures fault_only { (f : Fault) → GooseFault f at (slice_range octets.now at end) → Refuses result f }
+    ensures fault_only { (f : Fault) → GooseFault f at (slice_range octets.now at end) → result ≡ Err (ReadFault.Fault f) }
 {
     let view = view_goose(octets, at, end)?;
     Ok(view.to_pdu(alloc)?)

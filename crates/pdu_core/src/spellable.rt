@@ -2,9 +2,12 @@
 
 ghost use Rattle.std.specs.Prelude.{◌↔◌, ◌<◌, ◌^◌, IfSome, IsTrue};
 ghost use Rattle.ber_core.specs.Contents.{AreVisible};
+ghost use Rattle.pdu_core.specs.Parts.{pdu_of_parts};
 ghost use Rattle.pdu_core.specs.Spellable.{Spellable};
+ghost use Rattle.pdu_core.specs.Views.{octets_if};
 
 use crate::goose::GoosePdu;
+use crate::parts::{GooseParts, slice_if};
 use ber_core::contents::check_visible;
 use mms_data::{Octets, UtcTime, are_spellable};
 use std::alloc::Allocator;
@@ -23,8 +26,15 @@ pub(crate) fn is_visible(text: &[u8]) -> bool
 pub(crate) fn is_visible_if<A: Allocator>(text: &Option<Octets<A>>) -> bool
     ensures { IsTrue result ↔ IfSome text.now AreVisible }
 {
+    is_visible_there(slice_if(text))
+}
+
+// The same of octets where they stand.
+fn is_visible_there(text: Option<&[u8]>) -> bool
+    ensures { IsTrue result ↔ IfSome (octets_if text.entry) AreVisible }
+{
     match text {
-        Some(text) => is_visible(text.as_slice()),
+        Some(text) => is_visible(text),
         None => true,
     }
 }
@@ -46,22 +56,35 @@ fn know_ranges(live: u32, t: UtcTime, st_num: u32, sq_num: u32, conf_rev: u32)
 pub fn is_spellable<A: Allocator>(pdu: &GoosePdu<A>) -> bool
     ensures { IsTrue result ↔ Spellable pdu.now }
 {
-    if !is_visible(pdu.gocb_ref.as_slice()) {
+    are_spellable_parts(&pdu.parts())
+}
+
+/// Whether each of these fields has a spelling.
+pub fn are_spellable_parts<A: Allocator>(parts: &GooseParts<'_, A>) -> bool
+    ensures { IsTrue result ↔ Spellable (pdu_of_parts parts.now) }
+{
+    if !is_visible(parts.gocb_ref) {
         return false;
     }
-    if !is_visible(pdu.dat_set.as_slice()) {
+    if !is_visible(parts.dat_set) {
         return false;
     }
-    if !is_visible_if(&pdu.go_id) {
+    if !is_visible_there(parts.go_id) {
         return false;
     }
-    if pdu.t.fraction >= 0x100_0000 {
+    if parts.t.fraction >= 0x100_0000 {
         return false;
     }
-    let entries = pdu.members.as_slice();
+    let entries = parts.members.as_slice();
     if entries.len() > 0xffff_ffff {
         return false;
     }
-    know_ranges(pdu.live, pdu.t, pdu.st_num, pdu.sq_num, pdu.conf_rev);
-    are_spellable(&pdu.members, 1)
+    know_ranges(
+        parts.live,
+        parts.t,
+        parts.st_num,
+        parts.sq_num,
+        parts.conf_rev,
+    );
+    are_spellable(parts.members, 1)
 }

@@ -1,5 +1,6 @@
 // Outside examples: a recorded frame of GOOSE whose octets are changed one at a time.
 
+mod ample_memory;
 mod goose_unit;
 mod refused_memory;
 mod sampled;
@@ -10,7 +11,10 @@ mod sampled_writing;
 
 ghost use Rattle.std.specs.Prelude.{◌<◌};
 
-use crate::{GoosePdu, is_spellable, put_goose, put_goose_view, read_goose, view_goose};
+use crate::{
+    GoosePdu, are_spellable_parts, is_spellable, put_goose, put_goose_parts, put_goose_view,
+    read_goose, slice_if, view_goose,
+};
 use arrayvec::ArrayVec;
 use ber_core::{Cause, Fault};
 use mms_data::{Octets, PutFault, ReadFault, UtcTime, Value, ValueList, View};
@@ -126,6 +130,18 @@ fn is_written_as_in_frame<A: Allocator + Copy>(alloc: A, octets: &[u8]) -> Resul
     Ok(put.is_ok() && out.as_slice() == &FRAME[22..67])
 }
 
+// The same of the PDU whose texts and members are kept elsewhere.
+fn is_written_as_in_frame_by_parts<A: Allocator + Copy>(
+    alloc: A,
+    octets: &[u8],
+) -> Result<bool, ReadFault> {
+    let pdu = read_goose(alloc, octets, 0, octets.len())?;
+    let mut out = ArrayVec::<u8, 45>::new();
+    let parts = pdu.parts();
+    let put = put_goose_parts(&mut out, &parts);
+    Ok(are_spellable_parts(&parts) && put.is_ok() && out.as_slice() == &FRAME[22..67])
+}
+
 // The same of the PDU where it stands.
 fn is_written_as_in_frame_from(octets: &[u8]) -> Result<bool, Fault> {
     let view = view_goose(octets, 0, octets.len())?;
@@ -139,6 +155,7 @@ fn pdu_is_read_and_written(rt: HostRuntime) -> Result<(), Fail> {
     assert!(rt; is_written_as_in_frame(rt.alloc(), &FRAME[22..67])?);
     assert!(rt; is_written_as_in_frame(rt.alloc(), &LONG)?);
     assert!(rt; is_written_as_in_frame(rt.alloc(), &SHORT)?);
+    assert!(rt; is_written_as_in_frame_by_parts(rt.alloc(), &LONG)?);
     assert!(rt; is_written_as_in_frame_from(&FRAME[22..67])?);
     assert!(rt; is_written_as_in_frame_from(&LONG)?);
     assert!(rt; is_written_as_in_frame_from(&SHORT)?);
@@ -223,6 +240,22 @@ fn what_has_no_spelling_is_refused(rt: HostRuntime) -> Result<(), Fail> {
     assert!(rt; is_refused(rt.alloc(), b"A\x7f", 0)?);
     assert!(rt; is_refused(rt.alloc(), b"AB", 0x100_0000)?);
     assert!(rt; !is_refused(rt.alloc(), b"AB", 0xff_ffff)?);
+    Ok(())
+}
+
+#[test]
+fn a_text_that_may_be_absent_is_seen(rt: HostRuntime) -> Result<(), Fail> {
+    let pdu = pdu_of(rt.alloc(), b"A", 0)?;
+    let Some(there) = slice_if(&pdu.go_id) else {
+        return Err(Fail::from("goID is absent"));
+    };
+    assert_eq!(rt; there, b"I".as_slice());
+    let Some(part) = pdu.parts().go_id else {
+        return Err(Fail::from("goID is absent in the parts"));
+    };
+    assert_eq!(rt; part, b"I".as_slice());
+    let absent: Option<Octets<std::alloc::Global>> = None;
+    assert!(rt; slice_if(&absent).is_none());
     Ok(())
 }
 

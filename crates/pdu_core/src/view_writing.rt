@@ -2,9 +2,10 @@
 
 ghost use Rattle.std.specs.Prelude.{◌≡◌, ◌≤◌, ◌<◌, ◌+◌, ◌^◌, ◌↔◌, ◌++◌, drop, length, IsOk, OnOk, OnErr};
 ghost use Rattle.arrayvec.specs.ArrayVec.{array_vec_len};
-ghost use Rattle.pdu_core.specs.Goose.{goose_fields, goose_items};
+ghost use Rattle.pdu_core.specs.Goose.{SpellsGoose, goose_fields, goose_items};
+ghost use Rattle.pdu_core.specs.Spellable.{Spellable};
 ghost use Rattle.pdu_core.specs.Views.{pdu_of};
-ghost use Rattle.pdu_core.specs.Written.{HasWritten, written_contents, written_fields, written_goose};
+ghost use Rattle.pdu_core.specs.Written.{Appends, HasWritten, written_contents, written_fields, written_goose};
 
 use crate::putting::{put_flag, put_number, put_text, put_text_there, put_time};
 use crate::view::GooseView;
@@ -54,11 +55,23 @@ fn put_entries<const N: usize>(out: &mut ArrayVec<u8, N>, view: &GooseView<'_>) 
 /// # Errors
 ///
 /// `Full`, where the contents have more than 4294967295 octets, or the written form does not fit in what is left.
-#[tactic(auto, using(mms_data::proofs::Sizes::element_size))]
 pub fn put_goose_view<const N: usize>(
     out: &mut ArrayVec<u8, N>,
     view: &GooseView<'_>,
 ) -> Result<(), Full>
+    ensures fits { IsOk result ↔ (HasWritten (pdu_of {A = Unit {0}} view.now) × (array_vec_len out.old + length (written_goose (pdu_of {A = Unit {0}} view.now)) ≤ N)) }
+    ensures written { OnOk result (out.new.items ≡ out.old.items ++ written_goose (pdu_of {A = Unit {0}} view.now)) }
+    ensures unchanged { OnErr result (out.new ≡ out.old) }
+
+    // What is appended spells the PDU, where each of its fields has a spelling.
+    ensures spelled { Spellable (pdu_of {A = Unit {0}} view.now) → OnOk result (Appends (SpellsGoose (pdu_of {A = Unit {0}} view.now)) out.old.items out.new.items) }
+{
+    put_written(out, view)
+}
+
+// Appends the written form.
+#[tactic(auto, using(mms_data::proofs::Sizes::element_size))]
+fn put_written<const N: usize>(out: &mut ArrayVec<u8, N>, view: &GooseView<'_>) -> Result<(), Full>
     ensures fits { IsOk result ↔ (HasWritten (pdu_of {A = Unit {0}} view.now) × (array_vec_len out.old + length (written_goose (pdu_of {A = Unit {0}} view.now)) ≤ N)) }
     ensures written { OnOk result (out.new.items ≡ out.old.items ++ written_goose (pdu_of {A = Unit {0}} view.now)) }
     ensures unchanged { OnErr result (out.new ≡ out.old) }

@@ -2,22 +2,12 @@
 
 ghost use Rattle.std.specs.Prelude.{◌≡◌};
 ghost use Rattle.pdu_core.specs.SampledViews.{asdu_of};
-ghost use Rattle.pdu_core.specs.Views.{octets_if};
 
+use crate::parts::slice_if;
 use crate::sampled::asdu::Asdu;
 use crate::sampled::view::AsduView;
 use mms_data::Octets;
 use std::alloc::Allocator;
-
-// The octets where they stand, if there are any.
-fn slice_if<A: Allocator>(octets: &Option<Octets<A>>) -> Option<&[u8]>
-    ensures { octets_if result ≡ octets.now }
-{
-    match octets {
-        Some(octets) => Some(octets.as_slice()),
-        None => None,
-    }
-}
 
 impl<A: Allocator> Asdu<A> {
     // The view that stands for the ASDU.

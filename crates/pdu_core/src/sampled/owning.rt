@@ -1,7 +1,8 @@
 // A savPdu in memory of its own, from where it stands.
 
-ghost use Rattle.std.specs.Prelude.{◌≡◌, IfOk};
-ghost use Rattle.pdu_core.specs.SampledViews.{asdu_of, sv_of};
+ghost use Rattle.std.specs.Prelude.{◌≡◌, [], IfOk, IsOk};
+ghost use Rattle.pdu_core.specs.Memory.{AsduNeedsNoMemory};
+ghost use Rattle.pdu_core.specs.SampledViews.{asdu_of, asdus_left, sv_of};
 
 use crate::owning::{own, own_if};
 use crate::sampled::asdu::{Asdu, AsduList, SvPdu};
@@ -15,7 +16,10 @@ impl<'a> AsduView<'a> {
     ///
     /// `AllocError` where memory is refused.
     pub fn to_asdu<A: Allocator + Copy>(&self, alloc: A) -> Result<Asdu<A>, AllocError>
-        ensures { IfOk result (λ a. a ≡ asdu_of self.now) }
+        ensures value { IfOk result (λ a. a ≡ asdu_of self.now) }
+
+        // An ASDU that needs no memory is made without any.
+        ensures none { AsduNeedsNoMemory (asdu_of {A = A} self.now) → IsOk result }
     {
         Ok(Asdu {
             sv_id: own(alloc, self.sv_id)?,
@@ -39,7 +43,10 @@ impl<'a> SvView<'a> {
     ///
     /// `AllocError` where memory is refused.
     pub fn to_pdu<A: Allocator + Copy>(&self, alloc: A) -> Result<SvPdu<A>, AllocError>
-        ensures { IfOk result (λ p. p ≡ sv_of self.now) }
+        ensures value { IfOk result (λ p. p ≡ sv_of self.now) }
+
+        // No ASDUs need no memory.
+        ensures none { asdus_left {A = A} self.now.asdus ≡ [] → IsOk result }
     {
         let mut asdus = Vec::with_capacity(alloc, self.count as usize)?;
         for view in self.asdus {

@@ -138,5 +138,6 @@ fn laws_hold(rt: HostRuntime) {
     laws::one_reading::<Global>();
     laws::written_is_spelled::<Global>();
     laws::spelled_is_spellable::<Global>();
+    laws::seen_is_spelled::<Global>();
     assert_eq!(rt; fault(66, 0xff), None);
 }

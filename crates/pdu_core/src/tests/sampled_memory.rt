@@ -18,7 +18,7 @@ fn are_owned<A: Allocator>(octets: &Option<Octets<A>>, slice: Option<&[u8]>) -> 
 }
 
 // Whether the ASDU is what the view stands for.
-fn is_owned<A: Allocator>(asdu: &Asdu<A>, view: &AsduView<'_>) -> bool {
+pub(super) fn is_owned<A: Allocator>(asdu: &Asdu<A>, view: &AsduView<'_>) -> bool {
     asdu.sv_id.as_slice() == view.sv_id
         && are_owned(&asdu.dat_set, view.dat_set)
         && asdu.smp_cnt == view.smp_cnt

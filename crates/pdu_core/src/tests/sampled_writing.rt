@@ -130,7 +130,7 @@ fn what_has_no_spelling_is_refused(rt: HostRuntime) -> Result<(), Fail> {
 }
 
 // The fields of an ASDU that has all of them.
-const FIELDS: [&[u8]; 10] = [
+pub(super) const FIELDS: [&[u8]; 10] = [
     &[0x80, 0x01, 0x53],
     &[0x81, 0x01, 0x44],
     &[0x82, 0x02, 0x00, 0x00],

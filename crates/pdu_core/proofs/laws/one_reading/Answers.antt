@@ -1,3 +1,4 @@
+use Rattle.pdu_core.proofs.ElseFault.{pdu_else_fault, sv_pdu_else_fault}
 use Rattle.pdu_core.proofs.OneReading.{pdu_is_one, pdu_or_fault, fault_is_one}
 use Rattle.pdu_core.proofs.SvOneReading.{sv_pdu_is_one, sv_pdu_or_fault, sv_fault_is_one}
 use Rattle.pdu_core.proofs.laws.one_reading.Goals as goal
@@ -19,3 +20,9 @@ returns-clause-sv_either g c = sv_pdu_or_fault
 
 pub returns-clause-sv_fault : goal.returns-clause-sv_fault
 returns-clause-sv_fault g c = sv_fault_is_one
+
+pub returns-clause-else_fault : goal.returns-clause-else_fault
+returns-clause-else_fault g c = pdu_else_fault
+
+pub returns-clause-sv_else_fault : goal.returns-clause-sv_else_fault
+returns-clause-sv_else_fault g c = sv_pdu_else_fault
