@@ -1,12 +1,12 @@
 pub mod Devices
 pub mod Cuts
 pub mod Lines
-pub mod Moments
+pub mod MomentDigits
 pub mod Decimals
-pub mod EventLines
+pub mod LineFields
 pub mod FirstLines
 pub mod Readers
-pub mod EventReaders
+pub mod ItemReaders
 pub mod Stops
 pub mod WrittenLines
 pub mod LineShapes
@@ -20,4 +20,5 @@ pub mod WrittenLaws
 pub mod PutLaws
 pub mod ReadingLaws
 pub mod SpelledSpellable
+pub mod StandardFacts
 pub mod Pairs

@@ -30,7 +30,7 @@ pub struct LineReader<R> {
 }
 
 impl<R: Source> LineReader<R> {
-    ghost use Rattle.frame_core.specs.Reader.{held, stream, StandsFirst, number_after, AnswersLine, line_at, lent_line, number_of, number_past};
+    ghost use Rattle.frame_core.specs.Reader.{held, stream, OnlyWanting, StandsFirst, number_after, AnswersLine, line_at, lent_line, number_of, number_past};
     ghost use Rattle.std.specs.Borrow.{sem};
     ghost use Rattle.std.specs.Io.BufRead.{Rests};
     ghost use Rattle.frame_core.specs.contracts.line_reader.LineReader.{the_row};
@@ -123,7 +123,8 @@ impl<R: Source> LineReader<R> {
     fn grow(&mut self) -> Option<usize>
         ensures given { (given : List ℕ) × (held self.new ≡ held self.old ++ given) × OnlyOpen (R.ending self.old.reader) given (R.ending self.new.reader)
             × MatchOption result (TakesTo (R.ending self.new.reader) (R.left self.old.reader) (R.left self.new.reader) given)
-            (λ _. Consumes (R.left self.old.reader) (R.left self.new.reader) given) }
+            (λ _. Consumes (R.left self.old.reader) (R.left self.new.reader) given)
+            × OnlyWanting (R.left self.old.reader) (R.ending self.old.reader) (held self.old) given (R.left self.new.reader) (R.ending self.new.reader) }
         ensures line { IsFirst 10 (held self.new) result }
         ensures none { IfNone result ((4096 < length (held self.new)) ⊎ (R.ending self.new.reader ≢ InputEnd.Open)) }
         ensures taken { self.new.taken ≡ self.old.taken }
@@ -149,6 +150,13 @@ impl<R: Source> LineReader<R> {
         }
     }
 
+    /// The number of the next line.
+    pub(crate) fn next_number(&self) -> u64
+        ensures { result ≡ self.now.taken + 1 }
+    {
+        self.taken + 1
+    }
+
     /// Notes that the next line is refused.
     pub(crate) fn refuse(&mut self, cause: ListCause) -> ListFault
         ensures fault { (result.line ≡ self.old.taken + 1) × (result.cause ≡ cause) }
@@ -164,7 +172,8 @@ impl<R: Source> LineReader<R> {
     pub(crate) fn fill(&mut self) -> Result<Option<usize>, ListFault>
         ensures given { (given : List ℕ) × (held self.new ≡ held self.old ++ given) × OnlyOpen (R.ending self.old.reader) given (R.ending self.new.reader)
             × MatchResult result (λ _. Consumes (R.left self.old.reader) (R.left self.new.reader) given)
-            (λ _. Gives (R.left self.old.reader) (R.left self.new.reader) given) }
+            (λ _. Gives (R.left self.old.reader) (R.left self.new.reader) given)
+            × OnlyWanting (R.left self.old.reader) (R.ending self.old.reader) (held self.old) given (R.left self.new.reader) (R.ending self.new.reader) }
         ensures front { StandsFirst (stream R.left R.ending self.new) result }
         ensures bounded { length (held self.new) ≤ 8192 }
         ensures taken { self.new.taken ≡ self.old.taken }

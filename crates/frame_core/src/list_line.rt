@@ -1,70 +1,74 @@
 //! One line of a list: the event that it says.
-ghost use Rattle.std.specs.Prelude.{◌≡◌, true, ◌≤◌, ◌<◌, length, ◌∷◌, []};
-ghost use Rattle.std.specs.List.{list_all};
-ghost use Rattle.std.specs.Char.{is_ascii_digit};
-ghost use Rattle.std.specs.Str.Parse.{digits_value};
-ghost use Rattle.frame_core.specs.EventLine.{event_of, event_of_fields, fields, frame_at, moment_of, octets_of};
+ghost use Rattle.std.specs.Prelude.{◌≡◌, ◌&&◌, true, ◌^◌, ◌≤◌, ◌<◌, length, ◌∷◌, []};
+ghost use Rattle.frame_core.specs.EventLine.{event_of, event_of_fields, fields, fields_keep, frame_event, is_hex_count, is_moment, mode_of, moment_of, octets_of};
 ghost use Rattle.frame_core.specs.LineAnswer.{Answers, fields_after};
 
-use crate::cutting::find;
+use crate::cutting::cut_first;
+use crate::decimal::decimal_in;
 use crate::event::{Event, EventKind};
+use crate::event_lines::MomentUnit;
 use crate::hexadecimal::octets_in;
+use crate::line_rules::LineError;
 use crate::list_fault::ListCause;
 use hex::FromHexError;
 use mms_data::Octets;
 use std::alloc::{AllocError, Allocator};
 
-/// The most digits of a moment.
-const MOST_DIGITS: usize = 15;
+/// The most digits of a moment in milliseconds.
+const MOST_MILLISECOND_DIGITS: usize = 15;
+
+/// The most digits of a moment in microseconds.
+const MOST_MICROSECOND_DIGITS: usize = 18;
+
+/// Microseconds in a millisecond.
+const MICROSECONDS: u64 = 1000;
 
 /// The most hexadecimal digits of a frame.
 const MOST_HEX_DIGITS: usize = 4000;
 
-/// Why a line gives no event.
-#[derive(Drop)]
-pub(crate) enum LineError {
-    /// The line is refused.
-    Cause(ListCause),
-    /// Memory was wanted.
-    Memory(AllocError),
-}
-
 /// The event that a line says, if it is neither empty nor a comment.
 pub(crate) fn event_in<A: Allocator + Copy>(
     alloc: A,
+    unit: MomentUnit,
     line: &[u8],
-) -> Result<Option<Event<A>>, LineError>
-    ensures { Answers result (event_of line.now) }
+) -> Result<Option<Event<A>>, LineError<ListCause>>
+    ensures { Answers result (event_of unit line.now) (fields_keep unit (fields line.now)) }
 {
     match line {
         [] | [b'#', ..] => Ok(None),
-        _ => event_in_fields(alloc, line),
+        _ => event_in_fields(alloc, unit, line),
     }
 }
 
 /// The event that the fields of a line say.
 fn event_in_fields<A: Allocator + Copy>(
     alloc: A,
+    unit: MomentUnit,
     line: &[u8],
-) -> Result<Option<Event<A>>, LineError>
-    ensures { Answers result (event_of_fields (fields line.now)) }
+) -> Result<Option<Event<A>>, LineError<ListCause>>
+    ensures { Answers result (event_of_fields unit (fields line.now)) (fields_keep unit (fields line.now)) }
 {
     let (name, rest) = first_field(line);
     let Some(rest) = rest else {
         return Err(LineError::Cause(ListCause::LineForm));
     };
     if name == b"C".as_slice() {
-        clock_in(rest)
+        clock_in(unit, rest)
     } else if name == b"F".as_slice() {
-        frame_in(alloc, rest)
+        frame_in(alloc, unit, rest)
+    } else if name == b"M".as_slice() {
+        mode_in(unit, rest)
     } else {
         Err(LineError::Cause(ListCause::LineForm))
     }
 }
 
 /// The clock event whose moment is the one field here.
-fn clock_in<A: Allocator>(rest: &[u8]) -> Result<Option<Event<A>>, LineError>
-    ensures { Answers result (event_of_fields ((67 ∷ []) ∷ fields rest.now)) }
+fn clock_in<A: Allocator>(
+    unit: MomentUnit,
+    rest: &[u8],
+) -> Result<Option<Event<A>>, LineError<ListCause>>
+    ensures { Answers result (event_of_fields unit ((67 ∷ []) ∷ fields rest.now)) (fields_keep unit ((67 ∷ []) ∷ fields rest.now)) }
 {
     let (moment, more) = first_field(rest);
     if more.is_some() {
@@ -73,7 +77,7 @@ fn clock_in<A: Allocator>(rest: &[u8]) -> Result<Option<Event<A>>, LineError>
     if moment.is_empty() {
         return Err(LineError::Cause(ListCause::LineForm));
     }
-    match moment_in(moment) {
+    match moment_in(unit, moment) {
         Some(moment) => Ok(Some(Event {
             moment,
             kind: EventKind::Clock,
@@ -83,8 +87,12 @@ fn clock_in<A: Allocator>(rest: &[u8]) -> Result<Option<Event<A>>, LineError>
 }
 
 /// The frame event whose moment and octets are the two fields here.
-fn frame_in<A: Allocator + Copy>(alloc: A, rest: &[u8]) -> Result<Option<Event<A>>, LineError>
-    ensures { Answers result (event_of_fields ((70 ∷ []) ∷ fields rest.now)) }
+fn frame_in<A: Allocator + Copy>(
+    alloc: A,
+    unit: MomentUnit,
+    rest: &[u8],
+) -> Result<Option<Event<A>>, LineError<ListCause>>
+    ensures { Answers result (event_of_fields unit ((70 ∷ []) ∷ fields rest.now)) (fields_keep unit ((70 ∷ []) ∷ fields rest.now)) }
 {
     let (moment, rest) = first_field(rest);
     let Some(rest) = rest else {
@@ -100,21 +108,22 @@ fn frame_in<A: Allocator + Copy>(alloc: A, rest: &[u8]) -> Result<Option<Event<A
     if digits.is_empty() {
         return Err(LineError::Cause(ListCause::LineForm));
     }
-    frame_of(alloc, moment, digits)
+    frame_of(alloc, unit, moment, digits)
 }
 
 /// The frame event of these two fields.
 fn frame_of<A: Allocator + Copy>(
     alloc: A,
+    unit: MomentUnit,
     moment: &[u8],
     digits: &[u8],
-) -> Result<Option<Event<A>>, LineError>
-    ensures { Answers result (frame_at (moment_of moment.now) (octets_of digits.now)) }
+) -> Result<Option<Event<A>>, LineError<ListCause>>
+    ensures { Answers result (frame_event (moment_of unit moment.now) (octets_of digits.now)) (is_moment unit moment.now && is_hex_count (length digits.now)) }
 {
-    let Some(moment) = moment_in(moment) else {
+    let Some(moment) = moment_in(unit, moment) else {
         return Err(LineError::Cause(ListCause::Moment));
     };
-    if digits.is_empty() || digits.len() > MOST_HEX_DIGITS {
+    if digits.is_empty() || digits.len() > MOST_HEX_DIGITS || digits.len() % 2 != 0 {
         return Err(LineError::Cause(ListCause::Hex));
     }
     match octets_in(alloc, digits) {
@@ -127,46 +136,63 @@ fn frame_of<A: Allocator + Copy>(
     }
 }
 
+/// The mode event whose moment and mode are the two fields here.
+fn mode_in<A: Allocator>(
+    unit: MomentUnit,
+    rest: &[u8],
+) -> Result<Option<Event<A>>, LineError<ListCause>>
+    ensures { Answers result (event_of_fields unit ((77 ∷ []) ∷ fields rest.now)) (fields_keep unit ((77 ∷ []) ∷ fields rest.now)) }
+{
+    let (moment, rest) = first_field(rest);
+    let Some(rest) = rest else {
+        return Err(LineError::Cause(ListCause::LineForm));
+    };
+    let (mode, more) = first_field(rest);
+    if more.is_some() {
+        return Err(LineError::Cause(ListCause::LineForm));
+    }
+    if moment.is_empty() {
+        return Err(LineError::Cause(ListCause::LineForm));
+    }
+    let Some(on) = mode_named(mode) else {
+        return Err(LineError::Cause(ListCause::LineForm));
+    };
+    match moment_in(unit, moment) {
+        Some(moment) => Ok(Some(Event {
+            moment,
+            kind: EventKind::Mode(on),
+        })),
+        None => Err(LineError::Cause(ListCause::Moment)),
+    }
+}
+
+/// The mode that a field names.
+fn mode_named(field: &[u8]) -> Option<bool>
+    ensures { result ≡ mode_of field.now }
+{
+    match field {
+        [b'o', b'n'] => Some(true),
+        [b'o', b'f', b'f'] => Some(false),
+        _ => None,
+    }
+}
+
 /// The first field, and what follows its space if there is one.
 fn first_field(octets: &[u8]) -> (&[u8], Option<&[u8]>)
     ensures { fields octets.now ≡ result.0.now ∷ fields_after result.1 }
 {
-    match find(octets, b' ') {
-        Some(at) => (&octets[..at], Some(&octets[at + 1..])),
-        None => (octets, None),
-    }
+    cut_first(octets, b' ')
 }
 
-/// The moment that a field writes.
-fn moment_in(digits: &[u8]) -> Option<u64>
-    ensures { result ≡ moment_of digits.now }
+/// The moment that a field writes, in microseconds.
+pub fn moment_in(unit: MomentUnit, digits: &[u8]) -> Option<u64>
+    ensures { result ≡ moment_of unit digits.now }
 {
-    if digits.is_empty() || digits.len() > MOST_DIGITS {
-        return None;
+    match unit {
+        MomentUnit::Milliseconds => match decimal_in(digits, MOST_MILLISECOND_DIGITS) {
+            Some(number) => Some(number * MICROSECONDS),
+            None => None,
+        },
+        MomentUnit::Microseconds => decimal_in(digits, MOST_MICROSECOND_DIGITS),
     }
-    if are_digits(digits) {
-        Some(number_of(digits))
-    } else {
-        None
-    }
-}
-
-/// Whether these are decimal digits.
-fn are_digits(octets: &[u8]) -> bool
-    ensures { result ≡ list_all is_ascii_digit octets.now }
-{
-    octets.iter().all(|octet| octet.is_ascii_digit())
-}
-
-/// The number that decimal digits write.
-fn number_of(digits: &[u8]) -> u64
-    requires digits { list_all is_ascii_digit digits.now ≡ true }
-    requires short { length digits.now ≤ 15 }
-    ensures { result ≡ digits_value 10 digits.now }
-{
-    let mut number = 0;
-    for digit in digits {
-        number = number * 10 + (*digit - b'0') as u64;
-    }
-    number
 }

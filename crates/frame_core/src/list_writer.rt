@@ -3,44 +3,30 @@ ghost use Rattle.std.specs.Prelude.{◌≡◌, ◌+◌, ◌*◌, ◌^◌, ◌<�
 ghost use Rattle.std.specs.Fmt.{decimal};
 ghost use Rattle.arrayvec.specs.ArrayVec.{array_vec_len};
 ghost use Rattle.hex.specs.Hex.{encode_lower};
-ghost use Rattle.frame_core.specs.EventLine.{event_text, IsListable};
+ghost use Rattle.frame_core.specs.EventLine.{event_text, kind_text, IsListable};
 ghost use Rattle.frame_core.specs.WriteAnswer.{WritesListable, write_failed};
-ghost use Rattle.frame_core.specs.declared.event.EventKind.TheVariants.{Frame, Clock};
+ghost use Rattle.frame_core.specs.declared.event.EventKind.TheVariants.{Frame, Clock, Mode};
 
+use crate::decimal::decimal_digits;
 use crate::device::Sink;
 use crate::event::{Event, EventKind};
 use crate::whole_write::{WriteFault, put_all};
 use arrayvec::ArrayVec;
 use std::alloc::Allocator;
 
-/// The most octets of a written line: its letter, two spaces, 15 digits, 4,000 digits and LF.
-const LONGEST: usize = 4019;
+/// The most octets of a written line: its letter, two spaces, 18 digits, 4,000 digits and LF.
+const LONGEST: usize = 4022;
 
 /// The greatest moment of a list.
-const LAST_MOMENT: u64 = 999_999_999_999_999;
+const LAST_MOMENT: u64 = 999_999_999_999_999_999;
 
 /// The most octets of a frame in a list.
 const LONGEST_FRAME: usize = 2000;
 
-/// Appends a number in decimal.
-#[tactic(auto, using(crate::proofs::Decimals::digits))]
-fn push_number(line: &mut ArrayVec<u8, LONGEST>, number: u64)
-    requires { array_vec_len line.old + length (decimal number) ≤ 4019 }
-    ensures items { line.new.items ≡ line.old.items ++ decimal number }
-    ensures size { array_vec_len line.new ≡ array_vec_len line.old + length (decimal number) }
-{
-    if number < 10 {
-        line.push(b'0' + number as u8);
-    } else {
-        push_number(line, number / 10);
-        line.push(b'0' + (number % 10) as u8);
-    }
-}
-
 /// Appends octets in hexadecimal.
 fn push_hex(line: &mut ArrayVec<u8, LONGEST>, octets: &[u8])
     requires size { length octets.now ≤ 2000 }
-    requires room { array_vec_len line.old + 2 * length octets.now ≤ 4019 }
+    requires room { array_vec_len line.old + 2 * length octets.now ≤ 4022 }
     ensures items { line.new.items ≡ line.old.items ++ encode_lower octets.now }
     ensures size { array_vec_len line.new ≡ array_vec_len line.old + 2 * length octets.now }
 {
@@ -55,14 +41,15 @@ fn push_hex(line: &mut ArrayVec<u8, LONGEST>, octets: &[u8])
 /// The line of a frame.
 #[tactic(auto, using(crate::proofs::Decimals::decimal_short))]
 fn frame_line(moment: u64, frame: &[u8]) -> ArrayVec<u8, LONGEST>
-    requires moment { moment < 10 ^ 15 }
+    requires moment { moment < 10 ^ 18 }
     requires frame { length frame.now ≤ 2000 }
     ensures { result.items ≡ codes "F " ++ decimal moment ++ codes " " ++ encode_lower frame.now ++ 10 ∷ [] }
 {
     let mut line = ArrayVec::new();
     line.push(b'F');
     line.push(b' ');
-    push_number(&mut line, moment);
+    line.try_extend_from_slice(decimal_digits(moment).as_slice())
+        .unwrap();
     line.push(b' ');
     push_hex(&mut line, frame);
     line.push(b'\n');
@@ -72,21 +59,46 @@ fn frame_line(moment: u64, frame: &[u8]) -> ArrayVec<u8, LONGEST>
 /// The line of a clock moment.
 #[tactic(auto, using(crate::proofs::Decimals::decimal_short))]
 fn clock_line(moment: u64) -> ArrayVec<u8, LONGEST>
-    requires { moment < 10 ^ 15 }
+    requires { moment < 10 ^ 18 }
     ensures { result.items ≡ codes "C " ++ decimal moment ++ 10 ∷ [] }
 {
     let mut line = ArrayVec::new();
     line.push(b'C');
     line.push(b' ');
-    push_number(&mut line, moment);
+    line.try_extend_from_slice(decimal_digits(moment).as_slice())
+        .unwrap();
     line.push(b'\n');
     line
 }
 
-/// Writes an event as its one line: the moment without leading zeros, the octets in lower case
-/// hexadecimal, and LF. Takes no memory. `NotListable` exactly where the moment is over
-/// 999,999,999,999,999 or the frame has 0 octets or over 2,000; nothing was written then.
-/// `WriteFailed` after a front of the line was written.
+/// The line of a mode.
+#[tactic(auto, using(crate::proofs::Decimals::decimal_short))]
+fn mode_line(moment: u64, on: bool) -> ArrayVec<u8, LONGEST>
+    requires { moment < 10 ^ 18 }
+    ensures { result.items ≡ kind_text {A = Unit {0}} (decimal moment) (Mode on) }
+{
+    let mut line = ArrayVec::new();
+    line.push(b'M');
+    line.push(b' ');
+    line.try_extend_from_slice(decimal_digits(moment).as_slice())
+        .unwrap();
+    line.push(b' ');
+    line.push(b'o');
+    if on {
+        line.push(b'n');
+    } else {
+        line.push(b'f');
+        line.push(b'f');
+    }
+    line.push(b'\n');
+    line
+}
+
+/// Writes an event as its one line: the moment in microseconds without leading zeros, the octets in
+/// lower case hexadecimal, and LF. Such a line belongs behind a first line `V2`. Takes no memory.
+/// `NotListable` exactly where the moment is over 999,999,999,999,999,999 microseconds or the frame
+/// has 0 octets or over 2,000; nothing was written then. `WriteFailed` after a front of the line was
+/// written.
 pub fn write_event<A: Allocator, W: Sink>(
     writer: &mut W,
     event: &Event<A>,
@@ -99,13 +111,14 @@ pub fn write_event<A: Allocator, W: Sink>(
     match &event.kind {
         EventKind::Clock => write_clock(writer, event.moment),
         EventKind::Frame(octets) => write_frame(writer, event.moment, octets.as_slice()),
+        EventKind::Mode(on) => write_mode(writer, event.moment, *on),
     }
 }
 
 /// Writes a clock moment as its line.
 fn write_clock<W: Sink>(writer: &mut W, moment: u64) -> Result<(), WriteFault>
     requires { W.failed writer.old ≡ false }
-    ensures written { WritesListable (moment < 10 ^ 15) (codes "C " ++ decimal moment ++ 10 ∷ []) result (W.contents writer.old) (W.contents writer.new) }
+    ensures written { WritesListable (moment < 10 ^ 18) (codes "C " ++ decimal moment ++ 10 ∷ []) result (W.contents writer.old) (W.contents writer.new) }
     ensures unchanged { result ≡ Err WriteFault.NotListable → writer.new ≡ writer.old }
     ensures fault { W.failed writer.new ≡ write_failed result }
 {
@@ -115,10 +128,25 @@ fn write_clock<W: Sink>(writer: &mut W, moment: u64) -> Result<(), WriteFault>
     put_all(writer, clock_line(moment).as_slice())
 }
 
-/// Writes a frame as its line.
-fn write_frame<W: Sink>(writer: &mut W, moment: u64, frame: &[u8]) -> Result<(), WriteFault>
+/// Writes a mode as its line.
+fn write_mode<W: Sink>(writer: &mut W, moment: u64, on: bool) -> Result<(), WriteFault>
     requires { W.failed writer.old ≡ false }
-    ensures written { WritesListable ((moment < 10 ^ 15) × ((0 < length frame.now) × (length frame.now ≤ 2000)))
+    ensures written { WritesListable (moment < 10 ^ 18) (kind_text {A = Unit {0}} (decimal moment) (Mode on)) result (W.contents writer.old) (W.contents writer.new) }
+    ensures unchanged { result ≡ Err WriteFault.NotListable → writer.new ≡ writer.old }
+    ensures fault { W.failed writer.new ≡ write_failed result }
+{
+    if moment > LAST_MOMENT {
+        return Err(WriteFault::NotListable);
+    }
+    put_all(writer, mode_line(moment, on).as_slice())
+}
+
+/// Writes a frame as its one line, as `write_event` does where an event holds it. Takes no memory. `NotListable` exactly
+/// where the moment is over 999,999,999,999,999,999 microseconds or the frame has 0 octets or over 2,000; nothing was
+/// written then. `WriteFailed` after a front of the line was written.
+pub fn write_frame<W: Sink>(writer: &mut W, moment: u64, frame: &[u8]) -> Result<(), WriteFault>
+    requires { W.failed writer.old ≡ false }
+    ensures written { WritesListable ((moment < 10 ^ 18) × ((0 < length frame.now) × (length frame.now ≤ 2000)))
         (codes "F " ++ decimal moment ++ codes " " ++ encode_lower frame.now ++ 10 ∷ []) result (W.contents writer.old) (W.contents writer.new) }
     ensures unchanged { result ≡ Err WriteFault.NotListable → writer.new ≡ writer.old }
     ensures fault { W.failed writer.new ≡ write_failed result }

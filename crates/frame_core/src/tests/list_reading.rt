@@ -31,9 +31,9 @@ fn events_come_however_the_octets_are_cut(rt: HostRuntime) -> Result<(), Fail> {
         if at_most > 0 {
             let mut list = ListReader::new(source_of(text, at_most, NEVER));
             for (answer, line) in [
-                ("F 5 0aff\n", 2),
-                ("C 7\n", 4),
-                ("F 999999999999999 00\n", 5),
+                ("F 5000 0aff\n", 2),
+                ("C 7000\n", 4),
+                ("F 999999999999999000 00\n", 5),
                 ("end", 5),
                 ("end", 5),
             ] {
@@ -51,7 +51,7 @@ fn events_come_however_the_octets_are_cut(rt: HostRuntime) -> Result<(), Fail> {
 fn a_fault_is_told_for_good(rt: HostRuntime) -> Result<(), Fail> {
     let mut list = ListReader::new(source_of(b"C 1\nF 2 0\nC 3\n", 3, NEVER));
     let fault = "line 2: the octets are not an even count of 2 to 4000 hexadecimal digits";
-    for answer in ["C 1\n", fault, fault] {
+    for answer in ["C 1000\n", fault, fault] {
         let said = next_answer(rt.alloc(), &mut list)?;
         assert_eq!(rt; said.as_str(), answer);
     }
@@ -62,10 +62,14 @@ fn a_fault_is_told_for_good(rt: HostRuntime) -> Result<(), Fail> {
 #[test]
 fn each_line_fault_has_its_cause(rt: HostRuntime) -> Result<(), Fail> {
     let form = "line 1: the line is neither an event, nor a comment, nor empty";
-    let moment = "line 1: the moment is not 1 to 15 decimal digits";
+    let moment = "line 1: the moment is not 1 to 15 decimal digits (1 to 18 after a first line V2)";
     let octets = "line 1: the octets are not an even count of 2 to 4000 hexadecimal digits";
     for (line, said) in [
         (b"X".as_slice(), form),
+        (b"M 0 up", form),
+        (b"M 0", form),
+        (b"V2 ", form),
+        (b"M x on", moment),
         (b"C", form),
         (b"C ", form),
         (b" C 1", form),
@@ -107,7 +111,11 @@ fn a_list_without_end_stops(rt: HostRuntime) -> Result<(), Fail> {
 #[test]
 fn a_failed_read_is_told_at_the_unfinished_line(rt: HostRuntime) -> Result<(), Fail> {
     let mut list = ListReader::new(source_of(b"C 1\nC 2", 5, 1));
-    for answer in ["C 1\n", "line 2: reading failed", "line 2: reading failed"] {
+    for answer in [
+        "C 1000\n",
+        "line 2: reading failed",
+        "line 2: reading failed",
+    ] {
         let said = next_answer(rt.alloc(), &mut list)?;
         assert_eq!(rt; said.as_str(), answer);
     }

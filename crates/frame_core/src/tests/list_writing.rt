@@ -4,7 +4,7 @@ use crate::device::Sink;
 use crate::event::{Event, EventKind};
 use crate::list_writer::write_event;
 use crate::std_io::ToWrite;
-use crate::tests::devices::{Full, NEVER, sink_of};
+use crate::tests::devices::{FailsOnce, Full, NEVER, sink_of};
 use crate::whole_write::{WriteFault, put_all};
 use mms_data::Octets;
 use std::alloc::Global;
@@ -40,7 +40,7 @@ fn an_event_is_written_as_its_line(rt: HostRuntime) -> Result<(), Fail> {
 #[test]
 fn what_no_list_can_hold_is_not_written(rt: HostRuntime) -> Result<(), Fail> {
     for event in [
-        clock(1_000_000_000_000_000),
+        clock(1_000_000_000_000_000_000),
         frame(vec![in rt.alloc()]?),
         frame(vec![in rt.alloc(); 0; 2001]?),
     ] {
@@ -94,5 +94,17 @@ fn a_writer_that_takes_nothing_is_a_fault(rt: HostRuntime) -> Result<(), Fail> {
     let mut sink = ToWrite::new(Full);
     assert_eq!(rt; put_all(&mut sink, b"x"), Err(WriteFault::WriteFailed));
     assert!(rt; sink.has_failed());
+    Ok(())
+}
+
+#[test]
+fn a_write_that_failed_is_not_tried_again(rt: HostRuntime) -> Result<(), Fail> {
+    let mut device = FailsOnce { calls: 0 };
+    {
+        let mut sink = ToWrite::new(&mut device);
+        assert_eq!(rt; put_all(&mut sink, b"C 1\n"), Err(WriteFault::WriteFailed));
+        assert!(rt; sink.has_failed());
+    }
+    assert_eq!(rt; device.calls, 1);
     Ok(())
 }

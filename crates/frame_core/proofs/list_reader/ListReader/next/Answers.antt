@@ -1,15 +1,7 @@
-use Rattle.std.proofs.Common.{refl, ◌∙◌}
-use Rattle.frame_core.proofs.EventReaders.{skips-then, skips-skips, skips-none}
+use Rattle.std.proofs.Common.{Err, None}
 use Rattle.frame_core.proofs.list_reader.ListReader.next.Goals as goal
 
-pub tries-init : goal.tries-init
-tries-init g c = record { skipped = skips-none _ _; number = refl }
-
-pub tries-preserved : goal.tries-preserved
-tries-preserved g c = record {
-  skipped = skips-skips _ _ _ _ c.tries.invariant.skipped c.in-Skipped.ensures.0;
-  number = c.in-Skipped.ensures.3 ∙ c.tries.invariant.number;
-}
-
-pub returns-in-Answered-clause-event : goal.returns-in-Answered-clause-event
-returns-in-Answered-clause-event g c = skips-then _ _ _ _ c.tries.invariant.skipped c.in-Answered.ensures.0
+pub returns-in-Err-Memory : goal.returns-in-Err-Memory
+returns-in-Err-Memory g c =
+    let e = rw c.in-Err-Memory.field-0-is at c.in-Err-Memory.ensures in
+    record { event = (Err None, e.item, tt, e.number) }
