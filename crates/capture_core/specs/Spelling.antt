@@ -1,0 +1,38 @@
+-- What octets are a record of a capture, records, and a whole capture.
+use Rattle.std.specs.Prelude.{◌≡◌, ◌≤◌, ◌+◌, ℕ, List, [], ◌∷◌, ◌++◌, length, Some}
+use Rattle.frame_core.specs.Lines.{finished}
+use Rattle.frame_core.specs.declared.device.InputEnd.{InputEnd}
+use Rattle.frame_core.specs.declared.device.InputEnd.TheVariants.{End}
+use Rattle.capture_core.specs.Header.{header_of}
+use Rattle.capture_core.specs.Capture.{Capture, CaptureRecord, capture, captured_size, moment_of}
+use Rattle.capture_core.specs.declared.form.CaptureForm.{CaptureForm}
+
+-- a head of 16 octets, which says the moment and how many octets were captured, at most 262,144, and then these
+abbrev pub SpellsRecord : CaptureForm → CaptureRecord → List ℕ → Type 0
+SpellsRecord form r o = (head : List ℕ) × (length head ≡ 16) × (moment_of form head ≡ r.moment) × (captured_size form head ≡ length r.octets) × (length r.octets ≤ 262144) × (o ≡ head ++ r.octets)
+
+-- one record behind another
+abbrev pub SpellsRecords : CaptureForm → List CaptureRecord → List ℕ → Type 0
+SpellsRecords form [] o = o ≡ []
+SpellsRecords form (r ∷ rs) o = (front : List ℕ) × (rest : List ℕ) × (o ≡ front ++ rest) × SpellsRecord form r front × SpellsRecords form rs rest
+
+-- a header of 24 octets that is read, and then records in its form, 999,999 at most
+abbrev pub SpellsCapture : List CaptureRecord → List ℕ → Type 0
+SpellsCapture rs o = (form : CaptureForm) × (header : List ℕ) × (rest : List ℕ) × (o ≡ header ++ rest) × (length header ≡ 24) × (header_of header ≡ Some form) × (length rs ≤ 999999) × SpellsRecords form rs rest
+
+-- records with their numbers, behind n others
+abbrev pub numbered : ℕ → List CaptureRecord → List (ℕ × CaptureRecord)
+numbered n [] = []
+numbered n (r ∷ rs) = (n + 1, r) ∷ numbered (n + 1) rs
+
+-- a capture of these records, which ends without a fault
+abbrev pub whole_capture : List CaptureRecord → Capture
+whole_capture rs = record { records = numbered 0 rs; stop = finished }
+
+-- a text that spells records is a capture of these
+abbrev pub SpelledIsRead : Type 0
+SpelledIsRead = (rs : List CaptureRecord) (o : List ℕ) → SpellsCapture rs o → capture End o ≡ whole_capture rs
+
+-- a capture that ends without a fault has ended with its input, and its text spells its records
+abbrev pub ReadIsSpelled : Type 0
+ReadIsSpelled = (z : InputEnd) (o : List ℕ) → (capture z o).stop ≡ finished → (z ≡ End) × ((rs : List CaptureRecord) × SpellsCapture rs o × (capture z o ≡ whole_capture rs))

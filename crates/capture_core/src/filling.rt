@@ -1,0 +1,54 @@
+//! Reading a stated count of octets.
+ghost use Rattle.std.specs.Prelude.{◌≡◌, ◌≢◌, ◌<◌, ℕ, List, length, false, true};
+ghost use Rattle.std.specs.Io.KnownBytes.{Consumes};
+ghost use Rattle.frame_core.specs.Device.{Gives, OnlyOpen};
+ghost use Rattle.frame_core.specs.declared.device.InputEnd.{InputEnd};
+ghost use Rattle.capture_core.specs.Filling.{Fills, Passes};
+
+use frame_core::{InputEnd, Source};
+
+/// How far a stated count of octets was read.
+#[derive(Clone, Copy, Debug, PartialEq, Eq)]
+pub(crate) enum Filled {
+    /// All of them.
+    Whole,
+    /// So many, and the source has ended.
+    Short(usize),
+}
+
+// Reads until `into` is full, or the source has ended.
+pub(crate) fn fill<R: Source>(reader: &mut R, into: &mut [u8]) -> Filled
+    ensures { Fills (R.left reader.old) (R.ending reader.old) result into.new (R.left reader.new) (R.ending reader.new) }
+{
+    let mut count = 0;
+    'reads: while count < into.len() {
+        match reader.ending() {
+            InputEnd::Open => {}
+            _ => return Filled::Short(count),
+        }
+        match reader.read_some(&mut into[count..]) {
+            Ok(more) if more > 0 => count += more,
+            _ => return Filled::Short(count),
+        }
+    }
+    Filled::Whole
+}
+
+/// How many octets are read over at a time.
+const PIECE: usize = 4096;
+
+// Reads over so many octets, a piece at a time, and answers whether they were there.
+pub(crate) fn pass<R: Source>(reader: &mut R, size: usize) -> bool
+    ensures { Passes (R.left reader.old) (R.ending reader.old) size result (R.left reader.new) (R.ending reader.new) }
+{
+    let mut piece = [0u8; PIECE];
+    let mut left = size;
+    'pieces: while left > 0 {
+        let count = left.min(PIECE);
+        match fill(reader, &mut piece[..count]) {
+            Filled::Whole => left -= count,
+            Filled::Short(_) => return false,
+        }
+    }
+    true
+}

@@ -1,0 +1,27 @@
+//! Captures in the classic form of libpcap: a header of 24 octets, then records of captured frames, read one record at a
+//! time from a source of octets.
+//!
+//! ```text
+//! header  magic number 4, version 2 + 2, ignored 8, snapshot length 4 (not looked at), link type 4
+//! record  seconds 4, fraction 4, captured length 4, original length 4 (not looked at), the captured octets
+//! ```
+//!
+//! The numbers stand in the octet order in which the magic number does: `a1b2c3d4` where fractions of a second are
+//! microseconds, `a1b23c4d` where they are nanoseconds.
+#![tactic(auto)]
+
+mod capture_fault;
+mod filling;
+mod form;
+mod header;
+pub mod laws;
+mod numbers;
+mod record;
+
+pub use crate::capture_fault::{CaptureCause, CaptureFault};
+pub use crate::form::{CaptureForm, FractionUnit, OctetOrder};
+pub use crate::header::read_header;
+pub use crate::record::{Captured, LONGEST_FRAME, read_record};
+
+#[cfg(test)]
+mod tests;
