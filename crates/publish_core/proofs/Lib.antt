@@ -1,0 +1,11 @@
+pub mod NumberLaws
+pub mod GivesOne
+pub mod Steps
+pub mod Sizes
+pub mod Fits
+pub mod Sound
+pub mod Prefix
+pub mod Whole
+pub mod PollLaws
+pub mod Runs
+pub mod Judged

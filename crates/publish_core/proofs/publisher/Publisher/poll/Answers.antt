@@ -1,0 +1,16 @@
+use Rattle.std.proofs.Common.{◌++◌, ◌∷◌, [], sym, subst}
+use Rattle.publish_core.specs.Run.{Polled, call}
+use Rattle.publish_core.specs.Standing.{StandsAfter}
+use Rattle.publish_core.proofs.PollLaws.{poll_given}
+use Rattle.publish_core.proofs.Whole.{poll_ok}
+use Rattle.publish_core.proofs.publisher.Publisher.poll.Goals as goal
+
+pub returns-clause-published : goal.returns-clause-published
+returns-clause-published g c = λ p calls w.
+    let x = poll_ok p calls c.args.self.now c.args.now w in
+    poll_given p calls c.args.self.now c.args.now c.take_poll.result x.0 c.take_poll.ensures.given
+
+pub returns-clause-stands : goal.returns-clause-stands
+returns-clause-stands g c = λ p calls w.
+    let x = poll_ok p calls c.args.self.now c.args.now w in
+    subst (λ s. StandsAfter p (calls ++ call c.args.now Polled ∷ []) s) (sym c.take_poll.ensures.state) x.1

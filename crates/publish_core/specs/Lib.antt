@@ -1,0 +1,9 @@
+pub mod Numbers
+pub mod Table
+pub mod Frames
+pub mod Run
+pub mod Refusal
+pub mod Standing
+pub mod Laws
+pub mod Step
+pub mod Judgement

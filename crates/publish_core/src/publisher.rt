@@ -1,0 +1,237 @@
+// Publishers.
+
+ghost use Rattle.std.specs.Prelude.{◌≡◌, ◌<◌, ◌≤◌, ◌+◌, ◌*◌, ◌↔◌, ◌∷◌, ◌++◌, [], ℕ, List, IfErr, IfOk, IsTrue, MatchOption, OnErr, OnOk, Err, None, length};
+ghost use Rattle.frame_core.specs.Written.{written_frame};
+ghost use Rattle.publish_core.specs.declared.fault.PublishFault.TheVariants.{FirstState};
+ghost use Rattle.publish_core.specs.Frames.{Setup, change, setup};
+ghost use Rattle.publish_core.specs.Numbers.{number_after};
+ghost use Rattle.publish_core.specs.Refusal.{Accepts, IsAccepted, IsRefusal, Refuses};
+ghost use Rattle.publish_core.specs.Run.{Call, Changed, Polled, PublishesNone, PublishesOctets, call, greatest};
+ghost use Rattle.publish_core.specs.Standing.{StandsAfter};
+ghost use Rattle.publish_core.specs.Step.{IsFrameOf, IsWritten, change_frame, change_state, last_frame, poll_frame, poll_state};
+ghost use Rattle.publish_core.specs.Table.{AreSteps};
+
+use crate::control::Control;
+use crate::fault::PublishFault;
+use crate::fitting::every_frame_fits;
+use crate::frames::{Numbers, can_be_spelled, write_frame};
+use crate::table::Table;
+use arrayvec::ArrayVec;
+use mms_data::{UtcTime, ValueList};
+use std::alloc::Allocator;
+use std::marker::Model;
+
+// The frame that was given last: what its change handed in, its numbers, the position of its step, and the moment at
+// which it was given, in microseconds.
+#[derive(Drop)]
+struct Last<A: Allocator> {
+    t: UtcTime,
+    values: ValueList<A>,
+    state: u32,
+    sequence: u32,
+    step: usize,
+    given: u64,
+}
+
+/// A publisher of one control block. A contract sees its control, its table, the status number of its next state, its
+/// moment, and what it gave last.
+#[derive(Drop)]
+pub struct Publisher<A: Allocator> {
+    control: Control<A>,
+    table: Table,
+    next: u32,
+    moment: u64,
+    last: Option<Last<A>>,
+}
+
+impl<A: Allocator> Model for Publisher<A> {
+    ghost use Rattle.std.specs.Prelude.{◌<◌};
+    ghost use Rattle.publish_core.specs.Standing.{Standing};
+    ghost use Rattle.publish_core.specs.Step.{IsSound};
+    ghost use Rattle.std.specs.Coded.{codes};
+    ghost use Rattle.mms_data.specs.DataCode.{data_code};
+
+    ghost Value = { Standing A };
+
+    ghost coded = { Prim.hlevel (codes, data_code) };
+
+    ghost view = { λ p. record { control = p.control; table = p.table; next = p.next; moment = p.moment; last = p.last } };
+
+    ghost invariant = { λ p. (0 < p.next) × IsSound p.control p.table p.last };
+}
+
+// The number behind this one.
+fn next_number(number: u32) -> u32
+    ensures { result ≡ number_after number }
+{
+    if number == u32::MAX { 1 } else { number + 1 }
+}
+
+// Whether the wait, in milliseconds, that began at a moment is over; moments are in microseconds.
+fn is_over(given: u64, wait_ms: u32, now: u64) -> bool
+    ensures { IsTrue result ↔ (given + 1000 * wait_ms ≤ now) }
+{
+    u128::from(given) + 1000 * u128::from(wait_ms) <= u128::from(now)
+}
+
+// The octets of the frame that is held.
+fn write_last<A: Allocator>(
+    control: &Control<A>,
+    table: &Table,
+    last: &Last<A>,
+) -> ArrayVec<u8, 1600>
+    requires steps { AreSteps table.now }
+    requires frame { IsFrameOf control.now table.now last.now }
+    ensures { result.items ≡ written_frame (last_frame control.now table.now last.now) }
+{
+    let numbers = Numbers {
+        state: last.state,
+        sequence: last.sequence,
+        live_ms: table.at(last.step).live_ms,
+    };
+    write_frame(control, last.t, &last.values, numbers)
+}
+
+impl<A: Allocator> Publisher<A> {
+    /// A publisher that has given nothing yet. Its first state will have the status number `first_state`.
+    ///
+    /// # Errors
+    ///
+    /// `FirstState` where that number is 0. What was handed in is then let go.
+    pub fn new(
+        control: Control<A>,
+        table: Table,
+        first_state: u32,
+    ) -> Result<Publisher<A>, PublishFault>
+        ensures stands { IfOk result (λ s. StandsAfter (setup control table first_state) [] s) }
+        ensures first { OnOk result (0 < first_state) }
+        ensures steps { AreSteps table }
+        ensures fault { IfErr result (λ e. (e ≡ FirstState) × (first_state ≡ 0)) }
+    {
+        if first_state == 0 {
+            return Err(PublishFault::FirstState);
+        }
+        let _steps = table.len();
+        Ok(Publisher {
+            control,
+            table,
+            next: first_state,
+            moment: 0,
+            last: None,
+        })
+    }
+
+    /// The greatest moment of the accepted changes and of the polls so far, in microseconds; 0 before the first.
+    pub fn moment(&self) -> u64
+        ensures { (p : Setup A) (calls : List Call) → StandsAfter p calls self.now → result ≡ greatest calls }
+    {
+        let Publisher { moment, .. } = self;
+        *moment
+    }
+
+    /// Changes the data set at a moment, in microseconds: the octets of the first frame of the next state, whose values
+    /// and moment of change (t) the frames of this state carry. A moment below the publisher's counts as the
+    /// publisher's. Takes no memory.
+    ///
+    /// # Errors
+    ///
+    /// `EntriesDiffer` where the count of values is not the control's; else `NotSpellable` where a value, `t` or a text
+    /// of the control has no spelling; else `WouldNotFit` where some frame of the new state would be too long, the first
+    /// or any retransmission. The values are handed back, and the publisher is as it was, its moment too.
+    pub fn change(
+        &mut self,
+        now: u64,
+        t: UtcTime,
+        values: ValueList<A>,
+    ) -> Result<ArrayVec<u8, 1600>, (PublishFault, ValueList<A>)>
+        ensures accepted { (p : Setup A) (calls : List Call) → StandsAfter p calls self.old →
+            OnOk result (Accepts p calls (change t values)) }
+        ensures refused { (p : Setup A) (calls : List Call) → StandsAfter p calls self.old →
+            IfErr result (λ e. Refuses p calls (change t values) e.0) }
+        ensures handed_back { IfErr result (λ e. e.1 ≡ values) }
+        ensures unchanged { OnErr result (self.new ≡ self.old) }
+        ensures published { (p : Setup A) (calls : List Call) → StandsAfter p calls self.old →
+            IfOk result (λ o. PublishesOctets p (calls ++ call now (Changed (change t values)) ∷ []) (length calls) o.items) }
+        ensures stands { (p : Setup A) (calls : List Call) → StandsAfter p calls self.old →
+            OnOk result (StandsAfter p (calls ++ call now (Changed (change t values)) ∷ []) self.new) }
+    {
+        self.take_change(now, t, values)
+    }
+
+    /// Asks for a frame at a moment, in microseconds: the octets of the next frame of the newest state, exactly where the
+    /// wait behind the last one is over. A moment below the publisher's counts as the publisher's. A poll that gives
+    /// None counts its moment too. Takes no memory and never fails.
+    pub fn poll(&mut self, now: u64) -> Option<ArrayVec<u8, 1600>>
+        ensures published { (p : Setup A) (calls : List Call) → StandsAfter p calls self.old →
+            MatchOption result
+            (PublishesNone p (calls ++ call now Polled ∷ []) (length calls))
+            (λ o. PublishesOctets p (calls ++ call now Polled ∷ []) (length calls) o.items) }
+        ensures stands { (p : Setup A) (calls : List Call) → StandsAfter p calls self.old →
+            StandsAfter p (calls ++ call now Polled ∷ []) self.new }
+    {
+        self.take_poll(now)
+    }
+
+    // A change, by what is held.
+    fn take_change(
+        &mut self,
+        now: u64,
+        t: UtcTime,
+        values: ValueList<A>,
+    ) -> Result<ArrayVec<u8, 1600>, (PublishFault, ValueList<A>)>
+        ensures given { IfOk result (λ o. o.items ≡ written_frame (change_frame self.old (change t values) now)) }
+        ensures state { OnOk result (self.new ≡ change_state self.old (change t values) now) }
+        ensures accepted { OnOk result (IsAccepted self.old.control self.old.table self.old.next (change t values)) }
+        ensures refused { IfErr result (λ e. IsRefusal self.old.control self.old.table self.old.next (change t values) e.0) }
+        ensures handed_back { IfErr result (λ e. e.1 ≡ values) }
+        ensures unchanged { OnErr result (self.new ≡ self.old) }
+    {
+        if values.as_slice().len() != self.control.entries as usize {
+            return Err((PublishFault::EntriesDiffer, values));
+        }
+        if !can_be_spelled(&self.control, t, &values) {
+            return Err((PublishFault::NotSpellable, values));
+        }
+        if !every_frame_fits(&self.control, &self.table, self.next, t, &values) {
+            return Err((PublishFault::WouldNotFit, values));
+        }
+        let now = self.moment.max(now);
+        let last = Last {
+            t,
+            values,
+            state: self.next,
+            sequence: 0,
+            step: 0,
+            given: now,
+        };
+        let frame = write_last(&self.control, &self.table, &last);
+        self.next = next_number(self.next);
+        self.moment = now;
+        self.last = Some(last);
+        Ok(frame)
+    }
+
+    // A poll, by what is held.
+    fn take_poll(&mut self, now: u64) -> Option<ArrayVec<u8, 1600>>
+        ensures given { MatchOption result (poll_frame self.old now ≡ None) (λ o. IsWritten (poll_frame self.old now) o.items) }
+        ensures state { self.new ≡ poll_state self.old now }
+    {
+        let now = self.moment.max(now);
+        self.moment = now;
+        match &mut self.last {
+            None => None,
+            Some(last) => {
+                let steps = self.table.len();
+                let wait_ms = self.table.at(last.step).wait_ms;
+                if is_over(last.given, wait_ms, now) {
+                    last.sequence = next_number(last.sequence);
+                    last.step = (last.step + 1).min(steps - 1);
+                    last.given = now;
+                    Some(write_last(&self.control, &self.table, last))
+                } else {
+                    None
+                }
+            }
+        }
+    }
+}
