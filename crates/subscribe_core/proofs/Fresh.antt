@@ -1,0 +1,39 @@
+-- Blocks that are given twice, and a subscriber to which nothing has happened.
+use Rattle.std.proofs.Common.{◌≡◌, ℕ, zero, suc, ◌<◌, false, None, List, [], length, get_or, replicate, sym, ap, ◌∙◌, refl, inl, inr}
+use Rattle.std.proofs.lemmas.Bool.{cases_order}
+use Rattle.std.proofs.lemmas.Option.{slice_get_within}
+use Rattle.std.proofs.lemmas.List.{length-replicate}
+use Rattle.std.specs.BTreeSet.{BTreeSet}
+use Rattle.subscribe_core.specs.declared.block.Block.{Block}
+use Rattle.subscribe_core.specs.declared.names.Name.{Name}
+use Rattle.subscribe_core.specs.declared.registers.Register.{Register}
+use Rattle.subscribe_core.specs.Deadlines.{has_deadline, helds}
+use Rattle.subscribe_core.specs.Indexed.{IsIndexed}
+use Rattle.subscribe_core.specs.Names.{AreSorted, AreNamesOf}
+use Rattle.subscribe_core.specs.Standing.{AreApart, IsTwice, idle}
+
+pub apart_from : {A : Type 0} → (blocks : List (Block A)) → ((k : ℕ) → k < length blocks → ¬ IsTwice blocks k) → AreApart blocks
+apart_from blocks h i j a b p q e =
+    elim (cases_order i j) [
+      | inl same ↦ same
+      | inr (inl lt) ↦ absurd (h j (slice_get_within blocks j b q) (i, a, b, lt, p, q, e))
+      | inr (inr gt) ↦ absurd (h i (slice_get_within blocks i a p) (j, b, a, gt, q, p, (sym e.0, sym e.1)))
+    ]
+
+idle_holds : (n p d : ℕ) → has_deadline (get_or (helds (replicate n idle)) p None) d ≡ false
+idle_holds zero p d = refl
+idle_holds (suc n) zero d = refl
+idle_holds (suc n) (suc p) d = idle_holds n p d
+
+-- nothing is held and no deadline is kept
+pub fresh_indexed : {A : Type 0} → (blocks : List (Block A)) (registers : List Register) (names : List (Name A)) (deadlines : BTreeSet (ℕ × ℕ))
+    → registers ≡ replicate (length blocks) idle → deadlines.keys ≡ [] → AreApart blocks → AreSorted names → AreNamesOf names blocks
+    → IsIndexed blocks registers names deadlines
+fresh_indexed blocks registers names deadlines is empty apart sorted named =
+    record {
+      sizes = ap length is ∙ length-replicate (length blocks) idle;
+      apart = apart;
+      sorted = sorted;
+      named = named;
+      timed = λ q. rw (empty, is) (sym (idle_holds (length blocks) q.1 q.0));
+    }

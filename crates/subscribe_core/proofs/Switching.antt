@@ -1,0 +1,165 @@
+-- What switches no block, and the mode set off.
+use Rattle.std.proofs.Common.{◌≡◌, ℕ, zero, suc, ◌+◌, ◌≤◌, Bool, true, false, if◌then◌else◌, Some, None, List, [], ◌∷◌, ◌++◌, length, set, slice_get, drop, sym, ap, ap₂, ◌∙◌, arith, refl}
+use Rattle.std.proofs.lemmas.Option.{none-some, same_Some}
+use Rattle.std.specs.BTreeSet.{BTreeSet}
+use Rattle.ber_core.specs.declared.fault.Fault.{Fault}
+use Rattle.subscribe_core.specs.declared.block.Block.{Block}
+use Rattle.subscribe_core.specs.declared.entry.Entry.{Entry}
+use Rattle.subscribe_core.specs.declared.entry.Entry.TheVariants as says
+use Rattle.subscribe_core.specs.declared.names.Name.{Name}
+use Rattle.subscribe_core.specs.declared.registers.Register.{Register}
+use Rattle.subscribe_core.specs.Indexed.{IsIndexed, cleared, cleared_one, flagged_entries, switched_off, switched_off_one}
+use Rattle.subscribe_core.specs.Reading.{Content, OfClock, OfFault, OfMode, OfSampled}
+use Rattle.subscribe_core.specs.Steps.{register_by, registers_by, said_of, switch_by, switched_entries}
+
+-- what switches no block
+
+pub switched_still : {A : Type 0} (mode : Bool) (k : Content) (b : ℕ) (xs : List (Block A)) (rs : List Register)
+    → ((x : Block A) (flag : Bool) → switch_by x mode flag k ≡ false) → switched_entries mode k b xs rs ≡ []
+switched_still mode k b [] rs still = refl
+switched_still mode k b (x ∷ xs) [] still = refl
+switched_still mode k b (x ∷ xs) (r ∷ rs) still =
+    ap (λ (y : Bool). if y then says.Switched b ∷ switched_entries mode k (b + 1) xs rs else switched_entries mode k (b + 1) xs rs) (still x r.simulated)
+    ∙ switched_still mode k (b + 1) xs rs still
+
+pub registers_still : {A : Type 0} (now : ℕ) (mode : Bool) (k : Content) (xs : List (Block A)) (rs : List Register) → length rs ≡ length xs
+    → ((x : Block A) (r : Register) → register_by now mode k x r ≡ cleared_one now r) → registers_by now mode k xs rs ≡ cleared now rs
+registers_still now mode k [] [] same still = refl
+registers_still now mode k [] (r ∷ rs) same still = absurd (omega arith)
+registers_still now mode k (x ∷ xs) [] same still = refl
+registers_still now mode k (x ∷ xs) (r ∷ rs) same still =
+    ap₂ (λ (y : Register) (ys : List Register). y ∷ ys) (still x r) (registers_still now mode k xs rs (omega arith) still)
+
+-- the mode set off
+
+pub switched_off_entries : {A : Type 0} (mode : Bool) (b : ℕ) (xs : List (Block A)) (rs : List Register) → length rs ≡ length xs → switched_entries mode (OfMode false) b xs rs ≡ flagged_entries b rs
+switched_off_entries mode b [] [] same = refl
+switched_off_entries mode b [] (r ∷ rs) same = absurd (omega arith)
+switched_off_entries mode b (x ∷ xs) [] same = refl
+switched_off_entries {A} mode b (x ∷ xs) (r ∷ rs) same =
+    ap (λ (l : List (Entry A)). if r.simulated then says.Switched b ∷ l else l) (switched_off_entries mode (b + 1) xs rs (omega arith))
+
+off_one : {A : Type 0} (now : ℕ) (mode : Bool) (x : Block A) (r : Register) (flag : Bool) → r.simulated ≡ flag → register_by now mode (OfMode false) x r ≡ cleared_one now (switched_off_one r)
+off_one now mode x r flag e = go flag e
+  where
+    go : (y : Bool) → r.simulated ≡ y → register_by now mode (OfMode false) x r ≡ cleared_one now (switched_off_one r)
+    go true e = rw e refl
+    go false e = rw e refl
+
+pub registers_off : {A : Type 0} (now : ℕ) (mode : Bool) (xs : List (Block A)) (rs : List Register) → length rs ≡ length xs → registers_by now mode (OfMode false) xs rs ≡ cleared now (switched_off rs)
+registers_off now mode [] [] same = refl
+registers_off now mode [] (r ∷ rs) same = absurd (omega arith)
+registers_off now mode (x ∷ xs) [] same = refl
+registers_off now mode (x ∷ xs) (r ∷ rs) same =
+    ap₂ (λ (y : Register) (ys : List Register). y ∷ ys) (off_one now mode x r r.simulated refl) (registers_off now mode xs rs (omega arith))
+
+-- one block after the other
+
+-- the registers once those below n are switched
+abbrev pub off_to : ℕ → List Register → List Register
+off_to zero rs = rs
+off_to (suc n) [] = []
+off_to (suc n) (r ∷ rs) = switched_off_one r ∷ off_to n rs
+
+off_step : (n : ℕ) (rs : List Register) (r : Register) → slice_get (off_to n rs) n ≡ Some r → off_to (suc n) rs ≡ set (off_to n rs) n (switched_off_one r)
+off_step zero [] r e = refl
+off_step zero (x ∷ xs) r e = ap (λ (y : Register). switched_off_one y ∷ xs) (same_Some x r e)
+off_step (suc n) [] r e = refl
+off_step (suc n) (x ∷ xs) r e = ap (λ (ys : List Register). switched_off_one x ∷ ys) (off_step n xs r e)
+
+set_same : (ys : List Register) (at : ℕ) (y : Register) → slice_get ys at ≡ Some y → set ys at y ≡ ys
+set_same [] at y e = refl
+set_same (z ∷ ys) zero y e = ap (λ (w : Register). w ∷ ys) (sym (same_Some z y e))
+set_same (z ∷ ys) (suc at) y e = ap (λ (ws : List Register). z ∷ ws) (set_same ys at y e)
+
+pub off_more : (n : ℕ) (rs : List Register) (r : Register) → slice_get (off_to n rs) n ≡ Some r → r.simulated ≡ true → off_to (n + 1) rs ≡ set (off_to n rs) n (record { held = None; simulated = false })
+off_more n rs r e flag =
+    let next : n + 1 ≡ suc n = omega arith in
+    ap (λ (m : ℕ). off_to m rs) next ∙ (off_step n rs r e ∙ ap (λ (y : Bool). set (off_to n rs) n (if y then record { held = None; simulated = false } else r)) flag)
+
+pub off_same : (n : ℕ) (rs : List Register) (r : Register) → slice_get (off_to n rs) n ≡ Some r → r.simulated ≡ false → off_to (n + 1) rs ≡ off_to n rs
+off_same n rs r e flag =
+    let next : n + 1 ≡ suc n = omega arith in
+    ap (λ (m : ℕ). off_to m rs) next
+    ∙ (off_step n rs r e ∙ (ap (λ (y : Bool). set (off_to n rs) n (if y then record { held = None; simulated = false } else r)) flag ∙ set_same (off_to n rs) n r e))
+
+pub off_all : (n : ℕ) (rs : List Register) → length rs ≤ n → off_to n rs ≡ switched_off rs
+off_all zero [] le = refl
+off_all zero (r ∷ rs) le = absurd (omega arith)
+off_all (suc n) [] le = refl
+off_all (suc n) (r ∷ rs) le = ap (λ (ys : List Register). switched_off_one r ∷ ys) (off_all n rs (omega arith))
+
+-- what is so at each turn: those below `at` are switched
+pub record IsSwitching {A : Type 0} (at : ℕ) (first_blocks : List (Block A)) (first : List Register)
+    (blocks : List (Block A)) (registers : List Register) (names : List (Name A)) (deadlines : BTreeSet (ℕ × ℕ))
+    (first_mode mode : Bool) (first_moment moment : ℕ) : Type 0 where
+  pub indexed : IsIndexed blocks registers names deadlines
+  pub off : registers ≡ off_to at first
+  pub blocks_stay : blocks ≡ first_blocks
+  pub mode_stays : mode ≡ first_mode
+  pub moment_stays : moment ≡ first_moment
+
+-- the entries, one block after the other
+
+-- those of the registers from a position on
+abbrev pub left_entries : {A : Type 0} → ℕ → List Register → List (Entry A)
+left_entries n rs = flagged_entries n (drop n rs)
+
+flagged_drop : (A : Type 0) (b n : ℕ) (rs : List Register) (r : Register) → slice_get rs n ≡ Some r → flagged_entries {A = A} b (drop n rs) ≡ (if r.simulated then says.Switched b ∷ flagged_entries (b + 1) (drop (suc n) rs) else flagged_entries (b + 1) (drop (suc n) rs))
+flagged_drop A b n [] r e = absurd (none-some r e)
+flagged_drop A b zero (x ∷ xs) r e =
+    ap (λ (y : Register). if y.simulated then says.Switched b ∷ flagged_entries {A = A} (b + 1) xs else flagged_entries (b + 1) xs) (same_Some x r e)
+flagged_drop A b (suc n) (x ∷ xs) r e = flagged_drop A b n xs r e
+
+pub left_more : (A : Type 0) (n : ℕ) (rs : List Register) (r : Register) → slice_get rs n ≡ Some r → r.simulated ≡ true → left_entries {A = A} n rs ≡ says.Switched n ∷ left_entries (n + 1) rs
+left_more A n rs r e flag =
+    let next : n + 1 ≡ suc n = omega arith in
+    flagged_drop A n n rs r e ∙
+    (ap (λ (y : Bool). if y then says.Switched n ∷ flagged_entries {A = A} (n + 1) (drop (suc n) rs) else flagged_entries (n + 1) (drop (suc n) rs)) flag ∙
+    ap (λ (m : ℕ). says.Switched n ∷ flagged_entries {A = A} (n + 1) (drop m rs)) (sym next))
+
+pub left_same : (A : Type 0) (n : ℕ) (rs : List Register) (r : Register) → slice_get rs n ≡ Some r → r.simulated ≡ false → left_entries {A = A} n rs ≡ left_entries (n + 1) rs
+left_same A n rs r e flag =
+    let next : n + 1 ≡ suc n = omega arith in
+    flagged_drop A n n rs r e ∙
+    (ap (λ (y : Bool). if y then says.Switched n ∷ flagged_entries {A = A} (n + 1) (drop (suc n) rs) else flagged_entries (n + 1) (drop (suc n) rs)) flag ∙
+    ap (λ (m : ℕ). flagged_entries {A = A} (n + 1) (drop m rs)) (sym next))
+
+past_end : (n : ℕ) (rs : List Register) → length rs ≤ n → drop n rs ≡ []
+past_end zero [] le = refl
+past_end zero (r ∷ rs) le = absurd (omega arith)
+past_end (suc n) [] le = refl
+past_end (suc n) (r ∷ rs) le = past_end n rs (omega arith)
+
+-- a change of the content that is read
+pub answer_as : {A : Type 0} (now : ℕ) (mode : Bool) (xs : List (Block A)) (rs : List Register) (k c : Content) (es : List (Entry A)) → c ≡ k
+    → es ≡ switched_entries mode k 0 xs rs ++ said_of now mode xs rs k → es ≡ switched_entries mode c 0 xs rs ++ said_of now mode xs rs c
+answer_as now mode xs rs k c es e is = is ∙ ap (λ (y : Content). switched_entries mode y 0 xs rs ++ said_of now mode xs rs y) (sym e)
+
+-- octets that spell no frame, and Sampled Values
+
+pub answer_fault : {A : Type 0} (now : ℕ) (mode : Bool) (xs : List (Block A)) (rs : List Register) (fault : Fault)
+    → says.Faulty fault ∷ [] ≡ switched_entries mode (OfFault fault) 0 xs rs ++ said_of now mode xs rs (OfFault fault)
+answer_fault {A} now mode xs rs fault = sym (ap (λ (l : List (Entry A)). l ++ says.Faulty fault ∷ []) (switched_still mode (OfFault fault) 0 xs rs (λ x flag. refl)))
+
+pub answer_sampled : {A : Type 0} (now : ℕ) (mode : Bool) (xs : List (Block A)) (rs : List Register)
+    → says.Sampled ∷ [] ≡ switched_entries mode OfSampled 0 xs rs ++ said_of now mode xs rs OfSampled
+answer_sampled {A} now mode xs rs = sym (ap (λ (l : List (Entry A)). l ++ says.Sampled ∷ []) (switched_still mode OfSampled 0 xs rs (λ x flag. refl)))
+
+pub registers_fault : {A : Type 0} (now : ℕ) (mode : Bool) (xs : List (Block A)) (rs : List Register) (fault : Fault) → length rs ≡ length xs → cleared now rs ≡ registers_by now mode (OfFault fault) xs rs
+registers_fault now mode xs rs fault same = sym (registers_still now mode (OfFault fault) xs rs same (λ x r. refl))
+
+pub registers_sampled : {A : Type 0} (now : ℕ) (mode : Bool) (xs : List (Block A)) (rs : List Register) → length rs ≡ length xs → cleared now rs ≡ registers_by now mode OfSampled xs rs
+registers_sampled now mode xs rs same = sym (registers_still now mode OfSampled xs rs same (λ x r. refl))
+
+pub registers_clock : {A : Type 0} (now : ℕ) (mode : Bool) (xs : List (Block A)) (rs : List Register) → length rs ≡ length xs → cleared now rs ≡ registers_by now mode OfClock xs rs
+registers_clock now mode xs rs same = sym (registers_still now mode OfClock xs rs same (λ x r. refl))
+
+pub registers_on : {A : Type 0} (now : ℕ) (mode : Bool) (xs : List (Block A)) (rs : List Register) → length rs ≡ length xs → cleared now rs ≡ registers_by now mode (OfMode true) xs rs
+registers_on now mode xs rs same = sym (registers_still now mode (OfMode true) xs rs same (λ x r. refl))
+
+pub switched_clock : {A : Type 0} (mode : Bool) (xs : List (Block A)) (rs : List Register) → switched_entries mode OfClock 0 xs rs ≡ []
+switched_clock mode xs rs = switched_still mode OfClock 0 xs rs (λ x flag. refl)
+
+pub switched_on : {A : Type 0} (mode : Bool) (xs : List (Block A)) (rs : List Register) → switched_entries mode (OfMode true) 0 xs rs ≡ []
+switched_on mode xs rs = switched_still mode (OfMode true) 0 xs rs (λ x flag. refl)

@@ -1,0 +1,37 @@
+use Rattle.std.proofs.Common.{◌++◌, ◌∷◌, [], List, inl, inr, length, sym, subst}
+use Rattle.std.proofs.lemmas.Result.{on_ok_weaker}
+use Rattle.std.specs.Prelude.{IfOk, Result, Ok, Err}
+use Rattle.subscribe_core.specs.declared.entry.Entry.{Entry}
+use Rattle.subscribe_core.specs.Content.{reading_of}
+use Rattle.subscribe_core.specs.Entries.{AreEntriesAt}
+use Rattle.subscribe_core.specs.Standing.{State, StandsAfter}
+use Rattle.subscribe_core.proofs.Quiet.{quiet_step}
+use Rattle.subscribe_core.proofs.Readings.{is_read}
+use Rattle.subscribe_core.proofs.Runs.{entries_step, stands_step}
+use Rattle.subscribe_core.proofs.subscriber.Subscriber.take.Goals as goal
+
+if_ok_weaker : {T E : Type 0} (r : Result T E) (P Q : T → Type 0) → ((x : T) → P x → Q x) → IfOk r P → IfOk r Q
+if_ok_weaker (Ok x) P Q f p = f x p
+if_ok_weaker (Err e) P Q f p = tt
+
+pub returns-clause-entries : goal.returns-clause-entries
+returns-clause-entries g c = λ events stands.
+    let s = c.args.self.now.state in
+    let e = c.args.event.now in
+    if_ok_weaker c.step.result _ _
+    (λ x is. subst (λ (es : List (Entry _)). AreEntriesAt s.blocks (events ++ e ∷ []) (length events) es) (sym is)
+    (entries_step events e (reading_of e) s (is_read e) c.step.ensures.sizes stands))
+    c.step.ensures.entries
+
+pub returns-clause-stands : goal.returns-clause-stands
+returns-clause-stands g c = λ events stands.
+    let s = c.args.self.now.state in
+    let e = c.args.event.now in
+    on_ok_weaker c.step.result
+    (λ is. subst (λ (t : State _). StandsAfter (events ++ e ∷ []) t) (sym is) (stands_step events e (reading_of e) s (is_read e) c.step.ensures.sizes stands))
+    c.step.ensures.state
+
+pub returns-clause-quiet : goal.returns-clause-quiet
+returns-clause-quiet g c = λ events stands none.
+    let quiet = quiet_step events c.args.event.now c.args.self.now.state c.step.ensures.apart c.step.ensures.sizes stands none in
+    elim c.step.ensures.quiet [ inl frame ↦ absurd (quiet.1 frame) | inr ok ↦ ok quiet.0 ]

@@ -1,0 +1,16 @@
+pub mod Epoch
+pub mod Reading
+pub mod Matching
+pub mod Simulation
+pub mod Sight
+pub mod Entries
+pub mod Standing
+pub mod Steps
+pub mod Laws
+pub mod Content
+pub mod Names
+pub mod Deadlines
+pub mod Indexed
+pub mod Received
+pub mod Faults
+pub mod Watch

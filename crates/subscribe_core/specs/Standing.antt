@@ -1,0 +1,58 @@
+-- What a subscriber keeps, and when it is what a whole list of events says.
+use Rattle.std.specs.Prelude.{◌≡◌, ℕ, ◌<◌, Bool, false, Some, None, List, length, replicate, slice_get}
+use Rattle.subscribe_core.specs.declared.block.Block.{Block}
+use Rattle.subscribe_core.specs.declared.registers.Register.{Register}
+use Rattle.frame_core.specs.declared.event.Event.{Event}
+use Rattle.subscribe_core.specs.Epoch.{HoldsAfter}
+use Rattle.subscribe_core.specs.Reading.{Reading, AreRead}
+use Rattle.subscribe_core.specs.Sight.{greatest, trace}
+use Rattle.subscribe_core.specs.Simulation.{last_mode, takes_simulated}
+
+-- what a subscriber keeps: its blocks, a register for each, the simulation mode, and the greatest moment so far
+pub record State (A : Type 0) : Type 0 where
+  pub blocks : List (Block A)
+  pub registers : List Register
+  pub mode : Bool
+  pub moment : ℕ
+
+-- and how often the last event reached a block or its register
+pub record Standing (A : Type 0) : Type 0 where
+  pub state : State A
+  pub looks : ℕ
+
+-- it keeps what the events say, as they are read
+pub record StandsAfterRead {A : Type 0} (events : List Reading) (s : State A) : Type 0 where
+  pub moment : s.moment ≡ greatest events
+  pub mode : s.mode ≡ last_mode false events
+  pub holds : (b : ℕ) (block : Block A) (r : Register) → slice_get s.blocks b ≡ Some block → slice_get s.registers b ≡ Some r → HoldsAfter (trace block events) (length events) r.held
+  pub flags : (b : ℕ) (block : Block A) (r : Register) → slice_get s.blocks b ≡ Some block → slice_get s.registers b ≡ Some r → r.simulated ≡ takes_simulated block events (length events)
+
+-- it keeps what a list of frame octets, clock moments and mode events says
+abbrev pub StandsAfter : {A : Type 0} → List (Event A) → State A → Type 0
+StandsAfter events s = (readings : List Reading) × AreRead events readings × StandsAfterRead readings s
+
+-- a block's register before any event
+abbrev pub idle : Register
+idle = record { held = None; simulated = false }
+
+-- what a subscriber keeps before any event
+abbrev pub fresh : {A : Type 0} → List (Block A) → State A
+fresh blocks = record { blocks = blocks; registers = replicate (length blocks) idle; mode = false; moment = 0 }
+
+-- two blocks have one name
+abbrev pub HasNameOf : {A : Type 0} → Block A → Block A → Type 0
+HasNameOf a b = (a.app_id ≡ b.app_id) × (a.gocb_ref ≡ b.gocb_ref)
+
+-- no two blocks have one name
+abbrev pub AreApart : {A : Type 0} → List (Block A) → Type 0
+AreApart {A} blocks =
+    (i j : ℕ) (a b : Block A) → slice_get blocks i ≡ Some a → slice_get blocks j ≡ Some b → HasNameOf a b → i ≡ j
+
+-- the block at i has the name of an earlier one
+abbrev pub IsTwice : {A : Type 0} → List (Block A) → ℕ → Type 0
+IsTwice {A} blocks i =
+    (j : ℕ) × (a : Block A) × (b : Block A) × (j < i) × (slice_get blocks j ≡ Some a) × (slice_get blocks i ≡ Some b) × HasNameOf a b
+
+-- it is the first such
+abbrev pub IsFirstTwice : {A : Type 0} → List (Block A) → ℕ → Type 0
+IsFirstTwice blocks i = IsTwice blocks i × ((j : ℕ) → j < i → ¬ IsTwice blocks j)

@@ -1,0 +1,119 @@
+-- The counter of samples (IEC 61850-9-2, smpCnt): what each count is after the counts before it (profile). All is said by
+-- positions in the list of counts.
+use Rattle.std.specs.Prelude.{◌≡◌, ℕ, ◌+◌, ◌-◌, ◌*◌, ◌%◌, ◌<◌, ◌≤◌, ◌⊎◌, ◌==◌, max, nat_lt, Bool, true, false, Option, Some, None, List, [], ◌∷◌, ◌++◌, length, map, slice_get, if◌then◌else◌}
+use Rattle.subscribe_core.specs.declared.watch.Seen.{Seen}
+use Rattle.subscribe_core.specs.declared.watch.Seen.TheVariants as seen
+
+-- the way from the last count on to a count, round the period
+abbrev pub way : ℕ → ℕ → ℕ → ℕ
+way period last count = (count + (period - last)) % period
+
+-- what a count in range is, by its way from the last count: none, one, or less than half the period, and else it is late
+abbrev pub by_way : ℕ → ℕ → Seen
+by_way period d =
+    if d == 0 then seen.Same
+    else if d == 1 then seen.Next
+    else if nat_lt (2 * d) period then seen.Skipped (d - 1)
+    else seen.Late
+
+-- what a count is, by the last count if there is one
+abbrev pub seen_after : ℕ → Option ℕ → ℕ → Seen
+seen_after period None count = if nat_lt count period then seen.First else seen.OutOfRange
+seen_after period (Some last) count = if nat_lt count period then by_way period (way period last count) else seen.OutOfRange
+
+-- First, Next and Skipped make their count the last one
+abbrev pub moves : Seen → Bool
+moves seen.First = true
+moves seen.Next = true
+moves (seen.Skipped m) = true
+moves seen.Same = false
+moves seen.Late = false
+moves seen.OutOfRange = false
+
+-- the last count before i: that of the newest position before i whose answer is First, Next or Skipped, if there is one
+abbrev pub IsLastCount : List ℕ → List Seen → ℕ → Option ℕ → Type 0
+IsLastCount counts answers i None = (j : ℕ) (s : Seen) → j < i → slice_get answers j ≡ Some s → moves s ≡ false
+IsLastCount counts answers i (Some count) =
+    (j : ℕ) × (s : Seen) × (j < i) × (slice_get answers j ≡ Some s) × (moves s ≡ true) × (slice_get counts j ≡ Some count) ×
+    ((k : ℕ) (r : Seen) → j < k → k < i → slice_get answers k ≡ Some r → moves r ≡ false)
+
+-- the answers to counts: each is what its count is by the last count before it
+pub record AreSeen (period : ℕ) (counts : List ℕ) (answers : List Seen) : Type 0 where
+  pub sizes : length answers ≡ length counts
+  pub each : (i count : ℕ) (s : Seen) → slice_get counts i ≡ Some count → slice_get answers i ≡ Some s →
+      (last : Option ℕ) × IsLastCount counts answers i last × (s ≡ seen_after period last count)
+
+-- the answer to a count after others
+abbrev pub IsSeenLast : ℕ → List ℕ → ℕ → Seen → Type 0
+IsSeenLast period counts count s = (answers : List Seen) × AreSeen period (counts ++ count ∷ []) (answers ++ s ∷ [])
+
+-- what a watch keeps: the period, and the last count if there is one
+pub record Watching : Type 0 where
+  pub period : ℕ
+  pub last : Option ℕ
+
+-- it keeps what the counts say
+abbrev pub WatchesAfter : List ℕ → Watching → Type 0
+WatchesAfter counts w = (answers : List Seen) × AreSeen w.period counts answers × IsLastCount counts answers (length counts) w.last
+
+-- a period that a watch may have
+abbrev pub IsPeriod : ℕ → Type 0
+IsPeriod period = (2 ≤ period) × (period ≤ 65536)
+
+-- the last count lies below the period
+abbrev pub IsBelow : ℕ → Option ℕ → Type 0
+IsBelow period None = Unit {0}
+IsBelow period (Some last) = last < period
+
+-- what is kept after a count
+abbrev pub last_by : Option ℕ → ℕ → Seen → Option ℕ
+last_by last count seen.First = Some count
+last_by last count seen.Next = Some count
+last_by last count (seen.Skipped m) = Some count
+last_by last count seen.Same = last
+last_by last count seen.Late = last
+last_by last count seen.OutOfRange = last
+
+-- the answers to counts one after another, as a function; a law makes it the relation above
+abbrev pub seen_all : ℕ → Option ℕ → List ℕ → List Seen
+seen_all period last [] = []
+seen_all period last (c ∷ cs) = seen_after period last c ∷ seen_all period (last_by last c (seen_after period last c)) cs
+
+-- Indexes of samples without bound, of which the counts are the rests by the period. Each index is one above the greatest
+-- before it, or less than half a period away from that.
+abbrev pub GoesOn : ℕ → ℕ → List ℕ → Type 0
+GoesOn period greatest [] = Unit {0}
+GoesOn period greatest (k ∷ ks) =
+    ((k ≡ greatest + 1) ⊎ (2 * ((k - greatest) + (greatest - k)) < period)) × GoesOn period (max greatest k) ks
+
+-- the greatest of these indexes
+abbrev pub greatest_index : ℕ → List ℕ → ℕ
+greatest_index greatest [] = greatest
+greatest_index greatest (k ∷ ks) = greatest_index (max greatest k) ks
+
+-- how far an answer goes on: one for Next and for Skipped, and the count of those skipped
+abbrev pub advance : Seen → ℕ
+advance seen.First = 0
+advance seen.Next = 1
+advance (seen.Skipped m) = 1 + m
+advance seen.Same = 0
+advance seen.Late = 0
+advance seen.OutOfRange = 0
+
+abbrev pub advances : List Seen → ℕ
+advances [] = 0
+advances (s ∷ ss) = advance s + advances ss
+
+-- over such indexes the Next and Skipped answers, with the counts of those skipped, add up to the greatest index minus the
+-- first
+abbrev pub SkipsAddUp : Type 0
+SkipsAddUp =
+    (period first : ℕ) (rest : List ℕ) (answers : List Seen) → IsPeriod period → GoesOn period first rest →
+    AreSeen period (map (λ k. k % period) (first ∷ rest)) answers → first + advances answers ≡ greatest_index first rest
+
+-- every list of counts has answers, those of the function, and they are one
+abbrev pub AnswersAreOne : Type 0
+AnswersAreOne =
+    (period : ℕ) (counts : List ℕ) →
+    AreSeen period counts (seen_all period None counts) ×
+    ((a b : List Seen) → AreSeen period counts a → AreSeen period counts b → a ≡ b)

@@ -1,0 +1,88 @@
+// The entries of a good frame, and what it gives its block to hold.
+
+ghost use Rattle.std.specs.Prelude.{◌≡◌, ◌++◌, Some, None, IfOk, OnOk};
+ghost use Rattle.subscribe_core.specs.Entries.{entry_of};
+ghost use Rattle.subscribe_core.specs.Indexed.{good_entries, good_held, good_renewal};
+ghost use Rattle.subscribe_core.specs.Matching.{facts_of_frame};
+ghost use Rattle.subscribe_core.specs.Received.{frame_of};
+ghost use Rattle.subscribe_core.specs.Steps.{taken};
+
+use crate::entry::Entry;
+use crate::matching::{Received, facts_in};
+use crate::registers::{Facts, Held, Register, Verdict, held_at, judge};
+use mms_data::ValueList;
+use std::alloc::{AllocError, Allocator};
+
+// The entry that says the verdict on a frame of the block at a position. The members are copied for an action alone.
+fn verdict_entry<A: Allocator + Copy>(
+    alloc: A,
+    block: usize,
+    frame: &Received<'_>,
+    verdict: Verdict,
+) -> Result<Entry<A>, AllocError>
+    ensures { IfOk result (λ e. e ≡ entry_of block (frame_of frame.now) verdict) }
+{
+    let (state, sequence) = (frame.goose.st_num, frame.goose.sq_num);
+    match verdict {
+        Verdict::Acted => Ok(Entry::Act {
+            block,
+            state,
+            sequence,
+            t: frame.goose.t,
+            members: ValueList::from(frame.goose.members.to_values(alloc)?),
+        }),
+        Verdict::Renewed => Ok(Entry::Refreshed {
+            block,
+            state,
+            sequence,
+        }),
+        Verdict::Again => Ok(Entry::Repeated {
+            block,
+            state,
+            sequence,
+        }),
+        Verdict::Stale => Ok(Entry::Older {
+            block,
+            state,
+            sequence,
+        }),
+    }
+}
+
+// What an action and a renewal give the block to hold.
+fn renewal(verdict: Verdict, now: u64, facts: &Facts) -> Option<Held>
+    ensures { result ≡ taken verdict None now facts.now }
+{
+    match verdict {
+        Verdict::Acted | Verdict::Renewed => Some(Held {
+            state: facts.state,
+            sequence: facts.sequence,
+            deadline: u128::from(now) + u128::from(facts.lifetime),
+        }),
+        Verdict::Again | Verdict::Stale => None,
+    }
+}
+
+// Appends the entries of a good frame of the block at a position, whose register is given, and says what it gives the block
+// to hold.
+pub(crate) fn push_good<A: Allocator + Copy>(
+    alloc: A,
+    block: usize,
+    now: u64,
+    old: &Register,
+    frame: &Received<'_>,
+    entries: &mut Vec<Entry<A>, A>,
+) -> Result<Option<Held>, AllocError>
+    ensures entries { OnOk result (entries.new.items ≡ entries.old.items ++ good_entries block now old.now (frame_of frame.now)) }
+    ensures held { IfOk result (λ held. held ≡ good_renewal now old.now (frame_of frame.now)) }
+{
+    let mut held = held_at(&old.held, now);
+    if frame.goose.simulation && !old.simulated {
+        entries.push(Entry::Switched { block })?;
+        held = None;
+    }
+    let facts = facts_in(frame);
+    let verdict = judge(&held, &facts);
+    entries.push(verdict_entry(alloc, block, frame, verdict)?)?;
+    Ok(renewal(verdict, now, &facts))
+}

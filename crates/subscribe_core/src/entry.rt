@@ -1,0 +1,77 @@
+// What a subscriber answers to an event.
+
+use ber_core::Fault;
+use mms_data::{UtcTime, ValueList};
+use std::alloc::Allocator;
+
+/// Why a frame of a block is refused. Where several hold, the first in this order is told.
+#[derive(Clone, Copy, Debug, PartialEq, Eq)]
+pub enum Reason {
+    /// datSet is another than the block's.
+    DatSet,
+    /// The block has a goID, and the frame has another or none.
+    GoId,
+    /// confRev is another than the block's.
+    ConfRev,
+    /// ndsCom is true: the control block wants further configuration.
+    Commissioning,
+    /// The frame is simulated and the simulation mode is off, or it is real and the block takes simulated frames.
+    Simulated,
+    /// The count of members is another than the block's.
+    Entries,
+    /// stNum is 0.
+    StateZero,
+    /// timeAllowedtoLive is 0.
+    LiveZero,
+}
+
+/// What an event means. `block` is a position in the list of blocks, from 0; `state` and `sequence` are the frame's stNum and
+/// sqNum.
+#[derive(Drop)]
+pub enum Entry<A: Allocator> {
+    /// The block's lifetime is over.
+    Expired {
+        block: usize,
+    },
+    /// The block goes over to simulated frames, or back to real ones.
+    Switched {
+        block: usize,
+    },
+    /// The frame is acted on: it is the first of a new state.
+    Act {
+        block: usize,
+        state: u32,
+        sequence: u32,
+        t: UtcTime,
+        members: ValueList<A>,
+    },
+    /// A later frame of the state that was acted on, which renews the lifetime.
+    Refreshed {
+        block: usize,
+        state: u32,
+        sequence: u32,
+    },
+    /// The frame's numbers are those that the block holds.
+    Repeated {
+        block: usize,
+        state: u32,
+        sequence: u32,
+    },
+    /// The frame's numbers are below those that the block holds.
+    Older {
+        block: usize,
+        state: u32,
+        sequence: u32,
+    },
+    /// A frame of the block that is not good, and why.
+    Refused {
+        block: usize,
+        reason: Reason,
+    },
+    /// A frame of GOOSE that is none of the blocks'.
+    NotSubscribed,
+    /// A frame of Sampled Values.
+    Sampled,
+    /// Octets that spell no frame, and their first fault.
+    Faulty(Fault),
+}

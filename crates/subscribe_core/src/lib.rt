@@ -1,0 +1,24 @@
+//! A subscriber of control blocks of GOOSE (IEC 61850-8-1): which frames are acted on, and when a block expires.
+#![tactic(auto)]
+
+mod answering;
+mod block;
+mod deadlines;
+mod entry;
+mod fault;
+pub mod laws;
+mod matching;
+mod names;
+mod registers;
+mod rows;
+mod subscriber;
+#[cfg(test)]
+mod tests;
+mod twice;
+mod watch;
+
+pub use crate::block::Block;
+pub use crate::entry::{Entry, Reason};
+pub use crate::fault::SubscribeFault;
+pub use crate::subscriber::Subscriber;
+pub use crate::watch::{Seen, Watch, WatchFault};

@@ -1,0 +1,83 @@
+// A frame against its block: the first reason for which it is refused, and what is read off a good one.
+
+ghost use Rattle.std.specs.Prelude.{◌≡◌};
+ghost use Rattle.subscribe_core.specs.Matching.{facts_of_frame, has_other_id, reason_of};
+ghost use Rattle.subscribe_core.specs.Received.{frame_of, octets_if};
+ghost use Rattle.subscribe_core.specs.Simulation.{is_against as holds_against};
+
+use crate::block::Block;
+use crate::entry::Reason;
+use crate::registers::Facts;
+use mms_data::Octets;
+use pdu_core::GooseView;
+use std::alloc::Allocator;
+
+/// A frame of GOOSE as a subscriber goes by it, where it stands.
+#[derive(Clone, Copy)]
+pub struct Received<'a> {
+    pub app_id: u16,
+    pub goose: GooseView<'a>,
+}
+
+// Whether a goID is awaited, and the frame has another or none.
+fn is_other_id<A: Allocator>(awaited: &Option<Octets<A>>, id: Option<&[u8]>) -> bool
+    ensures { result ≡ has_other_id awaited.now (octets_if id.entry) }
+{
+    match (awaited, id) {
+        (None, _) => false,
+        (Some(_), None) => true,
+        (Some(awaited), Some(id)) => awaited.as_slice() != id,
+    }
+}
+
+// Whether the frame's simulation is against it, by the mode and by what its block takes.
+pub(crate) fn is_against(frame: &Received<'_>, mode: bool, simulated: bool) -> bool
+    ensures { result ≡ holds_against (frame_of frame.now) mode simulated }
+{
+    if frame.goose.simulation {
+        !mode
+    } else {
+        simulated
+    }
+}
+
+// The first reason for which a frame of the block is refused.
+pub(crate) fn first_reason<A: Allocator>(
+    block: &Block<A>,
+    frame: &Received<'_>,
+    is_against: bool,
+) -> Option<Reason>
+    ensures { result ≡ reason_of is_against block.now (frame_of frame.now) }
+{
+    let goose = &frame.goose;
+    if block.dat_set.as_slice() != goose.dat_set {
+        Some(Reason::DatSet)
+    } else if is_other_id(&block.go_id, goose.go_id) {
+        Some(Reason::GoId)
+    } else if block.conf_rev != goose.conf_rev {
+        Some(Reason::ConfRev)
+    } else if goose.nds_com {
+        Some(Reason::Commissioning)
+    } else if is_against {
+        Some(Reason::Simulated)
+    } else if block.entries as usize != goose.entries {
+        Some(Reason::Entries)
+    } else if goose.st_num == 0 {
+        Some(Reason::StateZero)
+    } else if goose.live == 0 {
+        Some(Reason::LiveZero)
+    } else {
+        None
+    }
+}
+
+// The facts of a frame.
+pub(crate) fn facts_in(frame: &Received<'_>) -> Facts
+    ensures { result ≡ facts_of_frame (frame_of frame.now) }
+{
+    Facts {
+        state: frame.goose.st_num,
+        sequence: frame.goose.sq_num,
+        lifetime: 1000 * u64::from(frame.goose.live),
+    }
+}

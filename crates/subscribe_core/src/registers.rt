@@ -1,0 +1,75 @@
+// What a subscriber keeps of a block, and how one frame changes it.
+
+ghost use Rattle.std.specs.Prelude.{◌≡◌};
+ghost use Rattle.subscribe_core.specs.Steps.{after_clock, taken, verdict_on};
+
+/// What a block reads off a good frame.
+#[derive(Clone, Copy, Debug, PartialEq, Eq)]
+pub struct Facts {
+    /// The status number.
+    pub state: u32,
+    /// The sequence number.
+    pub sequence: u32,
+    /// The lifetime, in microseconds.
+    pub lifetime: u64,
+}
+
+/// What is said of a good frame.
+#[derive(Clone, Copy, Debug, PartialEq, Eq)]
+pub enum Verdict {
+    Acted,
+    Renewed,
+    Again,
+    Stale,
+}
+
+/// What a block holds: the numbers of a frame, and the moment at which its lifetime is over, in microseconds.
+#[derive(Clone, Copy, Debug, PartialEq, Eq)]
+pub struct Held {
+    pub state: u32,
+    pub sequence: u32,
+    pub deadline: u128,
+}
+
+/// What is kept of a block: what it holds, and whether it takes simulated frames.
+#[derive(Clone, Copy, Debug, PartialEq, Eq)]
+pub struct Register {
+    pub held: Option<Held>,
+    pub simulated: bool,
+}
+
+// The verdict on a good frame.
+pub(crate) fn judge(held: &Option<Held>, facts: &Facts) -> Verdict
+    ensures { result ≡ verdict_on held.now facts.now }
+{
+    match held {
+        None => Verdict::Acted,
+        Some(h) => {
+            if h.state < facts.state {
+                Verdict::Acted
+            } else if h.state == facts.state && h.sequence < facts.sequence {
+                Verdict::Renewed
+            } else if h.state == facts.state && h.sequence == facts.sequence {
+                Verdict::Again
+            } else {
+                Verdict::Stale
+            }
+        }
+    }
+}
+
+// What is still held at the moment.
+pub(crate) fn held_at(held: &Option<Held>, now: u64) -> Option<Held>
+    ensures { result ≡ after_clock held.now now }
+{
+    match held {
+        None => None,
+        Some(h) => {
+            if h.deadline <= u128::from(now) {
+                None
+            } else {
+                Some(*h)
+            }
+        }
+    }
+}

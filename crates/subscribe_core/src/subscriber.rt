@@ -1,0 +1,437 @@
+// The subscriber: one event at a time, over blocks that are found by name and by deadline.
+
+ghost use Rattle.std.specs.Prelude.{◌≡◌, ◌<◌, ◌≤◌, ◌+◌, ◌∷◌, ◌++◌, [], ℕ, List, Ok, Err, false, not, ◌&&◌, ◌⊎◌, None, Some, IfOk, OnOk, OnErr, IfErr, IsOk, length, map, max, position, replicate, slice_get, slice_set, if◌then◌else◌};
+ghost use Rattle.subscribe_core.specs.Content.{content_by, content_of, reading_of};
+ghost use Rattle.subscribe_core.specs.Deadlines.{due_count, helds};
+ghost use Rattle.subscribe_core.specs.Entries.{AreEntriesAt, entry_of, expired_count};
+ghost use Rattle.subscribe_core.specs.Faults.{IsFaultOf};
+ghost use Rattle.subscribe_core.specs.Indexed.{cleared, good_entries, good_register, flagged_entries, switched_off, switches};
+ghost use Rattle.subscribe_core.specs.Matching.{is_of, reason_of};
+ghost use Rattle.subscribe_core.specs.Reading.{IsFrame, IsMode, OfGoose, OfMode, Reading};
+ghost use Rattle.subscribe_core.specs.Received.{frame_of};
+ghost use Rattle.subscribe_core.specs.Simulation.{mode_by};
+ghost use Rattle.subscribe_core.specs.Standing.{AreApart, IsFirstTwice, StandsAfter, State, fresh, idle};
+ghost use Rattle.subscribe_core.specs.Steps.{expired_entries, said_of, step_entries, step_state, switched_entries, registers_by};
+ghost use Rattle.frame_core.specs.FrameReading.{frame_at};
+ghost use Rattle.frame_core.specs.declared.event.Event.{Event as Happening};
+ghost use Rattle.subscribe_core.specs.declared.registers.Register.{Register as Holding};
+
+use crate::answering::push_good;
+use crate::block::Block;
+use crate::deadlines;
+use crate::entry::Entry;
+use crate::fault::SubscribeFault;
+use crate::matching::{Received, facts_in, first_reason, is_against};
+use crate::names::{self, Name};
+use crate::registers::{Facts, Held, Register, Verdict, held_at, judge};
+use crate::rows::Rows;
+use crate::twice::first_twice;
+use frame_core::{ApduView, Event, EventKind, view_frame};
+use mms_data::ValueList;
+use std::alloc::{AllocError, Allocator};
+use std::collections::BTreeSet;
+use std::marker::Model;
+
+/// A subscriber of some control blocks of GOOSE.
+#[derive(Drop)]
+pub struct Subscriber<A: Allocator> {
+    alloc: A,
+    rows: Rows<A>,
+    names: Vec<Name<A>, A>,
+    deadlines: BTreeSet<(u128, usize), A>,
+    mode: bool,
+    moment: u64,
+    looks: u64,
+}
+
+impl<A: Allocator> Model for Subscriber<A> {
+    ghost use Rattle.subscribe_core.specs.Standing.{Standing};
+    ghost use Rattle.subscribe_core.specs.Indexed.{IsIndexed};
+
+    ghost Value = { Standing A };
+
+    ghost view = { λ s. record { state = record { blocks = s.rows.blocks.items; registers = s.rows.registers.items; mode = s.mode; moment = s.moment }; looks = s.looks } };
+
+    ghost invariant = { λ s. IsIndexed s.rows.blocks.items s.rows.registers.items s.names.items s.deadlines };
+}
+
+// Registers that hold nothing.
+fn idle_registers<A: Allocator>(alloc: A, count: usize) -> Result<Vec<Register, A>, AllocError>
+    ensures { IfOk result (λ registers. registers.items ≡ replicate count idle) }
+{
+    let mut registers = Vec::new(alloc);
+    for _ in 0..count {
+        registers.push(Register {
+            held: None,
+            simulated: false,
+        })?;
+    }
+    Ok(registers)
+}
+
+impl<A: Allocator + Copy> Subscriber<A> {
+    /// A subscriber of these blocks, none of which holds anything.
+    ///
+    /// # Errors
+    ///
+    /// `SameBlockTwice` with the least position of a block that has the APPID and the gocbRef of an earlier one; `Memory`
+    /// where memory is refused.
+    pub fn new(alloc: A, blocks: Vec<Block<A>, A>) -> Result<Subscriber<A>, SubscribeFault>
+        // Every block is idle and takes real frames; the mode is off.
+        ensures fresh { IfOk result (λ s. s.state ≡ fresh blocks.items) }
+        ensures stands { IfOk result (λ s. StandsAfter [] s.state) }
+        ensures looks { IfOk result (λ s. s.looks ≡ 0) }
+
+        // No two blocks have one name, and else the first that has an earlier one's name is told.
+        ensures apart { OnOk result (AreApart blocks.items) }
+        ensures fault { IfErr result (λ e. IsFaultOf blocks.items e) }
+    {
+        if let Some(i) = first_twice(&blocks) {
+            return Err(SubscribeFault::SameBlockTwice(i));
+        }
+        let registers = match idle_registers(alloc, blocks.len()) {
+            Ok(registers) => registers,
+            Err(e) => return Err(SubscribeFault::Memory(e)),
+        };
+        let names = match names::sorted(alloc, &blocks) {
+            Ok(names) => names,
+            Err(e) => return Err(SubscribeFault::Memory(e)),
+        };
+        Ok(Subscriber {
+            alloc,
+            rows: Rows::new(blocks, registers),
+            names,
+            deadlines: BTreeSet::new(alloc),
+            mode: false,
+            moment: 0,
+            looks: 0,
+        })
+    }
+
+    /// How often the last `take` that answered Ok reached a block or its register, 0 before the first.
+    pub fn looks(&self) -> u64
+        ensures { result ≡ self.now.looks }
+    {
+        self.looks // of the last that answered Ok
+    }
+
+    // The simulation mode.
+    fn is_simulating(&self) -> bool
+        ensures { result ≡ self.now.state.mode }
+    {
+        self.mode
+    }
+
+    // The position of the frame's block.
+    fn find(&self, frame: &Received<'_>) -> Option<usize>
+        ensures found { result ≡ position (is_of (frame_of frame.now)) self.now.state.blocks }
+        ensures sizes { length self.now.state.registers ≡ length self.now.state.blocks }
+        ensures apart { AreApart self.now.state.blocks }
+    {
+        names::find(&self.names, frame.app_id, frame.goose.gocb_ref)
+    }
+
+    // The block at a position, and its register.
+    fn look(&self, at: usize, looks: &mut u64) -> (&Block<A>, Register)
+        requires { at < length self.now.state.blocks }
+        ensures block { slice_get self.now.state.blocks at ≡ Some result.0.now }
+        ensures register { slice_get self.now.state.registers at ≡ Some result.1 }
+        ensures count { looks.new ≤ looks.old + 1 }
+    {
+        self.rows.look(at, looks)
+    }
+
+    // An entry for each block that expires at the moment, in their order.
+    fn expired(&self, now: u64) -> Result<Vec<Entry<A>, A>, AllocError>
+        ensures entries { IfOk result (λ entries. entries.items ≡ expired_entries now 0 self.now.state.registers) }
+        ensures quiet { expired_entries {A = A} now 0 self.now.state.registers ≡ [] → IsOk result }
+    {
+        let mut entries = Vec::new(self.alloc);
+        let due = deadlines::due(self.alloc, &self.deadlines, now)?;
+        for at in due.iter() {
+            entries.push(Entry::Expired { block: *at })?;
+        }
+        Ok(entries)
+    }
+
+    // Lets go of what is over at the moment.
+    fn expire(&mut self, now: u64, looks: &mut u64)
+        ensures registers { self.new.state.registers ≡ cleared now self.old.state.registers }
+        ensures blocks { self.new.state.blocks ≡ self.old.state.blocks }
+        ensures mode { self.new.state.mode ≡ self.old.state.mode }
+        ensures moment { self.new.state.moment ≡ self.old.state.moment }
+        ensures count { looks.new ≤ looks.old + due_count now (helds self.old.state.registers) }
+    {
+        while let Some(at) = deadlines::take_due(&mut self.deadlines, now) {
+            self.rows.let_go(at, looks);
+        }
+    }
+
+    // Has a block hold something in place of what it held, and take simulated frames or real ones.
+    //
+    // The new deadline goes in first, the one growth here. If it is the old one, it stays.
+    fn hold(
+        &mut self,
+        at: usize,
+        old: Option<Held>,
+        held: Held,
+        simulated: bool,
+        looks: &mut u64,
+    ) -> Result<(), AllocError>
+        requires was { (r : Holding) × (slice_get self.old.state.registers at ≡ Some r) × (r.held ≡ old) }
+        ensures registers { OnOk result (self.new.state.registers ≡ slice_set self.old.state.registers at (record { held = Some held; simulated = simulated })) }
+        ensures blocks { OnOk result (self.new.state.blocks ≡ self.old.state.blocks) }
+        ensures mode { OnOk result (self.new.state.mode ≡ self.old.state.mode) }
+        ensures moment { OnOk result (self.new.state.moment ≡ self.old.state.moment) }
+        ensures count { OnOk result (looks.new ≤ looks.old + 1) }
+        ensures err { OnErr result (self.new ≡ self.old) }
+    {
+        deadlines::swap(&mut self.deadlines, at, old, held.deadline)?;
+        self.rows.write(
+            at,
+            Register {
+                held: Some(held),
+                simulated,
+            },
+            looks,
+        );
+        Ok(())
+    }
+
+    // The allocator of the subscriber.
+    fn alloc(&self) -> A
+        ensures { length self.now.state.registers ≡ length self.now.state.blocks }
+    {
+        self.alloc
+    }
+
+    // Takes a frame of GOOSE: its entries, and what its block then holds.
+    fn take_goose(
+        &mut self,
+        now: u64,
+        frame: &Received<'_>,
+        entries: &mut Vec<Entry<A>, A>,
+        looks: &mut u64,
+    ) -> Result<(), AllocError>
+        ensures entries { OnOk result (entries.new.items ≡ entries.old.items ++ (switched_entries self.old.state.mode (OfGoose (frame_of frame.now)) 0 self.old.state.blocks self.old.state.registers ++ said_of now self.old.state.mode self.old.state.blocks self.old.state.registers (OfGoose (frame_of frame.now)))) }
+        ensures registers { OnOk result (cleared now self.new.state.registers ≡ registers_by now self.old.state.mode (OfGoose (frame_of frame.now)) self.old.state.blocks self.old.state.registers) }
+        ensures blocks { OnOk result (self.new.state.blocks ≡ self.old.state.blocks) }
+        ensures mode { OnOk result (self.new.state.mode ≡ self.old.state.mode) }
+        ensures moment { OnOk result (self.new.state.moment ≡ self.old.state.moment) }
+        ensures count { OnOk result (looks.new + due_count now (helds self.new.state.registers) ≤ looks.old + due_count now (helds self.old.state.registers) + 2) }
+        ensures err { OnErr result (self.new ≡ self.old) }
+    {
+        let Some(at) = self.find(frame) else {
+            entries.push(Entry::NotSubscribed)?;
+            return Ok(());
+        };
+        let alloc = self.alloc();
+        let mode = self.is_simulating();
+        let (block, old) = self.look(at, looks);
+        let is_against = is_against(frame, mode, old.simulated);
+        if let Some(reason) = first_reason(block, frame, is_against) {
+            entries.push(Entry::Refused { block: at, reason })?;
+            return Ok(());
+        }
+        match push_good(alloc, at, now, &old, frame, entries)? {
+            None => Ok(()),
+            Some(held) => {
+                let simulated = old.simulated || frame.goose.simulation;
+                self.hold(at, old.held, held, simulated, looks)
+            }
+        }
+    }
+
+    // Takes the octets of a frame, which may be faulty.
+    fn take_octets(
+        &mut self,
+        now: u64,
+        octets: &[u8],
+        entries: &mut Vec<Entry<A>, A>,
+        looks: &mut u64,
+    ) -> Result<(), AllocError>
+        ensures entries { OnOk result (entries.new.items ≡ entries.old.items ++ (switched_entries self.old.state.mode (content_by (frame_at octets.now)) 0 self.old.state.blocks self.old.state.registers ++ said_of now self.old.state.mode self.old.state.blocks self.old.state.registers (content_by (frame_at octets.now)))) }
+        ensures registers { OnOk result (cleared now self.new.state.registers ≡ registers_by now self.old.state.mode (content_by (frame_at octets.now)) self.old.state.blocks self.old.state.registers) }
+        ensures blocks { OnOk result (self.new.state.blocks ≡ self.old.state.blocks) }
+        ensures mode { OnOk result (self.new.state.mode ≡ mode_by (content_by (frame_at octets.now)) self.old.state.mode) }
+        ensures moment { OnOk result (self.new.state.moment ≡ self.old.state.moment) }
+        ensures count { OnOk result (looks.new + due_count now (helds self.new.state.registers) ≤ looks.old + due_count now (helds self.old.state.registers) + 2) }
+        ensures err { OnErr result (self.new ≡ self.old) }
+    {
+        let _ = self.alloc();
+        match view_frame(octets) {
+            Err(fault) => {
+                entries.push(Entry::Faulty(fault))?;
+                Ok(())
+            }
+            Ok(view) => match view.apdu {
+                ApduView::Sampled(_) => {
+                    entries.push(Entry::Sampled)?;
+                    Ok(())
+                }
+                ApduView::Goose(goose) => {
+                    let frame = Received {
+                        app_id: view.app_id,
+                        goose,
+                    };
+                    self.take_goose(now, &frame, entries, looks)
+                }
+            },
+        }
+    }
+
+    // Appends an entry for each block that takes simulated frames.
+    fn list_switched(
+        &self,
+        entries: &mut Vec<Entry<A>, A>,
+        looks: &mut u64,
+    ) -> Result<(), AllocError>
+        ensures entries { OnOk result (entries.new.items ≡ entries.old.items ++ flagged_entries 0 self.now.state.registers) }
+        ensures quiet { flagged_entries {A = A} 0 self.now.state.registers ≡ [] → IsOk result }
+        ensures sizes { length self.now.state.registers ≡ length self.now.state.blocks }
+    {
+        for at in 0..self.rows.count() {
+            let (_, register) = self.rows.look(at, looks);
+            if register.simulated {
+                entries.push(Entry::Switched { block: at })?;
+            }
+        }
+        Ok(())
+    }
+
+    // Has no block take simulated frames. Those that did let go of what they hold.
+    fn switch_off(&mut self, looks: &mut u64)
+        ensures registers { self.new.state.registers ≡ switched_off self.old.state.registers }
+        ensures blocks { self.new.state.blocks ≡ self.old.state.blocks }
+        ensures mode { self.new.state.mode ≡ self.old.state.mode }
+        ensures moment { self.new.state.moment ≡ self.old.state.moment }
+    {
+        for at in 0..self.rows.count() {
+            let (_, old) = self.rows.look(at, looks);
+            if old.simulated {
+                deadlines::leave(&mut self.deadlines, at, old.held);
+                let idle = Register {
+                    held: None,
+                    simulated: false,
+                };
+                self.rows.write(at, idle, looks);
+            }
+        }
+    }
+
+    // Sets the mode alone.
+    fn set_mode(&mut self, on: bool)
+        ensures registers { self.new.state.registers ≡ self.old.state.registers }
+        ensures blocks { self.new.state.blocks ≡ self.old.state.blocks }
+        ensures mode { self.new.state.mode ≡ on }
+        ensures moment { self.new.state.moment ≡ self.old.state.moment }
+        ensures sizes { length self.new.state.registers ≡ length self.new.state.blocks }
+    {
+        self.mode = on;
+    }
+
+    // Takes a mode event: blocks that take simulated frames are switched where the mode is set off.
+    fn take_mode(
+        &mut self,
+        on: bool,
+        entries: &mut Vec<Entry<A>, A>,
+        looks: &mut u64,
+    ) -> Result<(), AllocError>
+        ensures entries { OnOk result (entries.new.items ≡ entries.old.items ++ switched_entries self.old.state.mode (OfMode on) 0 self.old.state.blocks self.old.state.registers) }
+        ensures registers { OnOk result ((now : ℕ) → cleared now self.new.state.registers ≡ registers_by now self.old.state.mode (OfMode on) self.old.state.blocks self.old.state.registers) }
+        ensures blocks { OnOk result (self.new.state.blocks ≡ self.old.state.blocks) }
+        ensures mode { OnOk result (self.new.state.mode ≡ on) }
+        ensures moment { OnOk result (self.new.state.moment ≡ self.old.state.moment) }
+        ensures quiet { switched_entries self.old.state.mode (OfMode on) 0 self.old.state.blocks self.old.state.registers ≡ [] → IsOk result }
+        ensures err { OnErr result (self.new ≡ self.old) }
+    {
+        if on {
+            self.set_mode(true);
+            return Ok(());
+        }
+        self.list_switched(entries, looks)?;
+        self.switch_off(looks);
+        self.set_mode(false);
+        Ok(())
+    }
+
+    // Takes what happened: the entries after the expiries, and what the blocks then hold.
+    fn take_kind(
+        &mut self,
+        now: u64,
+        kind: &EventKind<A>,
+        entries: &mut Vec<Entry<A>, A>,
+        looks: &mut u64,
+    ) -> Result<(), AllocError>
+        ensures entries { OnOk result (entries.new.items ≡ entries.old.items ++ (switched_entries self.old.state.mode (content_of kind.now) 0 self.old.state.blocks self.old.state.registers ++ said_of now self.old.state.mode self.old.state.blocks self.old.state.registers (content_of kind.now))) }
+        ensures registers { OnOk result (cleared now self.new.state.registers ≡ registers_by now self.old.state.mode (content_of kind.now) self.old.state.blocks self.old.state.registers) }
+        ensures blocks { OnOk result (self.new.state.blocks ≡ self.old.state.blocks) }
+        ensures mode { OnOk result (self.new.state.mode ≡ mode_by (content_of kind.now) self.old.state.mode) }
+        ensures moment { OnOk result (self.new.state.moment ≡ self.old.state.moment) }
+        ensures count { IsMode kind.now ⊎ OnOk result (looks.new + due_count now (helds self.new.state.registers) ≤ looks.old + due_count now (helds self.old.state.registers) + 2) }
+        ensures quiet { IsFrame kind.now ⊎ (switched_entries self.old.state.mode (content_of kind.now) 0 self.old.state.blocks self.old.state.registers ≡ [] → IsOk result) }
+        ensures err { OnErr result (self.new ≡ self.old) }
+    {
+        let _ = self.alloc();
+        match kind {
+            EventKind::Frame(octets) => self.take_octets(now, octets.as_slice(), entries, looks),
+            EventKind::Clock => Ok(()),
+            EventKind::Mode(on) => self.take_mode(*on, entries, looks),
+        }
+    }
+
+    // Takes one event, by what is kept.
+    fn step(&mut self, event: &Event<A>) -> Result<Vec<Entry<A>, A>, AllocError>
+        ensures entries { IfOk result (λ entries. entries.items ≡ step_entries self.old.state (reading_of event.now)) }
+        ensures state { OnOk result (self.new.state ≡ step_state self.old.state (reading_of event.now)) }
+        ensures unchanged { OnErr result (self.new ≡ self.old) }
+        ensures quiet { IsFrame event.now.kind ⊎ (step_entries self.old.state (reading_of event.now) ≡ [] → IsOk result) }
+        ensures looks { IsMode event.now.kind ⊎ IfOk result (λ entries. self.new.looks ≤ expired_count entries.items + 2) }
+        ensures sizes { length self.old.state.registers ≡ length self.old.state.blocks }
+        ensures apart { AreApart self.old.state.blocks }
+    {
+        let now = self.moment.max(event.moment);
+        let mut looks = 0;
+        let mut entries = self.expired(now)?;
+        self.take_kind(now, &event.kind, &mut entries, &mut looks)?;
+        self.expire(now, &mut looks);
+        self.moment = now;
+        self.looks = looks;
+        Ok(entries)
+    }
+
+    /// Takes one event, and says what it means for each block: first an `Expired` entry for each block whose lifetime is over
+    /// at the greatest moment so far, the event's own included, then a `Switched` entry for each block that goes over to
+    /// simulated frames or back, then one entry for a frame.
+    ///
+    /// # Errors
+    ///
+    /// `AllocError` where memory is refused. The subscriber is then as it was. A clock or mode event that gives no entry asks
+    /// for no memory.
+    pub fn take(&mut self, event: &Event<A>) -> Result<Vec<Entry<A>, A>, AllocError>
+        // For every list of events after which the subscriber stands, the answer is the entries that the list with this event
+        // has at it, and the subscriber then stands after that list.
+        ensures entries { (events : List (Happening A)) → StandsAfter events self.old.state →
+            IfOk result (λ entries. AreEntriesAt self.old.state.blocks (events ++ event.now ∷ []) (length events) entries.items) }
+        ensures stands { (events : List (Happening A)) → StandsAfter events self.old.state →
+            OnOk result (StandsAfter (events ++ event.now ∷ []) self.new.state) }
+
+        // Where memory is refused nothing is changed; where the event has no entry no memory is asked for.
+        ensures unchanged { OnErr result (self.new ≡ self.old) }
+        ensures quiet { (events : List (Happening A)) → StandsAfter events self.old.state →
+            AreEntriesAt self.old.state.blocks (events ++ event.now ∷ []) (length events) [] → IsOk result }
+
+        // How often a block or its register was reached.
+        ensures looks { IsMode event.now.kind ⊎ IfOk result (λ entries. self.new.looks ≤ expired_count entries.items + 2) }
+
+        // The blocks stay, and no two have one name.
+        ensures blocks { self.new.state.blocks ≡ self.old.state.blocks }
+        ensures apart { AreApart self.old.state.blocks }
+
+        // For callers: the same by what is kept.
+        ensures step { IfOk result (λ entries. entries.items ≡ step_entries self.old.state (reading_of event.now)) }
+        ensures state { OnOk result (self.new.state ≡ step_state self.old.state (reading_of event.now)) }
+    {
+        self.step(event)
+    }
+}
