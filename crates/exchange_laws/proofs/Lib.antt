@@ -1,0 +1,9 @@
+pub mod Changes
+pub mod Received
+pub mod Stemming
+pub mod Actions
+pub mod WrittenForms
+pub mod OneFrame
+pub mod Replaying
+pub mod PublishedLists
+pub mod WorkedRun

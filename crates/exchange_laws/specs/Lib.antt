@@ -1,0 +1,3 @@
+pub mod Stems
+pub mod PublishedList
+pub mod Laws
