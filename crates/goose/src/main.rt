@@ -3,9 +3,15 @@
 //! 1 findings; 2 a mistake in the words; 3 an input fault; 4 a read or write fault; 5 want of memory.
 #![tactic(auto)]
 
+ghost use Rattle.std.specs.Prelude.{IfOk};
+ghost use Rattle.goose_cmd.specs.CommandLine.{HasPeriod, said};
+
 use frame_core::{FromRead, ToWrite};
-use goose_cmd::{Ending, Task, WordsError, read_words, rewrite, show, status};
-use std::io::{BufWriter, ErrorKind, Write};
+use goose_cmd::{
+    Ending, Task, WordsError, check, import, publish, read_words, replay, rewrite, show, status,
+    watch,
+};
+use std::io::{BufReader, BufWriter, ErrorKind, Write};
 use std::process::ExitCode;
 use std::{env, io};
 
@@ -21,7 +27,9 @@ fn texts_of(rt: &HostRuntime) -> Result<Vec<String>, u8> {
 }
 
 // The task that the words ask for.
-fn task_of(rt: &HostRuntime, texts: &[String]) -> Result<Task, WordsError> {
+fn task_of(rt: &HostRuntime, texts: &[String]) -> Result<Task, WordsError>
+    ensures { IfOk result (λ t. HasPeriod (said t)) }
+{
     let mut words = Vec::new(rt.alloc());
     for text in texts {
         if words.push(text.as_str()).is_err() {
@@ -32,16 +40,35 @@ fn task_of(rt: &HostRuntime, texts: &[String]) -> Result<Task, WordsError> {
 }
 
 // Runs a task from standard input to standard output, and answers the exit status.
-fn run(rt: &HostRuntime, task: Task) -> u8 {
+fn run(rt: &HostRuntime, task: Task) -> u8
+    requires { HasPeriod (said task) }
+{
     let Ok(mut output) = BufWriter::with_capacity(rt.alloc(), 65536, io::writer(rt)) else {
         return status(&Ending::Memory);
     };
     let (reader, mut writer) = (FromRead::new(rt.reader()), ToWrite::new(&mut output));
-    let (ending, _reader) = match task {
-        Task::Show => show(rt.alloc(), reader, &mut writer),
-        Task::Rewrite => rewrite(rt.alloc(), reader, &mut writer),
+    let ending = match task {
+        Task::Show => show(rt.alloc(), reader, &mut writer).0,
+        Task::Check => check(rt.alloc(), reader, &mut writer).0,
+        Task::Rewrite => rewrite(rt.alloc(), reader, &mut writer).0,
+        Task::Replay(blocks) => replay(rt.alloc(), reader, blocks, &mut writer).0,
+        Task::Publish => publish(rt.alloc(), reader, &mut writer).0,
+        Task::Watch { period, id } => {
+            watch(rt.alloc(), reader, period, id.as_slice(), &mut writer).0
+        }
+        // The lists' readers hold what they read ahead; that of captures asks for a record's octets alone.
+        Task::Import => match BufReader::with_capacity(rt.alloc(), 65536, rt.reader()) {
+            Ok(input) => import(rt.alloc(), FromRead::new(input), &mut writer).0,
+            Err(_) => Ending::Memory,
+        },
     };
-    match output.flush() {
+    let flushed = match ending {
+        Ending::WriteFault => Ok(()),
+        _ => output.flush(),
+    };
+    // A write that failed is not tried again: a buffer that is dropped would be flushed once more.
+    let (_output, _unwritten) = output.into_parts();
+    match flushed {
         Ok(()) => status(&ending),
         Err(_) => status(&Ending::WriteFault),
     }
@@ -55,11 +82,15 @@ fn answer(rt: &HostRuntime, texts: &[String]) -> u8 {
             Ok(()) => error.exit_code() as u8,
             Err(_) => status(&Ending::WriteFault),
         },
+        Err(WordsError::Block(position)) => {
+            let _ = eprintln!(rt; "block {position} BlockForm");
+            2
+        }
         Err(WordsError::Memory) => status(&Ending::Memory),
     }
 }
 
-// Says on standard error what status 4 or 5 means; clap has said what status 2 does.
+// Says on standard error what status 4 or 5 means; what status 2 does is said by then.
 fn say(rt: &HostRuntime, code: u8) {
     let _ = match code {
         4 => rt.eprintln("read or write fault"),

@@ -1,7 +1,15 @@
 //! Engines over memory, in any pieces, and where a device fails; and the words of the command line.
 
+mod blocks;
+mod checking;
 mod command_line;
 mod devices;
+mod first_line;
+mod importing;
+mod publishing;
 mod refused_memory;
+mod replaying;
 mod rewriting;
+mod scripts;
 mod showing;
+mod watching;

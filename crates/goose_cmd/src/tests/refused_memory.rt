@@ -1,6 +1,7 @@
 //! Where memory is refused, at each growth in turn: whole lines of the earlier events stand written.
 
 use crate::ending::Ending;
+use crate::engines::check::check;
 use crate::engines::rewrite::rewrite;
 use crate::engines::show::show;
 use crate::tests::devices::{NEVER, sink_of, source_of};
@@ -15,6 +16,10 @@ fn are_whole_lines(octets: &[u8]) -> bool {
 // Three frames: in written form, with a tag and a trailer, and with a wrong count of entries.
 const FRAMES: &[u8] =
     b"F 0 010ccd01000102000000000188b80001003500000000612b800147810207d0820144840800000000000000008501018601008701008801018901008a0101ab038301ff\nF 1 010ccd0100010200000000018100800088b80001003500000000612b800147810207d0820144840800000000000000008501018601008701008801018901008a0101ab038301ff00000000\nF 2 010ccd01000102000000000188b80001003500000000612b800147810207d0820144840800000000000000008501018601008701008801018901008a0102ab038301ff\n";
+
+// These frames as they are written, in microseconds.
+const WRITTEN: &[u8] =
+    b"V2\nF 0 010ccd01000102000000000188b80001003500000000612b800147810207d0820144840800000000000000008501018601008701008801018901008a0101ab038301ff\nF 1000 010ccd0100010200000000018100800088b80001003500000000612b800147810207d0820144840800000000000000008501018601008701008801018901008a0101ab038301ff00000000\nF 2000 010ccd01000102000000000188b80001003500000000612b800147810207d0820144840800000000000000008501018601008701008801018901008a0102ab038301ff\n";
 
 #[test]
 fn show_where_each_growth_is_refused(rt: HostRuntime) -> Result<(), Fail> {
@@ -55,12 +60,41 @@ fn rewrite_where_each_growth_is_refused(rt: HostRuntime) -> Result<(), Fail> {
         if !alloc.has_refused() {
             assert!(rt; lines_stood);
             assert_eq!(rt; ending, Ending::Findings);
-            assert_eq!(rt; sink.octets.as_slice(), FRAMES);
+            assert_eq!(rt; sink.octets.as_slice(), WRITTEN);
             return Ok(());
         }
         assert_eq!(rt; ending, Ending::Memory, "at {first_refused}");
         assert!(rt;
-            FRAMES.starts_with(sink.octets.as_slice()),
+            WRITTEN.starts_with(sink.octets.as_slice()),
+            "at {first_refused}"
+        );
+        assert!(rt;
+            are_whole_lines(sink.octets.as_slice()),
+            "at {first_refused}"
+        );
+        lines_stood |= sink.octets.len() > 3;
+    }
+    Err("each run was refused memory".into())
+}
+
+#[test]
+fn check_where_each_growth_is_refused(rt: HostRuntime) -> Result<(), Fail> {
+    let text = b"1 fault 1 Truncated\n3 fault 2 Truncated\n";
+    let mut lines_stood = false;
+    for first_refused in 0..1000usize {
+        let alloc = RefusingAlloc::new(rt.alloc(), first_refused);
+        let mut sink = sink_of(rt.alloc(), 1600, NEVER);
+        let list = b"F 0 00\nC 1\nF 2 0000\n";
+        let (ending, _source) = check(&alloc, source_of(list, 4096, NEVER), &mut sink);
+        if !alloc.has_refused() {
+            assert!(rt; lines_stood);
+            assert_eq!(rt; ending, Ending::Findings);
+            assert_eq!(rt; sink.octets.as_slice(), text.as_slice());
+            return Ok(());
+        }
+        assert_eq!(rt; ending, Ending::Memory, "at {first_refused}");
+        assert!(rt;
+            text.starts_with(sink.octets.as_slice()),
             "at {first_refused}"
         );
         assert!(rt;

@@ -1,5 +1,6 @@
 //! The short lines: of a clock moment, of a faulty frame, and the last one, of a fault of the list.
 ghost use Rattle.std.specs.Prelude.{◌≡◌, ◌++◌, OnOk};
+ghost use Rattle.frame_core.specs.EventLine.{mode_text};
 ghost use Rattle.goose_cmd.specs.LineText.{clock_line, fault_line, list_line};
 
 use crate::text::names::{cause_name, list_cause_name};
@@ -8,7 +9,7 @@ use ber_core::Fault;
 use frame_core::ListFault;
 use std::alloc::{AllocError, Allocator};
 
-/// Appends the line of a clock moment, in milliseconds.
+/// Appends the line of a clock moment, in microseconds.
 pub fn put_clock_line<A: Allocator>(
     out: &mut Vec<u8, A>,
     number: u64,
@@ -46,4 +47,15 @@ pub fn put_list_line<A: Allocator>(out: &mut Vec<u8, A>, fault: ListFault) -> Re
     out.extend_from_slice(b" list ")?;
     out.extend_from_slice(list_cause_name(fault.cause))?;
     out.extend_from_slice(b"\n")
+}
+
+/// Appends the word for a mode.
+pub fn put_mode_word<A: Allocator>(out: &mut Vec<u8, A>, on: bool) -> Result<(), AllocError>
+    ensures { OnOk result (out.new.items ≡ out.old.items ++ mode_text on) }
+{
+    if on {
+        out.extend_from_slice(b"on")
+    } else {
+        out.extend_from_slice(b"off")
+    }
 }

@@ -1,0 +1,186 @@
+-- What `publish` writes of a script is the list of the frames that its calls give.
+use Rattle.std.proofs.Common.{◌≡◌, ℕ, suc, ◌+◌, ◌<◌, ◌≤◌, max, false, Option, Some, None, List, [], ◌∷◌, ◌++◌, length, map, slice_get, option_map, Ok, inl, inr, ap, ap₂, subst, sym, ◌∙◌, refl, arith, append_assoc}
+use Rattle.std.proofs.Math.Seq.{take-append_seam}
+use Rattle.std.proofs.lemmas.List.{append-nil, length-append, length_push, map-append}
+use Rattle.std.proofs.lemmas.Option.{none-some}
+use Rattle.std.specs.List.{flat_map}
+use Rattle.frame_core.specs.declared.frame.Frame.{Frame}
+use Rattle.frame_core.specs.declared.event_lines.EventLines.TheVariants.{First}
+use Rattle.frame_core.specs.declared.device.InputEnd.TheVariants.{End}
+use Rattle.frame_core.specs.EventLine.{event_rules, event_text}
+use Rattle.frame_core.specs.Items.{listing}
+use Rattle.frame_core.specs.Lines.{finished}
+use Rattle.publish_core.specs.declared.fault.PublishFault.{PublishFault}
+use Rattle.publish_core.specs.declared.table.Step.{Step}
+use Rattle.publish_core.specs.Frames.{Change, Setup, setup}
+use Rattle.publish_core.specs.Refusal.{Accepts, Refuses, next_state}
+use Rattle.publish_core.specs.Run.{Act, Call, Changed, IsAnswer, Polled, greatest, trace}
+use Rattle.publish_core.specs.Table.{AreSteps}
+use Rattle.publish_core.proofs.Judged.{changes_are_judged}
+use Rattle.publish_core.proofs.Runs.{answer_one, answers_stay}
+use Rattle.publish_core.proofs.Whole.{greatest-push}
+use Rattle.subscribe_core.proofs.Traces.{get_middle}
+use Rattle.exchange_laws.specs.PublishedList.{Sent, published_events, sent_from, with_frame}
+use Rattle.exchange_laws.specs.Stems.{AreAccepted}
+use Rattle.goose_cmd.specs.declared.script.ScriptCause.{ScriptCause}
+use Rattle.goose_cmd.specs.declared.script.ScriptItem.{ScriptItem}
+use Rattle.goose_cmd.specs.declared.script.ScriptItem.TheVariants as item
+use Rattle.goose_cmd.specs.EngineText.{Account, Text, put_step, text_of, told_after}
+use Rattle.goose_cmd.specs.PublishedReplay.{PublishedTextsReplay, ScriptsGiveLists}
+use Rattle.goose_cmd.specs.PublishText.{IsCallText, IsPublishText, IsRefused, IsSound, answer_text, item_of_call, items_of_lines, script_of}
+use Rattle.goose_cmd.proofs.PublishLemmas.{items-push}
+use Rattle.goose_cmd.proofs.WrittenLists.{published_lists_replay}
+
+-- the frames of the calls that are left, as they are written
+abbrev sent_text : {A : Type 0} → Type 0 → List (Sent A) → List ℕ
+sent_text B sent = flat_map event_text (published_events {B = B} sent)
+
+abbrev sent_told : {A : Type 0} → Type 0 → List (Sent A) → Account ScriptCause
+sent_told B sent = record { text = sent_text B sent; found = false; stop = finished }
+
+frame_text : {A : Type 0} (B : Type 0) (moment : ℕ) (act : Act) (a : Option (Frame A)) (rest : List (Sent A)) → answer_text moment a ++ sent_text B rest ≡ sent_text B (with_frame moment act a rest)
+frame_text B moment act None rest = refl
+frame_text B moment act (Some f) rest = refl
+
+-- a change that is accepted is not refused
+not_both : {A : Type 0} (p : Setup A) (calls : List Call) (change : Change) (why : PublishFault) → AreSteps p.table → Accepts p calls change → Refuses p calls change why → ⊥
+not_both p calls change why steps accepted refused =
+    let w = changes_are_judged p.control p.table (next_state p calls) change steps in
+    none-some why (w.2 None accepted ∙ sym (w.2 (Some why) refused))
+
+act_not_refused : {A : Type 0} (p : Setup A) (calls : List Call) (act : Act) (why : PublishFault) → AreSteps p.table → ((change : Change) → act ≡ Changed change → Accepts p calls change) → IsRefused p calls act why → ⊥
+act_not_refused p calls (Changed change) why steps accepted refused = not_both p calls change why steps (accepted change refl) refused
+act_not_refused p calls Polled why steps accepted refused = refused
+
+module _ {A : Type 0} (B : Type 0) (p : Setup A) (t : Text (ScriptItem A) ScriptCause) (is : IsPublishText t) (sound : IsSound p) where
+  -- a call behind others writes what it gives
+  call_is : (done more : List Call) (c : Call) (a : Option (Frame A)) (before : List (ℕ × ScriptItem A)) (n : ℕ) → items_of_lines before ≡ script_of p done → AreAccepted p (done ++ c ∷ more) → IsAnswer p (trace (done ++ c ∷ more)) (length done) a → t.step before (n, item_of_call c) ≡ Ok (answer_text (max (greatest done) c.moment) a, false)
+  call_is done more c a before n stands accepted gives = go (is.call p done before stands sound n c)
+    where
+      go : IsCallText p done c (t.step before (n, item_of_call c)) → t.step before (n, item_of_call c) ≡ Ok (answer_text (max (greatest done) c.moment) a, false)
+      go (inl w) =
+          let size : length (done ++ c ∷ []) ≡ length done + 1 = length_push done c in
+          let stay = answers_stay p (done ++ c ∷ []) more (length done) w.1.0 (omega arith) w.1.1 in
+          let same : w.1.0 ≡ a =
+          answer_one p (trace (done ++ c ∷ more)) (length done) w.1.0 a
+          (subst (λ (l : List Call). IsAnswer p (trace l) (length done) w.1.0) (append_assoc done (c ∷ []) more) stay) gives in
+          w.1.2 ∙ ap₂ (λ (m : ℕ) (o : Option (Frame A)). Ok (answer_text m o, false)) (greatest-push done c) same
+      go (inr w) =
+          absurd (act_not_refused p done c.act w.0 sound.steps (λ change e.
+          subst (λ (l : List Call). Accepts p l change) (take-append_seam done (c ∷ more))
+          (accepted (length done) change (ap (option_map (λ (x : Call). x.act)) (get_middle done c more) ∙ ap (λ (x : Act). Some x) e))) w.1)
+
+  script_push : (done : List Call) (c : Call) (before : List (ℕ × ScriptItem A)) (n : ℕ) → items_of_lines before ≡ script_of p done → items_of_lines (before ++ (n, item_of_call c) ∷ []) ≡ script_of p (done ++ c ∷ [])
+  script_push done c before n stands =
+      items-push before (n, item_of_call c) ∙
+      (ap (λ (l : List (ScriptItem A)). l ++ item_of_call c ∷ []) stands ∙
+      ap (λ (l : List (ScriptItem A)). item.Control p.control p.first ∷ l)
+      (append_assoc (map item.Step p.table) (map item_of_call done) (item_of_call c ∷ []) ∙
+      ap (λ (l : List (ScriptItem A)). map item.Step p.table ++ l) (sym (map-append item_of_call done (c ∷ [])))))
+
+  -- the calls that are left
+  calls_told : (cs done : List Call) (answers : List (Option (Frame A))) (before es : List (ℕ × ScriptItem A)) → items_of_lines before ≡ script_of p done → items_of_lines es ≡ map item_of_call cs → length answers ≡ length cs → AreAccepted p (done ++ cs) → ((i : ℕ) (a : Option (Frame A)) → slice_get answers i ≡ Some a → IsAnswer p (trace (done ++ cs)) (length done + i) a) → told_after t before es finished ≡ sent_told B (sent_from (greatest done) cs answers)
+  unfolding told_after
+  calls_told [] done answers before [] stands left size accepted gives = refl
+  calls_told [] done answers before (e ∷ es) stands left size accepted gives = absurd cc
+  calls_told (c ∷ cs) done answers before [] stands left size accepted gives = absurd cc
+  calls_told (c ∷ cs) done [] before (e ∷ es) stands left size accepted gives = absurd (omega arith)
+  calls_told (c ∷ cs) done (a ∷ answers) before (e ∷ es) stands left size accepted gives =
+      ap (λ s. put_step t e.0 s (told_after t (before ++ e ∷ []) es finished)) step ∙
+      (ap (put_step t e.0 (Ok (answer_text (max (greatest done) c.moment) a, false)))
+      (calls_told cs (done ++ c ∷ []) answers (before ++ e ∷ []) es next others (omega arith)
+      (subst (AreAccepted p) same accepted)
+      (λ i y at. subst (λ (j : ℕ). IsAnswer p (trace ((done ++ c ∷ []) ++ cs)) j y) (more i)
+      (subst (λ (l : List Call). IsAnswer p (trace l) (length done + suc i) y) same (gives (suc i) y at))) ∙
+      ap (λ (m : ℕ). sent_told B (sent_from m cs answers)) (greatest-push done c)) ∙
+      ap (λ (l : List ℕ). record { text = l; found = false; stop = finished }) (frame_text B (max (greatest done) c.moment) c.act a (sent_from (max (greatest done) c.moment) cs answers)))
+    where
+      here : e.1 ≡ item_of_call c
+      here = cc
+
+      others : items_of_lines es ≡ map item_of_call cs
+      others = cc
+
+      first : IsAnswer p (trace (done ++ c ∷ cs)) (length done) a
+      first = let none : length done + 0 ≡ length done = omega arith in subst (λ (i : ℕ). IsAnswer p (trace (done ++ c ∷ cs)) i a) none (gives 0 a refl)
+
+      step : t.step before e ≡ Ok (answer_text (max (greatest done) c.moment) a, false)
+      step = ap (λ (x : ScriptItem A). t.step before (e.0, x)) here ∙ call_is done cs c a before e.0 stands accepted first
+
+      same : done ++ c ∷ cs ≡ (done ++ c ∷ []) ++ cs
+      same = sym (append_assoc done (c ∷ []) cs)
+
+      more : (i : ℕ) → length done + suc i ≡ length (done ++ c ∷ []) + i
+      more i = omega (arith, length_push done c)
+
+      next : items_of_lines (before ++ e ∷ []) ≡ script_of p (done ++ c ∷ [])
+      next = ap (λ (x : ScriptItem A). items_of_lines (before ++ (e.0, x) ∷ [])) here ∙ script_push done c before e.0 stands
+
+  -- the steps that are left, and then the calls; they write nothing
+  steps_told : (todo done : List Step) (calls : List Call) (answers : List (Option (Frame A))) (before es : List (ℕ × ScriptItem A)) → done ++ todo ≡ p.table → items_of_lines before ≡ script_of (setup p.control done p.first) [] → items_of_lines es ≡ map item.Step todo ++ map item_of_call calls → length answers ≡ length calls → AreAccepted p calls → ((i : ℕ) (a : Option (Frame A)) → slice_get answers i ≡ Some a → IsAnswer p (trace calls) i a) → told_after t before es finished ≡ sent_told B (sent_from 0 calls answers)
+  unfolding told_after
+  steps_told [] done calls answers before es table stands left size accepted gives =
+      calls_told calls [] answers before es
+      (stands ∙ ap (λ (steps : List Step). script_of (setup p.control steps p.first) []) (sym (append-nil done) ∙ table)) left size accepted
+      (λ i a at. let none : i ≡ 0 + i = omega arith in subst (λ (j : ℕ). IsAnswer p (trace calls) j a) none (gives i a at))
+  steps_told (s ∷ todo) done calls answers before [] table stands left size accepted gives = absurd cc
+  steps_told (s ∷ todo) done calls answers before (e ∷ es) table stands left size accepted gives =
+      ap (λ x. put_step t e.0 x (told_after t (before ++ e ∷ []) es finished)) step ∙
+      ap (put_step t e.0 (Ok ([], false)))
+      (steps_told todo (done ++ s ∷ []) calls answers (before ++ e ∷ []) es (append_assoc done (s ∷ []) todo ∙ table) next others size accepted gives)
+    where
+      here : e.1 ≡ item.Step s
+      here = cc
+
+      others : items_of_lines es ≡ map item.Step todo ++ map item_of_call calls
+      others = cc
+
+      room : length done < 16
+      room =
+          let all : length (done ++ s ∷ todo) ≡ length p.table = ap length table in
+          let most : length p.table ≤ 16 = sound.steps.most in
+          omega (arith, all, most, length-append done (s ∷ todo))
+
+      step : t.step before e ≡ Ok ([], false)
+      step = ap (λ (x : ScriptItem A). t.step before (e.0, x)) here ∙ is.step (setup p.control done p.first) before stands room e.0 s
+
+      next : items_of_lines (before ++ e ∷ []) ≡ script_of (setup p.control (done ++ s ∷ []) p.first) []
+      next =
+          items-push before e ∙
+          (ap₂ (λ (l : List (ScriptItem A)) (x : ScriptItem A). l ++ x ∷ []) stands here ∙
+          ap (λ (l : List (ScriptItem A)). item.Control p.control p.first ∷ l)
+          (ap (λ (l : List (ScriptItem A)). l ++ item.Step s ∷ []) (append-nil (map item.Step done)) ∙
+          (sym (map-append item.Step done (s ∷ [])) ∙ sym (append-nil (map item.Step (done ++ s ∷ []))))))
+
+  script_told : (calls : List Call) (answers : List (Option (Frame A))) (es : List (ℕ × ScriptItem A)) → items_of_lines es ≡ script_of p calls → length answers ≡ length calls → AreAccepted p calls → ((i : ℕ) (a : Option (Frame A)) → slice_get answers i ≡ Some a → IsAnswer p (trace calls) i a) → told_after t [] es finished ≡ sent_told B (sent_from 0 calls answers)
+  unfolding told_after
+  script_told calls answers [] left size accepted gives = absurd cc
+  script_told calls answers (e ∷ es) left size accepted gives =
+      ap (λ x. put_step t e.0 x (told_after t (e ∷ []) es finished)) step ∙
+      ap (put_step t e.0 (Ok ([], false)))
+      (steps_told p.table [] calls answers (e ∷ []) es refl (ap (λ (x : ScriptItem A). x ∷ []) here) others size accepted gives)
+    where
+      here : e.1 ≡ item.Control p.control p.first
+      here = cc
+
+      others : items_of_lines es ≡ map item.Step p.table ++ map item_of_call calls
+      others = cc
+
+      step : t.step [] e ≡ Ok ([], false)
+      step = ap (λ (x : ScriptItem A). t.step [] (e.0, x)) here ∙ is.control e.0 p.first p.control
+
+pub scripts_give_lists : {A : Type 0} (B : Type 0) → ScriptsGiveLists A B
+scripts_give_lists {A} B p calls answers script t sound accepted are says is = (
+  ap₂ (λ (a : List ℕ) (o : Account ScriptCause). a ++ o.text) is.first told_is,
+  ap (λ (o : Account ScriptCause). o.stop) told_is,
+)
+  where
+    told_is : told_after t [] script.items script.stop ≡ sent_told B (sent_from 0 calls answers)
+    told_is = ap (told_after t [] script.items) says.whole ∙ script_told B p t is sound calls answers script.items says.items are.0 accepted are.1
+
+pub published_texts_replay : {A B : Type 0} → PublishedTextsReplay A B
+published_texts_replay {A} {B} p block calls answers script t r run says is can room replay =
+    let sound : IsSound p = record { steps = run.steps; some = run.some; most = run.most } in
+    let listed = scripts_give_lists B p calls answers script t sound run.accepted run.are_answers says is in
+    ap (λ (text : List ℕ). text_of r (listing event_rules First End 0 text)) listed.0 ∙
+    (published_lists_replay p block calls answers r run can room replay).0

@@ -1,0 +1,114 @@
+-- A list that is written is listed as its events, and replayed by the lines of their entries.
+use Rattle.std.proofs.Common.{◌≡◌, ℕ, suc, ◌+◌, ◌<◌, ◌≤◌, false, Some, List, [], ◌∷◌, ◌++◌, length, slice_get, Ok, ap, ap₂, subst, sym, ◌∙◌, refl, arith, append_assoc}
+use Rattle.std.specs.List.{flat_map}
+use Rattle.std.proofs.lemmas.List.{length_push}
+use Rattle.frame_core.specs.declared.device.InputEnd.TheVariants.{End}
+use Rattle.frame_core.specs.declared.event.Event.{Event}
+use Rattle.frame_core.specs.declared.event_lines.EventLines.TheVariants.{After}
+use Rattle.frame_core.specs.declared.event_lines.MomentUnit.TheVariants.{Microseconds}
+use Rattle.frame_core.specs.declared.list_fault.ListCause.{ListCause}
+use Rattle.frame_core.specs.EventLine.{event_rules, event_text}
+use Rattle.frame_core.specs.Items.{Listing, items_in, items_of, listing, put_item}
+use Rattle.frame_core.specs.Lines.{finished}
+use Rattle.frame_core.proofs.Lines.{reading-end}
+use Rattle.frame_core.proofs.WrittenLines.{version-first, written-first}
+use Rattle.subscribe_core.specs.declared.block.Block.{Block}
+use Rattle.subscribe_core.specs.declared.entry.Entry.{Entry}
+use Rattle.subscribe_core.specs.Entries.{AreEntriesAt}
+use Rattle.subscribe_core.specs.Standing.{AreApart}
+use Rattle.subscribe_core.proofs.Runs.{entries_are_one, entries_stay}
+use Rattle.exchange_laws.specs.PublishedList.{Sent, one_entry_each, published_events, sent_from}
+use Rattle.exchange_laws.proofs.OneFrame.{one_apart}
+use Rattle.exchange_laws.proofs.PublishedLists.{whole_runs_replay}
+use Rattle.goose_cmd.specs.EngineText.{Account, Text, put_step, told_after}
+use Rattle.goose_cmd.specs.EntryText.{entry_lines}
+use Rattle.goose_cmd.specs.ListText.{CanBeListed, PublishedListsReplay, WrittenListsReplay, lines_from, list_of_text}
+use Rattle.goose_cmd.specs.ReplayText.{IsReplayText, events_of}
+use Rattle.goose_cmd.proofs.ReplayLemmas.{events_push}
+
+-- events with the numbers of their lines, of which the first is n
+abbrev numbered : {A : Type 0} → ℕ → List (Event A) → List (ℕ × Event A)
+numbered n [] = []
+numbered n (e ∷ es) = (n, e) ∷ numbered (n + 1) es
+
+abbrev whole : {A : Type 0} → ℕ → List (Event A) → Listing (Event A) ListCause
+whole n events = record { items = numbered n events; stop = finished }
+
+nothing_listed : (A : Type 0) (n : ℕ) → listing (event_rules {A = A}) (After Microseconds) End n [] ≡ whole (n + 1) []
+unfolding items_of
+nothing_listed A n = ap (items_in (event_rules {A = A}) (After Microseconds) n) (reading-end n)
+
+all_listed : {A : Type 0} (n : ℕ) (events : List (Event A)) → CanBeListed events → n + length events ≤ 1000000 → listing event_rules (After Microseconds) End n (flat_map event_text events) ≡ whole (n + 1) events
+all_listed {A} n [] w room = nothing_listed A n
+all_listed {A} n (e ∷ es) w room =
+    written-first e w.0.0 w.0.1 End n (flat_map event_text es) (omega arith) ∙
+    ap (put_item (n + 1, e)) (all_listed (n + 1) es w.1 (omega arith))
+
+list_is : {A : Type 0} (events : List (Event A)) → CanBeListed events → length events < 1000000 → list_of_text events ≡ whole 2 events
+list_is {A} events w room = version-first A End (flat_map event_text events) ∙ all_listed 1 events w (omega arith)
+
+-- the step of an event is the lines of the entries that the whole list has there
+step_is : {A : Type 0} (blocks : List (Block A)) (t : Text (Event A) ListCause) → AreApart blocks → IsReplayText blocks t → (before : List (ℕ × Event A)) (n : ℕ) (e : Event A) (es : List (Event A)) (x : List (Entry A)) → AreEntriesAt blocks (events_of before ++ e ∷ es) (length (events_of before)) x → t.step before (n, e) ≡ Ok (entry_lines n x, false)
+step_is {A} blocks t apart is before n e es x at =
+    let w = is.step before (n, e) in
+    let stay : AreEntriesAt blocks (events_of before ++ e ∷ es) (length (events_of before)) w.0 =
+    subst (λ (l : List (Event A)). AreEntriesAt blocks l (length (events_of before)) w.0) (append_assoc (events_of before) (e ∷ []) es)
+    (entries_stay blocks (events_of before ++ e ∷ []) es (length (events_of before)) w.0 w.1) in
+    let same : w.0 ≡ x = entries_are_one blocks (events_of before ++ e ∷ es) (length (events_of before)) w.0 x apart stay at in
+    w.2 ∙ ap (λ (y : List (Entry A)). Ok (entry_lines n y, false)) same
+
+abbrev lines_told : {A : Type 0} → ℕ → List (List (Entry A)) → Account ListCause
+lines_told n rest = record { text = lines_from n rest; found = false; stop = finished }
+
+lines_are : {A : Type 0} (blocks : List (Block A)) (t : Text (Event A) ListCause) → AreApart blocks → IsReplayText blocks t → (before : List (ℕ × Event A)) (n : ℕ) (es : List (Event A)) (rest : List (List (Entry A))) → length rest ≡ length es → ((i : ℕ) (x : List (Entry A)) → slice_get rest i ≡ Some x → AreEntriesAt blocks (events_of before ++ es) (length (events_of before) + i) x) → told_after t before (numbered n es) finished ≡ lines_told n rest
+unfolding told_after
+lines_are blocks t apart is before n [] [] size each = refl
+lines_are blocks t apart is before n [] (x ∷ rest) size each = absurd (omega arith)
+lines_are blocks t apart is before n (e ∷ es) [] size each = absurd (omega arith)
+lines_are {A} blocks t apart is before n (e ∷ es) (x ∷ rest) size each =
+    ap (λ s. put_step t n s (told_after t next (numbered (n + 1) es) finished)) (step_is blocks t apart is before n e es x here) ∙
+    ap (put_step t n (Ok (entry_lines n x, false))) (lines_are blocks t apart is next (n + 1) es rest (omega arith) after)
+  where
+    next : List (ℕ × Event A)
+    next = before ++ (n, e) ∷ []
+
+    here : AreEntriesAt blocks (events_of before ++ e ∷ es) (length (events_of before)) x
+    here = let none : length (events_of before) + 0 ≡ length (events_of before) = omega arith in subst (λ (i : ℕ). AreEntriesAt blocks (events_of before ++ e ∷ es) i x) none (each 0 x refl)
+
+    passed : events_of next ≡ events_of before ++ e ∷ []
+    passed = events_push before (n, e)
+
+    same : events_of before ++ e ∷ es ≡ events_of next ++ es
+    same = sym (ap (λ (l : List (Event A)). l ++ es) passed ∙ append_assoc (events_of before) (e ∷ []) es)
+
+    more : (i : ℕ) → length (events_of before) + suc i ≡ length (events_of next) + i
+    more i = let longer : length (events_of next) ≡ length (events_of before ++ e ∷ []) = ap length passed in omega (arith, longer, length_push (events_of before) e)
+
+    after : (i : ℕ) (y : List (Entry A)) → slice_get rest i ≡ Some y → AreEntriesAt blocks (events_of next ++ es) (length (events_of next) + i) y
+    after i y at =
+        subst (λ (j : ℕ). AreEntriesAt blocks (events_of next ++ es) j y) (more i)
+        (subst (λ (l : List (Event A)). AreEntriesAt blocks l (length (events_of before) + suc i) y) same (each (suc i) y at))
+
+pub written_lists_replay : {A : Type 0} → WrittenListsReplay A
+written_lists_replay {A} blocks events entries t apart can room are is = (
+  ap₂ (λ (a : List ℕ) (o : Account ListCause). a ++ o.text) is.first told_is,
+  ap (λ (o : Account ListCause). o.stop) told_is,
+)
+  where
+    at : (i : ℕ) (x : List (Entry A)) → slice_get entries i ≡ Some x → AreEntriesAt blocks events (0 + i) x
+    at i x here = let none : i ≡ 0 + i = omega arith in subst (λ (j : ℕ). AreEntriesAt blocks events j x) none (are.each i x here)
+
+    told_is : told_after t [] (list_of_text events).items (list_of_text events).stop ≡ lines_told 2 entries
+    told_is =
+        ap (λ (l : Listing (Event A) ListCause). told_after t [] l.items l.stop) (list_is events can room) ∙
+        lines_are blocks t apart is [] 2 events entries are.sizes at
+
+-- there are as many events as frames
+events_counted : {A : Type 0} (B : Type 0) (sent : List (Sent A)) → length (published_events {B = B} sent) ≡ length sent
+events_counted B [] = refl
+events_counted B (s ∷ sent) = ap suc (events_counted B sent)
+
+pub published_lists_replay : {A B : Type 0} → PublishedListsReplay A B
+published_lists_replay {A} {B} p block calls answers t run can room is =
+    written_lists_replay (block ∷ []) (published_events (sent_from 0 calls answers)) (one_entry_each (sent_from 0 calls answers)) t (one_apart block) can
+    (omega (arith, room, events_counted B (sent_from 0 calls answers))) (whole_runs_replay p block calls answers run (omega arith)) is

@@ -1,0 +1,59 @@
+-- The text of a list that is written, and what its replay writes.
+use Rattle.std.specs.Prelude.{◌≡◌, ℕ, ◌+◌, ◌<◌, List, [], ◌∷◌, ◌++◌, length, Option, codes}
+use Rattle.std.specs.List.{flat_map}
+use Rattle.frame_core.specs.declared.device.InputEnd.TheVariants.{End}
+use Rattle.frame_core.specs.declared.event.Event.{Event}
+use Rattle.frame_core.specs.declared.event_lines.EventLines.TheVariants.{First}
+use Rattle.frame_core.specs.declared.frame.Frame.{Frame}
+use Rattle.frame_core.specs.declared.list_fault.ListCause.{ListCause}
+use Rattle.frame_core.specs.EventLine.{HoldsOctets, IsListable, event_rules, event_text}
+use Rattle.frame_core.specs.Items.{Listing, listing}
+use Rattle.frame_core.specs.Lines.{finished}
+use Rattle.publish_core.specs.Frames.{Setup}
+use Rattle.publish_core.specs.Run.{Call}
+use Rattle.subscribe_core.specs.declared.block.Block.{Block}
+use Rattle.subscribe_core.specs.declared.entry.Entry.{Entry}
+use Rattle.subscribe_core.specs.Entries.{AreEntries}
+use Rattle.subscribe_core.specs.Standing.{AreApart}
+use Rattle.exchange_laws.specs.PublishedList.{IsWholeRun, one_entry_each, published_events, sent_from}
+use Rattle.goose_cmd.specs.EngineText.{Text, text_of, told}
+use Rattle.goose_cmd.specs.EntryText.{entry_lines}
+use Rattle.goose_cmd.specs.ReplayText.{IsReplayText}
+
+-- a list of version 2: the line `V2`, and the one line of each event
+abbrev pub list_text : {A : Type 0} → List (Event A) → List ℕ
+list_text events = codes "V2\n" ++ flat_map event_text events
+
+-- each event can stand in a list, and its octets are octets
+abbrev pub CanBeListed : {A : Type 0} → List (Event A) → Type 0
+CanBeListed [] = Unit {0}
+CanBeListed (e ∷ es) = (IsListable e × HoldsOctets e.kind) × CanBeListed es
+
+-- what such a list holds
+abbrev pub list_of_text : {A : Type 0} → List (Event A) → Listing (Event A) ListCause
+list_of_text events = listing event_rules First End 0 (list_text events)
+
+-- the lines of the entries of events, of which the first stands in line n
+abbrev pub lines_from : {A : Type 0} → ℕ → List (List (Entry A)) → List ℕ
+lines_from n [] = []
+lines_from n (es ∷ rest) = entry_lines n es ++ lines_from (n + 1) rest
+
+-- a replay of the list writes the lines of these entries, event by event, and nothing else, and reads the list to its end
+abbrev pub ReplayGives : {A : Type 0} → Text (Event A) ListCause → List (Event A) → List (List (Entry A)) → Type 0
+ReplayGives t events entries = (text_of t (list_of_text events) ≡ lines_from 2 entries) × ((told t (list_of_text events)).stop ≡ finished)
+
+-- a list that is written is replayed as its events are: by the lines of the entries that they have
+abbrev pub WrittenListsReplay : Type 0 → Type 0
+WrittenListsReplay A =
+    (blocks : List (Block A)) (events : List (Event A)) (entries : List (List (Entry A))) (t : Text (Event A) ListCause) →
+    AreApart blocks → CanBeListed events → length events < 1000000 → AreEntries blocks events entries → IsReplayText blocks t →
+    ReplayGives t events entries
+
+-- The list of a publisher's whole run is replayed with its own block by one line for each frame: an action for a change's,
+-- a renewal for a poll's.
+abbrev pub PublishedListsReplay : Type 0 → Type 0 → Type 0
+PublishedListsReplay A B =
+    (p : Setup A) (block : Block B) (calls : List Call) (answers : List (Option (Frame A))) (t : Text (Event B) ListCause) →
+    IsWholeRun p block calls answers → CanBeListed (published_events {B = B} (sent_from 0 calls answers)) → length (sent_from 0 calls answers) < 1000000 →
+    IsReplayText (block ∷ []) t →
+    ReplayGives t (published_events (sent_from 0 calls answers)) (one_entry_each (sent_from 0 calls answers))

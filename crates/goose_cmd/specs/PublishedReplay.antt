@@ -1,0 +1,42 @@
+-- What `publish` writes of a script that is read to its end, and what the replay of that writes.
+use Rattle.std.specs.Prelude.{◌≡◌, ◌<◌, List, [], ◌∷◌, length, Option}
+use Rattle.frame_core.specs.declared.device.InputEnd.TheVariants.{End}
+use Rattle.frame_core.specs.declared.event.Event.{Event}
+use Rattle.frame_core.specs.declared.event_lines.EventLines.TheVariants.{First}
+use Rattle.frame_core.specs.declared.frame.Frame.{Frame}
+use Rattle.frame_core.specs.declared.list_fault.ListCause.{ListCause}
+use Rattle.frame_core.specs.EventLine.{event_rules}
+use Rattle.frame_core.specs.Items.{Listing, listing}
+use Rattle.frame_core.specs.Lines.{finished}
+use Rattle.publish_core.specs.Frames.{Setup}
+use Rattle.publish_core.specs.Run.{AreAnswers, Call}
+use Rattle.subscribe_core.specs.declared.block.Block.{Block}
+use Rattle.exchange_laws.specs.PublishedList.{IsWholeRun, one_entry_each, published_events, sent_from}
+use Rattle.exchange_laws.specs.Stems.{AreAccepted}
+use Rattle.goose_cmd.specs.declared.script.ScriptCause.{ScriptCause}
+use Rattle.goose_cmd.specs.declared.script.ScriptItem.{ScriptItem}
+use Rattle.goose_cmd.specs.EngineText.{Text, text_of, told}
+use Rattle.goose_cmd.specs.ListText.{CanBeListed, lines_from, list_text}
+use Rattle.goose_cmd.specs.PublishText.{IsPublishText, IsSound, items_of_lines, script_of}
+use Rattle.goose_cmd.specs.ReplayText.{IsReplayText}
+
+-- a script that is read to its end says these calls of a publisher
+pub record SaysRun {A : Type 0} (p : Setup A) (calls : List Call) (script : Listing (ScriptItem A) ScriptCause) : Type 0 where
+  pub items : items_of_lines script.items ≡ script_of p calls
+  pub whole : script.stop ≡ finished
+
+-- Of a script whose changes are accepted `publish` writes the list of the frames that its calls give, to the script's end.
+abbrev pub ScriptsGiveLists : Type 0 → Type 0 → Type 0
+ScriptsGiveLists A B =
+    (p : Setup A) (calls : List Call) (answers : List (Option (Frame A))) (script : Listing (ScriptItem A) ScriptCause) (t : Text (ScriptItem A) ScriptCause) →
+    IsSound p → AreAccepted p calls → AreAnswers p calls answers → SaysRun p calls script → IsPublishText t →
+    (text_of t script ≡ list_text (published_events {B = B} (sent_from 0 calls answers))) × ((told t script).stop ≡ finished)
+
+-- What `publish` writes of a script of a publisher's whole run is replayed with the publisher's own block by one line for
+-- each frame: an action for a change's, a renewal for a poll's.
+abbrev pub PublishedTextsReplay : Type 0 → Type 0 → Type 0
+PublishedTextsReplay A B =
+    (p : Setup A) (block : Block B) (calls : List Call) (answers : List (Option (Frame A))) (script : Listing (ScriptItem A) ScriptCause) (t : Text (ScriptItem A) ScriptCause) (r : Text (Event B) ListCause) →
+    IsWholeRun p block calls answers → SaysRun p calls script → IsPublishText t →
+    CanBeListed (published_events {B = B} (sent_from 0 calls answers)) → length (sent_from 0 calls answers) < 1000000 → IsReplayText (block ∷ []) r →
+    text_of r (listing event_rules First End 0 (text_of t script)) ≡ lines_from 2 (one_entry_each {B = B} (sent_from 0 calls answers))

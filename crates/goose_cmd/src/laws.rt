@@ -1,0 +1,53 @@
+//! Laws about the texts that engines write, and about scripts. The functions compute nothing.
+ghost use Rattle.std.specs.Prelude.{◌≡◌, ◌++◌, ℕ, List, Bool};
+ghost use Rattle.std.specs.List.{flat_map, list_any};
+ghost use Rattle.frame_core.specs.Items.{Listing};
+ghost use Rattle.goose_cmd.specs.EngineText.{IsPlain, Text, last_text, text_of, told};
+ghost use Rattle.goose_cmd.specs.ListText.{PublishedListsReplay, WrittenListsReplay};
+ghost use Rattle.goose_cmd.specs.PublishText.{ScriptsAreInOrder};
+ghost use Rattle.goose_cmd.specs.PublishedReplay.{PublishedTextsReplay, ScriptsGiveLists};
+
+pub use exchange_laws::laws::{
+    actions_carry_what_was_published, changes_are_acted_on_in_order,
+    what_is_published_is_of_the_run, whole_runs_replay,
+};
+use std::alloc::Allocator;
+
+/// Where a text speaks of each item alone and refuses none, the whole text is the texts of the items one after another,
+/// and the last one; something is found where an item is a finding; and the text stops as the list does.
+pub fn plain_texts_follow_one_another<X, C>()
+    ensures text { (t : Text X C) (line : ℕ × X → List ℕ) (finds : ℕ × X → Bool) → IsPlain t line finds → (l : Listing X C) →
+        text_of t l ≡ t.first ++ (flat_map line l.items ++ last_text t l.stop) }
+    ensures found { (t : Text X C) (line : ℕ × X → List ℕ) (finds : ℕ × X → Bool) → IsPlain t line finds → (l : Listing X C) →
+        (told t l).found ≡ list_any finds l.items }
+    ensures stop { (t : Text X C) (line : ℕ × X → List ℕ) (finds : ℕ × X → Bool) → IsPlain t line finds → (l : Listing X C) →
+        (told t l).stop ≡ l.stop }
+{}
+
+/// Before each item of a script stands what must: nothing before the control line, the control line and fewer than 16
+/// steps before a step, and before a change or a poll a control line with steps that set up a publisher, then changes and
+/// polls alone.
+pub fn scripts_are_in_order<A: Allocator>()
+    ensures { ScriptsAreInOrder A }
+{}
+
+/// A list that is written, a line `V2` and the one line of each event, is replayed as its events are: what is written is
+/// the lines of the entries that these events have, and the list is read to its end. It has at most 999,999 events, each of
+/// which can stand in a list.
+pub fn written_lists_replay<A: Allocator>()
+    ensures { WrittenListsReplay A }
+{}
+
+/// The list of a publisher's whole run, replayed with its own block, gives one line for each frame: an action for that of a
+/// change, a renewal for that of a poll, and nothing else.
+pub fn published_lists_replay<P: Allocator, S: Allocator>()
+    ensures { PublishedListsReplay P S }
+{}
+
+/// What `publish` writes of a script whose changes are accepted is the list of the frames that its calls give. Where the
+/// calls are a publisher's whole run, a replay of it with the publisher's own block gives one line for each frame: an
+/// action for that of a change, a renewal for that of a poll, and nothing else.
+pub fn published_texts_replay<P: Allocator, S: Allocator>()
+    ensures list { ScriptsGiveLists P S }
+    ensures replay { PublishedTextsReplay P S }
+{}
