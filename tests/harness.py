@@ -1,9 +1,14 @@
 """One run of the program, held against what it must write and how it must end."""
+import array
 import contextlib
+import fcntl
 import os
 import pathlib
 import struct
 import subprocess
+import termios
+import threading
+import time
 
 import reference
 
@@ -88,6 +93,43 @@ class Case:
         return why
 
 
+class Pieces(Case):
+    """Standard input comes in pieces; where it waits, each one only when the program has taken the one before."""
+
+    def __init__(self, name, words, pieces, stdout, waits=False):
+        super().__init__(name, words, b"".join(pieces), stdout)
+        self.pieces, self.waits = pieces, waits
+
+    def run(self, program):
+        pipes = {"stdin": subprocess.PIPE, "stdout": subprocess.PIPE, "stderr": subprocess.PIPE}
+        started = subprocess.Popen([*program, *self.words], bufsize=0, **pipes)
+        feeding = threading.Thread(target=self.feed, args=(started.stdin,))
+        feeding.start()
+        wrote, complained = started.stdout.read(), started.stderr.read()
+        feeding.join()
+        return wrote, complained, started.wait(timeout=SECONDS)
+
+    def feed(self, pipe):
+        with pipe:
+            for piece in self.pieces:
+                pipe.write(piece)
+                until = time.monotonic() + SECONDS / 4
+                while self.waits and untaken(pipe) and time.monotonic() < until:
+                    time.sleep(0.0005)
+
+
+def untaken(pipe):
+    """How many octets in a pipe nobody has read yet."""
+    count = array.array("i", [0])
+    fcntl.ioctl(pipe, termios.FIONREAD, count)
+    return count[0]
+
+
+def cut(octets, size):
+    """Octets in pieces of this size."""
+    return [octets[at:at + size] for at in range(0, len(octets), size)]
+
+
 class Agreement:
     """A list of which the program writes what the slow reader writes, and which it does not change twice."""
 
@@ -95,15 +137,16 @@ class Agreement:
         self.name, self.octets = name, octets
 
     def why_wrong(self, program):
-        why, written = [], None
-        for command in ("show", "rewrite"):
-            lines, wanted_status = reference.COMMANDS[command](self.octets)
+        why, texts = [], {}
+        for command, answer in reference.COMMANDS.items():
+            lines, wanted_status = answer(self.octets)
             wrote, _, status = run(program, [command], self.octets)
             difference = first_difference(text(lines), wrote)
             why += [f"{command}: {difference}"] if difference else []
             if status != wanted_status:
                 why += [f"{command} ended with status {status}, and not {wanted_status}"]
-            written = wrote
+            texts[command] = wrote
+        written = texts["rewrite"]
         again, _, _ = run(program, ["rewrite"], written)
         if again != written and not written.split(b"\n")[-2:][0].startswith(b"# "):
             why += ["rewriting what was rewritten changes it"]
@@ -131,24 +174,34 @@ class WellFormed:
 
 
 class WrittenReadsBack:
-    """What rewriting makes of each frame is shown as the frame itself was, and is not changed again."""
+    """What rewriting makes of each frame is shown as the frame itself was, and is not changed again; of the frames whose
+    octets it wrote anew, none is noted as not written."""
 
     def __init__(self, name, frames):
         self.name, self.frames = name, list(frames)
 
     def why_wrong(self, program):
-        octets = listed(*self.frames)
+        octets = relisted(*self.frames)
         written, _, _ = run(program, ["rewrite"], octets)
         again, _, _ = run(program, ["rewrite"], written)
         shown, _, _ = run(program, ["show"], octets)
         reshown, _, _ = run(program, ["show"], written)
         pairs = {"rewriting twice": (written, again), "showing what was rewritten": (shown, reshown)}
-        return [f"{name}: {why}" for name, pair in pairs.items() for why in [first_difference(*pair)] if why]
+        why = [f"{name}: {why}" for name, pair in pairs.items() for why in [first_difference(*pair)] if why]
+        checked, _, _ = run(program, ["check"], written)
+        before, after = octets.split(b"\n"), written.split(b"\n")
+        noted = [int(line.split()[0]) - 1 for line in checked.splitlines() if line.endswith(b" not-written")]
+        return why + [f"written, and noted: {clipped(after[at])}" for at in noted if before[at] != after[at]][:3]
 
 
 def listed(*frames, moment=0):
-    """A list that records these frames."""
+    """A list that records these frames, at a moment in milliseconds."""
     return text(f"F {moment} {bytes(frame).hex()}" for frame in frames)
+
+
+def relisted(*frames, moment=0):
+    """The list that is written for these frames: version 2, at a moment in microseconds."""
+    return b"V2\n" + listed(*frames, moment=moment)
 
 
 def show(name, frame, line):
@@ -163,12 +216,17 @@ def refuse(name, frame, place, cause):
 
 def rewrite(name, frame, written):
     """One frame, and its written form."""
-    return Case(name, ["rewrite"], listed(frame), listed(written))
+    return Case(name, ["rewrite"], listed(frame), relisted(written))
 
 
 def keep(name, frame):
     """One frame whose own octets rewriting keeps, because it is faulty or its written form is too long."""
-    return Case(name, ["rewrite"], listed(frame), listed(frame), status=1)
+    return Case(name, ["rewrite"], listed(frame), relisted(frame), status=1)
+
+
+def check(name, frame, *notes):
+    """One frame, and what is to be noted of it."""
+    return Case(name, ["check"], listed(frame), text(f"1 {note}" for note in notes), status=1 if notes else 0)
 
 
 def end_list(name, octets, before, fault):

@@ -2,7 +2,7 @@
 
 It shares nothing with the program: it reads by recursion, keeps whole lists in memory and raises the first fault that
 it finds. The tests compare the program with it, line by line. `tests/reference_program` runs it as a program, so that
-the tests themselves can be tried (it holds whole lists, which one theme refuses):
+the tests themselves can be tried (it takes minutes, and it holds whole lists, which one theme refuses):
 
     tests/run --program tests/reference_program --without streaming
 """
@@ -71,6 +71,15 @@ APDUS = {
 
 MOST_FRAME, LEAST_LENGTH, MOST_LENGTH = 1600, 8, 1500
 MOST_LINE, MOST_LINES, MOST_LISTED = 4096, 1000000, 2000
+
+# The version of a list: the most digits of its moments, and how many microseconds one of their units is.
+VERSIONS = {1: (15, 1000), 2: (18, 1)}
+
+# IEC 61850-8-1 and IEC 61850-9-2: the destinations that each APDU is recommended to be sent to, first and last.
+DESTINATIONS = {
+    "goose": ("010ccd010000", "010ccd0101ff"),
+    "sv": ("010ccd040000", "010ccd0401ff"),
+}
 GREATEST_NUMBER, MOST_ASDUS = 2**32 - 1, 2**16 - 1
 LEVELS = 16
 
@@ -475,30 +484,41 @@ class ListFault(Exception):
         super().__init__(line, cause)
         self.line, self.cause = line, cause
 
+    def status(self):
+        """The exit status of a run that it ends."""
+        return 4 if self.cause == "ReadFailed" else 3
 
-def line_event(line):
-    """The event of a line without its ending: None, a moment alone, or a moment and a frame's octets."""
+
+def line_event(line, version):
+    """The event of a line without its ending, as its sort, its moment in microseconds, and what it holds: the octets
+    of a frame, whether a mode is on, nothing of a clock. None where the line has no event."""
     if not line or line[:1] == b"#":
         return None
     fields = line.split(b" ")
-    is_shape = b"" not in fields and (fields[0], len(fields)) in ((b"F", 3), (b"C", 2))
-    if not is_shape:
+    if b"" in fields or (fields[0], len(fields)) not in ((b"F", 3), (b"C", 2), (b"M", 3)):
         raise ValueError("LineForm")
-    if len(fields[1]) > 15 or not all(digit in b"0123456789" for digit in fields[1]):
+    if fields[0] == b"M" and fields[2] not in (b"on", b"off"):
+        raise ValueError("LineForm")
+    most, microseconds = VERSIONS[version]
+    if len(fields[1]) > most or not all(digit in b"0123456789" for digit in fields[1]):
         raise ValueError("Moment")
+    moment = int(fields[1]) * microseconds
     if fields[0] == b"C":
-        return int(fields[1]), None
+        return "clock", moment, None
+    if fields[0] == b"M":
+        return "mode", moment, fields[2] == b"on"
     digits = fields[2]
     if not 2 <= len(digits) <= 2 * MOST_LISTED or len(digits) % 2:
         raise ValueError("Hex")
     if not all(digit in b"0123456789abcdefABCDEF" for digit in digits):
         raise ValueError("Hex")
-    return int(fields[1]), bytes.fromhex(digits.decode("ascii"))
+    return "frame", moment, bytes.fromhex(digits.decode("ascii"))
 
 
 def events(octets, has_failed):
     """The events of a list with their line numbers; a ListFault ends them where the list has one."""
     *ended, rest = octets.split(b"\n")
+    version = 1
     for number, line in enumerate([*ended, rest], 1):
         is_last = number == len(ended) + 1
         if number > MOST_LINES and (line or not is_last):
@@ -507,8 +527,12 @@ def events(octets, has_failed):
             raise ListFault(number, "LineTooLong")
         if is_last and has_failed:
             raise ListFault(number, "ReadFailed")
+        line = line[:-1] if line[-1:] == b"\r" else line
+        if number == 1 and line == b"V2":
+            version = 2
+            continue
         try:
-            event = line_event(line[:-1] if line[-1:] == b"\r" else line)
+            event = line_event(line, version)
         except ValueError as why:
             raise ListFault(number, str(why)) from None
         if event is not None:
@@ -518,45 +542,100 @@ def events(octets, has_failed):
 # ---- What the program writes ------------------------------------------------
 
 
+def mode_text(is_on):
+    """The word for a mode."""
+    return "on" if is_on else "off"
+
+
+def shown(sort, moment, held):
+    """The line that shows an event, without its number."""
+    if sort == "clock":
+        return f"clock {moment}"
+    if sort == "mode":
+        return f"mode {moment} {mode_text(held)}"
+    try:
+        return frame_text(frame(held))
+    except Fault as fault:
+        return f"fault {fault.place} {fault.cause}"
+
+
+def notes(sort, held):
+    """What is to be noted of an event: nothing of a clock and of a mode."""
+    if sort != "frame":
+        return []
+    try:
+        it = frame(held)
+    except Fault as fault:
+        return [f"fault {fault.place} {fault.cause}"]
+    first, last = DESTINATIONS[it["name"]]
+    is_recommended = first <= it["destination"].hex() <= last
+    return ["not-written"] * (written_frame(it) != held) + ["destination"] * (not is_recommended)
+
+
+def rewritten(sort, moment, held):
+    """The line that is written for an event, and whether a frame keeps its own octets."""
+    if sort == "clock":
+        return f"C {moment}", False
+    if sort == "mode":
+        return f"M {moment} {mode_text(held)}", False
+    try:
+        written = written_frame(frame(held))
+    except Fault:
+        written = None
+    return f"F {moment} {(held if written is None else written).hex()}", written is None
+
+
 def show(octets, has_failed=False):
     """The text of `show` and the exit status."""
     lines = []
     try:
-        for number, (moment, listed) in events(octets, has_failed):
-            if listed is None:
-                lines.append(f"{number} clock {moment}")
-                continue
-            try:
-                lines.append(f"{number} {frame_text(frame(listed))}")
-            except Fault as fault:
-                lines.append(f"{number} fault {fault.place} {fault.cause}")
+        for number, event in events(octets, has_failed):
+            lines.append(f"{number} {shown(*event)}")
     except ListFault as fault:
-        lines.append(f"{fault.line} list {fault.cause}")
-        return lines, 4 if fault.cause == "ReadFailed" else 3
+        return [*lines, f"{fault.line} list {fault.cause}"], fault.status()
     return lines, 0
+
+
+def check(octets, has_failed=False):
+    """The text of `check` and the exit status."""
+    lines = []
+    try:
+        for number, (sort, _, held) in events(octets, has_failed):
+            lines += [f"{number} {note}" for note in notes(sort, held)]
+    except ListFault as fault:
+        return [*lines, f"{fault.line} list {fault.cause}"], fault.status()
+    return lines, 1 if lines else 0
 
 
 def rewrite(octets, has_failed=False):
     """The text of `rewrite` and the exit status."""
-    lines, keeps = [], False
+    lines, keeps = ["V2"], False
     try:
-        for _, (moment, listed) in events(octets, has_failed):
-            if listed is None:
-                lines.append(f"C {moment}")
-                continue
-            try:
-                written = written_frame(frame(listed))
-            except Fault:
-                written = None
-            keeps = keeps or written is None
-            lines.append(f"F {moment} {(listed if written is None else written).hex()}")
+        for _, event in events(octets, has_failed):
+            line, is_kept = rewritten(*event)
+            lines.append(line)
+            keeps = keeps or is_kept
     except ListFault as fault:
-        lines.append(f"# {fault.line} list {fault.cause}")
-        return lines, 4 if fault.cause == "ReadFailed" else 3
+        return [*lines, f"# {fault.line} list {fault.cause}"], fault.status()
     return lines, 1 if keeps else 0
 
 
-COMMANDS = {"show": show, "rewrite": rewrite}
+COMMANDS = {"show": show, "check": check, "rewrite": rewrite}
+
+# What help says of the program and of each command (docs/FORMATS.md), and the version.
+ABOUT = "Reads recorded GOOSE and Sampled Values frames from standard input, one event a line"
+HELP = {
+    "show": "Writes one line an event",
+    "check": "Writes one line a note on a frame",
+    "rewrite": "Writes the list again, each good frame in its one written form",
+    "replay": "Writes one line an entry of a subscriber of control blocks",
+    "publish": "Writes the list of frames that a publisher sends by a script",
+    "watch": "Writes one line a sample of a stream, and whether its count is the next one",
+    "import": "Writes a capture (classic libpcap) as a list",
+}
+# The words behind a command's name, as its help writes them.
+TAKES = {"replay": " <BLOCK>...", "watch": " --period <N> --id <TEXT>"}
+VERSION = "goose 0.1.0"
 
 
 # ---- As a program -----------------------------------------------------------
@@ -581,13 +660,38 @@ def read_input(descriptor):
         return bytes(octets), True
 
 
+def help_of(words):
+    """The lines that these words ask for in place of a list, or None."""
+    if words in (["-V"], ["--version"]):
+        return [VERSION]
+    flag = ["-h, --help  Print help"]
+    if words in (["-h"], ["--help"]):
+        told = [f"{name}  {said}" for name, said in HELP.items()]
+        return [ABOUT, "Usage: goose <COMMAND>", *told, *flag, "-V, --version  Print version"]
+    if len(words) == 2 and words[0] in HELP and words[1] in ("-h", "--help"):
+        return [HELP[words[0]], f"Usage: goose {words[0]}{TAKES.get(words[0], '')}", *flag]
+    return None
+
+
+def refusal(words):
+    """Why words are refused, or None."""
+    if not words:
+        return "'goose' requires a subcommand"
+    if any("\udc80" <= letter <= "\udcff" for word in words for letter in word):
+        return "no text (UTF-8)"
+    name, *more = words
+    if name == "--" and more and more[0] in COMMANDS or name not in COMMANDS:
+        return f"unexpected '{(more if name == '--' else words)[0]}'"
+    more = more[1:] if more[:1] == ["--"] else more
+    return f"unexpected '{more[0]}'" if more else None
+
+
 def main(words):
-    if words and words[-1] in ("--help", "--version"):
-        lines, status = ["goose show < LIST"], 0
-    elif len(words) != 1 or words[0] not in COMMANDS:
-        put(2, ["goose show < LIST"])
+    status, lines, why = 0, help_of(words), refusal(words)
+    if lines is None and why:
+        put(2, [f"error: {why}"])
         return 2
-    else:
+    if lines is None:
         lines, status = COMMANDS[words[0]](*read_input(LIST_DESCRIPTOR))
     status = status if put(1, lines) else 4
     if status == 4:

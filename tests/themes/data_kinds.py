@@ -1,6 +1,6 @@
 """Each kind of Data: its text, its written form and its faults. A kind that is not read is an unexpected identifier."""
 from frames import WORKED, WORKED_LINE, put, with_members
-from harness import Case, listed, refuse, rewrite, show, text
+from harness import Case, check, listed, refuse, rewrite, show, text
 from reference import KIND_OF, KINDS_READ
 
 # Octets of the members, the kinds among them in their order, their text, and their written form.
@@ -84,7 +84,9 @@ def cases():
         unread = first_unread(octets, kinds.split())
         if unread is None:
             yield show(f"{spelled} is {shown}", with_members(octets), WORKED_LINE.replace("{true}", "{" + shown + "}"))
-            yield rewrite(f"{spelled} is written {written}", with_members(octets), with_members(bytes.fromhex(written)))
+            form = bytes.fromhex(written)
+            yield rewrite(f"{spelled} is written {written}", with_members(octets), with_members(form))
+            yield check(f"{spelled}, checked", with_members(octets), *["not-written"] * (octets != form))
         else:
             yield refuse(f"{spelled} is not read", with_members(octets), 64 + unread, "UnexpectedTag")
     for spelled, kind, place, cause in FAULTY:

@@ -1,11 +1,11 @@
 """Input that fails, never ends or comes slowly, and output that takes nothing."""
 import os
 import subprocess
-import threading
 import tty
 
-from frames import WORKED, WORKED_LINE
-from harness import SECONDS, Case, descriptor, listed, run, text
+from captures import header, record
+from frames import WORKED, WORKED_LINE, put
+from harness import Case, Pieces, Skipped, cut, descriptor, listed, relisted, run, text
 
 FAULT = [b"read or write fault"]
 
@@ -48,35 +48,41 @@ class Endless(Case):
             feeding.wait()
 
 
-class Pieces(Case):
-    """Standard input comes in pieces of a few octets."""
-
-    def __init__(self, name, words, stdin, stdout, size):
-        super().__init__(name, words, stdin, stdout)
-        self.size = size
-
-    def run(self, program):
-        pipes = {"stdin": subprocess.PIPE, "stdout": subprocess.PIPE, "stderr": subprocess.PIPE}
-        started = subprocess.Popen([*program, *self.words], bufsize=0, **pipes)
-
-        def feed():
-            with started.stdin as into:
-                for place in range(0, len(self.stdin), self.size):
-                    into.write(self.stdin[place:place + self.size])
-
-        feeding = threading.Thread(target=feed)
-        feeding.start()
-        wrote, complained = started.stdout.read(), started.stderr.read()
-        feeding.join()
-        return wrote, complained, started.wait(timeout=SECONDS)
-
-
 class Full(Case):
     """Standard output is a disk that is full."""
 
     def run(self, program):
         with descriptor("/dev/full", os.O_WRONLY) as stdout:
             return run(program, self.words, self.stdin, stdout=stdout)
+
+
+def writes_so_far():
+    """How often this process and the runs that have ended asked the system to write, where the system counts that."""
+    try:
+        with open("/proc/self/io", encoding="ascii") as told:
+            return next(int(line.split()[1]) for line in told if line.startswith("syscw:"))
+    except (OSError, StopIteration):
+        raise Skipped("the system does not count the writes of a process") from None
+
+
+class TriedOnce(Case):
+    """Standard output is a disk that is full, and no write is tried again: the system is asked to write as often as by a
+    run whose first read fails, which writes one text and one message."""
+
+    def writes(self, program, stdin, stdout):
+        before = writes_so_far()
+        subprocess.run([*program, *self.words], stdin=stdin, stdout=stdout, stderr=subprocess.DEVNULL, check=False)
+        return writes_so_far() - before
+
+    def why_wrong(self, program):
+        with descriptor("/") as stdin, descriptor("/dev/null", os.O_WRONLY) as stdout:
+            wanted = self.writes(program, stdin, stdout)
+        reading, writing = os.pipe()
+        os.write(writing, self.stdin)
+        os.close(writing)
+        with os.fdopen(reading, "rb", buffering=0) as stdin, descriptor("/dev/full", os.O_WRONLY) as stdout:
+            made = self.writes(program, stdin, stdout)
+        return [] if made == wanted else [f"the system was asked to write {made} times, and not {wanted}"]
 
 
 class Unread(Case):
@@ -97,34 +103,96 @@ class Unheard(Case):
             return run(program, self.words, stdin=stdin, stderr=stderr)
 
 
-def reading():
-    yield Directory("a directory is shown as a read fault", ["show"], b"", b"1 list ReadFailed\n", 4, FAULT)
-    yield Directory("a directory is rewritten as a read fault", ["rewrite"], b"", b"# 1 list ReadFailed\n", 4, FAULT)
-    yield Unheard("a message that cannot be written changes no status", ["show"], b"", b"1 list ReadFailed\n", 4)
-    first = text([f"1 {WORKED_LINE}"])
-    failing = listed(WORKED)
-    yield FailsAfter("whole lines are shown before a read fault", ["show"], failing, first + b"2 list ReadFailed\n", 4, FAULT)
-    yield FailsAfter("an unfinished line gives no event", ["show"], b"F 0 0", b"1 list ReadFailed\n", 4, FAULT)
-    yield FailsAfter("a whole line's fault comes first", ["rewrite"], b"X\nF 0 0", b"# 1 list LineForm\n", 3)
-    yield Endless("empty lines without end", ["show"], ["yes", ""], b"1000001 list ListTooLong\n")
-    yield Endless("a comment without end", ["rewrite"], ["tr", "\\0", "#"], b"# 1 list LineTooLong\n")
-    for size in (1, 2, 3, 7):
-        yield Pieces(f"input in pieces of {size}", ["show"], failing * 3 + b"C 7", text(
-            [f"{n} {WORKED_LINE}" for n in (1, 2, 3)] + ["4 clock 7"]), size)
+# The words that run each command, and what it writes before it reads and before the fault of its list or script.
+WORDS = {"replay": ["replay", "0001,G,D,,1,1"], "watch": ["watch", "--period", "4000", "--id", "S"]}
+BEFORE = {"show": ("", ""), "check": ("", ""), "rewrite": ("V2\n", "# "), "replay": ("", ""), "watch": ("", ""),
+          "publish": ("V2\n", "# ")}
 
-    many = failing * 200
+SCRIPT = b"control,010ccd010001,020000000001,,0001,G,D,,1,1,0,0,1\nstep,4,1000\n"
+CHANGE = b"change,0,0000000000000000,8301ff\n"
+
+
+def words(command):
+    return WORDS.get(command, [command])
+
+
+def given(command, count=1):
+    """An input for which the command writes a line and more, of so many events."""
+    if command == "publish":
+        return SCRIPT + CHANGE * count
+    return listed(*[b"\1"] * count)
+
+
+def ended(command, fault):
+    """What a command writes of a list or script that has a fault and no event."""
+    first, mark = BEFORE[command]
+    number, cause = fault.split()
+    if command == "publish" and cause == "LineForm":
+        cause = "ScriptForm"
+    return f"{first}{mark}{number} {'script' if command == 'publish' else 'list'} {cause}\n".encode()
+
+
+def reading():
+    for command in BEFORE:
+        yield Directory(f"{command} of a directory is a read fault", words(command), b"", ended(command, "1 ReadFailed"), 4, FAULT)
+        yield FailsAfter(f"{command}: an unfinished line gives no event", words(command), b"F 0 0", ended(command, "1 ReadFailed"),
+                         4, FAULT)
+        yield FailsAfter(f"{command}: an unfinished version is no line", words(command), b"V2", ended(command, "1 ReadFailed"), 4, FAULT)
+        yield FailsAfter(f"{command}: a read fault behind the version", words(command), b"V2\n", ended(command, "2 ReadFailed"), 4, FAULT)
+        yield FailsAfter(f"{command}: a whole line's fault comes first", words(command), b"X\nF 0 0", ended(command, "1 LineForm"), 3)
+        yield Endless(f"{command} of empty lines without end", words(command), ["yes", ""], ended(command, "1000001 ListTooLong"))
+        yield Endless(f"{command} of a comment without end", words(command), ["tr", "\\0", "#"], ended(command, "1 LineTooLong"))
+    yield Unheard("a message that cannot be written changes no status", ["show"], b"", b"1 list ReadFailed\n", 4)
+    failing = listed(WORKED)
+    yield FailsAfter("whole lines are shown before a read fault", ["show"], failing,
+                     text([f"1 {WORKED_LINE}", "2 list ReadFailed"]), 4, FAULT)
+    yield FailsAfter("whole lines are rewritten before a read fault", ["rewrite"], failing,
+                     relisted(WORKED) + b"# 2 list ReadFailed\n", 4, FAULT)
+    yield FailsAfter("whole lines are checked before a read fault", ["check"], listed(put(WORKED, at66=1)),
+                     b"1 not-written\n2 list ReadFailed\n", 4, FAULT)
+    for size in (1, 2, 3, 7):
+        yield Pieces(f"input in pieces of {size}", ["show"], cut(failing * 3 + b"C 7", size), text(
+            [f"{n} {WORKED_LINE}" for n in (1, 2, 3)] + ["4 clock 7000"]))
     for size in (1, 2, 3, 7, 4096, 8192):
-        yield Pieces(f"a long list, rewritten from pieces of {size}", ["rewrite"], many, many, size)
+        yield Pieces(f"a long list, rewritten from pieces of {size}", ["rewrite"], cut(failing * 200, size),
+                     relisted(*[WORKED] * 200))
 
 
 def writing():
-    for command in ("show", "rewrite"):
-        yield Full(f"{command} on a full disk", [command], listed(WORKED), None, 4, FAULT)
-        yield Full(f"{command} of a long list on a full disk", [command], listed(*[WORKED] * 2000), None, 4, FAULT)
-        yield Full(f"{command} of a list fault on a full disk", [command], b"X\n", None, 4, FAULT)
-        yield Full(f"{command} of nothing on a full disk", [command], b"", None, 0)
-        yield Unread(f"{command} to nobody", [command], listed(WORKED), None, 4, FAULT)
+    for command, (first, _) in BEFORE.items():
+        asked = words(command)
+        yield Full(f"{command} on a full disk", asked, given(command), None, 4, FAULT)
+        yield Full(f"{command} of a long list on a full disk", asked, given(command, 20000), None, 4, FAULT)
+        yield Full(f"{command} of a fault on a full disk", asked, b"X\n", None, 4, FAULT)
+        yield Full(f"{command} of nothing on a full disk", asked, b"", None,
+                   *((4, FAULT) if first else (0,)))
+        yield Unread(f"{command} to nobody", asked, given(command), None, 4, FAULT)
+        yield TriedOnce(f"{command} tries no failed write again", asked, given(command))
+    yield from importing()
+    yield Full("show of good frames on a full disk", ["show"], listed(*[WORKED] * 2000), None, 4, FAULT)
+    yield Full("rewrite of good frames on a full disk", ["rewrite"], listed(*[WORKED] * 2000), None, 4, FAULT)
+    yield Full("check of good frames writes nothing", ["check"], listed(*[WORKED] * 2000), None, 0)
     yield Full("help on a full disk", ["--help"], b"", None, 4, FAULT)
+
+
+def importing():
+    """The same of captures."""
+    short = b"V2\n# 0 capture CaptureShort\n"
+    capture = header() + record(1, 2, WORKED)
+    frame = f"V2\nF 1000002 {WORKED.hex()}\n".encode()
+    yield Directory("import of a directory is a read fault", ["import"], b"", b"V2\n# 0 capture ReadFailed\n", 4, FAULT)
+    yield FailsAfter("import: a read fault inside the header", ["import"], capture[:20], b"V2\n# 0 capture ReadFailed\n", 4, FAULT)
+    yield FailsAfter("import: a read fault inside a record", ["import"], capture[:-1], b"V2\n# 1 capture ReadFailed\n", 4, FAULT)
+    yield FailsAfter("import: a read fault behind a record", ["import"], capture, frame + b"# 2 capture ReadFailed\n", 4, FAULT)
+    yield Full("import on a full disk", ["import"], capture, None, 4, FAULT)
+    yield Full("import of nothing on a full disk", ["import"], b"", None, 4, FAULT)
+    yield Full("import of a long capture on a full disk", ["import"], header() + record(1, 2, WORKED) * 20000, None, 4, FAULT)
+    yield Unread("import to nobody", ["import"], capture, None, 4, FAULT)
+    yield TriedOnce("import tries no failed write again", ["import"], capture)
+    yield Endless("import of zeros without end", ["import"], ["cat"], b"V2\n# 0 capture CaptureHeader\n")
+    for size in (1, 2, 3, 7, 16, 24):
+        yield Pieces(f"a capture in pieces of {size}", ["import"], cut(capture, size), frame)
+    yield Case("an empty capture", ["import"], b"", short, 3)
 
 
 def cases():

@@ -2,9 +2,12 @@
 import pathlib
 import re
 
+import reference
+
 TOP = pathlib.Path(__file__).resolve().parent.parent.parent
 DEFINITIONS = TOP / "docs" / "DEFINITIONS.md"
 PROOFS = TOP / "docs" / "PROOFS.md"
+FORMATS = TOP / "docs" / "FORMATS.md"
 DECLARED = r"(?m)^\s*(?:(?:abbrev|unfoldable|opaque)\s+)*pub\s+(?:data\s+|record\s+)?{}(?=[\s:({{])"
 
 
@@ -31,27 +34,27 @@ class Described:
 
 
 class Claimed:
-    """The calls of one crate that docs/PROOFS.md names are there, with the clauses that it names."""
+    """The calls of one crate that docs/PROOFS.md names stand in the files that it names, with the clauses that it names."""
 
     def __init__(self, crate, text):
         self.name, self.text = f"the clauses of {crate}", text
-        self.source = TOP / "crates" / crate / "src"
 
     def why_wrong(self, _program):
+        rows = [row.strip("| ").split(" | ") for row in self.text.splitlines() if row.startswith("| `")]
+        return [why for row in rows if len(row) == 4 for why in self.why_row_wrong(*row)]
+
+    def why_row_wrong(self, calls, claims, _premise, files):
         clauses = {}
-        for file in sorted(self.source.rglob("*.rt")):
-            for name, contract in contracts(file.read_text()):
+        for path in re.findall(r"\]\(([^)]*)\)", files):
+            for name, contract in contracts((PROOFS.parent / path).read_text()):
                 clauses.setdefault(name, set()).update(re.findall(r"ensures\*? (\w+) \{", contract))
-        why = []
-        for calls, claims in re.findall(r"(?m)^\| (`.*?) \| (.*?) \|", self.text):
-            for call in re.findall(r"`([\w:]+)`", calls):
-                name = call.split("::")[-1]
-                if name not in clauses and name not in ("laws", "FromRead", "ToWrite"):
-                    why += [f"there is no {name}"]
-                    continue
-                missing = [it for it in re.findall(r"`(\w+)`", claims) if it not in clauses.get(name, ()) and it.islower()]
-                why += [f"{name} has no clause {it}" for it in missing]
-        return why
+        for call in re.findall(r"`([\w:]+)`", calls):
+            name = call.split("::")[-1]
+            if name not in clauses and name not in ("FromRead", "ToWrite", "EventLines"):
+                yield f"there is no {call} in {files}"
+                continue
+            missing = [it for it in re.findall(r"`(\w+)`", claims) if it not in clauses.get(name, ()) and it.islower()]
+            yield from (f"{call} has no clause {it}" for it in missing)
 
 
 def contracts(source):
@@ -85,12 +88,23 @@ def anchors(file):
     return {re.sub(r"[^\w\- ]", "", heading.lower()).replace(" ", "-") for heading in headings}
 
 
+class Commands:
+    """docs/FORMATS.md has each command, and what its help says."""
+
+    name = "the commands of docs/FORMATS.md"
+
+    def why_wrong(self, _program):
+        told = dict(re.findall(r"(?m)^\| `goose (\w+)` \| (.*?) \|", FORMATS.read_text()))
+        return [] if told == reference.HELP else [f"wanted {reference.HELP}, got {told}"]
+
+
 def parts(document):
     """The parts of a document under headings of the second level."""
     return {part.split("\n")[0].strip(): part for part in re.split(r"(?m)^## ", document.read_text())[1:]}
 
 
 def cases():
+    yield Commands()
     folders = [TOP, TOP / "docs", TOP / "examples", TOP / "tests", *(TOP / "crates").glob("*")]
     for folder in folders:
         for document in sorted(folder.glob("*.md")):

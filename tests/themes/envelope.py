@@ -1,6 +1,6 @@
 """Addresses, tag, reserved fields and trailer are shown and kept."""
 from frames import SAMPLED, WORKED, WORKED_LINE, framed, put, with_fields
-from harness import Case, listed, rewrite, show
+from harness import Case, listed, relisted, rewrite, show
 
 APDU = WORKED[22:]
 
@@ -51,4 +51,4 @@ def cases():
         yield show(name, frame, line)
         yield rewrite(f"{name}, rewritten", frame, frame)
     for name, kept in never_judged():
-        yield Case(f"any {name} is kept", ["rewrite"], listed(*kept), listed(*kept))
+        yield Case(f"any {name} is kept", ["rewrite"], listed(*kept), relisted(*kept))

@@ -1,12 +1,17 @@
 """What the documents show of the program is what it prints."""
+import os
 import pathlib
+import re
 import shlex
+import shutil
 import subprocess
 
-from harness import SECONDS, first_difference
+from harness import SECONDS, Skipped, first_difference
 
 TOP = pathlib.Path(__file__).resolve().parent.parent.parent
-DOCUMENTS = ["README.md", "examples/README.md", "docs/FORMATS.md"]
+DOCUMENTS = ["README.md", "examples/README.md", "docs/FORMATS.md", "docs/REPLAY.md", "docs/RECIPES.md"]
+# Tools that some commands ask for, and that may not be installed.
+TOOLS = ["editcap", "jq"]
 
 
 class Shown:
@@ -16,9 +21,12 @@ class Shown:
         self.name, self.command, self.output = name, command, output
 
     def why_wrong(self, program):
-        command = self.command.replace("./goose", " ".join(map(shlex.quote, program)))
-        ran = subprocess.run(["bash", "-c", command], cwd=TOP, stdin=subprocess.DEVNULL, stdout=subprocess.PIPE,
-                             stderr=subprocess.STDOUT, timeout=SECONDS)
+        missing = [tool for tool in TOOLS if re.search(rf"(^|\| ){tool} ", self.command) and not shutil.which(tool)]
+        if missing:
+            raise Skipped(f"there is no {missing[0]}")
+        goose = " ".join(map(shlex.quote, program))
+        ran = subprocess.run(["bash", "-c", self.command.replace("./goose", goose)], cwd=TOP, stdin=subprocess.DEVNULL,
+                             stdout=subprocess.PIPE, stderr=subprocess.STDOUT, env={**os.environ, "GOOSE": goose}, timeout=SECONDS)
         why = first_difference(self.output, ran.stdout)
         return [f"{self.command}\n{why}"] if why else []
 

@@ -1,11 +1,13 @@
 """Good frames with damage of every sort, always the same ones: the slow reader agrees on each, no fault's place passes
-its frame, and what rewriting makes of it reads back."""
+its frame, what rewriting makes of it reads back, and a replay and a watch of it write what the slow ones write."""
 import random
 
 import by_chance
 from frames import SAMPLED, WORKED, asdu, element, framed, with_asdus, with_fields
 from harness import Agreement, WellFormed, WrittenReadsBack, listed
 from reference import contents
+from themes.replaying import BLOCK, Replays
+from themes.watching import Watches
 
 SEED, COUNT = 8802, 6000
 TAG = b"\x81\x00\x80\x04"
@@ -184,3 +186,6 @@ def cases():
         yield Agreement(f"{name}: the slow reader agrees", listed(*frames))
         yield WellFormed(f"{name}: each line is well formed", frames)
         yield WrittenReadsBack(f"{name}: what is written reads back", frames)
+        recorded = b"".join(listed(frame, moment=300 * at) for at, frame in enumerate(frames))
+        yield Replays(f"{name}: the slow subscriber agrees", recorded, [BLOCK])
+        yield Watches(f"{name}: the slow watch agrees", recorded, 4000)

@@ -1,7 +1,7 @@
 """Sampled Values: fields and their texts, spellings, and each fault at its place. Where they are not read, each frame is
 refused by its EtherType."""
 from frames import SAMPLED, SAMPLED_ENVELOPE, SAMPLED_LINE, asdu, element, framed, put, with_asdus, with_length
-from harness import Case, listed, refuse, rewrite, show, text
+from harness import Case, check, listed, refuse, rewrite, show, text
 from reference import APDUS_READ
 
 TAG = b"\x81\x00\x80\x00"
@@ -150,9 +150,11 @@ def cases():
     for name, frame, shown in good_frames():
         yield show(name, frame, shown) if is_read else unread(name, frame)
         yield rewrite(f"{name}, rewritten", frame, frame) if is_read else unread(f"{name}, not rewritten", frame)
+        yield check(f"{name}, checked", frame) if is_read else unread(f"{name}, not checked", frame)
     for name, frame in spellings():
         yield show(name, frame, SAMPLED_LINE) if is_read else unread(name, frame)
         yield rewrite(f"{name}, rewritten", frame, SAMPLED) if is_read else unread(f"{name}, not rewritten", frame)
+        yield check(f"{name}, checked", frame, "not-written") if is_read else unread(f"{name}, not checked", frame)
     for name, frame, place, cause in [*faults_of_the_apdu(), *faults_of_the_asdus(), *faults_of_fields()]:
         yield refuse(name, frame, place, cause) if is_read else unread(name, frame)
     for name, frame in (("each cut", SAMPLED), ("each cut of eight ASDUs", with_asdus(*[asdu()] * 8))):

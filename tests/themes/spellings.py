@@ -1,6 +1,6 @@
 """Every spelling of one frame is shown alike, and rewriting gives the one written form."""
 from frames import WORKED, WORKED_LINE, element, framed, put, size_octets, with_fields, with_members
-from harness import keep, listed, rewrite, show, Case
+from harness import Case, check, keep, listed, relisted, rewrite, show
 
 
 def spellings():
@@ -36,13 +36,16 @@ def too_long_when_written():
 def cases():
     yield show("the written form itself", WORKED, WORKED_LINE)
     yield rewrite("the written form itself, rewritten", WORKED, WORKED)
+    yield check("the written form itself, checked", WORKED)
     for name, frame in spellings():
         yield show(name, frame, WORKED_LINE)
         yield rewrite(f"{name}, rewritten", frame, WORKED)
+        yield check(f"{name}, checked", frame, "not-written")
     for name, frame in too_long_when_written():
         yield keep(name, frame)
+        yield check(f"{name}, checked", frame, "not-written")
     yield Case("all spellings in one list", ["rewrite"], listed(*[frame for _, frame in spellings()]),
-               listed(*[WORKED] * len(list(spellings()))))
+               relisted(*[WORKED] * len(list(spellings()))))
     yield rewrite("true as any octet", with_fields(simulation=b"\x87\x01\x40"), with_fields(simulation=b"\x87\x01\xff"))
     yield rewrite("the greatest number", with_fields(sq_num=element(0x86, b"\0\0\xff\xff\xff\xff")),
                   with_fields(sq_num=element(0x86, b"\0\xff\xff\xff\xff")))

@@ -1,10 +1,14 @@
-"""A list is answered while it is read: text comes before the input ends, and memory does not grow with the list."""
+"""A list is answered while it is read: text comes before the input ends, and memory does not grow with the list. Where the
+system refuses memory, that is said."""
+import resource
 import subprocess
 import tempfile
 import threading
 
-from frames import WORKED, WORKED_LINE
-from harness import SECONDS, first_difference, listed, peak_memory, text
+from captures import header, record
+from frames import SAMPLED, WORKED, WORKED_LINE, put
+from harness import SECONDS, first_difference, listed, peak_memory, run, text
+from themes.devices import CHANGE, SCRIPT
 
 FRAMES = 4000
 SEEN_FIRST = 65536
@@ -50,24 +54,76 @@ class ComesEarly:
 
 
 class DoesNotGrow:
-    """A long list takes no more memory than a short one."""
+    """A long input takes no more memory than a short one: a head, and then the same octets again and again."""
 
-    def __init__(self, command):
-        self.name, self.command = f"{command} holds no list", command
+    def __init__(self, name, words, unit, head=b""):
+        self.name, self.words, self.unit, self.head = f"{name} is not held", words, unit, head
 
     def peak(self, program, count):
-        """The most memory that a run over so many frames takes, in kilobytes."""
+        """The most memory of a run over so many units, in kilobytes."""
         with tempfile.TemporaryFile() as octets:
-            line = listed(WORKED)
+            octets.write(self.head)
             for _ in range(count // 1000):
-                octets.write(line * 1000)
+                octets.write(self.unit * 1000)
             octets.seek(0)
-            return peak_memory([*program, self.command], octets)
+            return peak_memory([*program, *self.words], octets)
 
     def why_wrong(self, program):
         short, long = self.peak(program, 1000), self.peak(program, 100000)
         return [f"{short} kB for a short list, {long} kB for a long one"] if long > short + GROWTH else []
 
 
+class WantsMemory:
+    """Where memory is refused, the whole lines of a front of the text stand written, and the status is 5."""
+
+    PAGE = 4096
+    AMPLE = 64 * 2**20
+
+    def __init__(self, words, octets):
+        self.name, self.words, self.octets = f"{words[0]} wants memory", words, octets
+
+    def limited(self, program, most):
+        """A run in so much memory."""
+        how = {"preexec_fn": lambda: resource.setrlimit(resource.RLIMIT_AS, (most, most))}
+        return run(program, self.words, self.octets, **how)
+
+    def least(self, program, status):
+        """About the least memory in which the program ends as it does in ample memory."""
+        low, high = 0, self.AMPLE
+        while high - low > self.PAGE:
+            middle = (low + high) // 2 // self.PAGE * self.PAGE
+            low, high = (low, middle) if self.limited(program, middle)[2] == status else (middle, high)
+        return high
+
+    def why_wrong(self, program):
+        whole, _, status = self.limited(program, self.AMPLE)
+        least, why, refused = self.least(program, status), [], 0
+        for pages in range(1, 200):
+            wrote, complained, got = self.limited(program, least - pages * self.PAGE)
+            if got == 5:
+                refused += 1
+                why += [] if complained == b"out of memory\n" else [f"says {complained!r}"]
+                is_front = whole.startswith(wrote) and wrote[-1:] in (b"", b"\n")
+                why += [] if is_front else [f"wrote {wrote[-80:]!r}"]
+            elif got != status:
+                # The system could not even load the program.
+                break
+        return why[:3] or ([] if refused else ["no limit of memory gives status 5"])
+
+
 def cases():
-    return [ComesEarly(), DoesNotGrow("show"), DoesNotGrow("rewrite")]
+    replay, watch = ["replay", "0001,G,D,,1,1"], ["watch", "--period", "4000", "--id", "S"]
+    frames = listed(b"\1", WORKED) + b"X"
+    yield ComesEarly()
+    for words in (["show"], ["check"], ["rewrite"], replay):
+        yield DoesNotGrow(f"a list under {words[0]}", words, listed(WORKED))
+        yield WantsMemory(words, frames)
+    yield DoesNotGrow("a list of notes", ["check"], listed(put(WORKED, at3=4, at66=1)))
+    yield DoesNotGrow("a list of faults under replay", replay, listed(b"\1"))
+    yield DoesNotGrow("a list of samples", watch, listed(SAMPLED))
+    yield WantsMemory(watch, listed(b"\1", SAMPLED) + b"X")
+    yield DoesNotGrow("a script", ["publish"], CHANGE + b"poll,4\n", SCRIPT)
+    yield WantsMemory(["publish"], SCRIPT + CHANGE * 3 + b"X")
+    yield DoesNotGrow("a capture", ["import"], record(1, 2, WORKED), header())
+    yield DoesNotGrow("a capture of records that are left out", ["import"], record(1, 2, bytes(2001)), header())
+    yield WantsMemory(["import"], header() + record(1, 2, WORKED) + b"X")

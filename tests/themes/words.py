@@ -1,29 +1,131 @@
-"""The words of the command line. The texts of help and of refusals are not compared."""
-from harness import Case
+"""The words of the command line: which help stands at which subcommand, the version, and words that are refused."""
+import pathlib
+import re
+import shlex
+import subprocess
+
+from harness import SECONDS, Case, clipped
+from reference import ABOUT, COMMANDS, HELP, TAKES, VERSION
+
+TOP = pathlib.Path(__file__).resolve().parent.parent.parent
 
 
 class Helps(Case):
-    """Help goes to standard output and ends with status 0."""
+    """Help goes to standard output, has these lines in this order and none of those, and ends with status 0."""
+
+    def __init__(self, words, lines, lacking=()):
+        super().__init__(" ".join(words), words)
+        self.lines, self.lacking = lines, lacking
 
     def why_wrong(self, program):
         wrote, complained, status = self.run(program)
         why = [] if status == 0 else [f"ended with status {status}"]
-        why += [] if wrote else ["standard output is empty"]
-        return why + (["standard error is not empty"] if complained else [])
+        why += ["standard error is not empty"] if complained else []
+        rest = [" ".join(line.split()) for line in wrote.decode("ascii", "replace").splitlines()]
+        why += [f"help tells of another subcommand: {line}" for line in self.lacking if line in rest]
+        for line in self.lines:
+            if line not in rest:
+                return [*why, f"help lacks {line!r}, or has it elsewhere: {clipped(wrote)}"]
+            rest = rest[rest.index(line) + 1:]
+        return why
+
+
+class Begins(Case):
+    """Help begins with an example of its command that runs as it stands, and says the exit statuses and where to read more."""
+
+    def __init__(self, words):
+        super().__init__(f"the example of {' '.join(words)}", words)
+
+    def why_wrong(self, program):
+        wrote, _, status = self.run(program)
+        why = [] if status == 0 else [f"ended with status {status}"]
+        named = "goose" if len(self.words) == 1 else f"goose {self.words[0]}"
+        found = re.match(rf"Example: {named}((?: .*)? < examples/[\w.]+)\n", wrote.decode("ascii"))
+        if not found:
+            return [*why, f"help begins with no example: {clipped(wrote)}"]
+        words = "" if named == "goose" else self.words[0]
+        ran = subprocess.run(["bash", "-c", f"{shlex.join(program)} {words}{found[1]}"], cwd=TOP, stdin=subprocess.DEVNULL,
+                             stdout=subprocess.PIPE, stderr=subprocess.PIPE, timeout=SECONDS)
+        why += [] if ran.returncode in (0, 1) and ran.stdout and not ran.stderr else [f"the example ends so: {ran}"]
+        return why + [f"help lacks {part!r}" for part in (b"Exit status: 0 done, ", b"docs/FORMATS.md") if part not in wrote]
 
 
 class Refuses(Case):
-    """Words that are no command: a message on standard error, nothing written, status 2."""
+    """Words that are no command: a message on standard error that names the word, nothing written, status 2."""
+
+    def __init__(self, words, named):
+        super().__init__(f"refuses {words}", words, b"X\n")
+        self.named = named
 
     def why_wrong(self, program):
         wrote, complained, status = self.run(program)
         why = [] if status == 2 else [f"ended with status {status}"]
         why += ["standard output is not empty"] if wrote else []
-        return why + ([] if complained else ["standard error is empty"])
+        is_told = complained.startswith(b"error: ") and self.named in complained
+        return why + ([] if is_told else [f"standard error does not name {self.named!r}: {clipped(complained)!r}"])
+
+
+def helps():
+    for word in ("--help", "-h"):
+        yield Helps([word], [ABOUT, "Usage: goose <COMMAND>", *[f"{name} {said}" for name, said in HELP.items()],
+                             "-h, --help Print help", "-V, --version Print version"])
+        for name, said in HELP.items():
+            yield Helps([name, word], [said, f"Usage: goose {name}{TAKES.get(name, '')}", "-h, --help Print help"],
+                        [ABOUT, *[other for other in HELP.values() if other != said]])
+    yield Begins(["--help"])
+    for name in HELP:
+        yield Begins([name, "--help"])
+    for word in ("--version", "-V"):
+        yield Case(word, [word], b"X\n", f"{VERSION}\n".encode())
+
+
+def refusals():
+    for words, named in (
+        ([], b"'goose' requires a subcommand"), (["nothing"], b"'nothing'"), (["help"], b"'help'"), (["Show"], b"'Show'"),
+        (["CHECK"], b"'CHECK'"), (["rewrit"], b"'rewrit'"), (["shows"], b"'shows'"), ([""], b"''"), (["--nothing"], b"'--nothing'"),
+        (["-x"], b"'-x'"), ([b"sh\xffow"], b"UTF-8"), (["show", b"\xff"], b"UTF-8"),
+    ):
+        yield Refuses(words, named)
+    for name in [*COMMANDS, "publish", "import"]:
+        for words, named in (
+            ([name, "more"], b"'more'"), ([name, name], f"'{name}'".encode()), ([name, "--nothing"], b"'--nothing'"),
+            ([name, "--version"], b"'--version'"), ([name, "--", "more"], b"'more'"), (["--", name], f"'{name}'".encode()),
+        ):
+            yield Refuses(words, named)
+    for words, named in (
+        (["replay"], b"BLOCK"), (["replay", "--nothing"], b"'--nothing'"), (["replay", "-x", "0001,G,D,,1,1"], b"'-x'"),
+        (["--", "replay", "0001,G,D,,1,1"], b"'replay'"),
+    ):
+        yield Refuses(words, named)
+    five, name = ["watch", "--period", "5"], ["--id", "S"]
+    for words, named in (
+        (["watch"], b"--period <N>"), (["watch", *name], b"--period <N>"), (five, b"--id <TEXT>"), (["watch", "5", "S"], b"'5'"),
+        ([*five, "--id"], b"--id <TEXT>"), (["watch", "--period", *name], b"--period <N>"), ([*five, *name, *name], b"--id <TEXT>"),
+        ([*five, "--period=5", *name], b"--period <N>"), ([*five, *name, "more"], b"'more'"), ([*five, "--", *name], b"'--id'"),
+        ([*five, "--id", "-x"], b"'-x'"), ([*five, "--name", "S"], b"'--name'"), ([*five, "--period=6", *name], b"--period <N>"),
+        (["watch", "--period", "-1", *name], b"'-1'"), (["watch", "-p", "5", *name], b"'-p'"), (["--", *five, *name], b"'watch'"),
+        (["watch", "--Period", "5", *name], b"'--Period'"), ([*five, "--id", b"\xff"], b"UTF-8"),
+    ):
+        yield Refuses(words, named)
+    for period in ("0", "1", "65537", "99999"):
+        yield Refuses(["watch", "--period", period, *name], f"'--period <N>': {period} is not in 2..=65536".encode())
+    for period in ("-1", "-5"):
+        yield Refuses(["watch", f"--period={period}", *name], f"'--period <N>': {period} is not in 2..=65536".encode())
+    for period in ("", "x", " 5", "5 ", "5.0", "0x5", "5,0", "\u0665", "9" * 30):
+        yield Refuses(["watch", "--period", period, *name], f"invalid value '{period}' for '--period <N>'".encode())
+    for block in (
+        "", "0001", "0001,G,D,,1", "0001,G,D,,1,1,1", "001,G,D,,1,1", "00001,G,D,,1,1", "000g,G,D,,1,1", "0001,G,D,,,1",
+        "0001,G,D,,4294967296,1", "0001,G,D,,1,12345678901", "0001,G,D,,1,-1", "0001,G\x7f,D,,1,1", "0001,G\u00e9,D,,1,1",
+        " 0001,G,D,,1,1", "0001,G,D,,1,1 ",
+    ):
+        yield Case(f"no block: {block!r}", ["replay", "0001,G,D,,1,1", block], b"X\n", b"", 2, [b"block 1 BlockForm\n"])
+
+
+def accepted():
+    """The mark `--` behind a command changes nothing."""
+    for name, wrote in (("show", b"1 fault 1 Truncated\n"), ("check", b"1 fault 1 Truncated\n"), ("rewrite", b"V2\nF 0 01\n")):
+        yield Case(f"{name} --", [name, "--"], b"F 0 01\n", wrote, 0 if name == "show" else 1)
 
 
 def cases():
-    for words in (["--help"], ["show", "--help"], ["rewrite", "--help"], ["--version"]):
-        yield Helps(" ".join(words), words, None)
-    for words in ([], ["nothing"], ["Show"], ["show", "more"], ["--nothing"], ["show", "--nothing"], [""], [b"sh\xffow"]):
-        yield Refuses(f"refuses {words}", words, b"X\n")
+    return [*helps(), *refusals(), *accepted()]

@@ -1,0 +1,174 @@
+"""What a subscriber makes of lists: worked ones, and lists made by chance of which the slow subscriber says what comes."""
+import os
+import pathlib
+import random
+import shlex
+import subprocess
+import tempfile
+
+import subscriber
+from frames import ENVELOPE, SAMPLED, element, with_fields, with_members
+from harness import SECONDS, Case, first_difference, run, text
+
+SEED = 61850
+BY_BLOCK = pathlib.Path(__file__).resolve().parent.parent.parent / "examples" / "replay_by_block"
+BLOCK = "0001,G,D,,1,1"
+BLOCKS = [BLOCK, "0002,G,D,,1,1", "0001,H,D,I,1,2"]
+
+
+def number(identifier, it):
+    """An unsigned number in its fewest octets."""
+    return element(identifier, it.to_bytes(it.bit_length() // 8 + 1, "big"))
+
+
+def flag(identifier, is_on):
+    return element(identifier, b"\xff" if is_on else b"\x00")
+
+
+def state(st, sq, live=2000, simulation=False, **fields):
+    """The worked frame with these numbers."""
+    return with_fields(st_num=number(0x85, st), sq_num=number(0x86, sq), live=number(0x81, live),
+                       simulation=flag(0x87, simulation), **fields)
+
+
+def line(moment, frame):
+    return b"F %d " % moment + frame.hex().encode() + b"\n"
+
+
+class Replays:
+    """A list of which the program writes what the slow subscriber writes."""
+
+    def __init__(self, name, octets, words):
+        self.name, self.octets, self.words = name, octets, words
+
+    def why_wrong(self, program):
+        lines, wanted_status = subscriber.replay(self.octets, self.words)
+        wrote, complained, status = run(program, ["replay", *self.words], self.octets)
+        difference = first_difference(text(lines), wrote)
+        why = [difference] if difference else []
+        why += [f"standard error is not empty: {complained!r}"] if complained else []
+        return why + ([f"ended with status {status}, and not {wanted_status}"] if status != wanted_status else [])
+
+
+class ManyLists:
+    """Ten thousand short lists over 1 to 50 blocks, of which the program writes what the scan of the slow subscriber writes.
+    Blocks share APPIDs and gocbRefs, so that each pair of them counts."""
+
+    COUNT, MOST = 10000, 50
+
+    name = "ten thousand lists over 1 to 50 blocks"
+
+    def why_wrong(self, program):
+        chance = random.Random(SEED)
+        names = [(1 + at % 8, b"G%d" % (at // 8)) for at in range(self.MOST)]
+        words = [f"{app_id:04x},{ref.decode()},D,,1,1" for app_id, ref in names]
+        sorts = [(st, sq, live, simulation) for st in (1, 2) for sq in (0, 1) for live in (1, 3) for simulation in (False, True)]
+        made = {(name, sort): self.frame(name, sort) for name in names for sort in sorts}
+        for at in range(self.COUNT):
+            count = chance.choice([1, 2, 3, 10, self.MOST])
+            moment, lines = 0, []
+            for _ in range(chance.randrange(1, 13)):
+                moment += chance.choice([0, 1, 1, 2])
+                kind = chance.randrange(8)
+                if kind < 6:
+                    lines.append(line(moment, made[chance.choice(names[:count + 1]), chance.choice(sorts)]))
+                else:
+                    lines.append(b"C %d\n" % moment if kind == 6 else b"M %d %s\n" % (moment, chance.choice([b"on", b"off"])))
+            octets = b"".join(lines)
+            wanted, _ = subscriber.replay(octets, words[:count])
+            wrote, complained, status = run(program, ["replay", *words[:count]], octets)
+            if (wrote, complained, status) != (text(wanted), b"", 0):
+                return [f"list {at} of {count} blocks: {octets!r}", first_difference(text(wanted), wrote) or f"status {status}"]
+        return []
+
+    @staticmethod
+    def frame(name, sort):
+        st, sq, live, simulation = sort
+        frame = state(st, sq, live, simulation, gocb_ref=element(0x80, name[1]))
+        return frame[:14] + name[0].to_bytes(2, "big") + frame[16:]
+
+
+class Split:
+    """A list that examples/replay_by_block replays block by block, with the text and the status of one run."""
+
+    def __init__(self, name, octets, words):
+        self.name, self.octets, self.words = name, octets, words
+
+    def why_wrong(self, program):
+        wanted, _, wanted_status = run(program, ["replay", *self.words], self.octets)
+        with tempfile.NamedTemporaryFile() as listed:
+            listed.write(self.octets)
+            listed.flush()
+            ran = subprocess.run([BY_BLOCK, listed.name, *self.words], stdin=subprocess.DEVNULL, stdout=subprocess.PIPE,
+                                 stderr=subprocess.PIPE, env={**os.environ, "GOOSE": shlex.join(program)}, timeout=SECONDS)
+        difference = first_difference(wanted, ran.stdout)
+        why = [difference] if difference else []
+        return why + ([f"ended with status {ran.returncode}, and not {wanted_status}"] if ran.returncode != wanted_status else [])
+
+
+def some_frame(chance):
+    """A frame of few numbers, so that repeated, lost and late ones are common."""
+    other = chance.randrange(12)
+    fields = {}
+    if other == 0:
+        fields["dat_set"] = element(0x82, b"E")
+    elif other == 1:
+        fields["go_id"] = element(0x83, chance.choice([b"", b"I", b"J"]))
+    elif other == 2:
+        fields["conf_rev"] = number(0x88, 2)
+    elif other == 3:
+        fields["nds_com"] = flag(0x89, True)
+    elif other == 4:
+        fields["gocb_ref"] = element(0x80, chance.choice([b"H", b"", b"GG"]))
+    elif other == 5:
+        return chance.choice([SAMPLED, ENVELOPE, with_members(b"\x83\x01\xff" * 2, 2), with_members(b"", 0), b"\0"])
+    frame = state(chance.randrange(5), chance.randrange(4), chance.choice([0, 1, 2, 3, 4294967295]), chance.random() < 0.4,
+                  **fields)
+    return frame[:14] + chance.choice([b"\0\1", b"\0\1", b"\0\1", b"\0\2", b"\0\3"]) + frame[16:]
+
+
+def some_list(chance, count):
+    """A list whose moments mostly rise, with clocks and modes."""
+    moment, lines = 0, [chance.choice([b"", b"V2\n", b"# x\n"])]
+    for _ in range(count):
+        moment = max(0, moment + chance.choice([0, 0, 1, 1, 2, 1000, -1]))
+        sort = chance.randrange(8)
+        if sort == 0:
+            lines.append(b"C %d\n" % moment)
+        elif sort == 1:
+            lines.append(b"M %d %s\n" % (moment, chance.choice([b"on", b"on", b"off"])))
+        else:
+            lines.append(line(moment, some_frame(chance)))
+    return b"".join(lines + chance.choice([[], [], [], [b"X\n"]]))
+
+
+def worked():
+    first = "st=1 sq=0 t=0000000000000000 {true}\n"
+    yield Case("each growth of the numbers", ["replay", BLOCK], b"".join(
+        line(0, state(*pair)) for pair in ((1, 0), (1, 1), (1, 0), (2, 0), (1, 9), (2, 5), (2, 4), (4294967295, 4294967295))),
+        f"1 act 0 {first}2 refreshed 0 st=1 sq=1\n3 old 0 st=1 sq=0\n4 act 0 {first.replace('st=1', 'st=2')}"
+        "5 old 0 st=1 sq=9\n6 refreshed 0 st=2 sq=5\n7 old 0 st=2 sq=4\n"
+        f"8 act 0 {first.replace('st=1 sq=0', 'st=4294967295 sq=4294967295')}".encode())
+    yield Case("an expiry a microsecond late", ["replay", BLOCK], b"V2\n" + line(0, state(1, 0)) + b"C 1999999\nC 2000000\n",
+               f"2 act 0 {first}4 expired 0\n".encode())
+    yield Case("a frame at the deadline begins anew", ["replay", BLOCK], line(0, state(2, 0)) + line(2000, state(1, 0)),
+               f"1 act 0 {first.replace('st=1', 'st=2')}2 expired 0\n2 act 0 {first}".encode())
+    yield Case("over to simulated frames and back", ["replay", BLOCK],
+               line(0, state(5, 0)) + line(1, state(1, 0, simulation=True)) + b"M 2 on\n" + line(3, state(1, 0, simulation=True))
+               + line(4, state(6, 0)) + b"M 5 off\n" + line(6, state(5, 0)),
+               (f"1 act 0 {first.replace('st=1', 'st=5')}2 refused 0 Simulated\n4 switched 0\n4 act 0 {first}"
+                f"5 refused 0 Simulated\n6 switched 0\n7 act 0 {first.replace('st=1', 'st=5')}").encode())
+    yield Case("an empty list", ["replay", BLOCK])
+    yield Case("behind the mark of words", ["replay", "--", BLOCK], line(0, state(1, 0)), f"1 act 0 {first}".encode())
+    yield Case("one block twice", ["replay", BLOCK, BLOCKS[1], "0001,G,E,I,2,3"], b"X\n", b"blocks SameBlockTwice 2\n", 3)
+
+
+def cases():
+    yield from worked()
+    chance = random.Random(SEED)
+    for at in range(60):
+        yield Replays(f"a list by chance, {at}", some_list(chance, 60), BLOCKS[:1 + at % 3])
+    yield Replays("a long list by chance", some_list(chance, 5000), BLOCKS)
+    yield ManyLists()
+    for at in range(6):
+        yield Split(f"block by block, {at}", some_list(chance, 300), BLOCKS[:1 + at % 3])
