@@ -22,6 +22,3 @@ pub use crate::capture_fault::{CaptureCause, CaptureFault};
 pub use crate::form::{CaptureForm, FractionUnit, OctetOrder};
 pub use crate::header::read_header;
 pub use crate::record::{Captured, LONGEST_FRAME, read_record};
-
-#[cfg(test)]
-mod tests;

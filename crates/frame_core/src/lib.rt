@@ -61,6 +61,3 @@ pub use crate::view_encoding::encode_view;
 pub use crate::viewing::view_frame;
 pub use crate::vlan_tag::VlanTag;
 pub use crate::whole_write::{WriteFault, put_all};
-
-#[cfg(test)]
-mod tests;

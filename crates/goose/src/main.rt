@@ -4,7 +4,7 @@
 #![tactic(auto)]
 
 ghost use Rattle.std.specs.Prelude.{IfOk};
-ghost use Rattle.goose_cmd.specs.CommandLine.{HasPeriod, said};
+ghost use Rattle.words_core.specs.CommandLine.{HasPeriod, said};
 
 use frame_core::{FromRead, ToWrite};
 use goose_cmd::{

@@ -5,7 +5,7 @@ use Rattle.std.proofs.lemmas.List.{append_assoc}
 use Rattle.frame_core.specs.declared.line_rules.ItemFault.{ItemFault}
 use Rattle.frame_core.specs.Lines.{Stop}
 use Rattle.frame_core.specs.Items.{Listing}
-use Rattle.goose_cmd.specs.EngineText.{Text, Account, IsPlain, told_after, put_step, last_text, text_of, told}
+use Rattle.engine_core.specs.EngineText.{Text, Account, IsPlain, told_after, put_step, last_text, text_of, told}
 
 module _ {X C : Type 0} (t : Text X C) (line : ℕ × X → List ℕ) (finds : ℕ × X → Bool) (p : IsPlain t line finds) where
   plain : (before es : List (ℕ × X)) (stop : Stop (ItemFault C)) →

@@ -22,13 +22,13 @@ use Rattle.publish_core.proofs.Whole.{greatest-push}
 use Rattle.subscribe_core.proofs.Traces.{get_middle}
 use Rattle.exchange_laws.specs.PublishedList.{Sent, published_events, sent_from, with_frame}
 use Rattle.exchange_laws.specs.Stems.{AreAccepted}
-use Rattle.goose_cmd.specs.declared.script.ScriptCause.{ScriptCause}
-use Rattle.goose_cmd.specs.declared.script.ScriptItem.{ScriptItem}
-use Rattle.goose_cmd.specs.declared.script.ScriptItem.TheVariants as item
-use Rattle.goose_cmd.specs.EngineText.{Account, Text, put_step, text_of, told_after}
+use Rattle.script_core.specs.declared.script.ScriptCause.{ScriptCause}
+use Rattle.script_core.specs.declared.script.ScriptItem.{ScriptItem}
+use Rattle.script_core.specs.declared.script.ScriptItem.TheVariants as item
+use Rattle.engine_core.specs.EngineText.{Account, Text, put_step, text_of, told_after}
 use Rattle.goose_cmd.specs.PublishedReplay.{PublishedTextsReplay, ScriptsGiveLists}
-use Rattle.goose_cmd.specs.PublishText.{IsCallText, IsPublishText, IsRefused, IsSound, answer_text, item_of_call, items_of_lines, script_of}
-use Rattle.goose_cmd.proofs.PublishLemmas.{items-push}
+use Rattle.engine_core.specs.PublishText.{IsCallText, IsPublishText, IsRefused, IsSound, answer_text, item_of_call, items_of_lines, script_of}
+use Rattle.engine_core.proofs.PublishLemmas.{items-push}
 use Rattle.goose_cmd.proofs.WrittenLists.{published_lists_replay}
 
 -- the frames of the calls that are left, as they are written

@@ -20,19 +20,19 @@ use Rattle.frame_core.specs.Lines.{Stop, reading}
 use Rattle.publish_core.specs.declared.table.Step.{Step}
 use Rattle.publish_core.specs.Frames.{Setup, change, setup}
 use Rattle.publish_core.specs.Run.{Act, Call, Changed, Polled, call}
-use Rattle.goose_cmd.specs.declared.script.ScriptCause.{ScriptCause}
-use Rattle.goose_cmd.specs.declared.script.ScriptItem.{ScriptItem}
-use Rattle.goose_cmd.specs.declared.script.ScriptItem.TheVariants as item
-use Rattle.goose_cmd.specs.declared.script.ScriptLines.{ScriptLines}
-use Rattle.goose_cmd.specs.declared.script.ScriptLines.TheVariants.{First, After}
-use Rattle.goose_cmd.specs.declared.script.ScriptPart.{ScriptPart}
-use Rattle.goose_cmd.specs.declared.script.ScriptPart.TheVariants as part
-use Rattle.goose_cmd.specs.declared.script_control.Numbers.{Numbers}
-use Rattle.goose_cmd.specs.Commas.{at_most_32_bits, comma_fields, number_in, octets_in, text_in, word_in}
-use Rattle.goose_cmd.specs.Script.{ControlLine, all_said, block_of_line, call_said, change_of, change_said, change_to, control_of, control_said, control_with, flag_in, line_said, members_in, numbers_with, poll_of, poll_said, script_rules, script_said, settled, step_of, step_said, tag_in, time_in, too_early}
-use Rattle.goose_cmd.specs.PublishStep.{is_good, with_step}
-use Rattle.goose_cmd.specs.PublishText.{IsSound, ScriptsAreInOrder, StandsBefore, item_of_act, item_of_call, items_of_lines, script_of}
-use Rattle.goose_cmd.proofs.PublishLemmas.{good_each}
+use Rattle.script_core.specs.declared.script.ScriptCause.{ScriptCause}
+use Rattle.script_core.specs.declared.script.ScriptItem.{ScriptItem}
+use Rattle.script_core.specs.declared.script.ScriptItem.TheVariants as item
+use Rattle.script_core.specs.declared.script.ScriptLines.{ScriptLines}
+use Rattle.script_core.specs.declared.script.ScriptLines.TheVariants.{First, After}
+use Rattle.script_core.specs.declared.script.ScriptPart.{ScriptPart}
+use Rattle.script_core.specs.declared.script.ScriptPart.TheVariants as part
+use Rattle.script_core.specs.declared.script_control.Numbers.{Numbers}
+use Rattle.script_core.specs.Commas.{at_most_32_bits, comma_fields, number_in, octets_in, text_in, word_in}
+use Rattle.script_core.specs.Script.{ControlLine, all_said, block_of_line, call_said, change_of, change_said, change_to, control_of, control_said, control_with, flag_in, line_said, members_in, numbers_with, poll_of, poll_said, script_rules, script_said, settled, step_of, step_said, tag_in, time_in, too_early}
+use Rattle.engine_core.specs.PublishStep.{is_good, with_step}
+use Rattle.engine_core.specs.PublishText.{IsSound, ScriptsAreInOrder, StandsBefore, item_of_act, item_of_call, items_of_lines, script_of}
+use Rattle.engine_core.proofs.PublishLemmas.{good_each}
 
 -- ---- scripts that grow
 

@@ -20,11 +20,11 @@ use Rattle.subscribe_core.proofs.Runs.{entries_are_one, entries_stay}
 use Rattle.exchange_laws.specs.PublishedList.{Sent, one_entry_each, published_events, sent_from}
 use Rattle.exchange_laws.proofs.OneFrame.{one_apart}
 use Rattle.exchange_laws.proofs.PublishedLists.{whole_runs_replay}
-use Rattle.goose_cmd.specs.EngineText.{Account, Text, put_step, told_after}
-use Rattle.goose_cmd.specs.EntryText.{entry_lines}
+use Rattle.engine_core.specs.EngineText.{Account, Text, put_step, told_after}
+use Rattle.text_core.specs.EntryText.{entry_lines}
 use Rattle.goose_cmd.specs.ListText.{CanBeListed, PublishedListsReplay, WrittenListsReplay, lines_from, list_of_text}
-use Rattle.goose_cmd.specs.ReplayText.{IsReplayText, events_of}
-use Rattle.goose_cmd.proofs.ReplayLemmas.{events_push}
+use Rattle.engine_core.specs.ReplayText.{IsReplayText, events_of}
+use Rattle.engine_core.proofs.ReplayLemmas.{events_push}
 
 -- events with the numbers of their lines, of which the first is n
 abbrev numbered : {A : Type 0} → ℕ → List (Event A) → List (ℕ × Event A)

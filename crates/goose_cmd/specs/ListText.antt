@@ -16,9 +16,9 @@ use Rattle.subscribe_core.specs.declared.entry.Entry.{Entry}
 use Rattle.subscribe_core.specs.Entries.{AreEntries}
 use Rattle.subscribe_core.specs.Standing.{AreApart}
 use Rattle.exchange_laws.specs.PublishedList.{IsWholeRun, one_entry_each, published_events, sent_from}
-use Rattle.goose_cmd.specs.EngineText.{Text, text_of, told}
-use Rattle.goose_cmd.specs.EntryText.{entry_lines}
-use Rattle.goose_cmd.specs.ReplayText.{IsReplayText}
+use Rattle.engine_core.specs.EngineText.{Text, text_of, told}
+use Rattle.text_core.specs.EntryText.{entry_lines}
+use Rattle.engine_core.specs.ReplayText.{IsReplayText}
 
 -- a list of version 2: the line `V2`, and the one line of each event
 abbrev pub list_text : {A : Type 0} → List (Event A) → List ℕ

@@ -13,12 +13,12 @@ use Rattle.publish_core.specs.Run.{AreAnswers, Call}
 use Rattle.subscribe_core.specs.declared.block.Block.{Block}
 use Rattle.exchange_laws.specs.PublishedList.{IsWholeRun, one_entry_each, published_events, sent_from}
 use Rattle.exchange_laws.specs.Stems.{AreAccepted}
-use Rattle.goose_cmd.specs.declared.script.ScriptCause.{ScriptCause}
-use Rattle.goose_cmd.specs.declared.script.ScriptItem.{ScriptItem}
-use Rattle.goose_cmd.specs.EngineText.{Text, text_of, told}
+use Rattle.script_core.specs.declared.script.ScriptCause.{ScriptCause}
+use Rattle.script_core.specs.declared.script.ScriptItem.{ScriptItem}
+use Rattle.engine_core.specs.EngineText.{Text, text_of, told}
 use Rattle.goose_cmd.specs.ListText.{CanBeListed, lines_from, list_text}
-use Rattle.goose_cmd.specs.PublishText.{IsPublishText, IsSound, items_of_lines, script_of}
-use Rattle.goose_cmd.specs.ReplayText.{IsReplayText}
+use Rattle.engine_core.specs.PublishText.{IsPublishText, IsSound, items_of_lines, script_of}
+use Rattle.engine_core.specs.ReplayText.{IsReplayText}
 
 -- a script that is read to its end says these calls of a publisher
 pub record SaysRun {A : Type 0} (p : Setup A) (calls : List Call) (script : Listing (ScriptItem A) ScriptCause) : Type 0 where

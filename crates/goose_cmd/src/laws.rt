@@ -2,9 +2,9 @@
 ghost use Rattle.std.specs.Prelude.{◌≡◌, ◌++◌, ℕ, List, Bool};
 ghost use Rattle.std.specs.List.{flat_map, list_any};
 ghost use Rattle.frame_core.specs.Items.{Listing};
-ghost use Rattle.goose_cmd.specs.EngineText.{IsPlain, Text, last_text, text_of, told};
+ghost use Rattle.engine_core.specs.EngineText.{IsPlain, Text, last_text, text_of, told};
 ghost use Rattle.goose_cmd.specs.ListText.{PublishedListsReplay, WrittenListsReplay};
-ghost use Rattle.goose_cmd.specs.PublishText.{ScriptsAreInOrder};
+ghost use Rattle.engine_core.specs.PublishText.{ScriptsAreInOrder};
 ghost use Rattle.goose_cmd.specs.PublishedReplay.{PublishedTextsReplay, ScriptsGiveLists};
 
 pub use exchange_laws::laws::{

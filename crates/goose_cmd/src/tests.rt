@@ -1,9 +1,9 @@
-//! Engines over memory, in any pieces, and where a device fails; and the words of the command line.
+//! The engines and the reader of scripts over memory, in any pieces, and where a device fails; control blocks and the words
+//! of the command line.
 
 mod blocks;
 mod checking;
 mod command_line;
-mod devices;
 mod first_line;
 mod importing;
 mod publishing;

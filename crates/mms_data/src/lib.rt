@@ -16,8 +16,6 @@ mod putting;
 mod reading;
 mod spellable;
 mod standing;
-#[cfg(test)]
-mod tests;
 mod time;
 pub mod utc;
 mod value;

@@ -11,8 +11,6 @@ mod putting;
 mod reading;
 mod sampled;
 mod spellable;
-#[cfg(test)]
-mod tests;
 mod view;
 mod view_writing;
 mod viewing;

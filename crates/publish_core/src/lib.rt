@@ -18,8 +18,6 @@ mod frames;
 pub mod laws;
 mod publisher;
 mod table;
-#[cfg(test)]
-mod tests;
 
 pub use crate::control::Control;
 pub use crate::fault::PublishFault;

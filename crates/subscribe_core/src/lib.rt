@@ -12,8 +12,6 @@ mod names;
 mod registers;
 mod rows;
 mod subscriber;
-#[cfg(test)]
-mod tests;
 mod twice;
 mod watch;
 

@@ -1,6 +1,6 @@
 //! Control blocks from their texts.
 
-use crate::block_text::{BlockError, read_block};
+use crate::{BlockError, read_block};
 use refusing_alloc::RefusingAlloc;
 use std::test::Fail;
 

@@ -1,12 +1,11 @@
 //! `check`.
 
-use crate::ending::Ending;
-use crate::engines::check::check;
-use crate::tests::devices::{NEVER, sink_of, source_of};
+use crate::{Ending, check};
 use frame_core::Sink;
 use std::alloc::Global;
 use std::process::Abort;
 use std::test::Fail;
+use test_devices::{NEVER, sink_of, source_of};
 
 // Whether `check` writes this text of this list, whatever the reader and the writer move at a time.
 fn checks<R: Abort>(rt: &R, alloc: Global, list: &[u8], text: &[u8], wanted: Ending) {

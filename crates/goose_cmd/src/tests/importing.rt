@@ -1,8 +1,6 @@
 //! `import`.
 
-use crate::ending::Ending;
-use crate::engines::import::import;
-use crate::tests::devices::{CountsLines, Endless, Full, NEVER, sink_of, source_of};
+use crate::{Ending, import};
 use frame_core::{FromRead, InputEnd, Sink, Source, ToWrite};
 use refusing_alloc::RefusingAlloc;
 use std::alloc::Global;
@@ -10,6 +8,7 @@ use std::io;
 use std::io::Read;
 use std::process::Abort;
 use std::test::Fail;
+use test_devices::{CountsLines, Endless, Full, NEVER, sink_of, source_of};
 
 // A header, least significant octets first, of microseconds.
 const HEADER: &[u8; 48] = b"d4c3b2a1020004000000000000000000ffff000001000000";

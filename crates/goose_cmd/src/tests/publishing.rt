@@ -1,16 +1,12 @@
 //! `publish`.
 
-use crate::block_text::read_block;
-use crate::ending::Ending;
-use crate::engines::check::check;
-use crate::engines::publish::publish;
-use crate::engines::replay::replay;
-use crate::tests::devices::{NEVER, sink_of, source_of};
+use crate::{Ending, check, publish, read_block, replay};
 use frame_core::{InputEnd, Sink, Source};
 use refusing_alloc::RefusingAlloc;
 use std::alloc::Global;
 use std::process::Abort;
 use std::test::Fail;
+use test_devices::{NEVER, sink_of, source_of};
 
 // Two steps, a change, polls before and at the ends of the waits, and a second change.
 const SCRIPT: &[u8] =

@@ -1,12 +1,9 @@
 //! Where memory is refused, at each growth in turn: whole lines of the earlier events stand written.
 
-use crate::ending::Ending;
-use crate::engines::check::check;
-use crate::engines::rewrite::rewrite;
-use crate::engines::show::show;
-use crate::tests::devices::{NEVER, sink_of, source_of};
+use crate::{Ending, check, rewrite, show};
 use refusing_alloc::RefusingAlloc;
 use std::test::Fail;
+use test_devices::{NEVER, sink_of, source_of};
 
 // Whether the octets are lines with their ends, or none.
 fn are_whole_lines(octets: &[u8]) -> bool {

@@ -1,16 +1,13 @@
 //! `replay`.
 
-use crate::block_text::read_block;
-use crate::ending::Ending;
-use crate::engines::replay::replay;
-use crate::laws;
-use crate::tests::devices::{NEVER, sink_of, source_of};
+use crate::{Ending, laws, read_block, replay};
 use frame_core::{InputEnd, Sink, Source};
 use refusing_alloc::RefusingAlloc;
 use std::alloc::Global;
 use std::process::Abort;
 use std::test::Fail;
 use subscribe_core::Block;
+use test_devices::{NEVER, sink_of, source_of};
 
 // The blocks that these texts say.
 fn blocks_of(alloc: Global, texts: &[&str]) -> Result<Vec<Block<Global>>, Fail> {

@@ -1,13 +1,13 @@
 //! What the lines of a script say, and why one is refused.
 
-use crate::script::{ScriptCause, ScriptItem, ScriptLines};
-use crate::tests::devices::{NEVER, source_of};
 use ber_core::{Cause, Fault};
 use frame_core::{ItemError, ItemFault, ItemReader};
 use mms_data::Value;
+use script_core::{ScriptCause, ScriptItem, ScriptLines};
 use std::alloc::Global;
 use std::process::Abort;
 use std::test::Fail;
+use test_devices::{NEVER, source_of};
 
 // A control line that is good.
 const CONTROL: &str = "control,010ccd010001,020000000001,,0001,G,D,,1,1,0,0,1";

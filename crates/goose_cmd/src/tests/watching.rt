@@ -1,11 +1,10 @@
 //! `watch`.
 
-use crate::ending::Ending;
-use crate::engines::watch::watch;
-use crate::tests::devices::{NEVER, sink_of, source_of};
+use crate::{Ending, watch};
 use frame_core::Sink;
 use refusing_alloc::RefusingAlloc;
 use std::test::Fail;
+use test_devices::{NEVER, sink_of, source_of};
 
 #[test]
 fn the_counter_goes_round_its_period(rt: HostRuntime) -> Result<(), Fail> {

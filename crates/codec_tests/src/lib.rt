@@ -1,0 +1,9 @@
+//! Tests of `ber_core`, `mms_data` and `pdu_core` by their public calls.
+#![tactic(auto)]
+
+#[cfg(test)]
+mod ber;
+#[cfg(test)]
+mod mms;
+#[cfg(test)]
+mod pdu;

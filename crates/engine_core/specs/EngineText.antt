@@ -1,0 +1,128 @@
+-- What an engine over a list of items writes: a text for each item, which may speak of all items before it, and a last one where the list has a fault or an item is refused.
+use Rattle.std.specs.Prelude.{◌≡◌, ◌≤◌, ◌⊎◌, ◌||◌, ℕ, Bool, true, false, List, [], ◌∷◌, ◌++◌, length, Option, Result, Ok, Err}
+use Rattle.std.specs.Io.KnownBytes.{Appends}
+use Rattle.frame_core.specs.declared.device.InputEnd.{InputEnd}
+use Rattle.frame_core.specs.declared.list_fault.ListCause.{ListCause}
+use Rattle.frame_core.specs.declared.list_fault.ListCause.TheVariants.{LineTooLong, LineForm, Moment, Hex, ListTooLong, ReadFailed}
+use Rattle.frame_core.specs.declared.line_rules.ItemFault.{ItemFault}
+use Rattle.frame_core.specs.declared.line_rules.ItemFault.TheVariants as fault
+use Rattle.frame_core.specs.Device.{AppendsFront}
+use Rattle.frame_core.specs.Lines.{Stop, StartsLine, finished, unfinished, faulty}
+use Rattle.frame_core.specs.Items.{Rules, Listing, listing, put_items}
+use Rattle.engine_core.specs.declared.ending.Ending.{Ending}
+use Rattle.engine_core.specs.declared.ending.Ending.TheVariants.{Done, Findings, InputFault, ReadFault, WriteFault, Memory}
+
+-- What an engine writes. Items come with the numbers of their lines.
+pub record Text (X C : Type 0) : Type 0 where
+  -- before anything is read
+  pub first : List ℕ
+  -- after these items, for this one: its text, and whether it is a finding; or why it is refused
+  pub step : List (ℕ × X) → ℕ × X → Result (List ℕ × Bool) C
+  -- last, on a fault
+  pub last : ItemFault C → List ℕ
+
+-- what is written of some items, whether one of them is a finding, and how they stop
+pub record Account (C : Type 0) : Type 0 where
+  pub text : List ℕ
+  pub found : Bool
+  pub stop : Stop (ItemFault C)
+
+-- what is written last: nothing, unless there is a fault
+abbrev pub last_text : {X C : Type 0} → Text X C → Stop (ItemFault C) → List ℕ
+last_text t finished = []
+last_text t unfinished = []
+last_text t (faulty f) = t.last f
+
+-- no item before this stop
+abbrev pub told_stop : {X C : Type 0} → Text X C → Stop (ItemFault C) → Account C
+told_stop t stop = record { text = last_text t stop; found = false; stop = stop }
+
+-- an item of the line n before the others; one that is refused ends the text by the fault of its line
+abbrev pub put_step : {X C : Type 0} → Text X C → ℕ → Result (List ℕ × Bool) C → Account C → Account C
+put_step t n (Ok s) rest = record { text = s.0 ++ rest.text; found = s.1 || rest.found; stop = rest.stop }
+put_step t n (Err why) rest = told_stop t (faulty (fault.Line n why))
+
+-- what is told of items that follow others
+unfoldable pub told_after : {X C : Type 0} → Text X C → List (ℕ × X) → List (ℕ × X) → Stop (ItemFault C) → Account C
+told_after t before [] stop = told_stop t stop
+told_after t before (e ∷ es) stop = put_step t e.0 (t.step before e) (told_after t (before ++ e ∷ []) es stop)
+
+-- what is told of the rest of a list, after these items
+abbrev pub told_rest : {X C : Type 0} → Text X C → List (ℕ × X) → Listing X C → Account C
+told_rest t before l = told_after t before l.items l.stop
+
+-- what is told of a whole list
+abbrev pub told : {X C : Type 0} → Text X C → Listing X C → Account C
+told t l = told_rest t [] l
+
+-- the whole text
+abbrev pub text_of : {X C : Type 0} → Text X C → Listing X C → List ℕ
+text_of t l = t.first ++ (told t l).text
+
+-- a fault of the lines is the reader's where it failed, and else the input's
+abbrev pub ending_of : ListCause → Ending
+ending_of ReadFailed = ReadFault
+ending_of LineTooLong = InputFault
+ending_of LineForm = InputFault
+ending_of Moment = InputFault
+ending_of Hex = InputFault
+ending_of ListTooLong = InputFault
+
+-- a line that is refused for what it says is the input's fault
+abbrev pub ending_at : {C : Type 0} → ItemFault C → Ending
+ending_at (fault.Lines f) = ending_of f.cause
+ending_at (fault.Line n why) = InputFault
+
+-- A run stopped at a line, with n lines before the text, which settled s: what stands written by then is the text of the items of all earlier lines, none of which was refused. From the start of that line on at most 8,192 of the octets given stand, and they read as the lines after `number` others that settled `at`.
+pub record StopsAt {S X C : Type 0} (r : Rules S X C) (s : S) (t : Text X C) (n : ℕ) (z : InputEnd) (text : List ℕ) (old : Option (List ℕ)) : Type 0 where
+  pub held : Option (List ℕ)
+  pub items : List (ℕ × X)
+  pub written : Appends old held (t.first ++ (told_after t [] items unfinished).text)
+  pub accepted : (told_after t [] items unfinished).stop ≡ unfinished
+  pub number : ℕ
+  pub at : S
+  pub front : List ℕ
+  pub rest : List ℕ
+  pub parts : text ≡ front ++ rest
+  pub starts : StartsLine z front rest
+  pub few : length rest ≤ 8192
+  pub earlier : listing r s z n text ≡ put_items items (listing r at z number rest)
+
+-- there is a fault, and the whole text was written
+abbrev pub EndsByFault : {X C : Type 0} → Text X C → Ending → Listing X C → Option (List ℕ) → Option (List ℕ) → Type 0
+EndsByFault {C = C} t ending l old new = (f : ItemFault C) × ((told t l).stop ≡ faulty f) × (ending_at f ≡ ending) × Appends old new (text_of t l)
+
+-- there is no fault, the whole text was written, and something was found or nothing was
+abbrev pub EndsWell : {X C : Type 0} → Text X C → Bool → Listing X C → Option (List ℕ) → Option (List ℕ) → Type 0
+EndsWell t found l old new = ((told t l).stop ≡ finished) × ((told t l).found ≡ found) × Appends old new (text_of t l)
+
+-- What a run leaves written of a text that follows n lines, which settled s: the whole text at Done, Findings, InputFault and ReadFault; a front of it at WriteFault, where nothing was read or it stopped at some line; at Memory the text of the items before some line.
+abbrev pub WritesAfter : {S X C : Type 0} → Rules S X C → S → Text X C → ℕ → Ending → InputEnd → List ℕ → Option (List ℕ) → Option (List ℕ) → Type 0
+WritesAfter r s t n Done z text old new = EndsWell t false (listing r s z n text) old new
+WritesAfter r s t n Findings z text old new = EndsWell t true (listing r s z n text) old new
+WritesAfter r s t n InputFault z text old new = EndsByFault t InputFault (listing r s z n text) old new
+WritesAfter r s t n ReadFault z text old new = EndsByFault t ReadFault (listing r s z n text) old new
+WritesAfter r s t n WriteFault z text old new = AppendsFront old new (text_of t (listing r s z n text))
+    × ((text ≡ []) ⊎ ((p : StopsAt r s t n z text old) × AppendsFront p.held new (told_rest t p.items (listing r p.at z p.number p.rest)).text))
+WritesAfter r s t n Memory z text old new = (p : StopsAt r s t n z text old) × (p.held ≡ new)
+
+-- what a run leaves written of an input, with the ending that its reader tells
+abbrev pub Writes : {S X C : Type 0} → Rules S X C → S → Text X C → Ending → InputEnd → List ℕ → Option (List ℕ) → Option (List ℕ) → Type 0
+Writes r s t ending z given old new = WritesAfter r s t 0 ending z given old new
+
+-- whether a run ended because its writer failed
+abbrev pub is_write_fault : Ending → Bool
+is_write_fault Done = false
+is_write_fault Findings = false
+is_write_fault InputFault = false
+is_write_fault ReadFault = false
+is_write_fault WriteFault = true
+is_write_fault Memory = false
+
+-- what a run that is refused leaves written: its one text, or a front of it
+abbrev pub Refuses : List ℕ → Ending → Option (List ℕ) → Option (List ℕ) → Type 0
+Refuses text ending old new = ((ending ≡ InputFault) × Appends old new text) ⊎ ((ending ≡ WriteFault) × AppendsFront old new text)
+
+-- a text that speaks of each item alone, and refuses none
+abbrev pub IsPlain : {X C : Type 0} → Text X C → (ℕ × X → List ℕ) → (ℕ × X → Bool) → Type 0
+IsPlain {X = X} t line finds = (before : List (ℕ × X)) (e : ℕ × X) → t.step before e ≡ Ok (line e, finds e)

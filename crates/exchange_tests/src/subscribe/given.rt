@@ -1,0 +1,252 @@
+//! Blocks, events and what is told of an entry.
+
+use ber_core::Cause;
+use frame_core::{Event, EventKind};
+use mms_data::{Octets, Value};
+use std::alloc::{AllocError, Allocator};
+use std::process::Abort;
+use std::test::Fail;
+use subscribe_core::{Block, Entry, Reason, Subscriber};
+
+/// The frame of control block G, status number 1, sequence number 0, one boolean that is true.
+pub const FRAME: [u8; 67] = [
+    0x01, 0x0c, 0xcd, 0x01, 0x00, 0x01, 0x02, 0x00, 0x00, 0x00, 0x00, 0x01, 0x88, 0xb8, 0x00, 0x01,
+    0x00, 0x35, 0x00, 0x00, 0x00, 0x00, 0x61, 0x2b, 0x80, 0x01, 0x47, 0x81, 0x02, 0x07, 0xd0, 0x82,
+    0x01, 0x44, 0x84, 0x08, 0x00, 0x00, 0x00, 0x00, 0x00, 0x00, 0x00, 0x00, 0x85, 0x01, 0x01, 0x86,
+    0x01, 0x00, 0x87, 0x01, 0x00, 0x88, 0x01, 0x01, 0x89, 0x01, 0x00, 0x8a, 0x01, 0x01, 0xab, 0x03,
+    0x83, 0x01, 0xff,
+];
+
+/// The same with stNum 4294967295, in five octets.
+pub const LAST_STATE: [u8; 71] = [
+    0x01, 0x0c, 0xcd, 0x01, 0x00, 0x01, 0x02, 0x00, 0x00, 0x00, 0x00, 0x01, 0x88, 0xb8, 0x00, 0x01,
+    0x00, 0x39, 0x00, 0x00, 0x00, 0x00, 0x61, 0x2f, 0x80, 0x01, 0x47, 0x81, 0x02, 0x07, 0xd0, 0x82,
+    0x01, 0x44, 0x84, 0x08, 0x00, 0x00, 0x00, 0x00, 0x00, 0x00, 0x00, 0x00, 0x85, 0x05, 0x00, 0xff,
+    0xff, 0xff, 0xff, 0x86, 0x01, 0x00, 0x87, 0x01, 0x00, 0x88, 0x01, 0x01, 0x89, 0x01, 0x00, 0x8a,
+    0x01, 0x01, 0xab, 0x03, 0x83, 0x01, 0xff,
+];
+
+/// A frame of Sampled Values with one ASDU.
+pub const SAMPLED: [u8; 54] = [
+    0x01, 0x0c, 0xcd, 0x04, 0x00, 0x01, 0x02, 0x00, 0x00, 0x00, 0x00, 0x01, 0x88, 0xba, 0x40, 0x00,
+    0x00, 0x28, 0x00, 0x00, 0x00, 0x00, 0x60, 0x1e, 0x80, 0x01, 0x01, 0xa2, 0x19, 0x30, 0x17, 0x80,
+    0x01, 0x53, 0x82, 0x02, 0x0f, 0x9e, 0x83, 0x04, 0x00, 0x00, 0x00, 0x01, 0x85, 0x01, 0x02, 0x87,
+    0x02, 0x00, 0x2a, 0x88, 0x01, 0x00,
+];
+
+/// The numbers of a frame with one boolean: its moment in milliseconds, status and sequence number, and timeAllowedtoLive.
+#[derive(Clone, Copy, Debug)]
+pub struct Numbers(pub u32, pub u8, pub u8, pub u16);
+
+/// What happens, its moment in milliseconds first.
+#[derive(Clone, Copy, Debug)]
+pub enum Given {
+    /// A frame of the block whose APPID is 1.
+    Goose(Numbers),
+    /// The same with the simulation flag.
+    Simulated(Numbers),
+    /// A frame of the block whose APPID is 2.
+    Other(Numbers),
+    /// The frame with another octet at a place.
+    Changed(u32, usize, u8),
+    /// The frame with the greatest status number.
+    LastState(u32),
+    /// A frame of Sampled Values.
+    Sampled(u32),
+    /// The frame without its last octet.
+    Cut(u32),
+    /// The clock.
+    Clock(u32),
+    /// The simulation mode.
+    Mode(u32, bool),
+}
+
+/// What is told of an entry: its numbers, and of an action whether it has one boolean, and which.
+#[derive(Clone, Copy, Debug, PartialEq, Eq)]
+pub enum Told {
+    Expired(usize),
+    Switched(usize),
+    Act(usize, u32, u32, Option<bool>),
+    Refreshed(usize, u32, u32),
+    Repeated(usize, u32, u32),
+    Older(usize, u32, u32),
+    Refused(usize, Reason),
+    NotSubscribed,
+    Sampled,
+    Faulty(usize, Cause),
+}
+
+/// What is told of the entries of an event.
+#[derive(Clone, Copy, Debug, PartialEq, Eq)]
+pub enum Want {
+    Nothing,
+    One(Told),
+    Two(Told, Told),
+    Three(Told, Told, Told),
+    More,
+}
+
+/// One boolean that is true.
+pub const TRUE: Option<bool> = Some(true);
+
+/// The one boolean of these values.
+fn boolean<A: Allocator>(values: &[Value<A>]) -> Option<bool> {
+    match values {
+        [Value::Boolean(is_true)] => Some(*is_true),
+        _ => None,
+    }
+}
+
+/// What is told of an entry.
+fn summary<A: Allocator>(entry: &Entry<A>) -> Told {
+    match entry {
+        Entry::Expired { block } => Told::Expired(*block),
+        Entry::Switched { block } => Told::Switched(*block),
+        Entry::Act {
+            block,
+            state,
+            sequence,
+            t: _,
+            members,
+        } => Told::Act(*block, *state, *sequence, boolean(members.as_slice())),
+        Entry::Refreshed {
+            block,
+            state,
+            sequence,
+        } => Told::Refreshed(*block, *state, *sequence),
+        Entry::Repeated {
+            block,
+            state,
+            sequence,
+        } => Told::Repeated(*block, *state, *sequence),
+        Entry::Older {
+            block,
+            state,
+            sequence,
+        } => Told::Older(*block, *state, *sequence),
+        Entry::Refused { block, reason } => Told::Refused(*block, *reason),
+        Entry::NotSubscribed => Told::NotSubscribed,
+        Entry::Sampled => Told::Sampled,
+        Entry::Faulty(fault) => Told::Faulty(fault.place, fault.cause),
+    }
+}
+
+/// What is told of the entries of an event.
+pub fn tells<A: Allocator>(entries: &[Entry<A>]) -> Want {
+    match entries {
+        [] => Want::Nothing,
+        [a] => Want::One(summary(a)),
+        [a, b] => Want::Two(summary(a), summary(b)),
+        [a, b, c] => Want::Three(summary(a), summary(b), summary(c)),
+        _ => Want::More,
+    }
+}
+
+/// The frame with these numbers and another octet at a place.
+fn octets(numbers: Numbers, place: usize, octet: u8) -> [u8; 67] {
+    let [high, low] = numbers.3.to_be_bytes();
+    let mut frame = FRAME;
+    frame[46] = numbers.1;
+    frame[49] = numbers.2;
+    frame[29] = high;
+    frame[30] = low;
+    if place < 67 {
+        frame[place] = octet;
+    }
+    frame
+}
+
+/// Octets of a frame at a moment in milliseconds.
+pub fn frame_at<A: Allocator>(
+    alloc: A,
+    moment: u32,
+    octets: &[u8],
+) -> Result<Event<A>, AllocError> {
+    Ok(Event {
+        moment: u64::from(moment) * 1000,
+        kind: EventKind::Frame(Octets::from(Vec::from_slice(alloc, octets)?)),
+    })
+}
+
+/// An event without octets, at a moment in milliseconds.
+fn plain<A: Allocator>(moment: u32, kind: EventKind<A>) -> Event<A> {
+    Event {
+        moment: u64::from(moment) * 1000,
+        kind,
+    }
+}
+
+/// The event.
+pub fn event<A: Allocator>(alloc: A, given: Given) -> Result<Event<A>, AllocError> {
+    match given {
+        Given::Goose(numbers) => frame_at(alloc, numbers.0, &octets(numbers, 67, 0)),
+        Given::Simulated(numbers) => frame_at(alloc, numbers.0, &octets(numbers, 52, 0xff)),
+        Given::Other(numbers) => frame_at(alloc, numbers.0, &octets(numbers, 15, 2)),
+        Given::Changed(moment, place, octet) => {
+            let numbers = Numbers(moment, 1, 0, 2000);
+            frame_at(alloc, moment, &octets(numbers, place, octet))
+        }
+        Given::LastState(moment) => frame_at(alloc, moment, &LAST_STATE),
+        Given::Sampled(moment) => frame_at(alloc, moment, &SAMPLED),
+        Given::Cut(moment) => frame_at(alloc, moment, &FRAME[..66]),
+        Given::Clock(moment) => Ok(plain(moment, EventKind::Clock)),
+        Given::Mode(moment, on) => Ok(plain(moment, EventKind::Mode(on))),
+    }
+}
+
+/// A block of control block G with data set D, one member and revision 1.
+pub fn block<A: Allocator + Copy>(alloc: A, app_id: u16) -> Result<Block<A>, AllocError> {
+    Ok(Block {
+        app_id,
+        gocb_ref: Octets::from(Vec::from_slice(alloc, b"G")?),
+        dat_set: Octets::from(Vec::from_slice(alloc, b"D")?),
+        go_id: None,
+        conf_rev: 1,
+        entries: 1,
+    })
+}
+
+/// A subscriber of this block.
+pub fn alone<A: Allocator + Copy>(alloc: A, block: Block<A>) -> Result<Subscriber<A>, Fail> {
+    let mut blocks = Vec::new(alloc);
+    if blocks.push(block).is_err() {
+        return Err(Fail::from("no memory for a block"));
+    }
+    Ok(Subscriber::new(alloc, blocks)?)
+}
+
+/// A subscriber of so many blocks, which differ in their APPID alone, from 1 on.
+pub fn several<A: Allocator + Copy>(alloc: A, count: u16) -> Result<Subscriber<A>, Fail> {
+    let mut blocks = Vec::new(alloc);
+    for i in 0..count {
+        if blocks.push(block(alloc, i.wrapping_add(1))?).is_err() {
+            return Err(Fail::from("no memory for a block"));
+        }
+    }
+    Ok(Subscriber::new(alloc, blocks)?)
+}
+
+/// Takes an event.
+pub fn take<A: Allocator + Copy>(
+    alloc: A,
+    subscriber: &mut Subscriber<A>,
+    given: Given,
+) -> Result<Want, AllocError> {
+    let event = event(alloc, given)?;
+    let entries = subscriber.take(&event)?;
+    Ok(tells(&entries))
+}
+
+/// Takes events, of each of which this is to be told.
+pub fn play<H: Abort, A: Allocator + Copy>(
+    rt: &H,
+    alloc: A,
+    subscriber: &mut Subscriber<A>,
+    examples: &[(Given, Want)],
+) -> Result<(), Fail> {
+    for (given, want) in examples {
+        let told = take(alloc, subscriber, *given)?;
+        assert_eq!(rt; told, *want);
+    }
+    Ok(())
+}

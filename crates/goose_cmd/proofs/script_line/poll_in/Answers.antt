@@ -1,7 +1,0 @@
-use Rattle.std.proofs.Common.{sym, ◌∙◌}
-use Rattle.goose_cmd.proofs.ScriptLemmas.{poll_more}
-use Rattle.goose_cmd.proofs.script_line.poll_in.Goals as goal
-
-pub returns-then-is_some : goal.returns-then-is_some
-returns-then-is_some g c =
-    rw c.in-Some.is (sym (poll_more c.args.unit c.args.part c.in-Some.fields.now c.cut_first.result.0.now c.cut_first.result.1 c.cut_first.ensures (sym c.is_some.ensures ∙ c.if-is_some.true)))

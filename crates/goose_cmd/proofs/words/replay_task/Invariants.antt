@@ -1,9 +1,0 @@
-use Rattle.std.proofs.Common.{◌≡◌, map, take}
-use Rattle.std.specs.Prelude.{Some}
-use Rattle.clap.specs.Walk.{texts}
-use Rattle.goose_cmd.specs.CommandLine.{block_at}
-use Rattle.goose_cmd.proofs.words.replay_task.Given as goal
-
--- the blocks of the texts gone through
-abbrev pub invariant-loop-position : goal.invariant-loop-position
-invariant-loop-position l = map Some l.blocks.items ≡ map block_at (texts (take l.position l.words))

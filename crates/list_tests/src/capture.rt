@@ -1,0 +1,4 @@
+//! Captures over memory, in any pieces, cut at each octet, and where reading fails.
+
+mod headers;
+mod records;

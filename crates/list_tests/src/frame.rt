@@ -1,0 +1,13 @@
+//! Frames read and written; lists over memory, in any pieces, and where a device fails.
+
+mod each_octet;
+mod frame_reading;
+mod frame_writing;
+mod frames;
+mod line_reading;
+mod list_reading;
+mod list_writing;
+mod refused_memory;
+mod sampled_frames;
+mod sampled_reading;
+mod sampled_writing;

@@ -1,0 +1,5 @@
+pub mod Commas
+pub mod BlockText
+pub mod BlockView
+pub mod Script
+pub mod ScriptView

@@ -1,0 +1,197 @@
+//! One line of a script: what it says.
+ghost use Rattle.std.specs.Prelude.{◌≡◌, ◌&&◌, ◌%◌, ◌==◌, Ok, is_none, is_some, length, true};
+ghost use Rattle.frame_core.specs.Cuts.{parts_after};
+ghost use Rattle.frame_core.specs.EventLine.{moment_of};
+ghost use Rattle.script_core.specs.Commas.{comma_fields};
+ghost use Rattle.script_core.specs.Script.{AnswersLine, all_keep, all_said, change_keeps, change_of, change_said, fields_keep, fields_said, line_keeps, line_said, members_in, poll_said, time_in, too_early};
+
+use crate::script::{ScriptCause, ScriptItem, ScriptPart};
+use crate::script_control::{control_in, step_in};
+use byteorder::{BigEndian, ByteOrder};
+use frame_core::{LineError, MomentUnit, cut_first, moment_in};
+use hex::FromHexError;
+use mms_data::{ReadFault, UtcTime, ValueList, read_members};
+use std::alloc::{AllocError, Allocator};
+
+// Why no change or poll may stand here.
+fn early(part: ScriptPart) -> Option<ScriptCause>
+    ensures { result ≡ too_early part }
+{
+    match part {
+        ScriptPart::Control => Some(ScriptCause::ScriptForm),
+        ScriptPart::Steps(0) => Some(ScriptCause::StepCount),
+        ScriptPart::Steps(_) => None,
+        ScriptPart::Calls => None,
+    }
+}
+
+// The poll whose fields behind its name are these.
+pub fn poll_in<A: Allocator>(
+    unit: MomentUnit,
+    part: ScriptPart,
+    fields: Option<&[u8]>,
+) -> Result<(Option<ScriptItem<A>>, ScriptPart), ScriptCause>
+    ensures { result ≡ poll_said unit part (parts_after 44 fields.entry) }
+{
+    let Some(fields) = fields else {
+        return Err(ScriptCause::ScriptForm);
+    };
+    let (moment, more) = cut_first(fields, b',');
+    if more.is_some() {
+        return Err(ScriptCause::ScriptForm);
+    }
+    if let Some(cause) = early(part) {
+        return Err(cause);
+    }
+    match moment_in(unit, moment) {
+        Some(moment) => Ok((Some(ScriptItem::Poll(moment)), ScriptPart::Calls)),
+        None => Err(ScriptCause::Moment),
+    }
+}
+
+// A moment of change by 16 hexadecimal digits.
+fn time_of(digits: &[u8]) -> Option<UtcTime>
+    ensures { result ≡ time_in digits.now }
+{
+    let mut octets = [0; 8];
+    match hex::decode_to_slice(digits, &mut octets) {
+        Ok(()) => Some(UtcTime {
+            seconds: BigEndian::read_u32(&octets),
+            fraction: BigEndian::read_u24(&octets[4..]),
+            quality: octets[7],
+        }),
+        Err(_) => None,
+    }
+}
+
+// The values that octets spell, as a change at these moments.
+fn values_in<A: Allocator + Copy>(
+    alloc: A,
+    moment: u64,
+    t: UtcTime,
+    octets: &[u8],
+) -> Result<ScriptItem<A>, LineError<ScriptCause>>
+    ensures { AnswersLine result (change_of (Some moment) (Some t) (Some octets.now)) true }
+{
+    match read_members(alloc, octets, 0, octets.len(), 1) {
+        Ok(values) => Ok(ScriptItem::Change(moment, t, ValueList::from(values))),
+        Err(ReadFault::Fault(fault)) => Err(LineError::Cause(ScriptCause::Members(fault))),
+        Err(ReadFault::Memory(error)) => Err(LineError::Memory(error)),
+    }
+}
+
+// The change of these three fields.
+fn change_of_fields<A: Allocator + Copy>(
+    alloc: A,
+    unit: MomentUnit,
+    moment: &[u8],
+    t: &[u8],
+    members: &[u8],
+) -> Result<ScriptItem<A>, LineError<ScriptCause>>
+    ensures { AnswersLine result (change_of (moment_of unit moment.now) (time_in t.now) (members_in members.now)) (is_some (moment_of unit moment.now) && (is_some (time_in t.now) && (length members.now % 2 == 0))) }
+{
+    let Some(moment) = moment_in(unit, moment) else {
+        return Err(LineError::Cause(ScriptCause::Moment));
+    };
+    let Some(t) = time_of(t) else {
+        return Err(LineError::Cause(ScriptCause::Hex));
+    };
+    if members.len() % 2 != 0 {
+        return Err(LineError::Cause(ScriptCause::Hex));
+    }
+    match hex::decode(alloc, members) {
+        Ok(octets) => values_in(alloc, moment, t, octets.as_slice()),
+        Err(FromHexError::OutOfMemory) => Err(LineError::Memory(AllocError)),
+        Err(_) => Err(LineError::Cause(ScriptCause::Hex)),
+    }
+}
+
+// The change whose fields behind its name are these.
+pub fn change_in<A: Allocator + Copy>(
+    alloc: A,
+    unit: MomentUnit,
+    part: ScriptPart,
+    fields: Option<&[u8]>,
+) -> Result<(Option<ScriptItem<A>>, ScriptPart), LineError<ScriptCause>>
+    ensures { AnswersLine result (change_said unit part (parts_after 44 fields.entry)) (change_keeps unit part (parts_after 44 fields.entry)) }
+{
+    let Some(fields) = fields else {
+        return Err(LineError::Cause(ScriptCause::ScriptForm));
+    };
+    let (moment, fields) = cut_first(fields, b',');
+    let Some(fields) = fields else {
+        return Err(LineError::Cause(ScriptCause::ScriptForm));
+    };
+    let (t, fields) = cut_first(fields, b',');
+    let Some(fields) = fields else {
+        return Err(LineError::Cause(ScriptCause::ScriptForm));
+    };
+    let (members, more) = cut_first(fields, b',');
+    if more.is_some() {
+        return Err(LineError::Cause(ScriptCause::ScriptForm));
+    }
+    if let Some(cause) = early(part) {
+        return Err(LineError::Cause(cause));
+    }
+    match change_of_fields(alloc, unit, moment, t, members) {
+        Ok(change) => Ok((Some(change), ScriptPart::Calls)),
+        Err(error) => Err(error),
+    }
+}
+
+// What the fields of a line say, of which the first is its name.
+fn fields_in<A: Allocator + Copy>(
+    alloc: A,
+    unit: MomentUnit,
+    part: ScriptPart,
+    name: &[u8],
+    fields: Option<&[u8]>,
+) -> Result<(Option<ScriptItem<A>>, ScriptPart), LineError<ScriptCause>>
+    ensures { AnswersLine result (fields_said unit part name.now (parts_after 44 fields.entry)) (fields_keep unit part name.now (parts_after 44 fields.entry)) }
+{
+    if name == b"control".as_slice() {
+        control_in(alloc, part, fields)
+    } else if name == b"step".as_slice() {
+        match step_in(part, fields) {
+            Ok(said) => Ok(said),
+            Err(cause) => Err(LineError::Cause(cause)),
+        }
+    } else if name == b"change".as_slice() {
+        change_in(alloc, unit, part, fields)
+    } else if name == b"poll".as_slice() {
+        match poll_in(unit, part, fields) {
+            Ok(said) => Ok(said),
+            Err(cause) => Err(LineError::Cause(cause)),
+        }
+    } else {
+        Err(LineError::Cause(ScriptCause::ScriptForm))
+    }
+}
+
+// What the fields of a line say that has an octet.
+fn all_in<A: Allocator + Copy>(
+    alloc: A,
+    unit: MomentUnit,
+    part: ScriptPart,
+    line: &[u8],
+) -> Result<(Option<ScriptItem<A>>, ScriptPart), LineError<ScriptCause>>
+    ensures { AnswersLine result (all_said unit part (comma_fields line.now)) (all_keep unit part (comma_fields line.now)) }
+{
+    let (name, fields) = cut_first(line, b',');
+    fields_in(alloc, unit, part, name, fields)
+}
+
+/// What a line says, and which lines may stand behind it: nothing where it is empty or a comment.
+pub fn line_in<A: Allocator + Copy>(
+    alloc: A,
+    unit: MomentUnit,
+    part: ScriptPart,
+    line: &[u8],
+) -> Result<(Option<ScriptItem<A>>, ScriptPart), LineError<ScriptCause>>
+    ensures { AnswersLine result (line_said unit part line.now) (line_keeps unit part line.now) }
+{
+    match line {
+        [] | [b'#', ..] => Ok((None, part)),
+        _ => all_in(alloc, unit, part, line),
+    }
+}

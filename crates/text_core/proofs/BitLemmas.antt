@@ -1,0 +1,78 @@
+-- Bits without the unused ones do not hang on what these are.
+use Rattle.std.proofs.Common.{◌≡◌, ℕ, zero, suc, ◌+◌, ◌-◌, ◌*◌, ◌/◌, ◌%◌, ◌^◌, ◌≤◌, List, [], ◌∷◌, ◌++◌, length, take, ap, refl, sym, ◌∙◌, arith, length-append}
+use Rattle.std.specs.List.{flat_map}
+use Rattle.std.proofs.Math.Seq.{take-append-add}
+use Rattle.mms_data.specs.Contents.{cleared}
+use Rattle.text_core.specs.Pieces.{octet_bits, bits_text}
+
+size : (octets : List ℕ) → length (flat_map octet_bits octets) ≡ 8 * length octets
+size [] = refl
+size (x ∷ xs) = omega (arith, size xs)
+
+size_cleared : (unused : ℕ) (octets : List ℕ) → length (flat_map octet_bits (cleared unused octets)) ≡ length (flat_map octet_bits octets)
+size_cleared unused [] = refl
+size_cleared unused (x ∷ []) = refl
+size_cleared unused (x ∷ y ∷ ys) = omega (arith, size_cleared unused (y ∷ ys))
+
+-- the last octet
+last_bits : (unused x : ℕ) → unused ≤ 7 → take (8 - unused) (octet_bits (x - x % 2 ^ unused)) ≡ take (8 - unused) (octet_bits x)
+last_bits zero x h = let e : x - x % 1 ≡ x = omega arith in ap (λ n. take 8 (octet_bits n)) e
+last_bits (suc zero) x h =
+    let e128 : (x - x % 2) / 128 ≡ x / 128 = omega arith in
+    let e64 : (x - x % 2) / 64 ≡ x / 64 = omega arith in
+    let e32 : (x - x % 2) / 32 ≡ x / 32 = omega arith in
+    let e16 : (x - x % 2) / 16 ≡ x / 16 = omega arith in
+    let e8 : (x - x % 2) / 8 ≡ x / 8 = omega arith in
+    let e4 : (x - x % 2) / 4 ≡ x / 4 = omega arith in
+    let e2 : (x - x % 2) / 2 ≡ x / 2 = omega arith in
+    cc
+last_bits (suc (suc zero)) x h =
+    let e128 : (x - x % 4) / 128 ≡ x / 128 = omega arith in
+    let e64 : (x - x % 4) / 64 ≡ x / 64 = omega arith in
+    let e32 : (x - x % 4) / 32 ≡ x / 32 = omega arith in
+    let e16 : (x - x % 4) / 16 ≡ x / 16 = omega arith in
+    let e8 : (x - x % 4) / 8 ≡ x / 8 = omega arith in
+    let e4 : (x - x % 4) / 4 ≡ x / 4 = omega arith in
+    cc
+last_bits (suc (suc (suc zero))) x h =
+    let e128 : (x - x % 8) / 128 ≡ x / 128 = omega arith in
+    let e64 : (x - x % 8) / 64 ≡ x / 64 = omega arith in
+    let e32 : (x - x % 8) / 32 ≡ x / 32 = omega arith in
+    let e16 : (x - x % 8) / 16 ≡ x / 16 = omega arith in
+    let e8 : (x - x % 8) / 8 ≡ x / 8 = omega arith in
+    cc
+last_bits (suc (suc (suc (suc zero)))) x h =
+    let e128 : (x - x % 16) / 128 ≡ x / 128 = omega arith in
+    let e64 : (x - x % 16) / 64 ≡ x / 64 = omega arith in
+    let e32 : (x - x % 16) / 32 ≡ x / 32 = omega arith in
+    let e16 : (x - x % 16) / 16 ≡ x / 16 = omega arith in
+    cc
+last_bits (suc (suc (suc (suc (suc zero))))) x h =
+    let e128 : (x - x % 32) / 128 ≡ x / 128 = omega arith in
+    let e64 : (x - x % 32) / 64 ≡ x / 64 = omega arith in
+    let e32 : (x - x % 32) / 32 ≡ x / 32 = omega arith in
+    cc
+last_bits (suc (suc (suc (suc (suc (suc zero)))))) x h =
+    let e128 : (x - x % 64) / 128 ≡ x / 128 = omega arith in
+    let e64 : (x - x % 64) / 64 ≡ x / 64 = omega arith in
+    cc
+last_bits (suc (suc (suc (suc (suc (suc (suc zero))))))) x h =
+    let e128 : (x - x % 128) / 128 ≡ x / 128 = omega arith in
+    cc
+last_bits (suc (suc (suc (suc (suc (suc (suc (suc unused)))))))) x h = absurd (omega arith)
+
+-- bits behind whole octets
+behind : (unused : ℕ) (a b : List ℕ) → unused ≤ length b → take (length (a ++ b) - unused) (a ++ b) ≡ a ++ take (length b - unused) b
+behind unused a b h =
+    let e : length a + (length b - unused) ≡ length (a ++ b) - unused = omega (arith, length-append a b) in
+    ap (λ n. take n (a ++ b)) (sym e) ∙ take-append-add a b (length b - unused)
+
+pub bits_cleared : (unused : ℕ) (octets : List ℕ) → unused ≤ 7 → bits_text unused (cleared unused octets) ≡ bits_text unused octets
+bits_cleared unused [] h = refl
+bits_cleared unused (x ∷ []) h = last_bits unused x h
+bits_cleared unused (x ∷ y ∷ ys) h =
+    let many : unused ≤ length (flat_map octet_bits (y ∷ ys)) = omega (arith, size (y ∷ ys)) in
+    let many_cleared : unused ≤ length (flat_map octet_bits (cleared unused (y ∷ ys))) = omega (arith, many, size_cleared unused (y ∷ ys)) in
+    behind unused (octet_bits x) (flat_map octet_bits (cleared unused (y ∷ ys))) many_cleared
+    ∙ ap (λ (l : List ℕ). octet_bits x ++ l) (bits_cleared unused (y ∷ ys) h)
+    ∙ sym (behind unused (octet_bits x) (flat_map octet_bits (y ∷ ys)) many)

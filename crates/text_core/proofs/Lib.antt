@@ -1,0 +1,5 @@
+pub mod PieceLemmas
+pub mod ValueLemmas
+pub mod BitLemmas
+pub mod Spaced
+pub mod OwnedTexts

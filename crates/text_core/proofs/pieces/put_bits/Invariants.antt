@@ -1,0 +1,7 @@
+use Rattle.std.proofs.Common.{◌≡◌, ◌++◌, take}
+use Rattle.std.specs.List.{flat_map}
+use Rattle.text_core.specs.Pieces.{octet_bits}
+use Rattle.text_core.proofs.pieces.put_bits.Given as goal
+
+abbrev pub invariant-loop-octet : goal.invariant-loop-octet
+invariant-loop-octet g l = l.out.items ≡ l.initial.out.items ++ flat_map octet_bits (take l.octet-index l.octets)

@@ -1,0 +1,22 @@
+//! The line of a frame in a list.
+ghost use Rattle.std.specs.Prelude.{◌≡◌, ◌++◌, OnOk, codes};
+ghost use Rattle.std.specs.Fmt.{decimal};
+ghost use Rattle.hex.specs.Hex.{encode_lower};
+
+use crate::pieces::{put_decimal, put_hexadecimal};
+use std::alloc::{AllocError, Allocator};
+
+/// Appends the line of a frame in a list of version 2: the moment in microseconds, and the octets.
+pub fn put_frame_event<A: Allocator>(
+    out: &mut Vec<u8, A>,
+    moment: u64,
+    octets: &[u8],
+) -> Result<(), AllocError>
+    ensures { OnOk result (out.new.items ≡ out.old.items ++ (codes "F " ++ decimal moment ++ codes " " ++ encode_lower octets.now ++ codes "\n")) }
+{
+    out.extend_from_slice(b"F ")?;
+    put_decimal(out, moment)?;
+    out.extend_from_slice(b" ")?;
+    put_hexadecimal(out, octets)?;
+    out.extend_from_slice(b"\n")
+}

@@ -1,0 +1,61 @@
+//! The short lines: of a clock moment, of a faulty frame, and the last one, of a fault of the list.
+ghost use Rattle.std.specs.Prelude.{◌≡◌, ◌++◌, OnOk};
+ghost use Rattle.frame_core.specs.EventLine.{mode_text};
+ghost use Rattle.text_core.specs.LineText.{clock_line, fault_line, list_line};
+
+use crate::names::{cause_name, list_cause_name};
+use crate::pieces::put_decimal;
+use ber_core::Fault;
+use frame_core::ListFault;
+use std::alloc::{AllocError, Allocator};
+
+/// Appends the line of a clock moment, in microseconds.
+pub fn put_clock_line<A: Allocator>(
+    out: &mut Vec<u8, A>,
+    number: u64,
+    moment: u64,
+) -> Result<(), AllocError>
+    ensures { OnOk result (out.new.items ≡ out.old.items ++ clock_line number moment) }
+{
+    put_decimal(out, number)?;
+    out.extend_from_slice(b" clock ")?;
+    put_decimal(out, moment)?;
+    out.extend_from_slice(b"\n")
+}
+
+/// Appends the line of a faulty frame.
+pub fn put_fault_line<A: Allocator>(
+    out: &mut Vec<u8, A>,
+    number: u64,
+    fault: Fault,
+) -> Result<(), AllocError>
+    ensures { OnOk result (out.new.items ≡ out.old.items ++ fault_line number fault) }
+{
+    put_decimal(out, number)?;
+    out.extend_from_slice(b" fault ")?;
+    put_decimal(out, fault.place as u64)?;
+    out.extend_from_slice(b" ")?;
+    out.extend_from_slice(cause_name(fault.cause))?;
+    out.extend_from_slice(b"\n")
+}
+
+/// Appends the last line, on a fault of the list.
+pub fn put_list_line<A: Allocator>(out: &mut Vec<u8, A>, fault: ListFault) -> Result<(), AllocError>
+    ensures { OnOk result (out.new.items ≡ out.old.items ++ list_line fault) }
+{
+    put_decimal(out, fault.line)?;
+    out.extend_from_slice(b" list ")?;
+    out.extend_from_slice(list_cause_name(fault.cause))?;
+    out.extend_from_slice(b"\n")
+}
+
+/// Appends the word for a mode.
+pub fn put_mode_word<A: Allocator>(out: &mut Vec<u8, A>, on: bool) -> Result<(), AllocError>
+    ensures { OnOk result (out.new.items ≡ out.old.items ++ mode_text on) }
+{
+    if on {
+        out.extend_from_slice(b"on")
+    } else {
+        out.extend_from_slice(b"off")
+    }
+}

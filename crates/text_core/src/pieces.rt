@@ -1,0 +1,149 @@
+//! The small texts of which lines are made. Each call appends to `out`.
+ghost use Rattle.std.specs.Prelude.{◌≡◌, ◌<◌, ◌*◌, ◌++◌, OnOk, slice_index, true};
+ghost use Rattle.std.specs.Fmt.{decimal, signed_decimal};
+ghost use Rattle.hex.specs.Hex.{encode_lower, lower_digits};
+ghost use Rattle.text_core.specs.Pieces.{octet_bits, bits_text, quoted, boolean_text, four_digits, utc_text};
+
+use std::alloc::{AllocError, Allocator};
+
+/// Appends a number in decimal.
+#[tactic(auto, using(crate::proofs::PieceLemmas::numerals))]
+pub fn put_decimal<A: Allocator>(out: &mut Vec<u8, A>, number: u64) -> Result<(), AllocError>
+    ensures { OnOk result (out.new.items ≡ out.old.items ++ decimal number) }
+{
+    if number < 10 {
+        out.push(b'0' + number as u8)?;
+        Ok(())
+    } else {
+        put_decimal(out, number / 10)?;
+        out.push(b'0' + (number % 10) as u8)?;
+        Ok(())
+    }
+}
+
+/// Appends a number in decimal, a negative one after a minus sign.
+pub fn put_signed<A: Allocator>(out: &mut Vec<u8, A>, number: i64) -> Result<(), AllocError>
+    ensures { OnOk result (out.new.items ≡ out.old.items ++ signed_decimal number) }
+{
+    if number < 0 {
+        out.push(b'-')?;
+    }
+    put_decimal(out, number.unsigned_abs())
+}
+
+// The hexadecimal digit of a number below 16.
+fn hexadecimal_digit(number: u8) -> u8
+    requires { number < 16 }
+    ensures { result ≡ slice_index lower_digits number }
+{
+    if number < 10 {
+        b'0' + number
+    } else {
+        b'a' + (number - 10)
+    }
+}
+
+// Writes octets in lower case hexadecimal over these digits, if they are two for each octet, and answers whether. No
+// step hangs on another one, so that the compiler takes several at once.
+fn write_digits(octets: &[u8], digits: &mut [u8]) -> bool
+    ensures { result ≡ true → digits.new ≡ encode_lower octets.now }
+{
+    if digits.len() % 2 != 0 || digits.len() / 2 != octets.len() {
+        return false;
+    }
+    for at in 0..octets.len() {
+        digits[2 * at] = hexadecimal_digit(octets[at] / 16);
+        digits[2 * at + 1] = hexadecimal_digit(octets[at] % 16);
+    }
+    true
+}
+
+/// Appends octets in lower case hexadecimal.
+pub fn put_hexadecimal<A: Allocator>(out: &mut Vec<u8, A>, octets: &[u8]) -> Result<(), AllocError>
+    ensures { OnOk result (out.new.items ≡ out.old.items ++ encode_lower octets.now) }
+{
+    let start = out.len();
+    // A sum that no number holds is no size of a vector either.
+    out.resize(start.saturating_add(octets.len().saturating_mul(2)), 0)?;
+    if write_digits(octets, &mut out.as_mut_slice()[start..]) {
+        Ok(())
+    } else {
+        Err(AllocError)
+    }
+}
+
+/// Appends a number in four hexadecimal digits.
+pub fn put_four_digits<A: Allocator>(out: &mut Vec<u8, A>, number: u16) -> Result<(), AllocError>
+    ensures { OnOk result (out.new.items ≡ out.old.items ++ four_digits number) }
+{
+    put_hexadecimal(out, &[(number / 256) as u8, (number % 256) as u8])
+}
+
+// The eight bits of an octet as digits, the most significant first.
+fn bit_digits(octet: u8) -> [u8; 8]
+    ensures { result ≡ octet_bits octet }
+{
+    [
+        b'0' + octet / 128 % 2,
+        b'0' + octet / 64 % 2,
+        b'0' + octet / 32 % 2,
+        b'0' + octet / 16 % 2,
+        b'0' + octet / 8 % 2,
+        b'0' + octet / 4 % 2,
+        b'0' + octet / 2 % 2,
+        b'0' + octet % 2,
+    ]
+}
+
+/// Appends the bits of octets without the last `unused` ones.
+pub fn put_bits<A: Allocator>(
+    out: &mut Vec<u8, A>,
+    unused: u8,
+    octets: &[u8],
+) -> Result<(), AllocError>
+    ensures { OnOk result (out.new.items ≡ out.old.items ++ bits_text unused octets.now) }
+{
+    let start = out.len();
+    for octet in octets {
+        out.extend_from_slice(&bit_digits(*octet))?;
+    }
+    let size = out.len() - start;
+    out.truncate(start + size.saturating_sub(unused as usize));
+    Ok(())
+}
+
+/// Appends a text between quotation marks.
+pub fn put_quoted<A: Allocator>(out: &mut Vec<u8, A>, text: &[u8]) -> Result<(), AllocError>
+    ensures { OnOk result (out.new.items ≡ out.old.items ++ quoted text.now) }
+{
+    out.push(b'"')?;
+    for octet in text {
+        match *octet {
+            b'"' | b'\\' => out.extend_from_slice(&[b'\\', *octet])?,
+            _ => out.push(*octet)?,
+        }
+    }
+    out.push(b'"')?;
+    Ok(())
+}
+
+/// Appends a moment in UTC as its eight octets.
+pub fn put_time<A: Allocator>(
+    out: &mut Vec<u8, A>,
+    seconds: u32,
+    fraction: u32,
+    quality: u8,
+) -> Result<(), AllocError>
+    ensures { OnOk result (out.new.items ≡ out.old.items ++ utc_text seconds fraction quality) }
+{
+    let [a, b, c, d] = seconds.to_be_bytes();
+    let [_, e, f, g] = fraction.to_be_bytes();
+    put_hexadecimal(out, &[a, b, c, d, e, f, g, quality])
+}
+
+/// A truth value in words.
+pub fn boolean_name(is_true: bool) -> &'static [u8]
+    ensures { result.now ≡ boolean_text is_true }
+{
+    if is_true { b"true" } else { b"false" }
+}

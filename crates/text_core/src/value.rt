@@ -1,0 +1,124 @@
+//! The text of a value of Data, from the octets in which it stands.
+ghost use Rattle.std.specs.Prelude.{◌≡◌, ◌++◌, ◌∷◌, [], OnOk};
+ghost use Rattle.std.specs.List.{flat_map};
+ghost use Rattle.mms_data.specs.Meaning.{left as still_to_come, meaning};
+ghost use Rattle.mms_data.specs.Contents.{cleared};
+ghost use Rattle.text_core.specs.Pieces.{after_space, bits_text, spaced};
+ghost use Rattle.text_core.specs.ValueText.{time_text, value_text, members_text};
+
+use crate::pieces::{
+    boolean_name, put_bits, put_decimal, put_hexadecimal, put_quoted, put_signed, put_time,
+};
+use mms_data::{BitView, Members, UtcTime, View};
+use std::alloc::{AllocError, Allocator};
+
+/// Appends a moment in UTC as its eight octets.
+pub fn put_utc<A: Allocator>(out: &mut Vec<u8, A>, time: UtcTime) -> Result<(), AllocError>
+    ensures { OnOk result (out.new.items ≡ out.old.items ++ time_text time) }
+{
+    put_time(out, time.seconds, time.fraction, time.quality)
+}
+
+// Appends bits. The unused ones, which have any value where they stand, are no part of them.
+fn put_bit_view<A: Allocator>(out: &mut Vec<u8, A>, bits: BitView<'_>) -> Result<(), AllocError>
+    ensures { OnOk result (out.new.items ≡ out.old.items ++ bits_text bits.entry.unused (cleared bits.entry.unused bits.entry.octets.now)) }
+{
+    put_bits(out, bits.unused, bits.octets)
+}
+
+/// Appends the text of a value.
+#[tactic(auto, using(crate::proofs::ValueLemmas::item_texts_items_of))]
+#[cycle(texts)]
+pub fn put_view<A: Allocator>(out: &mut Vec<u8, A>, view: &View<'_>) -> Result<(), AllocError>
+    ensures { OnOk result (out.new.items ≡ out.old.items ++ value_text (meaning view.now)) }
+{
+    match view {
+        View::Boolean(is_true) => out.extend_from_slice(boolean_name(*is_true)),
+        View::Bits(bits) => {
+            out.extend_from_slice(b"bits:")?;
+            put_bit_view(out, *bits)
+        }
+        View::Integer(number) => {
+            out.extend_from_slice(b"int:")?;
+            put_signed(out, *number)
+        }
+        View::Unsigned(number) => {
+            out.extend_from_slice(b"uint:")?;
+            put_decimal(out, *number)
+        }
+        View::Floating(octets) => {
+            out.extend_from_slice(b"float:")?;
+            put_hexadecimal(out, octets)
+        }
+        View::Octets(octets) => {
+            out.extend_from_slice(b"oct:")?;
+            put_hexadecimal(out, octets)
+        }
+        View::BinaryTime(octets) => {
+            out.extend_from_slice(b"btime:")?;
+            put_hexadecimal(out, octets)
+        }
+        View::MmsText(octets) => {
+            out.extend_from_slice(b"mms:")?;
+            put_hexadecimal(out, octets)
+        }
+        View::Utc(t) => {
+            out.extend_from_slice(b"utc:")?;
+            put_utc(out, *t)
+        }
+        View::Visible(text) => put_quoted(out, text),
+        View::Array(members) => put_between(out, b'[', *members, b']'),
+        View::Structure(members) => put_between(out, b'(', *members, b')'),
+    }
+}
+
+// Appends the texts of members between two signs.
+#[cycle(texts)]
+fn put_between<A: Allocator>(
+    out: &mut Vec<u8, A>,
+    before: u8,
+    members: Members<'_>,
+    after: u8,
+) -> Result<(), AllocError>
+    ensures { OnOk result (out.new.items ≡ out.old.items ++ (before ∷ spaced value_text (still_to_come members.entry) ++ after ∷ [])) }
+{
+    out.push(before)?;
+    put_spaced(out, members)?;
+    out.push(after)?;
+    Ok(())
+}
+
+// Appends the texts of members, divided by one space.
+#[cycle(texts)]
+fn put_spaced<A: Allocator>(out: &mut Vec<u8, A>, members: Members<'_>) -> Result<(), AllocError>
+    ensures { OnOk result (out.new.items ≡ out.old.items ++ spaced value_text (still_to_come members.entry)) }
+{
+    let mut others = members;
+    let Some(first) = others.next() else {
+        return Ok(());
+    };
+    put_view(out, &first)?;
+    put_others(out, others)
+}
+
+// Appends the text of each member after a space.
+#[cycle(texts)]
+fn put_others<A: Allocator>(out: &mut Vec<u8, A>, others: Members<'_>) -> Result<(), AllocError>
+    ensures { OnOk result (out.new.items ≡ out.old.items ++ flat_map (after_space value_text) (still_to_come others.entry)) }
+{
+    for view in others {
+        out.push(b' ')?;
+        put_view(out, &view)?;
+    }
+    Ok(())
+}
+
+/// Appends a list of members.
+pub fn put_members<A: Allocator>(
+    out: &mut Vec<u8, A>,
+    members: Members<'_>,
+) -> Result<(), AllocError>
+    ensures { OnOk result (out.new.items ≡ out.old.items ++ members_text (still_to_come members.entry)) }
+{
+    put_between(out, b'{', members, b'}')
+}

@@ -1,0 +1,10 @@
+pub mod KeptRows
+pub mod WatchRows
+pub mod WordLemmas
+pub mod LoneFlags
+pub mod AskingWords
+pub mod BlockWords
+pub mod NamedWords
+pub mod ReplayWords
+pub mod WatchWords
+pub mod AskedWords

@@ -1,0 +1,136 @@
+-- The rows of a watch's two options: a period in range, and a text.
+use Rattle.std.proofs.Common.{◌≡◌, ◌∙◌, ◌||◌, ◌<◌, ◌^◌, ℕ, Bool, true, false, true≢false, not, List, [], ◌∷◌, Option, Some, None, Result, Ok, Err, length, option_map, option_and_then, refl, sym, ap, subst, arith, if◌then◌else◌}
+use Rattle.std.specs.Prelude.{codes, pos}
+use Rattle.std.specs.Str.Parse.{IsNumeral, ParsesUnsigned, digits_value, without_leading_plus}
+use Rattle.std.specs.Str.{bytes_eq}
+use Rattle.clap.specs.Lexer.{without_minus}
+use Rattle.clap.specs.Words.{ReadsOne, Row, Rule, Shape, Text, one_of, one_text, rows_of}
+use Rattle.clap.specs.ValueTests.{is_unsigned_in}
+use Rattle.clap.specs.Values.{Accepts}
+use Rattle.clap.specs.Faults.{level_fault}
+use Rattle.clap.specs.Kinds.{range_kinds}
+use Rattle.clap.specs.Simple.{filled, help_rule, with_index}
+use Rattle.clap.specs.Takes.{is_given}
+use Rattle.clap.specs.Walk.{nothing_held, rows_after, settled, walk}
+use Rattle.clap.specs.declared.parser.matches.Found.{Found}
+use Rattle.clap.specs.declared.builder.value_parser.ValueParser.TheVariants as parses
+use Rattle.clap.specs.declared.error.kind.ErrorKind.TheVariants as kind
+use Rattle.clap.proofs.WalkLemmas.{one_text-rows}
+use Rattle.clap.proofs.CallerReads.{signed_reads}
+use Rattle.clap.proofs.ValueTestLemmas.{Accepts-accepts, accepts-Accepts}
+use Rattle.subscribe_core.specs.Watch.{IsPeriod}
+use Rattle.words_core.specs.CommandLine.{Meaning, id_rule, number_said, period_rule, watch, watch_asked, watch_shape}
+use Rattle.words_core.proofs.KeptRows.{EachKeeps, Keeps, Kept, end_keeps, found_keeps, given_value, leaf, level_checked, no_defaults, single_keeps, then_none, wanted}
+
+-- ---- what a text is read as
+
+-- a number of 32 bits
+abbrev pub Fits32 : Text → Type 0
+Fits32 text = IsNumeral 10 (without_leading_plus text) × (digits_value 10 (without_leading_plus text) < 2 ^ 32)
+
+fits : (text : Text) → is_unsigned_in 0 4294967295 text ≡ true → Fits32 text
+fits text e = let p = accepts-Accepts false (parses.Unsigned 0 4294967295) text e in (p.0, omega arith)
+
+pub fits_back : (text : Text) → Fits32 text → is_unsigned_in 0 4294967295 text ≡ true
+fits_back text f = Accepts-accepts false (parses.Unsigned 0 4294967295) text (f.0, omega arith, omega arith, omega arith)
+
+-- it is read as `parse` does at 32 bits
+parsed_is_said : (E : Type 0) (text : Text) (r : Option ℕ) → ReadsOne {E = E} (ParsesUnsigned 32 10) text r → r ≡ number_said text
+parsed_is_said E text (Some n) h = rw (fits_back text h.0) (ap (λ (k : ℕ). Some k) h.1)
+parsed_is_said E text None h = go (is_unsigned_in 0 4294967295 text) refl
+  where
+    go : (b : Bool) → is_unsigned_in 0 4294967295 text ≡ b → None ≡ (if b then Some (digits_value 10 (without_leading_plus text)) else None)
+    go true e = absurd (h.1 (fits text e))
+    go false e = refl
+
+said_is_parsed : (text : Text) → ReadsOne {E = Unit {0}} (ParsesUnsigned 32 10) text (number_said text)
+said_is_parsed text = go (is_unsigned_in 0 4294967295 text) refl
+  where
+    go : (b : Bool) → is_unsigned_in 0 4294967295 text ≡ b → ReadsOne {E = Unit {0}} (ParsesUnsigned 32 10) text (if b then Some (digits_value 10 (without_leading_plus text)) else None)
+    go true e = (fits text e, refl)
+    go false e = (tt, λ f. true≢false (sym (fits_back text f) ∙ e))
+
+-- a text that passes as a period says one
+says_period : (text : Text) → Accepts false (parses.Signed (pos 2) (pos 65536)) text → (n : ℕ) × (number_said (without_minus text) ≡ Some n) × IsPeriod n
+says_period text p =
+    let n = signed_reads (Unit {0}) (ParsesUnsigned 32 10) 32 2 65536 text (number_said (without_minus text)) (said_is_parsed (without_minus text)) (λ u x g. g) (omega arith) p in
+    (n.0, n.1, (n.2, n.3))
+
+-- what `get_one` reads
+read_said : (E : Type 0) (G : List ℕ → Result ℕ E → Type 0) → ((u : List ℕ) (x : Result ℕ E) → G u x → ParsesUnsigned 32 10 u x) → (o : Option Text) (r : Option ℕ)
+    → (o ≡ None → r ≡ None) → ((t : Text) → o ≡ Some t → ReadsOne {E = E} G t r) → r ≡ option_and_then number_said o
+read_said E G only None r none value = none refl
+read_said E G only (Some t) r none value = parsed_is_said E t r (go r (value t refl))
+  where
+    go : (x : Option ℕ) → ReadsOne {E = E} G t x → ReadsOne {E = E} (ParsesUnsigned 32 10) t x
+    go (Some n) g = only t (Ok n) g
+    go None g = (g.0, only t (Err g.0) g.1)
+
+pub period_read : (E : Type 0) (G : List ℕ → Result ℕ E → Type 0) → ((u : List ℕ) (x : Result ℕ E) → G u x → ParsesUnsigned 32 10 u x) → (f : Found) (r : Option ℕ)
+    → (one_text f (codes "period") ≡ None → r ≡ None) → ((t : Text) → one_text f (codes "period") ≡ Some t → ReadsOne {E = E} G t r)
+    → r ≡ option_and_then number_said (one_of (codes "period") (rows_of f))
+period_read E G only f r none value =
+    read_said E G only (one_text f (codes "period")) r none value ∙ ap (option_and_then number_said) (one_text-rows f (codes "period"))
+
+-- ---- the options as they are built
+
+abbrev pub watches : Shape
+watches = leaf watch_shape
+
+abbrev pub period_option : Rule
+period_option = with_index 1 (filled period_rule)
+
+abbrev pub id_option : Rule
+id_option = with_index 1 (filled id_rule)
+
+abbrev help_option : Rule
+help_option = with_index 1 (filled help_rule)
+
+-- a request for help is a fault
+help_keeps : (P : List Row → Type 0) → Keeps false P help_option
+help_keeps P values rows g e = let bad = then_none (range_kinds 0 0 (length values)) (kind.DisplayHelp ∷ []) e in cc
+
+two_names : codes "id" ≡ codes "period" → ⊥
+two_names e = true≢false (sym (ap (λ (w : Text). bytes_eq w (codes "period")) e))
+
+period_kept : EachKeeps false (Kept period_option) watches.rules
+period_kept = (
+  single_keeps false period_option period_option (refl, refl) (λ e. refl),
+  (single_keeps false period_option id_option (refl, refl) (λ e. absurd (two_names e)), (help_keeps (Kept period_option), tt)),
+)
+
+id_kept : EachKeeps false (Kept id_option) watches.rules
+id_kept = (
+  single_keeps false id_option period_option (refl, refl) (λ e. absurd (two_names (sym e))),
+  (single_keeps false id_option id_option (refl, refl) (λ e. refl), (help_keeps (Kept id_option), tt)),
+)
+
+-- words of `watch` without a fault
+abbrev IsFaultless : List Text → Type 0
+IsFaultless words = level_fault watches [] nothing_held words false [] ≡ []
+
+abbrev rows : List Text → List Row
+rows words = rows_after watches.rules [] words
+
+kept_rows : (P : List Row → Type 0) → EachKeeps false P watches.rules → P [] → (words : List Text) → IsFaultless words → P (rows words)
+kept_rows P all start words f =
+    let end = settled watches.rules (walk watches.rules [] nothing_held words).held in
+    subst P (sym (no_defaults watches.rules end.rows (refl, (refl, (refl, tt)))))
+    (end_keeps watches [] P (found_keeps false P watches.rules all) words false [] start f)
+
+given : (words : List Text) → IsFaultless words → (is_given (codes "period") (rows words) ≡ true) × (is_given (codes "id") (rows words) ≡ true)
+given words f = go (is_given (codes "period") (rows words)) (is_given (codes "id") (rows words)) (wanted false false _ (level_checked watches [] nothing_held words false [] f))
+  where
+    go : (a b : Bool) → (not a || (not b || false)) ≡ false → (a ≡ true) × (b ≡ true)
+    go true true e = (refl, refl)
+    go true false e = absurd (true≢false e)
+    go false b e = absurd (true≢false e)
+
+-- they ask for a watch, and its period is in range
+pub watch_says : (words : List Text) → IsFaultless words → (n : ℕ) × (t : Text) × (watch_asked (rows words) ≡ Some (Ok (watch n t))) × IsPeriod n
+watch_says words f =
+    let both = given words f in
+    let period = given_value period_option (rows words) (kept_rows (Kept period_option) period_kept tt words f) both.0 in
+    let id = given_value id_option (rows words) (kept_rows (Kept id_option) id_kept tt words f) both.1 in
+    let n = says_period period.0 (accepts-Accepts false (parses.Signed (pos 2) (pos 65536)) period.0 period.3) in
+    (n.0, id.0, rw (period.2, id.1) (ap (option_map {T = ℕ} {U = Meaning} (λ (k : ℕ). Ok (watch k id.0))) n.1), n.2)

@@ -1,0 +1,26 @@
+use Rattle.std.proofs.Common.{◌≡◌, Bool, true, false, codes, refl, sym}
+use Rattle.std.specs.Str.{bytes_eq}
+use Rattle.std.proofs.lemmas.Slice.Eq.{bytes_eq-Decides}
+use Rattle.clap.specs.Words.{Text}
+use Rattle.words_core.proofs.words.task_of.Goals as goal
+
+differs : (name word : Text) → (word ≡ name → ⊥) → bytes_eq name word ≡ false
+differs name word other = go (bytes_eq name word) refl
+  where
+    go : (b : Bool) → bytes_eq name word ≡ b → b ≡ false
+    go true e = absurd (other (sym ((bytes_eq-Decides name word).0 e)))
+    go false e = refl
+
+-- no subcommand has another name
+pub returns-in_default : goal.returns-in_default
+returns-in_default c =
+    let word = c.args.name.now in
+    rw (
+      differs (codes "show") word c.in_default.not-show,
+      differs (codes "check") word c.in_default.not-check,
+      differs (codes "rewrite") word c.in_default.not-rewrite,
+      differs (codes "replay") word c.in_default.not-replay,
+      differs (codes "publish") word c.in_default.not-publish,
+      differs (codes "watch") word c.in_default.not-watch,
+      differs (codes "import") word c.in_default.not-import,
+    ) tt

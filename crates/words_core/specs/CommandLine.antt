@@ -1,0 +1,252 @@
+-- The command line of the program: the task of each subcommand, and why words may be refused.
+use Rattle.std.specs.Prelude.{◌≡◌, ◌==◌, ◌⊎◌, ℕ, pos, true, false, not, Bool, List, [], ◌∷◌, ◌++◌, map, fold, filter_map, find, position, Option, Some, None, Result, Ok, Err, MatchResult, is_some, option_and_then, option_map, codes, if◌then◌else◌}
+use Rattle.std.specs.Global.{Global}
+use Rattle.std.specs.List.{list_any}
+use Rattle.std.specs.Option.{option_map_or}
+use Rattle.std.specs.Str.{bytes_eq}
+use Rattle.std.specs.Str.Parse.{IsNumeral, digits_value, without_leading_plus}
+use Rattle.clap.specs.Lexer.{usize_max}
+use Rattle.clap.specs.Words.{App, IsAmong, Kinds, Row, Rule, Shape, Text, all_of, fault_of, first_of, kind_of, new_app, new_rule, one_of, subcommand_of, with_rule, with_subcommand}
+use Rattle.clap.specs.ValueTests.{is_unsigned_in}
+use Rattle.clap.specs.declared.builder.value_parser.ValueParser.TheVariants as parses
+use Rattle.subscribe_core.specs.declared.block.Block.{Block}
+use Rattle.subscribe_core.specs.Watch.{IsPeriod}
+use Rattle.words_core.specs.declared.words.Task.{Task}
+use Rattle.words_core.specs.declared.words.Task.TheVariants.{Show, Check, Rewrite, Publish, Import, Replay, Watch}
+use Rattle.words_core.specs.declared.words.WordsError.{WordsError}
+use Rattle.words_core.specs.declared.words.WordsError.TheVariants as refused
+use Rattle.script_core.specs.BlockText.{block_in}
+
+-- what words may ask for; a replay of these control blocks, in this order; a watch over the stream with this
+-- svID, whose counter has this period
+pub data Asked : Type 0 where
+  show : Asked
+  check : Asked
+  rewrite : Asked
+  publish : Asked
+  import : Asked
+  replay : List (Block Global) → Asked
+  watch : ℕ → Text → Asked
+
+-- what a task does, wherever its blocks and its svID stand in memory
+abbrev pub said : Task → Asked
+said Show = show
+said Check = check
+said Rewrite = rewrite
+said Publish = publish
+said Import = import
+said (Replay blocks) = replay blocks.items
+said (Watch period id) = watch period id.items
+
+-- the name of the subcommand that asks for a task
+abbrev pub name_of : Asked → Text
+name_of show = codes "show"
+name_of check = codes "check"
+name_of rewrite = codes "rewrite"
+name_of publish = codes "publish"
+name_of import = codes "import"
+name_of (replay blocks) = codes "replay"
+name_of (watch period id) = codes "watch"
+
+-- the task's subcommand has no words of its own
+abbrev pub is_plain : Asked → Bool
+is_plain (replay blocks) = false
+is_plain (watch period id) = false
+is_plain _ = true
+
+-- the period of a watch is one that a watch may have
+abbrev pub HasPeriod : Asked → Type 0
+HasPeriod (watch period id) = IsPeriod period
+HasPeriod _ = Unit {0}
+
+-- what the matches of a subcommand ask for: a task, or none because at this position, from 0, of the
+-- texts of control blocks the first one stands that says none
+abbrev pub Meaning : Type 0
+Meaning = Result Asked ℕ
+
+-- a subcommand: the words that it takes, and what its matches ask for
+pub record Subcommand : Type 0 where
+  pub shape : Shape
+  pub task : List Row → Option Meaning
+
+-- the subcommand without arguments that asks for this task
+abbrev pub plain : Asked → Subcommand
+plain t = record { shape = (new_app (name_of t)).top; task = λ rows. Some (Ok t) }
+
+-- the control block that a text says
+abbrev pub block_at : Text → Option (Block Global)
+block_at = block_in
+
+-- the position, from 0, of the first text that says no control block
+abbrev pub first_bad : List Text → Option ℕ
+first_bad = position (λ text. not (is_some (block_at text)))
+
+-- the control blocks that texts say, in order
+abbrev pub blocks_in : List Text → List (Block Global)
+blocks_in = filter_map block_at
+
+-- a replay of the control blocks that all these texts say
+abbrev pub replay_of : List Text → Meaning
+replay_of texts = option_map_or Err (first_bad texts) (Ok (replay (blocks_in texts)))
+
+-- the argument BLOCK: one word or more
+abbrev pub block_rule : Rule
+block_rule = record (new_rule (codes "BLOCK")) { required = true; range = Some (record { start_inclusive = 1; end_inclusive = usize_max }) }
+
+abbrev pub replay_shape : Shape
+replay_shape = (with_rule (new_app (codes "replay")) block_rule).top
+
+-- the subcommand of a replay
+abbrev pub replaying : Subcommand
+replaying = record { shape = replay_shape; task = λ rows. option_map replay_of (all_of (codes "BLOCK") rows) }
+
+-- the option --period: a number of counts that a watch may have
+abbrev pub period_rule : Rule
+period_rule = record (new_rule (codes "period")) {
+  long = Some (codes "period");
+  value_names = 1;
+  parser = Some (parses.Signed (pos 2) (pos 65536));
+  required = true;
+}
+
+-- the option --id: a text
+abbrev pub id_rule : Rule
+id_rule = record (new_rule (codes "id")) { long = Some (codes "id"); value_names = 1; required = true }
+
+abbrev pub watch_shape : Shape
+watch_shape = (with_rule (with_rule (new_app (codes "watch")) period_rule) id_rule).top
+
+-- the number of at most 4294967295 that decimal digits say, perhaps behind a plus
+abbrev pub number_said : Text → Option ℕ
+number_said text = if is_unsigned_in 0 4294967295 text then Some (digits_value 10 (without_leading_plus text)) else None
+
+-- the watch that the two options say
+abbrev pub watch_asked : List Row → Option Meaning
+watch_asked rows = option_and_then (λ period. option_map (λ id. Ok (watch period id)) (first_of (codes "id") rows))
+    (option_and_then number_said (one_of (codes "period") rows))
+
+-- the subcommand of a watch
+abbrev pub watching : Subcommand
+watching = record { shape = watch_shape; task = watch_asked }
+
+-- the subcommands, in the order of the help; a further one is one more line
+abbrev pub subcommands : List Subcommand
+subcommands = plain show
+    ∷ plain check
+    ∷ plain rewrite
+    ∷ replaying
+    ∷ plain publish
+    ∷ watching
+    ∷ plain import
+    ∷ []
+
+-- the program with a version, of which a subcommand must be named
+abbrev pub bare_program : App
+bare_program = record {
+  top = record (new_app (codes "goose")).top { has_version = true; disable_help_subcommand = true; subcommand_required = true };
+  subs = (new_app (codes "goose")).subs;
+}
+
+-- the program with its subcommands
+abbrev pub command_line : App
+command_line = fold with_subcommand bare_program (map (λ s. s.shape) subcommands)
+
+-- what the subcommand that was met asks for, from its name and its matches
+abbrev pub task_asked : Text × List Row → Option Meaning
+task_asked met = option_and_then (λ s. s.task met.1) (find (λ s. bytes_eq s.shape.name met.0) subcommands)
+
+-- what the subcommand that the words name asks for; the first word is the program's name
+abbrev pub task_of_words : List Text → Option Meaning
+task_of_words words = option_and_then task_asked (subcommand_of command_line words)
+
+-- the program's name, this name, and then nothing, or the mark behind which no flag follows
+abbrev pub AsksByName : List Text → Text → Type 0
+AsksByName (called ∷ word ∷ []) name = word ≡ name
+AsksByName (called ∷ word ∷ mark ∷ []) name = (word ≡ name) × (mark ≡ codes "--")
+AsksByName _ name = ⊥
+
+-- a word that begins with a hyphen (45), which may be a flag
+abbrev pub is_flag : Text → Bool
+is_flag [] = false
+is_flag (c ∷ cs) = c == 45
+
+-- the program's name, `replay`, and then one text or more, none of which begins with a hyphen, which
+-- say these control blocks in order
+abbrev pub AsksReplay : List Text → List (Block Global) → Type 0
+AsksReplay (called ∷ word ∷ text ∷ texts) blocks =
+    (word ≡ codes "replay") × (list_any is_flag (text ∷ texts) ≡ false) × (map block_at (text ∷ texts) ≡ map Some blocks)
+AsksReplay _ blocks = ⊥
+
+-- an option by its name and this value: as two words, where the value begins with no hyphen, or as one with
+-- `=` (61) between them
+abbrev pub SaysOption : Text → Text → List Text → Type 0
+SaysOption name value (word ∷ []) = word ≡ name ++ (61 ∷ value)
+SaysOption name value (word ∷ text ∷ []) = (word ≡ name) × (text ≡ value) × (is_flag value ≡ false)
+SaysOption name value _ = ⊥
+
+-- two options, one behind the other, in either order
+abbrev pub SayBoth : Text → Text → Text → Text → List Text → List Text → Type 0
+SayBoth name value other_name other_value first second =
+    (SaysOption name value first × SaysOption other_name other_value second)
+    ⊎ (SaysOption other_name other_value first × SaysOption name value second)
+
+-- the program's name, `watch`, and then its two options: decimal digits that say the period, which is one that
+-- a watch may have, and the svID
+pub record AsksWatch (words : List Text) (period : ℕ) (id : Text) : Type 0 where
+  pub called : Text
+  pub first : List Text
+  pub second : List Text
+  pub behind : words ≡ called ∷ codes "watch" ∷ (first ++ second)
+  pub digits : Text
+  pub options : SayBoth (codes "--period") digits (codes "--id") id first second
+  pub are_digits : IsNumeral 10 digits
+  pub number : digits_value 10 digits ≡ period
+  pub range : IsPeriod period
+
+-- the words ask for this task: a task without words of its own by its name, a replay by the texts of
+-- its control blocks, a watch by its two options
+abbrev pub Asks : List Text → Asked → Type 0
+Asks words (replay blocks) = AsksReplay words blocks
+Asks words (watch period id) = AsksWatch words period id
+Asks words t = AsksByName words (name_of t)
+
+-- what may be wrong with the words, or asked for in place of a task: the kinds of error of the
+-- first step that fails; empty where no step fails
+abbrev pub faults : List Text → Kinds
+faults = fault_of command_line
+
+-- the words may be refused so: by one of their faults, by the first text that says no control block
+-- where they have no fault, or because memory was refused
+abbrev pub MayRefuse : List Text → WordsError → Type 0
+MayRefuse words (refused.Words error) = IsAmong (kind_of error) (faults words)
+MayRefuse words (refused.Block i) = (faults words ≡ []) × (task_of_words words ≡ Some (Err i))
+MayRefuse words refused.Memory = Unit {0}
+
+-- the words themselves are not what is wrong
+abbrev pub IsNoMistake : WordsError → Type 0
+IsNoMistake (refused.Words error) = ⊥
+IsNoMistake _ = Unit {0}
+
+-- this task is answered, refused memory aside
+abbrev pub AnswersTask : Asked → Result Task WordsError → Type 0
+AnswersTask asked answer = MatchResult answer (λ t. said t ≡ asked) (λ error. error ≡ refused.Memory)
+
+-- the words are refused by the text at this position, refused memory aside
+abbrev pub IsBlockError : ℕ → WordsError → Type 0
+IsBlockError i (refused.Words error) = ⊥
+IsBlockError i (refused.Block j) = j ≡ i
+IsBlockError i refused.Memory = Unit {0}
+
+abbrev pub AnswersBadBlock : ℕ → Result Task WordsError → Type 0
+AnswersBadBlock i answer = MatchResult answer (λ t. ⊥) (IsBlockError i)
+
+-- what is asked for is answered, refused memory aside
+abbrev pub Answers : Meaning → Result Task WordsError → Type 0
+Answers (Ok asked) answer = AnswersTask asked answer
+Answers (Err i) answer = AnswersBadBlock i answer
+
+-- the same, where something is asked for
+abbrev pub MayAnswer : Option Meaning → Option (Result Task WordsError) → Type 0
+MayAnswer None None = Unit {0}
+MayAnswer (Some meaning) (Some answer) = Answers meaning answer
+MayAnswer _ _ = ⊥

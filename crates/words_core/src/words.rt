@@ -1,0 +1,311 @@
+//! The command line of the program `goose`. The parser of words, `clap`, is named here alone.
+ghost use Rattle.std.specs.Prelude.{◌≡◌, ◌≢◌, ℕ, true, false, codes, option_map, Some, [], IfOk, IfErr, Err, Ok, option_and_then};
+ghost use Rattle.clap.specs.Words.{all_of, app_of, found_of, kind_of, new_app, rows_of, rule_of, subcommand_rows_of, takes, with_subcommand};
+ghost use Rattle.clap.specs.Walk.{texts};
+ghost use Rattle.clap.specs.declared.error.kind.ErrorKind.TheVariants.{OutOfMemory};
+ghost use Rattle.words_core.specs.CommandLine.{Answers, AnswersBadBlock, AnswersTask, Asked, Asks, HasPeriod, IsNoMistake, MayAnswer, MayRefuse, bare_program, block_rule, command_line, faults, id_rule, is_plain, period_rule, replay_of, replay_shape, said, task_asked, task_of_words, watch, watch_asked, watch_shape};
+
+use clap::error::ErrorKind;
+use clap::{Arg, ArgMatches, Command, value_parser};
+use script_core::{BlockError, read_block};
+use std::alloc::{AllocError, Global};
+use subscribe_core::Block;
+use thiserror::Error;
+
+/// What a command line asks for.
+#[derive(Drop)]
+pub enum Task {
+    /// One line an event.
+    Show,
+    /// One line a note on a frame.
+    Check,
+    /// The list in written form.
+    Rewrite,
+    /// One line an entry of a subscriber of these control blocks.
+    Replay(Vec<Block<Global>, Global>),
+    /// The list of frames that a publisher sends by a script.
+    Publish,
+    /// One line a sample of a stream, and what its count is after those before it.
+    Watch {
+        /// After how many samples the counter begins at 0 again, 2 to 65,536.
+        period: u32,
+        /// svID, the name of the stream.
+        id: Vec<u8, Global>,
+    },
+    /// A capture as a list.
+    Import,
+}
+
+/// Why words ask for nothing that can be done.
+#[derive(Debug, Drop, Error)]
+pub enum WordsError {
+    /// A mistake in the words, or a request for help or the version. Its `Display` is the text
+    /// for the user, its `exit_code` 2 for a mistake and else 0.
+    #[error(transparent)]
+    Words(clap::Error),
+    /// The text of a control block says none: the position, from 0, of the first such text.
+    #[error("block {0} says no control block")]
+    Block(usize),
+    /// Memory was refused.
+    #[error("out of memory")]
+    Memory,
+}
+
+// What each subcommand's help ends with.
+const MORE: &str =
+    "Moments are read in microseconds where the first line is V2, else in milliseconds, and written in microseconds. Exit status: 0 done, 1 findings, 2 a mistake in the words, 3 an input fault, 4 a read or write fault, 5 out of memory. More: docs/FORMATS.md, man docs/goose.1";
+
+// The program before its subcommands, one of which must be named.
+fn program<'a>(alloc: Global) -> Command<'a>
+    ensures { app_of result ≡ bare_program }
+{
+    Command::new(alloc, "goose")
+        .version("0.1.0")
+        .before_help("Example: goose show < examples/one_frame.list")
+        .after_help(
+            "Exit status: 0 done, 1 findings, 2 a mistake in the words, 3 an input fault, 4 a read or write fault, 5 out of memory. More: docs/FORMATS.md, man docs/goose.1",
+        )
+        .about(
+            "Reads recorded GOOSE and Sampled Values frames from standard input, one event a line",
+        )
+        .disable_help_subcommand(true)
+        .subcommand_required(true)
+}
+
+// The program with one more subcommand, which takes no words of its own.
+fn with_plain<'a>(
+    alloc: Global,
+    program: Command<'a>,
+    name: &'a str,
+    about: &'a str,
+    example: &'a str,
+) -> Result<Command<'a>, AllocError>
+    ensures { IfOk result (λ c. app_of c ≡ with_subcommand (app_of program.entry) (new_app name.now).top) }
+{
+    let plain = Command::new(alloc, name)
+        .before_help(example)
+        .after_help(MORE)
+        .about(about);
+    program.subcommand(plain)
+}
+
+// The words of `replay`: the texts of its control blocks, one or more.
+fn block_words<'a>(alloc: Global) -> Arg<'a>
+    ensures rule { rule_of result ≡ block_rule }
+    ensures local { result.global ≡ false }
+{
+    Arg::new(alloc, "BLOCK").required(true).num_args(1..).help(
+        "A control block: APPID,gocbRef,datSet,goID,confRev,entries, as 0001,IED1LD/LLN0$GO$gcb,IED1LD/LLN0$ds,,1,2. APPID has 4 hexadecimal digits; an empty goID is not looked at",
+    )
+}
+
+// The program with the subcommand `replay`.
+fn with_replay<'a>(alloc: Global, program: Command<'a>) -> Result<Command<'a>, AllocError>
+    ensures { IfOk result (λ c. app_of c ≡ with_subcommand (app_of program.entry) replay_shape) }
+{
+    let replay = Command::new(alloc, "replay")
+        .before_help("Example: goose replay 0001,G,D,,1,1 < examples/repeated_frames.list")
+        .after_help(MORE)
+        .about("Writes one line an entry of a subscriber of control blocks")
+        .arg(block_words(alloc))?;
+    program.subcommand(replay)
+}
+
+// The option `--period` of `watch`.
+fn period_option<'a>(alloc: Global) -> Arg<'a>
+    ensures rule { rule_of result ≡ period_rule }
+    ensures local { result.global ≡ false }
+{
+    Arg::new(alloc, "period")
+        .long("period")
+        .required(true)
+        .value_name("N")
+        .value_parser(value_parser!(u32).range(2..=65536))
+        .help(
+            "After how many samples smpCnt begins at 0 again, from 2 to 65536: 4000 for 80 samples a cycle at 50 Hz",
+        )
+}
+
+// The option `--id` of `watch`.
+fn id_option<'a>(alloc: Global) -> Arg<'a>
+    ensures rule { rule_of result ≡ id_rule }
+    ensures local { result.global ≡ false }
+{
+    Arg::new(alloc, "id")
+        .long("id")
+        .required(true)
+        .value_name("TEXT")
+        .help("The svID of the stream, as MU01")
+}
+
+// The program with the subcommand `watch`.
+fn with_watch<'a>(alloc: Global, program: Command<'a>) -> Result<Command<'a>, AllocError>
+    ensures { IfOk result (λ c. app_of c ≡ with_subcommand (app_of program.entry) watch_shape) }
+{
+    let watch = Command::new(alloc, "watch")
+        .before_help("Example: goose watch --period 4000 --id MU01 < examples/sample_counts.list")
+        .after_help(MORE)
+        .about("Writes one line a sample of a stream, and whether its count is the next one")
+        .arg(period_option(alloc))?
+        .arg(id_option(alloc))?;
+    program.subcommand(watch)
+}
+
+// The whole command line.
+fn command<'a>(alloc: Global) -> Result<Command<'a>, AllocError>
+    ensures { IfOk result (λ c. app_of c ≡ command_line) }
+{
+    let program = program(alloc);
+    let program = with_plain(
+        alloc,
+        program,
+        "show",
+        "Writes one line an event",
+        "Example: goose show < examples/one_frame.list",
+    )?;
+    let program = with_plain(
+        alloc,
+        program,
+        "check",
+        "Writes one line a note on a frame",
+        "Example: goose check < examples/notes.list",
+    )?;
+    let program = with_plain(
+        alloc,
+        program,
+        "rewrite",
+        "Writes the list again, each good frame in its one written form",
+        "Example: goose rewrite < examples/long_lengths.list",
+    )?;
+    let program = with_replay(alloc, program)?;
+    let program = with_plain(
+        alloc,
+        program,
+        "publish",
+        "Writes the list of frames that a publisher sends by a script",
+        "Example: goose publish < examples/publisher.script",
+    )?;
+    let program = with_watch(alloc, program)?;
+    with_plain(
+        alloc,
+        program,
+        "import",
+        "Writes a capture (classic libpcap) as a list",
+        "Example: goose import < examples/two_frames.pcap",
+    )
+}
+
+// The task of a replay of the control blocks that texts say.
+fn replay_task(alloc: Global, words: &[&str]) -> Result<Task, WordsError>
+    ensures { Answers (replay_of (texts words.now)) result }
+{
+    let mut blocks = Vec::new(alloc);
+    for (position, text) in words.iter().enumerate() {
+        match read_block(alloc, text) {
+            Ok(block) => {
+                if blocks.push(block).is_err() {
+                    return Err(WordsError::Memory);
+                }
+            }
+            Err(BlockError::BlockForm) => return Err(WordsError::Block(position)),
+            Err(BlockError::Memory(_)) => return Err(WordsError::Memory),
+        }
+    }
+    Ok(Task::Replay(blocks))
+}
+
+// The task of the matches of `replay`.
+fn replay_met(alloc: Global, matches: &ArgMatches<'_>) -> Option<Result<Task, WordsError>>
+    ensures { MayAnswer (option_map replay_of (all_of (codes "BLOCK") (rows_of (found_of matches.now)))) result }
+{
+    match matches.get_raw("BLOCK") {
+        Some(words) => Some(replay_task(alloc, words)),
+        None => None,
+    }
+}
+
+// The task of a watch over the stream with this svID.
+fn watch_task(alloc: Global, period: u32, id: &str) -> Result<Task, WordsError>
+    ensures { Answers (Ok (watch period id.now)) result }
+{
+    let mut octets = Vec::new(alloc);
+    match octets.extend_from_slice(id.as_bytes()) {
+        Ok(()) => Ok(Task::Watch { period, id: octets }),
+        Err(_) => Err(WordsError::Memory),
+    }
+}
+
+// The task of the matches of `watch`.
+fn watch_met(alloc: Global, matches: &ArgMatches<'_>) -> Option<Result<Task, WordsError>>
+    ensures { MayAnswer (watch_asked (rows_of (found_of matches.now))) result }
+{
+    let period = matches.get_one::<u32>("period")?;
+    let id = matches.get_str("id")?;
+    Some(watch_task(alloc, period, id))
+}
+
+// The task of a subcommand's name and its matches.
+fn task_of(alloc: Global, name: &str, matches: &ArgMatches<'_>) -> Option<Result<Task, WordsError>>
+    ensures { MayAnswer (task_asked (name.now, rows_of (found_of matches.now))) result }
+{
+    match name {
+        "show" => Some(Ok(Task::Show)),
+        "check" => Some(Ok(Task::Check)),
+        "rewrite" => Some(Ok(Task::Rewrite)),
+        "replay" => replay_met(alloc, matches),
+        "publish" => Some(Ok(Task::Publish)),
+        "watch" => watch_met(alloc, matches),
+        "import" => Some(Ok(Task::Import)),
+        _ => None,
+    }
+}
+
+// The task of the subcommand that the words named.
+fn task_met(alloc: Global, matches: &ArgMatches<'_>) -> Option<Result<Task, WordsError>>
+    ensures { MayAnswer (option_and_then task_asked (subcommand_rows_of matches.now)) result }
+{
+    match matches.subcommand() {
+        Some((name, inner)) => task_of(alloc, name, inner),
+        None => None,
+    }
+}
+
+// Want of memory is told apart from a mistake in the words.
+fn refusal(error: clap::Error) -> WordsError
+    ensures memory { kind_of error ≡ OutOfMemory → result ≡ WordsError.Memory }
+    ensures words { (kind_of error ≢ OutOfMemory) → result ≡ WordsError.Words error }
+{
+    match error.kind() {
+        ErrorKind::OutOfMemory => WordsError::Memory,
+        _ => WordsError::Words(error),
+    }
+}
+
+/// The task that the words ask for. The first word is the program's name.
+///
+/// # Errors
+///
+/// `Words` where the words have a mistake or ask for help or the version; `Block` where they ask for a
+/// replay and some text says no control block; `Memory` where memory is refused.
+pub fn read_words<'a>(alloc: Global, words: &'a [&'a str]) -> Result<Task, WordsError>
+    ensures found { IfOk result (λ t. is_plain (said t) ≡ true → Asks (texts words.now) (said t)) }
+    ensures only { (asked : Asked) → Asks (texts words.now) asked → AnswersTask asked result }
+    ensures period { IfOk result (λ t. HasPeriod (said t)) }
+    ensures task { IfOk result (λ t. task_of_words (texts words.now) ≡ Some (Ok (said t))) }
+    ensures faultless { IfOk result (λ t. faults (texts words.now) ≡ []) }
+    ensures taken { takes command_line (texts words.now) ≡ true → IfErr result IsNoMistake }
+    ensures refused { IfErr result (MayRefuse (texts words.now)) }
+    ensures bad_block { (i : ℕ) → faults (texts words.now) ≡ [] → task_of_words (texts words.now) ≡ Some (Err i) → AnswersBadBlock i result }
+{
+    let Ok(command) = command(alloc) else {
+        return Err(WordsError::Memory);
+    };
+    match command.try_get_matches_from(words) {
+        Ok(matches) => match task_met(alloc, &matches) {
+            Some(answer) => answer,
+            // A subcommand is required, and each has its task.
+            None => unreachable!(),
+        },
+        Err(error) => Err(refusal(error)),
+    }
+}
