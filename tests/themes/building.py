@@ -156,6 +156,38 @@ def no_program(tree):
     yield "the message", f"goose was not built: rt run left no program at {tree.program()}".rstrip("\n"), first_line(said)
 
 
+# Crates, one of which the program does not stand on.
+CRATES = "low: std\nother: low\nhigh: low other\napart: low\ngoose: high\n"
+
+
+def with_crates(tree):
+    """The tree, with four crates below the program or beside it."""
+    tree.put("crates.txt", CRATES)
+    os.utime(tree.top / "crates.txt", (0, 0))
+    for name in ("low", "other", "high", "apart"):
+        tree.put(f"crates/{name}/src/lib.rt", "")
+        os.utime(tree.top / f"crates/{name}/src/lib.rt", (0, 0))
+    return tree
+
+
+def lowest_first(tree):
+    """The crates that the program stands on are proved before it, each behind those that it stands on."""
+    wrote, said, status = with_crates(tree).build()
+    yield "output", (tree.program(), "", 0), (wrote, said, status)
+    wanted = [f"{tree.top / 'crates' / name} lib " for name in ("low", "other", "high")] + [f"{tree.top / 'crates' / 'goose'} run -- show given"]
+    yield "the runs", wanted, tree.runs.read_text().splitlines()
+    yield "files left behind", ["build.lock", "build.log"], sorted(it.name for it in (tree.top / "out").iterdir())
+
+
+def unproved_crate(tree):
+    """A crate that is not proved ends the build, and is named."""
+    wrote, said, status = with_crates(tree).build()
+    yield "output and status", ("", 1), (wrote, status)
+    yield "the message", "goose was not built: the crate other was not proved", first_line(said)
+    yield "the log", True, "no proof" in said.splitlines()
+    yield "files left behind", ["build.lock", "build.log"], sorted(it.name for it in (tree.top / "out").iterdir())
+
+
 def handed_on(tree):
     """`./goose` hands on words, standard input, both outputs and the status, also from another folder and by a link."""
     wanted = ("<check><a word>given", "said\n", 3)
@@ -175,4 +207,6 @@ def cases():
     yield Builds("a build that fails", broken, early="echo 'a line of the log' >&2; exit 7")
     yield Builds("a stored run that writes something else", other_output, wrote="another line\n")
     yield Builds("a build that leaves no program", no_program, early=f"printf '{STORED.rstrip()}\\n'; exit 0")
+    yield Builds("the crates below are proved lowest first", lowest_first)
+    yield Builds("a crate that is not proved", unproved_crate, early='case "$PWD" in */other) echo "no proof" >&2; exit 1 ;; esac')
     yield Builds("what is handed on", handed_on)
