@@ -13,7 +13,7 @@ use Rattle.ber_core.proofs.Headers.{header_for, Parts}
 use Rattle.ber_core.proofs.Steps.{chosen, bind_ok, bind_err}
 pub use Rattle.ber_core.proofs.Steps.{err_is, pair_is}
 use Rattle.ber_core.specs.Fields.{Presence, always, optional, default, Field, Grammar, AbsenceMeans, MayBeAbsent, BeginsWith, FieldsFault, missing, high, unexpected, in_length, in_contents}
-use Rattle.ber_core.specs.FieldReading.{Read, if_there, absence, or_absence, there_at, required_at, behind, behind_if, field_as, field_at}
+use Rattle.ber_core.specs.FieldReading.{Read, if_there, absence, or_absence, there_at, required_at, read_behind, read_behind_if, field_as, field_at}
 use Rattle.ber_core.proofs.Regions.{contents_are, rest_is}
 use Rattle.ber_core.proofs.FieldRegions.{if_there_again, if_there_found, if_there_wrong, if_there_wrong_again, if_there_none, if_there_absent}
 
@@ -35,7 +35,7 @@ pub data Took {K I : Type 0} (G : Grammar K I) (g : Field K I) (p : ℕ) (o : Li
 module _ {K I : Type 0} (G : Grammar K I) (read : Read K I) (sound : IsSound G read) (octets : List ℕ) (e : ℕ) (within : e ≤ length octets) where
   -- the contents behind a header that stands at the front of the region
   module _ (g : Field K I) (p : ℕ) (order : p ≤ e) where
-    behind_took : (ls : List ℕ) (h : Header) (v : Option I) (q : ℕ) → slice_range octets p e ≡ g.identifier ∷ ls → Parts p g.identifier ls h → behind read g.kind octets h ≡ Ok (v, q) → Took G g p (slice_range octets p e) v q
+    behind_took : (ls : List ℕ) (h : Header) (v : Option I) (q : ℕ) → slice_range octets p e ≡ g.identifier ∷ ls → Parts p g.identifier ls h → read_behind read g.kind octets h ≡ Ok (v, q) → Took G g p (slice_range octets p e) v q
     behind_took ls h v q at t is =
         let parts : slice_range octets p e ≡ g.identifier ∷ t.size ++ (t.contents ++ t.rest) = at ∙ ap (λ (x : List ℕ). g.identifier ∷ x) t.parts in
         let x = bind_ok (read g.kind octets h) _ (v, q) is in
@@ -46,14 +46,14 @@ module _ {K I : Type 0} (G : Grammar K I) (read : Read K I) (sound : IsSound G r
         took x.0 t.size t.contents t.rest parts t.sized (subst (G.spells g.kind x.0) c-is spelled) same.0 (same.1 ∙ ap (λ (y : Header). y.contents_to) t.header)
 
     behind_again : (x : I) (size c rest : List ℕ) → slice_range octets p e ≡ g.identifier ∷ size ++ (c ++ rest) → G.spells g.kind x c
-        → behind read g.kind octets (header_for p g.identifier (length size) (length c)) ≡ Ok (Some x, p + 1 + length size + length c)
+        → read_behind read g.kind octets (header_for p g.identifier (length size) (length c)) ≡ Ok (Some x, p + 1 + length size + length c)
     behind_again x size c rest parts spelled =
         let c-is = contents_are octets p e g.identifier size c rest order within parts in
         let r = rest_is octets p e g.identifier size c rest order within parts in
         let h = header_for p g.identifier (length size) (length c) in
         ap (λ (y : Result I Fault). y >>= λ z. Ok (Some z, h.contents_to)) (sound.again g.kind octets h x (omega arith, omega (arith, r.1)) (subst (G.spells g.kind x) (sym c-is) spelled))
 
-    behind_wrong : (f : Fault) (gs : List (Field K I)) (ls : List ℕ) (h : Header) → slice_range octets p e ≡ g.identifier ∷ ls → Parts p g.identifier ls h → behind read g.kind octets h ≡ Err f → FieldsFault G f (g ∷ gs) p (slice_range octets p e)
+    behind_wrong : (f : Fault) (gs : List (Field K I)) (ls : List ℕ) (h : Header) → slice_range octets p e ≡ g.identifier ∷ ls → Parts p g.identifier ls h → read_behind read g.kind octets h ≡ Err f → FieldsFault G f (g ∷ gs) p (slice_range octets p e)
     behind_wrong f gs ls h at t is =
         let parts : slice_range octets p e ≡ g.identifier ∷ t.size ++ (t.contents ++ t.rest) = at ∙ ap (λ (x : List ℕ). g.identifier ∷ x) t.parts in
         elim (bind_err (read g.kind octets h) _ f is) [
@@ -65,7 +65,7 @@ module _ {K I : Type 0} (G : Grammar K I) (read : Read K I) (sound : IsSound G r
         ]
 
     behind_wrong_again : (f : Fault) (size c rest : List ℕ) → slice_range octets p e ≡ g.identifier ∷ size ++ (c ++ rest) → G.fault f g.kind p (p + 1 + length size) c
-        → behind read g.kind octets (header_for p g.identifier (length size) (length c)) ≡ Err f
+        → read_behind read g.kind octets (header_for p g.identifier (length size) (length c)) ≡ Err f
     behind_wrong_again f size c rest parts wrong =
         let c-is = contents_are octets p e g.identifier size c rest order within parts in
         let r = rest_is octets p e g.identifier size c rest order within parts in
@@ -100,12 +100,12 @@ required_wrong id p e octets f is = wrong_in (if_there id p (slice_range octets 
 
 -- one field: the presence is a variable, so that it can be told apart
 module _ {K I : Type 0} (G : Grammar K I) (read : Read K I) (sound : IsSound G read) (octets : List ℕ) (e : ℕ) (within : e ≤ length octets) (g : Field K I) (p : ℕ) (order : p ≤ e) (low : eqb (g.identifier % 32) 31 ≡ false) where
-  there_took : (h : Header) (v : Option I) (q : ℕ) → if_there g.identifier p (slice_range octets p e) ≡ Ok (Some h) → behind read g.kind octets h ≡ Ok (v, q) → Took G g p (slice_range octets p e) v q
+  there_took : (h : Header) (v : Option I) (q : ℕ) → if_there g.identifier p (slice_range octets p e) ≡ Ok (Some h) → read_behind read g.kind octets h ≡ Ok (v, q) → Took G g p (slice_range octets p e) v q
   there_took h v q is then =
       let t = if_there_found g.identifier p low (slice_range octets p e) h is in
       behind_took G read sound octets e within g p order t.0 h v q t.1 t.2 then
 
-  if_took : (m : Option Header) (d v : Option I) (q : ℕ) → AbsenceMeans g.presence d → if_there g.identifier p (slice_range octets p e) ≡ Ok m → behind_if read g.kind octets p d m ≡ Ok (v, q) → Took G g p (slice_range octets p e) v q
+  if_took : (m : Option Header) (d v : Option I) (q : ℕ) → AbsenceMeans g.presence d → if_there g.identifier p (slice_range octets p e) ≡ Ok m → read_behind_if read g.kind octets p d m ≡ Ok (v, q) → Took G g p (slice_range octets p e) v q
   if_took (Some h) d v q means is then = there_took h v q is then
   if_took None d v q means is then =
       let same = pair_is d v p q then in
@@ -130,16 +130,16 @@ module _ {K I : Type 0} (G : Grammar K I) (read : Read K I) (sound : IsSound G r
   there_wrong : (f : Fault) (gs : List (Field K I)) → if_there g.identifier p (slice_range octets p e) ≡ Err f → FieldsFault G f (g ∷ gs) p (slice_range octets p e)
   there_wrong f gs is = let t = if_there_wrong g.identifier p low (slice_range octets p e) f is in rw t.1 (in_length refl t.2)
 
-  then_wrong : (f : Fault) (gs : List (Field K I)) (h : Header) → if_there g.identifier p (slice_range octets p e) ≡ Ok (Some h) → behind read g.kind octets h ≡ Err f → FieldsFault G f (g ∷ gs) p (slice_range octets p e)
+  then_wrong : (f : Fault) (gs : List (Field K I)) (h : Header) → if_there g.identifier p (slice_range octets p e) ≡ Ok (Some h) → read_behind read g.kind octets h ≡ Err f → FieldsFault G f (g ∷ gs) p (slice_range octets p e)
   then_wrong f gs h is then =
       let t = if_there_found g.identifier p low (slice_range octets p e) h is in
       behind_wrong G read sound octets e within g p order f gs t.0 h t.1 t.2 then
 
-  if_wrong : (f : Fault) (gs : List (Field K I)) (m : Option Header) (d : Option I) → if_there g.identifier p (slice_range octets p e) ≡ Ok m → behind_if read g.kind octets p d m ≡ Err f → FieldsFault G f (g ∷ gs) p (slice_range octets p e)
+  if_wrong : (f : Fault) (gs : List (Field K I)) (m : Option Header) (d : Option I) → if_there g.identifier p (slice_range octets p e) ≡ Ok m → read_behind_if read g.kind octets p d m ≡ Err f → FieldsFault G f (g ∷ gs) p (slice_range octets p e)
   if_wrong f gs (Some h) d is then = then_wrong f gs h is then
   if_wrong f gs None d is then = absurd (let wrong = then in cc)
 
-  if_there_or_wrong : (f : Fault) (gs : List (Field K I)) (d : Option I) → (if_there g.identifier p (slice_range octets p e) >>= behind_if read g.kind octets p d) ≡ Err f → FieldsFault G f (g ∷ gs) p (slice_range octets p e)
+  if_there_or_wrong : (f : Fault) (gs : List (Field K I)) (d : Option I) → (if_there g.identifier p (slice_range octets p e) >>= read_behind_if read g.kind octets p d) ≡ Err f → FieldsFault G f (g ∷ gs) p (slice_range octets p e)
   if_there_or_wrong f gs d is = elim (bind_err (if_there g.identifier p (slice_range octets p e)) _ f is) [
     | inl w ↦ there_wrong f gs w
     | inr x ↦ if_wrong f gs x.0 d x.1 x.2
@@ -161,7 +161,7 @@ module _ {K I : Type 0} (G : Grammar K I) (read : Read K I) (sound : IsSound G r
   field_wrong f gs is = as_wrong f gs g.presence refl is
 
   -- a header that is there decides, whatever the presence
-  as_there : (r : Result (Option I × ℕ) Fault) (h : Header) (pr : Presence I) → if_there g.identifier p (slice_range octets p e) ≡ Ok (Some h) → behind read g.kind octets h ≡ r → field_as read g.identifier g.kind pr octets p e ≡ r
+  as_there : (r : Result (Option I × ℕ) Fault) (h : Header) (pr : Presence I) → if_there g.identifier p (slice_range octets p e) ≡ Ok (Some h) → read_behind read g.kind octets h ≡ r → field_as read g.identifier g.kind pr octets p e ≡ r
   unfolding there_at required_at
   as_there r h always is then = rw is then
   as_there r h optional is then = rw is then

@@ -121,7 +121,7 @@ pub record AreShortIntegers : Type 0 where
   pub element : written_element 0x85 (short_integer (pos 128)) ≡ 0x85 ∷ 2 ∷ 0 ∷ 0x80 ∷ []
 
 pub short_integers : AreShortIntegers
-unfolding short_integer integer_size short_length
+unfolding short_integer integer_size short_length written_element
 short_integers = record { zero = refl; most_of_one = refl; behind = refl; least_of_one = refl; before = refl; most_of_four = refl; nine = refl; element = refl }
 
 -- ---- the contents of other elements

@@ -2,7 +2,7 @@
 -- in both directions tie them to what a sequence of fields spells and to its fault.
 use Rattle.std.specs.Prelude.{ℕ, ◌%◌, ◌&&◌, Bool, true, not, List, [], ◌∷◌, ◌++◌, slice_range, Option, Some, None, Result, Ok, Err, ◌==◌, nat_lt, if◌then◌else◌}
 use Rattle.ber_core.specs.Faults.{fault_of}
-use Rattle.ber_core.specs.Fields.{Field, always, optional, default, Presence, Grammar, SpellsFields, FieldsFault}
+use Rattle.ber_core.specs.Fields.{Field, always, optional, default, Presence}
 use Rattle.ber_core.specs.Reading.{refused, header_at, ◌>>=◌}
 use Rattle.ber_core.specs.declared.element.Header.{Header}
 use Rattle.ber_core.specs.declared.fault.Fault.{Fault}
@@ -34,18 +34,18 @@ there_at id octets p e = if_there id p (slice_range octets p e)
 unfoldable pub required_at : ℕ → List ℕ → ℕ → ℕ → Result Header Fault
 required_at id octets p e = there_at id octets p e >>= or_absence p (slice_range octets p e)
 
-abbrev pub behind : {K I : Type 0} → Read K I → K → List ℕ → Header → Result (Option I × ℕ) Fault
-behind read k octets h = read k octets h >>= λ x. Ok (Some x, h.contents_to)
+abbrev pub read_behind : {K I : Type 0} → Read K I → K → List ℕ → Header → Result (Option I × ℕ) Fault
+read_behind read k octets h = read k octets h >>= λ x. Ok (Some x, h.contents_to)
 
-abbrev pub behind_if : {K I : Type 0} → Read K I → K → List ℕ → ℕ → Option I → Option Header → Result (Option I × ℕ) Fault
-behind_if read k octets p d None = Ok (d, p)
-behind_if read k octets p d (Some h) = behind read k octets h
+abbrev pub read_behind_if : {K I : Type 0} → Read K I → K → List ℕ → ℕ → Option I → Option Header → Result (Option I × ℕ) Fault
+read_behind_if read k octets p d None = Ok (d, p)
+read_behind_if read k octets p d (Some h) = read_behind read k octets h
 
 -- the field of this identifier, kind and presence at p: its value, and the place behind it
 abbrev pub field_as : {K I : Type 0} → Read K I → ℕ → K → Presence I → List ℕ → ℕ → ℕ → Result (Option I × ℕ) Fault
-field_as read id k always octets p e = required_at id octets p e >>= behind read k octets
-field_as read id k optional octets p e = there_at id octets p e >>= behind_if read k octets p None
-field_as read id k (default d) octets p e = there_at id octets p e >>= behind_if read k octets p (Some d)
+field_as read id k always octets p e = required_at id octets p e >>= read_behind read k octets
+field_as read id k optional octets p e = there_at id octets p e >>= read_behind_if read k octets p None
+field_as read id k (default d) octets p e = there_at id octets p e >>= read_behind_if read k octets p (Some d)
 
 -- the field at p, in a region that ends at e
 abbrev pub field_at : {K I : Type 0} → Read K I → Field K I → List ℕ → ℕ → ℕ → Result (Option I × ℕ) Fault
@@ -59,10 +59,6 @@ fields_at read (g ∷ gs) vs octets p e = field_at read g octets p e >>= λ x. f
 -- no octets stand from p to e
 abbrev pub ends_at : ℕ → ℕ → Result (Unit {0}) Fault
 ends_at p e = if nat_lt p e then refused p causes.ExtraOctets else Ok tt
-
--- contents that are a sequence of fields themselves, counts aside
-abbrev pub nested : {K I : Type 0} → Grammar K I → List (Field K I) → Grammar (Unit {0}) (List (Option I))
-nested G gs = record { spells = λ _ vs c. SpellsFields G gs vs c; fault = λ f _ at from c. FieldsFault G f gs from c }
 
 -- no field of the sequence has this identifier
 abbrev pub is_stranger : {K I : Type 0} → ℕ → List (Field K I) → Bool

@@ -1,4 +1,4 @@
--- A sequence of fields, as a PDU has them: what spells it, and its one fault where nothing is spelled. What
+-- A sequence of fields, as an APDU has them: what spells it, and its one fault where nothing is spelled. What
 -- contents spell is told apart by kinds, in a grammar that each sequence brings along.
 use Rattle.std.specs.Prelude.{◌≡◌, ◌≢◌, ℕ, ◌+◌, ◌%◌, ◌⊎◌, List, [], ◌∷◌, ◌++◌, length, Option, Some, None}
 use Rattle.ber_core.specs.Length.{Len}
@@ -83,3 +83,7 @@ pub data FieldsFault {K I : Type 0} (G : Grammar K I) (f : Fault) : List (Field 
   in_length : {g : Field K I} {gs : List (Field K I)} {p b : ℕ} {bs : List ℕ} → b ≡ g.identifier → LengthFault f p bs → FieldsFault G f (g ∷ gs) p (b ∷ bs)
   in_contents : {g : Field K I} {gs : List (Field K I)} {p : ℕ} {o : List ℕ} (c size rest : List ℕ) → o ≡ g.identifier ∷ size ++ (c ++ rest) → Len (length c) size → G.fault f g.kind p (p + 1 + length size) c → FieldsFault G f (g ∷ gs) p o
   extra : {p b : ℕ} {bs : List ℕ} → f ≡ fault_of p causes.ExtraOctets → FieldsFault G f [] p (b ∷ bs)
+
+-- contents that are a sequence of fields themselves, counts aside
+abbrev pub nested : {K I : Type 0} → Grammar K I → List (Field K I) → Grammar (Unit {0}) (List (Option I))
+nested G gs = record { spells = λ _ vs c. SpellsFields G gs vs c; fault = λ f _ at from c. FieldsFault G f gs from c }

@@ -11,3 +11,4 @@ pub mod Fields
 pub mod FieldReading
 pub mod Sequences
 pub mod Repeated
+pub mod RepeatedReading

@@ -36,5 +36,5 @@ abbrev pub written_header : ℕ → ℕ → List ℕ
 written_header id size = id ∷ short_length size
 
 -- the written form of an element
-abbrev pub written_element : ℕ → List ℕ → List ℕ
+unfoldable pub written_element : ℕ → List ℕ → List ℕ
 written_element id contents = written_header id (length contents) ++ contents

@@ -5,10 +5,10 @@ use Rattle.std.proofs.lemmas.Bool.Decides.{nat_tests}
 use Rattle.frame_core.specs.declared.device.InputEnd.{InputEnd}
 use Rattle.capture_core.specs.declared.form.CaptureForm.{CaptureForm}
 use Rattle.capture_core.specs.Header.{header_of}
-use Rattle.capture_core.specs.Capture.{behind, capture}
+use Rattle.capture_core.specs.Capture.{records_behind, capture}
 
 -- a whole header stands first
-pub capture_first : (z : InputEnd) (header more : List ℕ) (form : Option CaptureForm) → length header ≡ 24 → form ≡ header_of header → capture z (header ++ more) ≡ behind form z more
+pub capture_first : (z : InputEnd) (header more : List ℕ) (form : Option CaptureForm) → length header ≡ 24 → form ≡ header_of header → capture z (header ++ more) ≡ records_behind form z more
 capture_first z header more form h e =
     let whole : ltb (length (header ++ more)) 24 ≡ false = simp length-append (grind (arith, nat_tests)) in
-    rw (whole, e) (ap (λ l. behind (header_of l) z (drop 24 (header ++ more))) (take_at header more 24 h) ∙ ap (behind (header_of header) z) (drop_at header more 24 h))
+    rw (whole, e) (ap (λ l. records_behind (header_of l) z (drop 24 (header ++ more))) (take_at header more 24 h) ∙ ap (records_behind (header_of header) z) (drop_at header more 24 h))

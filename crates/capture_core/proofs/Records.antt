@@ -5,7 +5,7 @@ use Rattle.std.proofs.lemmas.Bool.Decides.{leb_tells, nat_tests}
 use Rattle.std.specs.Io.KnownBytes.{Consumes}
 use Rattle.frame_core.specs.declared.device.InputEnd.{InputEnd}
 use Rattle.frame_core.specs.declared.device.InputEnd.TheVariants.{Open, End, Failed}
-use Rattle.frame_core.specs.Device.{Gives, OnlyOpen}
+use Rattle.frame_core.specs.Device.{GivesOctets, OnlyOpen}
 use Rattle.frame_core.specs.Lines.{CanFollow, faulty}
 use Rattle.frame_core.proofs.Devices.{Consumes-append, Gives-append}
 use Rattle.frame_core.proofs.Readers.{OnlyOpen-append, OnlyOpen-none}
@@ -13,8 +13,8 @@ use Rattle.capture_core.specs.declared.form.CaptureForm.{CaptureForm}
 use Rattle.capture_core.specs.declared.capture_fault.CaptureCause.TheVariants.{RecordLength, TooManyRecords}
 use Rattle.capture_core.specs.declared.capture_fault.CaptureFault.{CaptureFault}
 use Rattle.capture_core.specs.declared.record.Captured.{Captured}
-use Rattle.capture_core.specs.Capture.{Capture, CaptureRecord, captured_size, cut, ended, fault_in, moment_of, put_record, read_one, records_after, records_of, stops}
-use Rattle.capture_core.specs.Reading.{IsToldAs, ReadsRecord, StopsBy, TakesFor, short_stop}
+use Rattle.capture_core.specs.Capture.{Capture, CaptureRecord, captured_size, cut, ended, fault_in, moment_in_head, put_record, read_one, records_after, records_of, no_records}
+use Rattle.capture_core.specs.Reading.{IsRecordToldAs, ReadsRecord, StopsBy, TakesFor, short_stop}
 
 -- nothing follows where a source has ended
 pub nothing_follows : (w : InputEnd) (more : List ℕ) (y : InputEnd) → w ≢ Open → CanFollow w more y → (more ≡ []) × (y ≡ w)
@@ -23,20 +23,20 @@ nothing_follows End more y c f = f
 nothing_follows Failed more y c f = f
 
 -- a source that was not asked gave nothing
-gave_nothing : (a : Option (List ℕ)) → Gives a a []
+gave_nothing : (a : Option (List ℕ)) → GivesOctets a a []
 gave_nothing None = tt
 gave_nothing (Some os) = refl
 
 module _ (form : CaptureForm) where
   -- ---- one record, of which the head is known
 
-  one_long : (z : InputEnd) (n : ℕ) (head rest : List ℕ) (others : Capture) → length head ≡ 16 → 262144 < captured_size form head → read_one form z n head rest others ≡ stops (fault_in n RecordLength)
+  one_long : (z : InputEnd) (n : ℕ) (head rest : List ℕ) (others : Capture) → length head ≡ 16 → 262144 < captured_size form head → read_one form z n head rest others ≡ no_records (fault_in n RecordLength)
   one_long z n head rest others h s =
       let a : ltb (length head) 16 ≡ false = grind (arith, nat_tests) in
       let b : ltb 262144 (captured_size form head) ≡ true = grind (arith, nat_tests) in
       rw (a, b) refl
 
-  one_cut : (z : InputEnd) (n : ℕ) (head rest : List ℕ) (others : Capture) → length head ≡ 16 → captured_size form head ≤ 262144 → length rest < captured_size form head → read_one form z n head rest others ≡ stops (cut z n)
+  one_cut : (z : InputEnd) (n : ℕ) (head rest : List ℕ) (others : Capture) → length head ≡ 16 → captured_size form head ≤ 262144 → length rest < captured_size form head → read_one form z n head rest others ≡ no_records (cut z n)
   one_cut z n head rest others h s t =
       let a : ltb (length head) 16 ≡ false = grind (arith, nat_tests) in
       let b : ltb 262144 (captured_size form head) ≡ false = grind (arith, nat_tests) in
@@ -44,29 +44,29 @@ module _ (form : CaptureForm) where
       rw (a, b, c) refl
 
   pub one_whole : (z : InputEnd) (n : ℕ) (head rest : List ℕ) (others : Capture) → length head ≡ 16 → captured_size form head ≤ 262144 → captured_size form head ≤ length rest →
-      read_one form z n head rest others ≡ put_record (n, record { moment = moment_of form head; octets = take (captured_size form head) rest }) others
+      read_one form z n head rest others ≡ put_record (n, record { moment = moment_in_head form head; octets = take (captured_size form head) rest }) others
   one_whole z n head rest others h s t =
       let a : ltb (length head) 16 ≡ false = grind (arith, nat_tests) in
       let b : ltb 262144 (captured_size form head) ≡ false = grind (arith, nat_tests) in
       let c : ltb (length rest) (captured_size form head) ≡ false = grind (arith, nat_tests) in
       rw (a, b, c) refl
 
-  one_short : (z : InputEnd) (n : ℕ) (head rest : List ℕ) (others : Capture) → length head < 16 → read_one form z n head rest others ≡ stops (cut z n)
+  one_short : (z : InputEnd) (n : ℕ) (head rest : List ℕ) (others : Capture) → length head < 16 → read_one form z n head rest others ≡ no_records (cut z n)
   one_short z n head rest others h =
       let a : ltb (length head) 16 ≡ true = grind (arith, nat_tests) in
       rw a refl
 
   -- ---- the first record
 
-  pub none_of : (z : InputEnd) (n most : ℕ) → records_of form z n most [] ≡ stops (ended z (n + 1))
+  pub none_of : (z : InputEnd) (n most : ℕ) → records_of form z n most [] ≡ no_records (ended z (n + 1))
   unfolding records_of
   none_of z n zero = refl
   none_of z n (suc most) = refl
 
-  records_none : (z : InputEnd) (n : ℕ) → records_after form z n [] ≡ stops (ended z (n + 1))
+  records_none : (z : InputEnd) (n : ℕ) → records_after form z n [] ≡ no_records (ended z (n + 1))
   records_none z n = none_of z n (999999 - n)
 
-  records_many : (z : InputEnd) (n : ℕ) (octets : List ℕ) → 999999 ≤ n → 0 < length octets → records_after form z n octets ≡ stops (fault_in (n + 1) TooManyRecords)
+  records_many : (z : InputEnd) (n : ℕ) (octets : List ℕ) → 999999 ≤ n → 0 < length octets → records_after form z n octets ≡ no_records (fault_in (n + 1) TooManyRecords)
   unfolding records_of
   records_many z n [] a b = absurd (omega arith)
   records_many z n (x ∷ xs) a b =
@@ -88,14 +88,14 @@ module _ (form : CaptureForm) where
   records_first z n (x ∷ xs) rest a b =
       records_step z n x (xs ++ rest) a ∙ ap (λ h. first_of_records z n h (drop 16 (x ∷ (xs ++ rest)))) (take_at (x ∷ xs) rest 16 b) ∙ ap (first_of_records z n (x ∷ xs)) (drop_at (x ∷ xs) rest 16 b)
 
-  records_short : (z : InputEnd) (n : ℕ) (head : List ℕ) → n < 999999 → 0 < length head → length head < 16 → records_after form z n head ≡ stops (cut z (n + 1))
+  records_short : (z : InputEnd) (n : ℕ) (head : List ℕ) → n < 999999 → 0 < length head → length head < 16 → records_after form z n head ≡ no_records (cut z (n + 1))
   unfolding first_of_records
   records_short z n [] a b c = absurd (omega arith)
   records_short z n (x ∷ xs) a b c =
       records_step z n x xs a ∙ ap (λ h. first_of_records z n h (drop 16 (x ∷ xs))) (take_all 16 (x ∷ xs) (omega arith)) ∙ one_short z (n + 1) (x ∷ xs) (drop 16 (x ∷ xs)) _ c
 
   -- the records of octets that end inside a head
-  stops_short : (z : InputEnd) (n : ℕ) (octets : List ℕ) → length octets < 16 → records_after form z n octets ≡ stops (short_stop z n (length octets))
+  stops_short : (z : InputEnd) (n : ℕ) (octets : List ℕ) → length octets < 16 → records_after form z n octets ≡ no_records (short_stop z n (length octets))
   stops_short z n [] b = records_none z n
   stops_short z n (x ∷ xs) b =
       let some : eqb (length (x ∷ xs)) 0 ≡ false = grind (arith, nat_tests) in
@@ -114,8 +114,8 @@ module _ (form : CaptureForm) where
 
   -- the octets ended inside a head
   pub answered_short : (result : Result (Option Captured) CaptureFault) (array given : List ℕ) (old new : Option (List ℕ)) (z w : InputEnd) (n : ℕ) →
-      w ≢ Open → length given < 16 → Gives old new given → OnlyOpen z given w → StopsBy result (short_stop w n (length given)) →
-      (answer : Result (Option CaptureRecord) CaptureFault) × IsToldAs answer result array × ReadsRecord form n [] old z answer new w
+      w ≢ Open → length given < 16 → GivesOctets old new given → OnlyOpen z given w → StopsBy result (short_stop w n (length given)) →
+      (answer : Result (Option CaptureRecord) CaptureFault) × IsRecordToldAs answer result array × ReadsRecord form n [] old z answer new w
   answered_short (Ok (Some c)) array given old new z w n shut few g o s = absurd s
   answered_short (Ok None) array given old new z w n shut few g o s = (
     Ok None,
@@ -125,7 +125,7 @@ module _ (form : CaptureForm) where
       took = g;
       only_open = o;
       room = tt;
-      reads = λ more y f. closed w n given more y shut f ∙ stops_short w n given few ∙ ap stops s;
+      reads = λ more y f. closed w n given more y shut f ∙ stops_short w n given few ∙ ap no_records s;
     },
   )
   answered_short (Err e) array given old new z w n shut few g o s = (
@@ -136,19 +136,19 @@ module _ (form : CaptureForm) where
       took = g;
       only_open = o;
       room = tt;
-      reads = λ more y f. closed w n given more y shut f ∙ stops_short w n given few ∙ ap stops s;
+      reads = λ more y f. closed w n given more y shut f ∙ stops_short w n given few ∙ ap no_records s;
     },
   )
 
   -- there is no room for a record that has begun
-  pub answered_many : (e : CaptureFault) (given : List ℕ) (old new : Option (List ℕ)) (z w : InputEnd) (n : ℕ) → 999999 ≤ n → 0 < length given → Gives old new given → OnlyOpen z given w →
+  pub answered_many : (e : CaptureFault) (given : List ℕ) (old new : Option (List ℕ)) (z w : InputEnd) (n : ℕ) → 999999 ≤ n → 0 < length given → GivesOctets old new given → OnlyOpen z given w →
       fault_in (n + 1) TooManyRecords ≡ faulty e → ReadsRecord form n [] old z (Err e) new w
   answered_many e given old new z w n many some g o s = record {
     given = given;
     took = g;
     only_open = o;
     room = tt;
-    reads = λ more y f. records_many y n (given ++ more) many (simp length-append (omega arith)) ∙ ap stops s;
+    reads = λ more y f. records_many y n (given ++ more) many (simp length-append (omega arith)) ∙ ap no_records s;
   }
 
   -- a record is longer than it may be
@@ -160,12 +160,12 @@ module _ (form : CaptureForm) where
     took = gave_nothing old;
     only_open = OnlyOpen-none z;
     room = tt;
-    reads = λ more y f. records_first y n head more few h ∙ one_long y (n + 1) head more _ h long ∙ ap stops s;
+    reads = λ more y f. records_first y n head more few h ∙ one_long y (n + 1) head more _ h long ∙ ap no_records s;
   }
 
   -- the octets ended inside a record
   pub answered_cut : (e : CaptureFault) (head given : List ℕ) (old new : Option (List ℕ)) (z w : InputEnd) (n : ℕ) → w ≢ Open → n < 999999 → length head ≡ 16 → captured_size form head ≤ 262144 →
-      length given < captured_size form head → Gives old new given → OnlyOpen z given w → cut w (n + 1) ≡ faulty e → ReadsRecord form n head old z (Err e) new w
+      length given < captured_size form head → GivesOctets old new given → OnlyOpen z given w → cut w (n + 1) ≡ faulty e → ReadsRecord form n head old z (Err e) new w
   unfolding first_of_records
   answered_cut e head given old new z w n shut few h short less g o s = record {
     given = given;
@@ -173,12 +173,12 @@ module _ (form : CaptureForm) where
     only_open = o;
     room = tt;
     reads = λ more y f. ap (records_after form y n) (sym (append_assoc head given more)) ∙ closed w n (head ++ given) more y shut f
-        ∙ records_first w n head given few h ∙ one_cut w (n + 1) head given _ h short less ∙ ap stops s;
+        ∙ records_first w n head given few h ∙ one_cut w (n + 1) head given _ h short less ∙ ap no_records s;
   }
 
   -- a record is whole
   pub answered_whole : (head given : List ℕ) (old new : Option (List ℕ)) (z w : InputEnd) (n : ℕ) → n < 999999 → length head ≡ 16 → captured_size form head ≤ 262144 →
-      length given ≡ captured_size form head → Consumes old new given → OnlyOpen z given w → ReadsRecord form n head old z (Ok (Some (record { moment = moment_of form head; octets = given }))) new w
+      length given ≡ captured_size form head → Consumes old new given → OnlyOpen z given w → ReadsRecord form n head old z (Ok (Some (record { moment = moment_in_head form head; octets = given }))) new w
   unfolding first_of_records
   answered_whole head given old new z w n few h short size g o = record {
     given = given;
@@ -187,8 +187,8 @@ module _ (form : CaptureForm) where
     room = few;
     reads = λ more y f. records_first y n head (given ++ more) few h
         ∙ one_whole y (n + 1) head (given ++ more) _ h short (simp length-append (omega arith))
-        ∙ ap (λ (l : List ℕ). put_record (n + 1, record { moment = moment_of form head; octets = l }) (records_after form y (n + 1) (drop (captured_size form head) (given ++ more)))) (take_at given more (captured_size form head) size)
-        ∙ ap (λ l. put_record (n + 1, record { moment = moment_of form head; octets = given }) (records_after form y (n + 1) l)) (drop_at given more (captured_size form head) size);
+        ∙ ap (λ (l : List ℕ). put_record (n + 1, record { moment = moment_in_head form head; octets = l }) (records_after form y (n + 1) (drop (captured_size form head) (given ++ more)))) (take_at given more (captured_size form head) size)
+        ∙ ap (λ l. put_record (n + 1, record { moment = moment_in_head form head; octets = given }) (records_after form y (n + 1) l)) (drop_at given more (captured_size form head) size);
   }
 
   took_behind : (answer : Result (Option CaptureRecord) CaptureFault) (old mid new : Option (List ℕ)) (head given : List ℕ) → Consumes old mid head → TakesFor answer mid new given → TakesFor answer old new (head ++ given)

@@ -10,7 +10,7 @@ use Rattle.capture_core.specs.declared.form.CaptureForm.{CaptureForm}
 use Rattle.capture_core.specs.declared.capture_fault.CaptureCause.{CaptureCause}
 use Rattle.capture_core.specs.declared.capture_fault.CaptureCause.TheVariants.{CaptureHeader, RecordLength}
 use Rattle.capture_core.specs.Header.{header_of}
-use Rattle.capture_core.specs.Capture.{Capture, CaptureRecord, behind, capture, captured_size, cut, ended, fault_in, moment_of, put_record, read_one, records_of, stops}
+use Rattle.capture_core.specs.Capture.{Capture, CaptureRecord, records_behind, capture, captured_size, cut, ended, fault_in, moment_in_head, put_record, read_one, records_of, no_records}
 use Rattle.capture_core.specs.Spelling.{ReadIsSpelled, SpelledIsRead, SpellsCapture, SpellsRecord, SpellsRecords, numbered, whole_capture}
 use Rattle.capture_core.proofs.Headers.{capture_first}
 use Rattle.capture_core.proofs.Records.{none_of, one_whole}
@@ -57,20 +57,20 @@ module _ (form : CaptureForm) where
       let text : o ≡ head ++ (r.octets ++ rest) = e ∙ ap (λ l. l ++ rest) is ∙ append_assoc head r.octets rest in
       let others = records_of form End (n + 1) most (drop (captured_size form head) (r.octets ++ rest)) in
       let octets : take (captured_size form head) (r.octets ++ rest) ≡ r.octets = take_at r.octets rest (captured_size form head) (sym size) in
-      let behind : drop (captured_size form head) (r.octets ++ rest) ≡ rest = drop_at r.octets rest (captured_size form head) (sym size) in
+      let records_behind : drop (captured_size form head) (r.octets ++ rest) ≡ rest = drop_at r.octets rest (captured_size form head) (sym size) in
       ap (records_of form End n (suc most)) text ∙ step_of End n most head (r.octets ++ rest) whole
       ∙ one_whole form End (n + 1) head (r.octets ++ rest) others whole (omega (arith, size)) (simp length-append (omega (arith, size)))
-      ∙ rw (octets, moment, behind) (ap (put_record (n + 1, r)) (spelled_reads (n + 1) most rs rest (omega arith) s))
+      ∙ rw (octets, moment, records_behind) (ap (put_record (n + 1, r)) (spelled_reads (n + 1) most rs rest (omega arith) s))
 
   -- ---- what is read is spelled
 
   -- a record behind which a capture ends without a fault
   one_read : (z : InputEnd) (n : ℕ) (head rest : List ℕ) (others : Capture) → (read_one form z n head rest others).stop ≡ finished →
       (16 ≤ length head) × (captured_size form head ≤ 262144) × (captured_size form head ≤ length rest)
-      × (read_one form z n head rest others ≡ put_record (n, record { moment = moment_of form head; octets = take (captured_size form head) rest }) others)
+      × (read_one form z n head rest others ≡ put_record (n, record { moment = moment_in_head form head; octets = take (captured_size form head) rest }) others)
   one_read z n head rest others s =
-      let good = put_record (n, record { moment = moment_of form head; octets = take (captured_size form head) rest }) others in
-      let p = passed (ltb (length head) 16) (ltb 262144 (captured_size form head)) (ltb (length rest) (captured_size form head)) (stops (cut z n)) (stops (fault_in n RecordLength)) (stops (cut z n)) good
+      let good = put_record (n, record { moment = moment_in_head form head; octets = take (captured_size form head) rest }) others in
+      let p = passed (ltb (length head) 16) (ltb 262144 (captured_size form head)) (ltb (length rest) (captured_size form head)) (no_records (cut z n)) (no_records (fault_in n RecordLength)) (no_records (cut z n)) good
       (not_cut z n) (no_fault n RecordLength) (not_cut z n) s in
       let a : ltb (length head) 16 ≡ false = p.0 in
       let b : ltb 262144 (captured_size form head) ≡ false = p.1 in
@@ -82,15 +82,15 @@ module _ (form : CaptureForm) where
 
   read_spelled : (z : InputEnd) (n most : ℕ) (o : List ℕ) → (records_of form z n most o).stop ≡ finished → Read z n most o
   unfolding records_of Read
-  read_spelled z n zero [] s = let e = only_end z (n + 1) s in (e, ([], refl, omega arith, ap (λ w. stops (ended w (n + 1))) e))
+  read_spelled z n zero [] s = let e = only_end z (n + 1) s in (e, ([], refl, omega arith, ap (λ w. no_records (ended w (n + 1))) e))
   read_spelled z n zero (x ∷ xs) s = cc
-  read_spelled z n (suc most) [] s = let e = only_end z (n + 1) s in (e, ([], refl, omega arith, ap (λ w. stops (ended w (n + 1))) e))
+  read_spelled z n (suc most) [] s = let e = only_end z (n + 1) s in (e, ([], refl, omega arith, ap (λ w. no_records (ended w (n + 1))) e))
   read_spelled z n (suc most) (x ∷ xs) s =
       let o = x ∷ xs in
       let head = take 16 o in
       let rest = drop 16 o in
       let size = captured_size form head in
-      let r : CaptureRecord = record { moment = moment_of form head; octets = take size rest } in
+      let r : CaptureRecord = record { moment = moment_in_head form head; octets = take size rest } in
       let others = records_of form z (n + 1) most (drop size rest) in
       let one = one_read z (n + 1) head rest others s in
       let more = read_spelled z (n + 1) most (drop size rest) (sym (ap (λ (c : Capture). c.stop) one.3) ∙ s) in
@@ -109,8 +109,8 @@ pub spelled_is_read : SpelledIsRead
 spelled_is_read rs o (form, header, rest, e, h, f, few, s) = ap (capture End) e ∙ spelled_is_read_in form header rest rs h f few s
 
 -- a header before octets
-behind_spelled : (z : InputEnd) (header rest : List ℕ) (form : Option CaptureForm) → length header ≡ 24 → form ≡ header_of header → (behind form z rest).stop ≡ finished →
-    (z ≡ End) × ((rs : List CaptureRecord) × SpellsCapture rs (header ++ rest) × (behind form z rest ≡ whole_capture rs))
+behind_spelled : (z : InputEnd) (header rest : List ℕ) (form : Option CaptureForm) → length header ≡ 24 → form ≡ header_of header → (records_behind form z rest).stop ≡ finished →
+    (z ≡ End) × ((rs : List CaptureRecord) × SpellsCapture rs (header ++ rest) × (records_behind form z rest ≡ whole_capture rs))
 unfolding Read
 behind_spelled z header rest None h e s = absurd (no_fault 0 CaptureHeader s)
 behind_spelled z header rest (Some form) h e s =
@@ -125,7 +125,7 @@ read_is_spelled z o s =
           let rest = drop 24 o in
           let whole : length header ≡ 24 = length-take-le 24 o e.1 in
           let text : header ++ rest ≡ o = take-append-drop 24 o in
-          let first : capture z o ≡ behind (header_of header) z rest = ap (capture z) (sym text) ∙ capture_first z header rest (header_of header) whole refl in
+          let first : capture z o ≡ records_behind (header_of header) z rest = ap (capture z) (sym text) ∙ capture_first z header rest (header_of header) whole refl in
           let r = behind_spelled z header rest (header_of header) whole refl (sym (ap (λ (c : Capture). c.stop) first) ∙ s) in
           (r.0, (r.1.0, subst (SpellsCapture r.1.0) text r.1.1, first ∙ r.1.2))
       | inr e ↦

@@ -8,7 +8,7 @@ use Rattle.capture_core.specs.declared.form.CaptureForm.{CaptureForm}
 use Rattle.capture_core.specs.declared.capture_fault.CaptureCause.TheVariants.{CaptureHeader, CaptureShort, RecordLength, TooManyRecords, ReadFailed}
 use Rattle.capture_core.specs.Numbers.{number_at}
 use Rattle.capture_core.specs.Header.{header_of}
-use Rattle.capture_core.specs.Capture.{capture, fault_in, records_after, records_of, stops}
+use Rattle.capture_core.specs.Capture.{capture, fault_in, records_after, records_of, no_records}
 
 -- ---- headers
 
@@ -71,18 +71,18 @@ pub record AreCaptures : Type 0 where
   pub nanoseconds : capture End (big_nano_header ++ (nano_head ++ 0x11 ∷ [])) ≡ record { records = (1, record { moment = 1000001; octets = 0x11 ∷ [] }) ∷ []; stop = finished }
   pub several : capture End (little_header ++ (empty_head ++ (little_head ++ (1 ∷ 2 ∷ 3 ∷ 4 ∷ [])))) ≡
       record { records = (1, record { moment = 0; octets = [] }) ∷ (2, record { moment = 1000002; octets = 1 ∷ 2 ∷ 3 ∷ [] }) ∷ []; stop = fault_in 3 CaptureShort }
-  pub none : capture End little_header ≡ stops finished
-  pub nothing : capture End [] ≡ stops (fault_in 0 CaptureShort)
-  pub no_capture : capture End (0x0a ∷ 0x0d ∷ 0x0d ∷ 0x0a ∷ little_rest) ≡ stops (fault_in 0 CaptureHeader)
-  pub cut_record : capture End (little_header ++ (little_head ++ 0xaa ∷ 0xbb ∷ [])) ≡ stops (fault_in 1 CaptureShort)
-  pub failed_header : capture Failed (0xd4 ∷ []) ≡ stops (fault_in 0 ReadFailed)
-  pub failed_record : capture Failed (little_header ++ (little_head ++ 0xaa ∷ [])) ≡ stops (fault_in 1 ReadFailed)
-  pub failed_behind : capture Failed little_header ≡ stops (fault_in 1 ReadFailed)
-  pub still_open : capture Open (little_header ++ (little_head ++ 0xaa ∷ [])) ≡ stops unfinished
+  pub none : capture End little_header ≡ no_records finished
+  pub nothing : capture End [] ≡ no_records (fault_in 0 CaptureShort)
+  pub no_capture : capture End (0x0a ∷ 0x0d ∷ 0x0d ∷ 0x0a ∷ little_rest) ≡ no_records (fault_in 0 CaptureHeader)
+  pub cut_record : capture End (little_header ++ (little_head ++ 0xaa ∷ 0xbb ∷ [])) ≡ no_records (fault_in 1 CaptureShort)
+  pub failed_header : capture Failed (0xd4 ∷ []) ≡ no_records (fault_in 0 ReadFailed)
+  pub failed_record : capture Failed (little_header ++ (little_head ++ 0xaa ∷ [])) ≡ no_records (fault_in 1 ReadFailed)
+  pub failed_behind : capture Failed little_header ≡ no_records (fault_in 1 ReadFailed)
+  pub still_open : capture Open (little_header ++ (little_head ++ 0xaa ∷ [])) ≡ no_records unfinished
   -- a record that is too long is told whatever comes behind its head, and one that is too many by its first octet
-  pub long : capture Open (little_header ++ long_head) ≡ stops (fault_in 1 RecordLength)
-  pub many : records_after little Open 999999 (0 ∷ []) ≡ stops (fault_in 1000000 TooManyRecords)
-  pub most : records_after little End 999999 [] ≡ stops finished
+  pub long : capture Open (little_header ++ long_head) ≡ no_records (fault_in 1 RecordLength)
+  pub many : records_after little Open 999999 (0 ∷ []) ≡ no_records (fault_in 1000000 TooManyRecords)
+  pub most : records_after little End 999999 [] ≡ no_records finished
   pub last : records_after little End 999998 empty_head ≡ record { records = (999999, record { moment = 0; octets = [] }) ∷ []; stop = finished }
 
 pub are_captures : AreCaptures

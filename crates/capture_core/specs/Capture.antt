@@ -23,8 +23,8 @@ pub record Capture : Type 0 where
   pub stop : Stop CaptureFault
 
 -- no record before this stop
-abbrev pub stops : Stop CaptureFault → Capture
-stops s = record { records = []; stop = s }
+abbrev pub no_records : Stop CaptureFault → Capture
+no_records s = record { records = []; stop = s }
 
 -- a numbered record before the others
 abbrev pub put_record : ℕ × CaptureRecord → Capture → Capture
@@ -52,8 +52,8 @@ microseconds_of Microseconds fraction = fraction
 microseconds_of Nanoseconds fraction = fraction / 1000
 
 -- the moment in a record's head: seconds, and a fraction
-abbrev pub moment_of : CaptureForm → List ℕ → ℕ
-moment_of form head = number_at form.order 4 head 0 * 1000000 + microseconds_of form.unit (number_at form.order 4 head 4)
+abbrev pub moment_in_head : CaptureForm → List ℕ → ℕ
+moment_in_head form head = number_at form.order 4 head 0 * 1000000 + microseconds_of form.unit (number_at form.order 4 head 4)
 
 -- the count of captured octets in a record's head; the original length behind it is not looked at
 abbrev pub captured_size : CaptureForm → List ℕ → ℕ
@@ -62,15 +62,15 @@ captured_size form head = number_at form.order 4 head 8
 -- record number n, of which the head and what follows it are these, before the others
 abbrev pub read_one : CaptureForm → InputEnd → ℕ → List ℕ → List ℕ → Capture → Capture
 read_one form z n head rest others =
-    if nat_lt (length head) 16 then stops (cut z n) else
-    (if nat_lt 262144 (captured_size form head) then stops (fault_in n RecordLength) else
-    (if nat_lt (length rest) (captured_size form head) then stops (cut z n) else
-    put_record (n, record { moment = moment_of form head; octets = take (captured_size form head) rest }) others))
+    if nat_lt (length head) 16 then no_records (cut z n) else
+    (if nat_lt 262144 (captured_size form head) then no_records (fault_in n RecordLength) else
+    (if nat_lt (length rest) (captured_size form head) then no_records (cut z n) else
+    put_record (n, record { moment = moment_in_head form head; octets = take (captured_size form head) rest }) others))
 
 -- the records that follow n others in these octets, of which so many may come
 unfoldable pub records_of : CaptureForm → InputEnd → ℕ → ℕ → List ℕ → Capture
-records_of form z n most [] = stops (ended z (n + 1))
-records_of form z n zero (x ∷ xs) = stops (fault_in (n + 1) TooManyRecords)
+records_of form z n most [] = no_records (ended z (n + 1))
+records_of form z n zero (x ∷ xs) = no_records (fault_in (n + 1) TooManyRecords)
 records_of form z n (suc most) (x ∷ xs) =
     let head = take 16 (x ∷ xs) in
     let rest = drop 16 (x ∷ xs) in
@@ -81,10 +81,10 @@ abbrev pub records_after : CaptureForm → InputEnd → ℕ → List ℕ → Cap
 records_after form z n octets = records_of form z n (999999 - n) octets
 
 -- the records behind a header
-abbrev pub behind : Option CaptureForm → InputEnd → List ℕ → Capture
-behind None z octets = stops (fault_in 0 CaptureHeader)
-behind (Some form) z octets = records_after form z 0 octets
+abbrev pub records_behind : Option CaptureForm → InputEnd → List ℕ → Capture
+records_behind None z octets = no_records (fault_in 0 CaptureHeader)
+records_behind (Some form) z octets = records_after form z 0 octets
 
 -- a text, with the ending of its source, as a capture
 abbrev pub capture : InputEnd → List ℕ → Capture
-capture z octets = if nat_lt (length octets) 24 then stops (cut z 0) else behind (header_of (take 24 octets)) z (drop 24 octets)
+capture z octets = if nat_lt (length octets) 24 then no_records (cut z 0) else records_behind (header_of (take 24 octets)) z (drop 24 octets)

@@ -30,13 +30,13 @@ abbrev pub form_of : List ℕ → Option CaptureForm
 form_of header = first_of_two (form_in BigEndian header) (form_in LittleEndian header)
 
 -- whether a header of this order has version 2.4, and link type 1, Ethernet, in the low 16 bits of its last number
-abbrev pub is_read : OctetOrder → List ℕ → Bool
-is_read order header = (number_at order 2 header 4 == 2) && (number_at order 2 header 6 == 4) && (number_at order 4 header 20 % 65536 == 1)
+abbrev pub is_read_in : OctetOrder → List ℕ → Bool
+is_read_in order header = (number_at order 2 header 4 == 2) && (number_at order 2 header 6 == 4) && (number_at order 4 header 20 % 65536 == 1)
 
 -- a form, if the header is read in its order
 abbrev pub read_in : List ℕ → Option CaptureForm → Option CaptureForm
 read_in header None = None
-read_in header (Some form) = if is_read form.order header then Some form else None
+read_in header (Some form) = if is_read_in form.order header then Some form else None
 
 -- the form of the capture that begins with this header, if it is one that is read
 abbrev pub header_of : List ℕ → Option CaptureForm

@@ -2,9 +2,9 @@
 use Rattle.std.specs.Prelude.{◌≡◌, ◌<◌, ◌≤◌, ◌+◌, ◌^◌, ◌==◌, ℕ, nat_le, if◌then◌else◌, List, ◌++◌, length, take, Option, Some, None, Result, Ok, Err, MatchResult}
 use Rattle.std.specs.Io.KnownBytes.{Consumes}
 use Rattle.frame_core.specs.declared.device.InputEnd.{InputEnd}
-use Rattle.frame_core.specs.Device.{Gives, OnlyOpen}
+use Rattle.frame_core.specs.Device.{GivesOctets, OnlyOpen}
 use Rattle.frame_core.specs.Lines.{CanFollow, Stop, finished, faulty}
-use Rattle.capture_core.specs.Capture.{Capture, CaptureRecord, capture, cut, ended, fault_in, records_after, put_record, stops}
+use Rattle.capture_core.specs.Capture.{Capture, CaptureRecord, capture, cut, ended, fault_in, records_after, put_record, no_records}
 use Rattle.capture_core.specs.declared.form.CaptureForm.{CaptureForm}
 use Rattle.capture_core.specs.declared.capture_fault.CaptureFault.{CaptureFault}
 use Rattle.capture_core.specs.declared.capture_fault.CaptureCause.TheVariants.{TooManyRecords}
@@ -14,20 +14,20 @@ use Rattle.capture_core.specs.declared.record.Captured.TheVariants.{Frame, LeftO
 -- the capture whose header was answered so, by the octets behind it
 abbrev pub behind_header : Result CaptureForm CaptureFault → InputEnd → List ℕ → Capture
 behind_header (Ok form) z octets = records_after form z 0 octets
-behind_header (Err f) z octets = stops (faulty f)
+behind_header (Err f) z octets = no_records (faulty f)
 
 -- The header of a capture was read: whatever comes, the capture is what follows the answer.
 pub record ReadsHeader (old : Option (List ℕ)) (z : InputEnd) (answer : Result CaptureForm CaptureFault) (new : Option (List ℕ)) (w : InputEnd) : Type 0 where
   pub given : List ℕ
-  pub took : MatchResult answer (λ _. Consumes old new given) (λ _. Gives old new given)
+  pub took : MatchResult answer (λ _. Consumes old new given) (λ _. GivesOctets old new given)
   pub only_open : OnlyOpen z given w
   pub reads : (more : List ℕ) (y : InputEnd) → CanFollow w more y → capture y (given ++ more) ≡ behind_header answer y more
 
 -- the records after n others, of which the next was answered so, by the octets behind it
 abbrev pub behind_record : CaptureForm → ℕ → Result (Option CaptureRecord) CaptureFault → InputEnd → List ℕ → Capture
 behind_record form n (Ok (Some r)) z octets = put_record (n + 1, r) (records_after form z (n + 1) octets)
-behind_record form n (Ok None) z octets = stops finished
-behind_record form n (Err f) z octets = stops (faulty f)
+behind_record form n (Ok None) z octets = no_records finished
+behind_record form n (Err f) z octets = no_records (faulty f)
 
 -- there is room for a record that was answered
 abbrev pub HasRoom : ℕ → Result (Option CaptureRecord) CaptureFault → Type 0
@@ -38,8 +38,8 @@ HasRoom n (Err f) = Unit {0}
 -- these octets were taken; only after a record does the source tell what is left, if it told it before
 abbrev pub TakesFor : Result (Option CaptureRecord) CaptureFault → Option (List ℕ) → Option (List ℕ) → List ℕ → Type 0
 TakesFor (Ok (Some r)) old new given = Consumes old new given
-TakesFor (Ok None) old new given = Gives old new given
-TakesFor (Err f) old new given = Gives old new given
+TakesFor (Ok None) old new given = GivesOctets old new given
+TakesFor (Err f) old new given = GivesOctets old new given
 
 -- The record after n others was read, of which these octets were held: whatever comes, the records are what follows the answer.
 pub record ReadsRecord (form : CaptureForm) (n : ℕ) (held : List ℕ) (old : Option (List ℕ)) (z : InputEnd) (answer : Result (Option CaptureRecord) CaptureFault) (new : Option (List ℕ)) (w : InputEnd) : Type 0 where
@@ -54,12 +54,12 @@ abbrev pub IsFrameSize : ℕ → Type 0
 IsFrameSize n = (0 < n) × (n ≤ 2000)
 
 -- how a record is told: a frame by its moment and the octets at the front of an array, any other record by its size alone
-abbrev pub IsToldAs : Result (Option CaptureRecord) CaptureFault → Result (Option Captured) CaptureFault → List ℕ → Type 0
-IsToldAs answer (Ok (Some (Frame moment size))) array =
+abbrev pub IsRecordToldAs : Result (Option CaptureRecord) CaptureFault → Result (Option Captured) CaptureFault → List ℕ → Type 0
+IsRecordToldAs answer (Ok (Some (Frame moment size))) array =
     IsFrameSize size × (size ≤ length array) × (moment < 10 ^ 18) × (answer ≡ Ok (Some (record { moment = moment; octets = take size array })))
-IsToldAs answer (Ok (Some (LeftOut size))) array = (r : CaptureRecord) × (answer ≡ Ok (Some r)) × (length r.octets ≡ size) × (IsFrameSize size → ⊥)
-IsToldAs answer (Ok None) array = answer ≡ Ok None
-IsToldAs answer (Err f) array = answer ≡ Err f
+IsRecordToldAs answer (Ok (Some (LeftOut size))) array = (r : CaptureRecord) × (answer ≡ Ok (Some r)) × (length r.octets ≡ size) × (IsFrameSize size → ⊥)
+IsRecordToldAs answer (Ok None) array = answer ≡ Ok None
+IsRecordToldAs answer (Err f) array = answer ≡ Err f
 
 -- how records stop whose octets end so many octets into the head of the one after n others
 abbrev pub short_stop : InputEnd → ℕ → ℕ → Stop CaptureFault

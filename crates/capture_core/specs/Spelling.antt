@@ -4,12 +4,12 @@ use Rattle.frame_core.specs.Lines.{finished}
 use Rattle.frame_core.specs.declared.device.InputEnd.{InputEnd}
 use Rattle.frame_core.specs.declared.device.InputEnd.TheVariants.{End}
 use Rattle.capture_core.specs.Header.{header_of}
-use Rattle.capture_core.specs.Capture.{Capture, CaptureRecord, capture, captured_size, moment_of}
+use Rattle.capture_core.specs.Capture.{Capture, CaptureRecord, capture, captured_size, moment_in_head}
 use Rattle.capture_core.specs.declared.form.CaptureForm.{CaptureForm}
 
 -- a head of 16 octets, which says the moment and how many octets were captured, at most 262,144, and then these
 abbrev pub SpellsRecord : CaptureForm → CaptureRecord → List ℕ → Type 0
-SpellsRecord form r o = (head : List ℕ) × (length head ≡ 16) × (moment_of form head ≡ r.moment) × (captured_size form head ≡ length r.octets) × (length r.octets ≤ 262144) × (o ≡ head ++ r.octets)
+SpellsRecord form r o = (head : List ℕ) × (length head ≡ 16) × (moment_in_head form head ≡ r.moment) × (captured_size form head ≡ length r.octets) × (length r.octets ≤ 262144) × (o ≡ head ++ r.octets)
 
 -- one record behind another
 abbrev pub SpellsRecords : CaptureForm → List CaptureRecord → List ℕ → Type 0

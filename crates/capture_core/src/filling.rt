@@ -1,7 +1,5 @@
 //! Reading a stated count of octets.
-ghost use Rattle.std.specs.Prelude.{◌≡◌, ◌≢◌, ◌<◌, ℕ, List, length, false, true};
-ghost use Rattle.std.specs.Io.KnownBytes.{Consumes};
-ghost use Rattle.frame_core.specs.Device.{Gives, OnlyOpen};
+ghost use Rattle.std.specs.Prelude.{◌<◌, false, true};
 ghost use Rattle.frame_core.specs.declared.device.InputEnd.{InputEnd};
 ghost use Rattle.capture_core.specs.Filling.{Fills, Passes};
 

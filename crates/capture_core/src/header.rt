@@ -1,7 +1,7 @@
 //! The header of a capture.
 ghost use Rattle.std.specs.Prelude.{◌≡◌, ◌≤◌, length, IfErr};
 ghost use Rattle.frame_core.specs.declared.device.InputEnd.{InputEnd};
-ghost use Rattle.capture_core.specs.Header.{form_in, form_of, header_of, is_read, unit_of};
+ghost use Rattle.capture_core.specs.Header.{form_in, form_of, header_of, is_read_in, unit_of};
 ghost use Rattle.capture_core.specs.Reading.{ReadsHeader};
 ghost use Rattle.capture_core.specs.declared.capture_fault.CaptureCause.TheVariants as cause;
 
@@ -53,7 +53,7 @@ fn form_at(header: &[u8]) -> Option<CaptureForm>
 // Whether a header of this order has version 2.4 and link type 1.
 fn is_good(order: OctetOrder, header: &[u8]) -> bool
     requires { 24 ≤ length header.now }
-    ensures { result ≡ is_read order header.now }
+    ensures { result ≡ is_read_in order header.now }
 {
     short_at(order, header, 4) == 2
         && short_at(order, header, 6) == 4

@@ -1,8 +1,8 @@
 //! The records of a capture.
 ghost use Rattle.std.specs.Prelude.{◌≡◌, ◌≢◌, ◌<◌, ◌≤◌, ◌^◌, [], length, Option, Result, IfErr};
 ghost use Rattle.frame_core.specs.declared.device.InputEnd.{InputEnd};
-ghost use Rattle.capture_core.specs.Capture.{CaptureRecord, microseconds_of, moment_of};
-ghost use Rattle.capture_core.specs.Reading.{IsToldAs, ReadsRecord, StopsBy, short_stop};
+ghost use Rattle.capture_core.specs.Capture.{CaptureRecord, microseconds_of, moment_in_head};
+ghost use Rattle.capture_core.specs.Reading.{IsRecordToldAs, ReadsRecord, StopsBy, short_stop};
 ghost use Rattle.capture_core.specs.declared.capture_fault.CaptureFault as fault;
 ghost use Rattle.capture_core.specs.declared.capture_fault.CaptureCause.TheVariants as cause;
 
@@ -52,7 +52,7 @@ fn microseconds_in(unit: FractionUnit, fraction: u32) -> u64
 // The moment in the head of a record.
 fn moment_in(form: CaptureForm, head: &[u8]) -> u64
     requires { length head.now ≡ 16 }
-    ensures value { result ≡ moment_of form head.now }
+    ensures value { result ≡ moment_in_head form head.now }
     ensures short { result < 10 ^ 18 }
 {
     let seconds = long_at(form.order, head, 0) as u64;
@@ -90,7 +90,7 @@ fn read_octets<R: Source>(
 ) -> Result<Option<Captured>, CaptureFault>
     requires head { length head.now ≡ 16 }
     requires few { before < 999999 }
-    ensures record { (answer : Result (Option CaptureRecord) fault.CaptureFault) × IsToldAs answer result frame.new
+    ensures record { (answer : Result (Option CaptureRecord) fault.CaptureFault) × IsRecordToldAs answer result frame.new
         × ReadsRecord form before head.now (R.left reader.old) (R.ending reader.old) answer (R.left reader.new) (R.ending reader.new) }
     ensures failed { IfErr result (λ f. f.cause ≡ cause.ReadFailed → R.ending reader.new ≡ InputEnd.Failed) }
 {
@@ -125,7 +125,7 @@ pub fn read_record<R: Source>(
     frame: &mut [u8; LONGEST_FRAME],
 ) -> Result<Option<Captured>, CaptureFault>
     requires few { before ≤ 999999 }
-    ensures record { (answer : Result (Option CaptureRecord) fault.CaptureFault) × IsToldAs answer result frame.new
+    ensures record { (answer : Result (Option CaptureRecord) fault.CaptureFault) × IsRecordToldAs answer result frame.new
         × ReadsRecord form before [] (R.left reader.old) (R.ending reader.old) answer (R.left reader.new) (R.ending reader.new) }
     ensures failed { IfErr result (λ f. f.cause ≡ cause.ReadFailed → R.ending reader.new ≡ InputEnd.Failed) }
 {

@@ -21,7 +21,7 @@ use pdu_core::{
 use std::alloc::Allocator;
 use std::test::Fail;
 
-// A frame. Its PDU stands at 22.
+// A frame. Its APDU stands at 22.
 const FRAME: [u8; 67] = [
     0x01, 0x0c, 0xcd, 0x01, 0x00, 0x01, 0x02, 0x00, 0x00, 0x00, 0x00, 0x01, 0x88, 0xb8, 0x00, 0x01,
     0x00, 0x35, 0x00, 0x00, 0x00, 0x00, 0x61, 0x2b, 0x80, 0x01, 0x47, 0x81, 0x02, 0x07, 0xd0, 0x82,
@@ -30,7 +30,7 @@ const FRAME: [u8; 67] = [
     0x83, 0x01, 0xff,
 ];
 
-// The same PDU with a longer spelling of its length and of stNum.
+// The same APDU with a longer spelling of its length and of stNum.
 const LONG: [u8; 50] = [
     0x61, 0x82, 0x00, 0x2e, 0x80, 0x01, 0x47, 0x81, 0x02, 0x07, 0xd0, 0x82, 0x01, 0x44, 0x84, 0x08,
     0x00, 0x00, 0x00, 0x00, 0x00, 0x00, 0x00, 0x00, 0x85, 0x04, 0x00, 0x00, 0x00, 0x01, 0x86, 0x01,
@@ -38,7 +38,7 @@ const LONG: [u8; 50] = [
     0x01, 0xff,
 ];
 
-// The same PDU without simulation and ndsCom.
+// The same APDU without simulation and ndsCom.
 const SHORT: [u8; 39] = [
     0x61, 0x25, 0x80, 0x01, 0x47, 0x81, 0x02, 0x07, 0xd0, 0x82, 0x01, 0x44, 0x84, 0x08, 0x00, 0x00,
     0x00, 0x00, 0x00, 0x00, 0x00, 0x00, 0x85, 0x01, 0x01, 0x86, 0x01, 0x00, 0x88, 0x01, 0x01, 0x8a,
@@ -59,7 +59,7 @@ fn changed(place: usize, octet: u8) -> [u8; 67]
     frame
 }
 
-// The fault of the frame's PDU, with this octet at this place.
+// The fault of the frame's APDU, with this octet at this place.
 fn fault(place: usize, octet: u8) -> Option<Fault>
     requires { place < 67 }
 {
@@ -122,7 +122,7 @@ fn octets_behind_are_extra(rt: HostRuntime) {
     );
 }
 
-// Whether the PDU that the octets spell is written as the frame has it.
+// Whether the APDU that the octets spell is written as the frame has it.
 fn is_written_as_in_frame<A: Allocator + Copy>(alloc: A, octets: &[u8]) -> Result<bool, ReadFault> {
     let pdu = read_goose(alloc, octets, 0, octets.len())?;
     let mut out = ArrayVec::<u8, 45>::new();
@@ -130,7 +130,7 @@ fn is_written_as_in_frame<A: Allocator + Copy>(alloc: A, octets: &[u8]) -> Resul
     Ok(put.is_ok() && out.as_slice() == &FRAME[22..67])
 }
 
-// The same of the PDU whose texts and members are kept elsewhere.
+// The same of the APDU whose texts and members are kept elsewhere.
 fn is_written_as_in_frame_by_parts<A: Allocator + Copy>(
     alloc: A,
     octets: &[u8],
@@ -142,7 +142,7 @@ fn is_written_as_in_frame_by_parts<A: Allocator + Copy>(
     Ok(are_spellable_parts(&parts) && put.is_ok() && out.as_slice() == &FRAME[22..67])
 }
 
-// The same of the PDU where it stands.
+// The same of the APDU where it stands.
 fn is_written_as_in_frame_from(octets: &[u8]) -> Result<bool, Fault> {
     let view = view_goose(octets, 0, octets.len())?;
     let mut out = ArrayVec::<u8, 45>::new();
@@ -162,7 +162,7 @@ fn pdu_is_read_and_written(rt: HostRuntime) -> Result<(), Fail> {
     Ok(())
 }
 
-// A PDU with a member of each kind, spelled longer than need be, with another octet for true and unused bits set.
+// An APDU with a member of each kind, spelled longer than need be, with another octet for true and unused bits set.
 const LOOSE: [u8; 109] = [
     0x61, 0x6b, 0x80, 0x01, 0x47, 0x81, 0x01, 0x01, 0x82, 0x01, 0x44, 0x84, 0x08, 0x00, 0x00, 0x00,
     0x01, 0xff, 0xff, 0xff, 0x02, 0x85, 0x01, 0x01, 0x86, 0x01, 0x00, 0x88, 0x01, 0x01, 0x8a, 0x01,
@@ -196,7 +196,7 @@ fn each_kind_is_written_from_where_it_stands(rt: HostRuntime) -> Result<(), Fail
     Ok(())
 }
 
-// A PDU that is spellable but for its reference and the fraction of its time.
+// An APDU that is spellable but for its reference and the fraction of its time.
 fn pdu_of<A: Allocator + Copy>(
     alloc: A,
     gocb_ref: &[u8],
@@ -223,7 +223,7 @@ fn pdu_of<A: Allocator + Copy>(
     })
 }
 
-// Whether a PDU of this reference and fraction is refused, also where no octet fits.
+// Whether an APDU of this reference and fraction is refused, also where no octet fits.
 fn is_refused<A: Allocator + Copy>(
     alloc: A,
     gocb_ref: &[u8],

@@ -8,7 +8,7 @@ use Rattle.frame_core.specs.declared.list_fault.ListCause.{ListCause}
 use Rattle.frame_core.specs.declared.list_fault.ListCause.TheVariants.{LineTooLong, LineForm, Moment, Hex, ListTooLong, ReadFailed}
 use Rattle.frame_core.specs.declared.line_rules.ItemFault.{ItemFault}
 use Rattle.frame_core.specs.declared.line_rules.ItemFault.TheVariants as fault
-use Rattle.frame_core.specs.Device.{AppendsFront, Gives}
+use Rattle.frame_core.specs.Device.{AppendsFront, GivesOctets}
 use Rattle.frame_core.specs.Lines.{Stop, finished, unfinished, faulty}
 use Rattle.frame_core.specs.Items.{Rules, Listing, listing, put_items}
 use Rattle.frame_core.specs.ItemReader.{Place, Answer, AnswersItem, TakesItems, Tells, lines_before}
@@ -17,7 +17,7 @@ use Rattle.frame_core.proofs.Readers.{CanFollow-none, off_after, starts_after}
 use Rattle.frame_core.proofs.ItemReaders.{TakesItems-push, TakesItems-none, gives_both, list_whole}
 use Rattle.engine_core.specs.declared.ending.Ending.{Ending}
 use Rattle.engine_core.specs.declared.ending.Ending.TheVariants.{Done, Findings, WriteFault}
-use Rattle.engine_core.specs.EngineText.{Text, Account, told, told_after, told_rest, told_stop, put_step, text_of, ending_of, ending_at, StopsAt, EndsWell, EndsByFault, WritesAfter}
+use Rattle.engine_core.specs.EngineText.{Text, Account, told, told_after, told_rest, told_stop, put_step, whole_text, ending_of, ending_at, StopsAt, EndsWell, EndsByFault, WritesAfter}
 use Rattle.engine_core.specs.EngineStep.{Stops, due, closes, step_text, step_fault}
 
 -- a text, then another
@@ -192,7 +192,7 @@ module _ {S X C : Type 0} (r : Rules S X C) (t : Text X C) (a b c : Place S) (es
     told_whole = ap (told t) listed ∙ told-append t [] es next_list.items next_list.stop p.accepted
 
     -- a text that follows what was written
-    all_text : (rest : List ℕ) → (told_rest t es next_list).text ≡ rest → so_far ++ rest ≡ text_of t (listing r a.settled c.ending a.taken octets)
+    all_text : (rest : List ℕ) → (told_rest t es next_list).text ≡ rest → so_far ++ rest ≡ whole_text t (listing r a.settled c.ending a.taken octets)
     unfolding so_far
     all_text rest h =
         append_assoc t.first (told_after t [] es unfinished).text rest
@@ -225,7 +225,7 @@ module _ {S X C : Type 0} (r : Rules S X C) (t : Text X C) (a b c : Place S) (es
     )
 
     Left : Ending → Type 0
-    Left ending = (given : List ℕ) × Gives a.left c.left given × WritesAfter r a.settled t a.taken ending c.ending (a.held ++ given) old new
+    Left ending = (given : List ℕ) × GivesOctets a.left c.left given × WritesAfter r a.settled t a.taken ending c.ending (a.held ++ given) old new
 
     left_by : (ending : Ending) → WritesAfter r a.settled t a.taken ending c.ending octets old new → Left ending
     unfolding octets Left
@@ -240,7 +240,7 @@ module _ {S X C : Type 0} (r : Rules S X C) (t : Text X C) (a b c : Place S) (es
         let s = stops_at in
         let d = due_first t es answer next_list _ tells_next in
         let rest : AppendsFront mid new (told_rest t es next_list).text = subst (λ l. AppendsFront mid new l) (sym d.1) (AppendsFront-more mid new (due t es answer) d.0 x.1) in
-        let whole : AppendsFront old new (text_of t (listing r a.settled c.ending a.taken octets)) =
+        let whole : AppendsFront old new (whole_text t (listing r a.settled c.ending a.taken octets)) =
         subst (λ l. AppendsFront old new l) (all_text _ refl) (AppendsFront-append old mid new so_far _ wrote_so_far rest) in
         let last : AppendsFront s.0.held new (told_rest t s.0.items (listing r s.0.at c.ending s.0.number s.0.rest)).text =
         subst (λ h. AppendsFront h new (told_rest t s.0.items (listing r s.0.at c.ending s.0.number s.0.rest)).text) (sym s.1) (subst (λ o. AppendsFront mid new o.text) (sym s.2) rest) in
@@ -249,16 +249,16 @@ module _ {S X C : Type 0} (r : Rules S X C) (t : Text X C) (a b c : Place S) (es
         let f = x.0 in
         let d = closed t es answer next_list _ tells_next f x.1 in
         let stop : (told t (listing r a.settled c.ending a.taken octets)).stop ≡ faulty f = ap (λ o. o.stop) told_whole ∙ ap (λ o. o.stop) d.0 in
-        let text : Appends old new (text_of t (listing r a.settled c.ending a.taken octets)) =
+        let text : Appends old new (whole_text t (listing r a.settled c.ending a.taken octets)) =
         subst (λ l. Appends old new l) (all_text _ (ap (λ o. o.text) d.0)) (Appends-append old mid new so_far (t.last f) wrote_so_far (subst (λ l. Appends mid new l) d.1 x.3)) in
         left_by ending (subst (λ y. WritesAfter r a.settled t a.taken y c.ending octets old new) (sym x.2) (by_fault r a.settled t a.taken c.ending octets old new f (f, stop, refl, text)))
 
-    pub stopped : (ending : Ending) → Stops (due t es answer) (closes t es answer) ending mid new → (given : List ℕ) × Gives a.left c.left given × WritesAfter r a.settled t a.taken ending c.ending (a.held ++ given) old new
+    pub stopped : (ending : Ending) → Stops (due t es answer) (closes t es answer) ending mid new → (given : List ℕ) × GivesOctets a.left c.left given × WritesAfter r a.settled t a.taken ending c.ending (a.held ++ given) old new
     unfolding Left
     stopped ending x = stops_so ending x
 
   -- the list has ended
-  pub ended : (q : AnswersItem r b (Ok None) c) → new ≡ mid → (given : List ℕ) × Gives a.left c.left given × WritesAfter r a.settled t a.taken (if found then Findings else Done) c.ending (a.held ++ given) old new
+  pub ended : (q : AnswersItem r b (Ok None) c) → new ≡ mid → (given : List ℕ) × GivesOctets a.left c.left given × WritesAfter r a.settled t a.taken (if found then Findings else Done) c.ending (a.held ++ given) old new
   unfolding so_far octets next_list
   ended q x =
       let end : told_rest t es (next_list (Ok None) q) ≡ told_stop t finished = ap (told_rest t es) (tells_next (Ok None) q).0 ∙ told-none t es finished in
@@ -267,11 +267,11 @@ module _ {S X C : Type 0} (r : Rules S X C) (t : Text X C) (a b c : Place S) (es
       let stop : (told t l).stop ≡ finished = ap (λ o. o.stop) whole ∙ ap (λ o. o.stop) end in
       let finds : (told t l).found ≡ found = ap (λ o. o.found) whole ∙ ap (λ o. (told_after t [] es unfinished).found || o.found) end
       ∙ or_false (told_after t [] es unfinished).found ∙ sym p.finds in
-      let same : so_far ++ [] ≡ text_of t l = all_text (Ok None) q [] (ap (λ o. o.text) end) in
-      let text : Appends old new (text_of t l) = subst (λ y. Appends old y (text_of t l)) (sym x) (subst (λ k. Appends old mid k) (sym (append-nil so_far) ∙ same) wrote_so_far) in
+      let same : so_far ++ [] ≡ whole_text t l = all_text (Ok None) q [] (ap (λ o. o.text) end) in
+      let text : Appends old new (whole_text t l) = subst (λ y. Appends old y (whole_text t l)) (sym x) (subst (λ k. Appends old mid k) (sym (append-nil so_far) ∙ same) wrote_so_far) in
       (p.took.given ++ q.given, gives_both r a b c es (Ok None) p.took q, writes_well r a.settled t a.taken c.ending (octets (Ok None) q) old new found (stop, finds, text))
 
 -- the first text was not written whole, and nothing was read
 pub not_begun : {S X C : Type 0} (r : Rules S X C) (s : S) (t : Text X C) (z : InputEnd) (left old new : Option (List ℕ)) → AppendsFront old new t.first →
-    (given : List ℕ) × Gives left left given × WritesAfter r s t 0 WriteFault z given old new
+    (given : List ℕ) × GivesOctets left left given × WritesAfter r s t 0 WriteFault z given old new
 not_begun r s t z left old new w = ([], Gives-from_Consumes left left [] (Consumes-none left), (AppendsFront-more old new t.first (told t (listing r s z 0 [])).text w, inl refl))

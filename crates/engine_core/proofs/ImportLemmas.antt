@@ -7,7 +7,7 @@ use Rattle.std.proofs.lemmas.Grind.{flat_map-append}
 use Rattle.std.proofs.lemmas.List.Folds.{list_any-append}
 use Rattle.std.specs.Io.KnownBytes.{Appends, Consumes}
 use Rattle.frame_core.specs.declared.device.InputEnd.{InputEnd}
-use Rattle.frame_core.specs.Device.{AppendsFront, Gives, OnlyOpen}
+use Rattle.frame_core.specs.Device.{AppendsFront, GivesOctets, OnlyOpen}
 use Rattle.frame_core.specs.Lines.{CanFollow, finished, faulty}
 use Rattle.frame_core.proofs.Devices.{Appends-append, Appends-none, AppendsFront-append, AppendsFront-more, Consumes-append, Gives-append, Gives-from_Consumes}
 use Rattle.frame_core.proofs.Readers.{CanFollow-given, CanFollow-none, OnlyOpen-append}
@@ -15,7 +15,7 @@ use Rattle.capture_core.specs.declared.form.CaptureForm.{CaptureForm}
 use Rattle.capture_core.specs.declared.capture_fault.CaptureFault.{CaptureFault}
 use Rattle.capture_core.specs.declared.capture_fault.CaptureCause.{CaptureCause}
 use Rattle.capture_core.specs.declared.capture_fault.CaptureCause.TheVariants.{CaptureHeader, CaptureShort, RecordLength, TooManyRecords, ReadFailed}
-use Rattle.capture_core.specs.Capture.{Capture, CaptureRecord, capture, records_after, stops}
+use Rattle.capture_core.specs.Capture.{Capture, CaptureRecord, capture, records_after, no_records}
 use Rattle.capture_core.specs.Reading.{ReadsHeader, ReadsRecord, TakesFor, behind_record}
 use Rattle.engine_core.specs.declared.ending.Ending.{Ending}
 use Rattle.engine_core.specs.declared.ending.Ending.TheVariants.{Done, Findings, WriteFault}
@@ -84,11 +84,11 @@ took_more form a b c z w v rs n r p q = record {
 }
 
 -- nothing was read
-no_more : (a : Option (List ℕ)) → Gives a a []
+no_more : (a : Option (List ℕ)) → GivesOctets a a []
 no_more None = tt
 no_more (Some os) = refl
 
-gives_for : (answer : Result (Option CaptureRecord) CaptureFault) (a b : Option (List ℕ)) (given : List ℕ) → TakesFor answer a b given → Gives a b given
+gives_for : (answer : Result (Option CaptureRecord) CaptureFault) (a b : Option (List ℕ)) (given : List ℕ) → TakesFor answer a b given → GivesOctets a b given
 gives_for (Ok (Some r)) a b given t = Gives-from_Consumes a b given t
 gives_for (Ok None) a b given t = t
 gives_for (Err f) a b given t = t
@@ -96,7 +96,7 @@ gives_for (Err f) a b given t = t
 -- all that was given, where nothing more is read
 record Given (form : CaptureForm) (a : Option (List ℕ)) (rs : List (ℕ × CaptureRecord)) (n : ℕ) (answer : Result (Option CaptureRecord) CaptureFault) (c : Option (List ℕ)) (v : InputEnd) : Type 0 where
   given : List ℕ
-  gives : Gives a c given
+  gives : GivesOctets a c given
   is : capture v given ≡ put_records rs (behind_record form n answer v [])
 
 given_all : (form : CaptureForm) (a b c : Option (List ℕ)) (z w v : InputEnd) (rs : List (ℕ × CaptureRecord)) (n : ℕ) (answer : Result (Option CaptureRecord) CaptureFault) →
@@ -112,7 +112,7 @@ given_all form a b c z w v rs n answer p q =
 -- ---- the exits of the run
 
 abbrev Imported : Ending → Option (List ℕ) → Option (List ℕ) → InputEnd → Option (List ℕ) → Option (List ℕ) → Type 0
-Imported ending a c v old new = (given : List ℕ) × Gives a c given × Imports ending v given old new
+Imported ending a c v old new = (given : List ℕ) × GivesOctets a c given × Imports ending v given old new
 
 -- the first line was not written whole, and nothing was read
 pub not_begun : (a : Option (List ℕ)) (z : InputEnd) (old new : Option (List ℕ)) → AppendsFront old new (codes "V2\n") → Imported WriteFault a a z old new
@@ -138,9 +138,9 @@ module _ (v : InputEnd) (given : List ℕ) (start held new : Option (List ℕ)) 
 
 -- a fault ends the text behind these records
 faulted : (rs : List (ℕ × CaptureRecord)) (v : InputEnd) (given : List ℕ) (f : CaptureFault) (ending : Ending) (start held mid new : Option (List ℕ)) → Appends start held (codes "V2\n") →
-    capture v given ≡ put_records rs (stops (faulty f)) → Appends held mid (text_to rs) → FaultWrites f ending mid new → Imports ending v given start new
+    capture v given ≡ put_records rs (no_records (faulty f)) → Appends held mid (text_to rs) → FaultWrites f ending mid new → Imports ending v given start new
 faulted rs v given f ending start held mid new first e w p =
-    let text : text_behind (capture v given) ≡ text_to rs ++ capture_line f = ap text_behind e ∙ text_parts rs (stops (faulty f)) in
+    let text : text_behind (capture v given) ≡ text_to rs ++ capture_line f = ap text_behind e ∙ text_parts rs (no_records (faulty f)) in
     by_case text p
   where
     by_case : text_behind (capture v given) ≡ text_to rs ++ capture_line f → FaultWrites f ending mid new → Imports ending v given start new
@@ -157,7 +157,7 @@ module _ (form : CaptureForm) (a b c : Option (List ℕ)) (z w v : InputEnd) (rs
   pub import_ended : (found : Bool) → found ≡ list_any is_left_out rs → ReadsRecord form n [] b w (Ok None) c v → new ≡ mid → Imported (if found then Findings else Done) a c v start new
   import_ended found finds q same =
       let g = given_all form a b c z w v rs n (Ok None) p q in
-      let text : text_behind (capture v g.given) ≡ text_to rs = ap text_behind g.is ∙ text_parts rs (stops finished) ∙ append-nil (text_to rs) in
+      let text : text_behind (capture v g.given) ≡ text_to rs = ap text_behind g.is ∙ text_parts rs (no_records finished) ∙ append-nil (text_to rs) in
       let all : list_any is_left_out (capture v g.given).records ≡ found = ap (λ (k : Capture). list_any is_left_out k.records) g.is ∙ ap (list_any is_left_out) (append-nil rs) ∙ sym finds in
       (g.given, g.gives, well v g.given start held new first found (ap (λ (k : Capture). k.stop) g.is) all (subst (Appends held new) (sym text) (rw same so_far)))
 

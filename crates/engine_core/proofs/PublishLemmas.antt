@@ -16,9 +16,9 @@ use Rattle.publish_core.specs.declared.table.Step.{Step}
 use Rattle.publish_core.specs.Frames.{Change, Setup, setup}
 use Rattle.publish_core.specs.Judgement.{IsJudged, refusal}
 use Rattle.publish_core.specs.Refusal.{Accepts, Refuses, next_state}
-use Rattle.publish_core.specs.Run.{Act, Call, Changed, Polled, IsAnswer, PublishesNone, PublishesOctets, call, greatest, trace}
-use Rattle.publish_core.specs.Standing.{Standing, StandsAfter}
-use Rattle.publish_core.specs.Step.{act_frame, act_state, fresh}
+use Rattle.publish_core.specs.Run.{Act, Call, Changed, Polled, IsAnswer, PublishesNone, PublishesOctets, call, greatest_call_moment, trace_of_calls}
+use Rattle.publish_core.specs.Standing.{PublisherStanding, PublisherStandsAfter}
+use Rattle.publish_core.specs.Step.{act_frame, act_state, fresh_publisher}
 use Rattle.publish_core.specs.Table.{AreSteps, IsGood, IsTableFault, step_at}
 use Rattle.publish_core.proofs.Judged.{judged, judged_only}
 use Rattle.publish_core.proofs.Runs.{act_ok, answer_one, fresh_stands}
@@ -29,8 +29,8 @@ use Rattle.script_core.specs.declared.script.ScriptCause.TheVariants as cause
 use Rattle.script_core.specs.declared.script.ScriptItem.{ScriptItem}
 use Rattle.script_core.specs.declared.script.ScriptItem.TheVariants as item
 use Rattle.engine_core.specs.EngineStep.{Takes}
-use Rattle.engine_core.specs.PublishText.{IsCallText, IsPublishText, IsSound, answer_text, item_of_act, item_of_call, items_of_lines, script_cause, script_of}
-use Rattle.engine_core.specs.PublishStep.{Progress, nothing, setting_up, calling, Holds, Runs, TakesCall, TakesItem, call_at, call_step, called, is_good, item_step, next_progress, progress_after, progress_from, publish_text, setup_cause, standing_from, unless_refused, unless_unsound, with_step}
+use Rattle.engine_core.specs.PublishText.{IsCallText, IsPublishText, IsScriptSound, answer_text, item_of_act, item_of_call, items_of_lines, script_cause, script_of}
+use Rattle.engine_core.specs.PublishStep.{Progress, nothing, setting_up, calling, Holds, Runs, TakesCall, TakesItem, call_at, call_step, called, is_good, item_step, next_progress, progress_after, progress_from, publish_text, setup_cause, standing_from, text_unless_refused, unless_unsound, with_step}
 
 -- ---- how far a script has come
 
@@ -92,7 +92,7 @@ good_each (s ∷ steps) e (suc i) lt = good_each steps (and_parts (is_good s) _ 
 counted : {A : Type 0} (p : Setup A) → AreSteps p.table → (nat_lt 0 (length p.table) && nat_le (length p.table) 16) ≡ true
 counted p steps = and_from _ _ (lt-ltb 0 (length p.table) (omega (arith, steps.some))) (le-leb (length p.table) 16 steps.most)
 
-sound_setup : {A : Type 0} (p : Setup A) → IsSound p → setup_cause p ≡ None
+sound_setup : {A : Type 0} (p : Setup A) → IsScriptSound p → setup_cause p ≡ None
 sound_setup p sound =
     let n : ¬ (p.first ≡ 0) = λ e. absurd (omega (arith, e, sound.some)) in
     rw (counted p sound.steps, all_good p.table sound.steps.good, ne_eqb p.first 0 n) refl
@@ -116,34 +116,34 @@ table_cause p publish.WouldNotFit x = absurd x
 
 -- ---- calls
 
-standing_behind : {A : Type 0} (p : Setup A) (before calls : List Call) (s : Standing A) → StandsAfter p before s → StandsAfter p (before ++ calls) (standing_from s calls)
-standing_behind p before [] s w = subst (λ (l : List Call). StandsAfter p l s) (sym (append-nil before)) w
+standing_behind : {A : Type 0} (p : Setup A) (before calls : List Call) (s : PublisherStanding A) → PublisherStandsAfter p before s → PublisherStandsAfter p (before ++ calls) (standing_from s calls)
+standing_behind p before [] s w = subst (λ (l : List Call). PublisherStandsAfter p l s) (sym (append-nil before)) w
 standing_behind p before (c ∷ calls) s w =
-    subst (λ (l : List Call). StandsAfter p l (standing_from s (c ∷ calls))) (append_assoc before (c ∷ []) calls)
+    subst (λ (l : List Call). PublisherStandsAfter p l (standing_from s (c ∷ calls))) (append_assoc before (c ∷ []) calls)
     (standing_behind p (before ++ c ∷ []) calls (act_state s c.act c.moment) (act_ok p before s c.act c.moment w).1)
 
-standing_after : {A : Type 0} (p : Setup A) (calls : List Call) → IsSound p → StandsAfter p calls (standing_from (fresh p) calls)
-standing_after p calls sound = standing_behind p [] calls (fresh p) (fresh_stands p sound.some sound.most)
+standing_after : {A : Type 0} (p : Setup A) (calls : List Call) → IsScriptSound p → PublisherStandsAfter p calls (standing_from (fresh_publisher p) calls)
+standing_after p calls sound = standing_behind p [] calls (fresh_publisher p) (fresh_stands p sound.some sound.most)
 
 -- what a call is answered, by what is held
-answered : {A : Type 0} (p : Setup A) (calls : List Call) (c : Call) → IsSound p → IsAnswer p (trace (calls ++ c ∷ [])) (length calls) (act_frame (standing_from (fresh p) calls) c.act c.moment)
-answered p calls c sound = (act_ok p calls (standing_from (fresh p) calls) c.act c.moment (standing_after p calls sound)).0
+answered : {A : Type 0} (p : Setup A) (calls : List Call) (c : Call) → IsScriptSound p → IsAnswer p (trace_of_calls (calls ++ c ∷ [])) (length calls) (act_frame (standing_from (fresh_publisher p) calls) c.act c.moment)
+answered p calls c sound = (act_ok p calls (standing_from (fresh_publisher p) calls) c.act c.moment (standing_after p calls sound)).0
 
 -- the text of a call is what the whole list of calls says
-act_is : {A : Type 0} (p : Setup A) (calls : List Call) (m : ℕ) (a : Act) → IsSound p → IsCallText p calls (call m a) (call_step p calls (call m a))
-act_is p calls m Polled sound = inl (tt, (act_frame (standing_from (fresh p) calls) Polled m, answered p calls (call m Polled) sound, refl))
+act_is : {A : Type 0} (p : Setup A) (calls : List Call) (m : ℕ) (a : Act) → IsScriptSound p → IsCallText p calls (call m a) (call_step p calls (call m a))
+act_is p calls m Polled sound = inl (tt, (act_frame (standing_from (fresh_publisher p) calls) Polled m, answered p calls (call m Polled) sound, refl))
 act_is {A} p calls m (Changed change) sound = in_case (refusal p.control p.table (next_state p calls) change) (judged p.control p.table (next_state p calls) change sound.steps)
   where
     given : Option (SentFrame A)
-    given = act_frame (standing_from (fresh p) calls) (Changed change) m
+    given = act_frame (standing_from (fresh_publisher p) calls) (Changed change) m
 
     in_case : (answer : Option PublishFault) → IsJudged p.control p.table (next_state p calls) change answer →
-        IsCallText p calls (call m (Changed change)) (unless_refused answer (answer_text (greatest (calls ++ call m (Changed change) ∷ [])) (act_frame (standing_from (fresh p) calls) (Changed change) m)))
-    in_case None accepted = inl (accepted, (act_frame (standing_from (fresh p) calls) (Changed change) m, answered p calls (call m (Changed change)) sound, refl))
+        IsCallText p calls (call m (Changed change)) (text_unless_refused answer (answer_text (greatest_call_moment (calls ++ call m (Changed change) ∷ [])) (act_frame (standing_from (fresh_publisher p) calls) (Changed change) m)))
+    in_case None accepted = inl (accepted, (act_frame (standing_from (fresh_publisher p) calls) (Changed change) m, answered p calls (call m (Changed change)) sound, refl))
     in_case (Some why) refused = inr (why, refused, refl)
 
 -- a call behind a script
-call_behind : {A : Type 0} (p : Setup A) (calls : List Call) (c : Call) → IsSound p → call_at (progress_from (setting_up p) (map item_of_call calls)) c ≡ call_step p calls c
+call_behind : {A : Type 0} (p : Setup A) (calls : List Call) (c : Call) → IsScriptSound p → call_at (progress_from (setting_up p) (map item_of_call calls)) c ≡ call_step p calls c
 call_behind p [] c sound = ap (λ (o : Option ScriptCause). unless_unsound o (call_step p [] c)) (sound_setup p sound)
 call_behind p (d ∷ calls) c sound =
     ap (λ (g : Progress _). call_at (progress_from g (map item_of_call calls)) c) (next_act (setting_up p) d.moment d.act)
@@ -171,8 +171,8 @@ publish_is {A} = record {
 -- ---- what the engine does
 
 -- a publisher is set up from what was said, or none can be
-pub runs_first : {A : Type 0} (g : Progress A) (control : Control A) (first : ℕ) (steps : ArrayVec Step) (items : List Step) (r : Result (Standing A) ScriptCause) → Holds (stage.Setup control first steps) g →
-    items ≡ steps.items → IfOk r (λ s. StandsAfter (setup control items first) [] s) → OnOk r (IsSound (setup control items first)) → IfErr r (λ why. setup_cause (setup control items first) ≡ Some why) → Runs g r
+pub runs_first : {A : Type 0} (g : Progress A) (control : Control A) (first : ℕ) (steps : ArrayVec Step) (items : List Step) (r : Result (PublisherStanding A) ScriptCause) → Holds (stage.Setup control first steps) g →
+    items ≡ steps.items → IfOk r (λ s. PublisherStandsAfter (setup control items first) [] s) → OnOk r (IsScriptSound (setup control items first)) → IfErr r (λ why. setup_cause (setup control items first) ≡ Some why) → Runs g r
 runs_first nothing control first steps items r h e stands sound fails = absurd h
 runs_first {A} (setting_up p) control first steps items (Ok s) h e stands sound fails =
     let q : Setup A = setup control items first in
@@ -198,40 +198,40 @@ frame_line : {A : Type 0} (moment now : ℕ) (octets : List ℕ) (f : SentFrame 
 frame_line moment now octets f e h = rw (e, h) refl
 
 -- a change was refused
-pub refused : {A : Type 0} (p : Setup A) (calls : List Call) (m : ℕ) (change : Change) (why : PublishFault) → IsSound p → Refuses p calls change why → call_step p calls (call m (Changed change)) ≡ Err (script_cause why)
+pub refused : {A : Type 0} (p : Setup A) (calls : List Call) (m : ℕ) (change : Change) (why : PublishFault) → IsScriptSound p → Refuses p calls change why → call_step p calls (call m (Changed change)) ≡ Err (script_cause why)
 refused p calls m change why sound refuses =
     let c = call m (Changed change) in
-    ap (λ (o : Option PublishFault). unless_refused o (answer_text (greatest (calls ++ c ∷ [])) (act_frame (standing_from (fresh p) calls) (Changed change) m)))
+    ap (λ (o : Option PublishFault). text_unless_refused o (answer_text (greatest_call_moment (calls ++ c ∷ [])) (act_frame (standing_from (fresh_publisher p) calls) (Changed change) m)))
     (sym (judged_only p.control p.table (next_state p calls) change sound.steps (Some why) refuses))
 
-module _ {A : Type 0} (p : Setup A) (calls : List Call) (sound : IsSound p) (old new : List ℕ) (s : Standing A) where
+module _ {A : Type 0} (p : Setup A) (calls : List Call) (sound : IsScriptSound p) (old new : List ℕ) (s : PublisherStanding A) where
   -- a change was accepted, and the frame that it gives was appended
   pub changed : (m : ℕ) (change : Change) (moment : ℕ) (octets : List ℕ) → Accepts p calls change → PublishesOctets p (calls ++ call m (Changed change) ∷ []) (length calls) octets →
-      StandsAfter p (calls ++ call m (Changed change) ∷ []) s → moment ≡ greatest (calls ++ call m (Changed change) ∷ []) →
+      PublisherStandsAfter p (calls ++ call m (Changed change) ∷ []) s → moment ≡ greatest_call_moment (calls ++ call m (Changed change) ∷ []) →
       new ≡ old ++ (codes "F " ++ decimal moment ++ codes " " ++ encode_lower octets ++ codes "\n") →
       TakesCall p calls (call m (Changed change)) (Ok tt) old new s
   changed m change moment octets accepted published stands now wrote =
       let c = call m (Changed change) in
-      let time = greatest (calls ++ c ∷ []) in
-      let held = act_frame (standing_from (fresh p) calls) (Changed change) m in
-      let same = answer_one p (trace (calls ++ c ∷ [])) (length calls) (Some published.0) held published.1 (answered p calls c sound) in
+      let time = greatest_call_moment (calls ++ c ∷ []) in
+      let held = act_frame (standing_from (fresh_publisher p) calls) (Changed change) m in
+      let same = answer_one p (trace_of_calls (calls ++ c ∷ [])) (length calls) (Some published.0) held published.1 (answered p calls c sound) in
       let not_refused = sym (judged_only p.control p.table (next_state p calls) change sound.steps None accepted) in (
         answer_text time (Some published.0),
-        ap (λ (o : Option PublishFault). unless_refused o (answer_text time held)) not_refused ∙ ap (λ (o : Option (SentFrame A)). Ok (answer_text time o, false)) (sym same),
+        ap (λ (o : Option PublishFault). text_unless_refused o (answer_text time held)) not_refused ∙ ap (λ (o : Option (SentFrame A)). Ok (answer_text time o, false)) (sym same),
         wrote ∙ ap (λ (l : List ℕ). old ++ l) (frame_line moment time octets published.0 now published.2),
         stands,
       )
 
   -- a poll gave a frame
   pub polled_one : (m moment : ℕ) (octets : List ℕ) → PublishesOctets p (calls ++ call m Polled ∷ []) (length calls) octets →
-      StandsAfter p (calls ++ call m Polled ∷ []) s → moment ≡ greatest (calls ++ call m Polled ∷ []) →
+      PublisherStandsAfter p (calls ++ call m Polled ∷ []) s → moment ≡ greatest_call_moment (calls ++ call m Polled ∷ []) →
       new ≡ old ++ (codes "F " ++ decimal moment ++ codes " " ++ encode_lower octets ++ codes "\n") →
       TakesCall p calls (call m Polled) (Ok tt) old new s
   polled_one m moment octets published stands now wrote =
       let c = call m Polled in
-      let time = greatest (calls ++ c ∷ []) in
-      let held = act_frame (standing_from (fresh p) calls) Polled m in
-      let same = answer_one p (trace (calls ++ c ∷ [])) (length calls) (Some published.0) held published.1 (answered p calls c sound) in (
+      let time = greatest_call_moment (calls ++ c ∷ []) in
+      let held = act_frame (standing_from (fresh_publisher p) calls) Polled m in
+      let same = answer_one p (trace_of_calls (calls ++ c ∷ [])) (length calls) (Some published.0) held published.1 (answered p calls c sound) in (
         answer_text time (Some published.0),
         ap (λ (o : Option (SentFrame A)). Ok (answer_text time o, false)) (sym same),
         wrote ∙ ap (λ (l : List ℕ). old ++ l) (frame_line moment time octets published.0 now published.2),
@@ -239,12 +239,12 @@ module _ {A : Type 0} (p : Setup A) (calls : List Call) (sound : IsSound p) (old
       )
 
   -- it gave none
-  pub polled_none : (m : ℕ) → PublishesNone p (calls ++ call m Polled ∷ []) (length calls) → StandsAfter p (calls ++ call m Polled ∷ []) s → TakesCall p calls (call m Polled) (Ok tt) old old s
+  pub polled_none : (m : ℕ) → PublishesNone p (calls ++ call m Polled ∷ []) (length calls) → PublisherStandsAfter p (calls ++ call m Polled ∷ []) s → TakesCall p calls (call m Polled) (Ok tt) old old s
   polled_none m none stands =
       let c = call m Polled in
-      let time = greatest (calls ++ c ∷ []) in
-      let held = act_frame (standing_from (fresh p) calls) Polled m in
-      let same = answer_one p (trace (calls ++ c ∷ [])) (length calls) None held none (answered p calls c sound) in (
+      let time = greatest_call_moment (calls ++ c ∷ []) in
+      let held = act_frame (standing_from (fresh_publisher p) calls) Polled m in
+      let same = answer_one p (trace_of_calls (calls ++ c ∷ [])) (length calls) None held none (answered p calls c sound) in (
         [],
         ap (λ (o : Option (SentFrame A)). Ok (answer_text time o, false)) (sym same),
         sym (append-nil old),

@@ -4,14 +4,14 @@ use Rattle.std.specs.Io.KnownBytes.{Appends}
 use Rattle.std.proofs.lemmas.List.{append-nil, length-replicate}
 use Rattle.frame_core.specs.declared.device.InputEnd.{InputEnd}
 use Rattle.frame_core.specs.declared.event.Event.{Event}
-use Rattle.frame_core.specs.Device.{Gives}
+use Rattle.frame_core.specs.Device.{GivesOctets}
 use Rattle.frame_core.specs.Items.{Rules}
 use Rattle.frame_core.proofs.Devices.{Appends-none, Consumes-none, Gives-from_Consumes}
 use Rattle.subscribe_core.specs.declared.block.Block.{Block}
 use Rattle.subscribe_core.specs.declared.entry.Entry.{Entry}
 use Rattle.subscribe_core.specs.Content.{reading_of}
 use Rattle.subscribe_core.specs.Entries.{AreEntriesAt}
-use Rattle.subscribe_core.specs.Standing.{State, StandsAfter, fresh, idle}
+use Rattle.subscribe_core.specs.Standing.{State, StandsAfter, fresh_state, idle}
 use Rattle.subscribe_core.specs.Steps.{step_entries, step_state}
 use Rattle.subscribe_core.proofs.Readings.{is_read}
 use Rattle.subscribe_core.proofs.Runs.{entries_step, fresh_stands, registers_length, stands_step}
@@ -20,9 +20,9 @@ use Rattle.engine_core.specs.EngineText.{Text, WritesAfter, told_after}
 use Rattle.engine_core.specs.declared.ending.Ending.TheVariants.{Memory}
 use Rattle.text_core.specs.EntryText.{entry_lines}
 use Rattle.engine_core.specs.ReplayText.{IsReplayText, events_of}
-use Rattle.engine_core.specs.ReplayStep.{kept_after, replay_text, state_after}
+use Rattle.engine_core.specs.ReplayStep.{kept_after, replay_text, state_after_list}
 
-state_push : {A : Type 0} (s : State A) (es : List (Event A)) (e : Event A) → state_after s (es ++ e ∷ []) ≡ step_state (state_after s es) (reading_of e)
+state_push : {A : Type 0} (s : State A) (es : List (Event A)) (e : Event A) → state_after_list s (es ++ e ∷ []) ≡ step_state (state_after_list s es) (reading_of e)
 state_push s [] e = refl
 state_push s (x ∷ es) e = state_push (step_state s (reading_of x)) es e
 
@@ -32,7 +32,7 @@ events_push (x ∷ before) e = ap (λ (es : List (Event _)). x.1 ∷ es) (events
 
 -- what is kept after one event more
 kept_push : {A : Type 0} (blocks : List (Block A)) (before : List (ℕ × Event A)) (e : ℕ × Event A) → kept_after blocks (before ++ e ∷ []) ≡ step_state (kept_after blocks before) (reading_of e.1)
-kept_push blocks before e = ap (state_after (fresh blocks)) (events_push before e) ∙ state_push (fresh blocks) (events_of before) e.1
+kept_push blocks before e = ap (state_after_list (fresh_state blocks)) (events_push before e) ∙ state_push (fresh_state blocks) (events_of before) e.1
 
 -- a subscriber took an event, and its entries were appended
 pub replays : {A : Type 0} (s t : State A) (before : List (ℕ × Event A)) (n : ℕ) (event : Event A) (entries : List (Entry A)) (old new : List ℕ) →
@@ -51,7 +51,7 @@ record Keeps {A : Type 0} (blocks : List (Block A)) (events : List (Event A)) (s
   pub sizes : length s.registers ≡ length s.blocks
   pub same : s.blocks ≡ blocks
 
-keeps_all : {A : Type 0} (blocks : List (Block A)) (es before : List (Event A)) (s : State A) → Keeps blocks before s → Keeps blocks (before ++ es) (state_after s es)
+keeps_all : {A : Type 0} (blocks : List (Block A)) (es before : List (Event A)) (s : State A) → Keeps blocks before s → Keeps blocks (before ++ es) (state_after_list s es)
 keeps_all blocks [] before s k = subst (λ (l : List (Event _)). Keeps blocks l s) (sym (append-nil before)) k
 keeps_all blocks (e ∷ es) before s k =
     let next : Keeps blocks (before ++ e ∷ []) (step_state s (reading_of e)) = record {
@@ -59,10 +59,10 @@ keeps_all blocks (e ∷ es) before s k =
       sizes = registers_length _ s.mode (reading_of e).content s.blocks s.registers k.sizes;
       same = k.same;
     } in
-    subst (λ (l : List (Event _)). Keeps blocks l (state_after s (e ∷ es))) (append_assoc before (e ∷ []) es) (keeps_all blocks es (before ++ e ∷ []) (step_state s (reading_of e)) next)
+    subst (λ (l : List (Event _)). Keeps blocks l (state_after_list s (e ∷ es))) (append_assoc before (e ∷ []) es) (keeps_all blocks es (before ++ e ∷ []) (step_state s (reading_of e)) next)
 
 kept_keeps : {A : Type 0} (blocks : List (Block A)) (items : List (ℕ × Event A)) → Keeps blocks (events_of items) (kept_after blocks items)
-kept_keeps blocks items = keeps_all blocks (events_of items) [] (fresh blocks) (record { stands = fresh_stands blocks; sizes = length-replicate (length blocks) idle; same = refl })
+kept_keeps blocks items = keeps_all blocks (events_of items) [] (fresh_state blocks) (record { stands = fresh_stands blocks; sizes = length-replicate (length blocks) idle; same = refl })
 
 -- the text as it is computed is that of the entries of the whole list
 pub replay_is : {A : Type 0} (blocks : List (Block A)) → IsReplayText blocks (replay_text blocks)
@@ -81,7 +81,7 @@ replay_is blocks = record {
 
 -- memory was refused before anything was read or written
 pub memory_first : {S X C : Type 0} (r : Rules S X C) (s : S) (t : Text X C) (z : InputEnd) (left old : Option (List ℕ)) → t.first ≡ [] →
-    (given : List ℕ) × Gives left left given × WritesAfter r s t 0 Memory z given old old
+    (given : List ℕ) × GivesOctets left left given × WritesAfter r s t 0 Memory z given old old
 unfolding told_after
 memory_first r s t z left old none = (
   [],

@@ -56,8 +56,8 @@ abbrev pub told : {X C : Type 0} → Text X C → Listing X C → Account C
 told t l = told_rest t [] l
 
 -- the whole text
-abbrev pub text_of : {X C : Type 0} → Text X C → Listing X C → List ℕ
-text_of t l = t.first ++ (told t l).text
+abbrev pub whole_text : {X C : Type 0} → Text X C → Listing X C → List ℕ
+whole_text t l = t.first ++ (told t l).text
 
 -- a fault of the lines is the reader's where it failed, and else the input's
 abbrev pub ending_of : ListCause → Ending
@@ -74,7 +74,7 @@ ending_at (fault.Lines f) = ending_of f.cause
 ending_at (fault.Line n why) = InputFault
 
 -- A run stopped at a line, with n lines before the text, which settled s: what stands written by then is the text of the items of all earlier lines, none of which was refused. From the start of that line on at most 8,192 of the octets given stand, and they read as the lines after `number` others that settled `at`.
-pub record StopsAt {S X C : Type 0} (r : Rules S X C) (s : S) (t : Text X C) (n : ℕ) (z : InputEnd) (text : List ℕ) (old : Option (List ℕ)) : Type 0 where
+pub record StopsAt {S X C : Type 0} (r : Rules S X C) (s : S) (t : Text X C) (n : ℕ) (z : InputEnd) (input : List ℕ) (old : Option (List ℕ)) : Type 0 where
   pub held : Option (List ℕ)
   pub items : List (ℕ × X)
   pub written : Appends old held (t.first ++ (told_after t [] items unfinished).text)
@@ -83,28 +83,28 @@ pub record StopsAt {S X C : Type 0} (r : Rules S X C) (s : S) (t : Text X C) (n 
   pub at : S
   pub front : List ℕ
   pub rest : List ℕ
-  pub parts : text ≡ front ++ rest
+  pub parts : input ≡ front ++ rest
   pub starts : StartsLine z front rest
   pub few : length rest ≤ 8192
-  pub earlier : listing r s z n text ≡ put_items items (listing r at z number rest)
+  pub earlier : listing r s z n input ≡ put_items items (listing r at z number rest)
 
 -- there is a fault, and the whole text was written
 abbrev pub EndsByFault : {X C : Type 0} → Text X C → Ending → Listing X C → Option (List ℕ) → Option (List ℕ) → Type 0
-EndsByFault {C = C} t ending l old new = (f : ItemFault C) × ((told t l).stop ≡ faulty f) × (ending_at f ≡ ending) × Appends old new (text_of t l)
+EndsByFault {C = C} t ending l old new = (f : ItemFault C) × ((told t l).stop ≡ faulty f) × (ending_at f ≡ ending) × Appends old new (whole_text t l)
 
 -- there is no fault, the whole text was written, and something was found or nothing was
 abbrev pub EndsWell : {X C : Type 0} → Text X C → Bool → Listing X C → Option (List ℕ) → Option (List ℕ) → Type 0
-EndsWell t found l old new = ((told t l).stop ≡ finished) × ((told t l).found ≡ found) × Appends old new (text_of t l)
+EndsWell t found l old new = ((told t l).stop ≡ finished) × ((told t l).found ≡ found) × Appends old new (whole_text t l)
 
 -- What a run leaves written of a text that follows n lines, which settled s: the whole text at Done, Findings, InputFault and ReadFault; a front of it at WriteFault, where nothing was read or it stopped at some line; at Memory the text of the items before some line.
 abbrev pub WritesAfter : {S X C : Type 0} → Rules S X C → S → Text X C → ℕ → Ending → InputEnd → List ℕ → Option (List ℕ) → Option (List ℕ) → Type 0
-WritesAfter r s t n Done z text old new = EndsWell t false (listing r s z n text) old new
-WritesAfter r s t n Findings z text old new = EndsWell t true (listing r s z n text) old new
-WritesAfter r s t n InputFault z text old new = EndsByFault t InputFault (listing r s z n text) old new
-WritesAfter r s t n ReadFault z text old new = EndsByFault t ReadFault (listing r s z n text) old new
-WritesAfter r s t n WriteFault z text old new = AppendsFront old new (text_of t (listing r s z n text))
-    × ((text ≡ []) ⊎ ((p : StopsAt r s t n z text old) × AppendsFront p.held new (told_rest t p.items (listing r p.at z p.number p.rest)).text))
-WritesAfter r s t n Memory z text old new = (p : StopsAt r s t n z text old) × (p.held ≡ new)
+WritesAfter r s t n Done z input old new = EndsWell t false (listing r s z n input) old new
+WritesAfter r s t n Findings z input old new = EndsWell t true (listing r s z n input) old new
+WritesAfter r s t n InputFault z input old new = EndsByFault t InputFault (listing r s z n input) old new
+WritesAfter r s t n ReadFault z input old new = EndsByFault t ReadFault (listing r s z n input) old new
+WritesAfter r s t n WriteFault z input old new = AppendsFront old new (whole_text t (listing r s z n input))
+    × ((input ≡ []) ⊎ ((p : StopsAt r s t n z input old) × AppendsFront p.held new (told_rest t p.items (listing r p.at z p.number p.rest)).text))
+WritesAfter r s t n Memory z input old new = (p : StopsAt r s t n z input old) × (p.held ≡ new)
 
 -- what a run leaves written of an input, with the ending that its reader tells
 abbrev pub Writes : {S X C : Type 0} → Rules S X C → S → Text X C → Ending → InputEnd → List ℕ → Option (List ℕ) → Option (List ℕ) → Type 0
@@ -120,8 +120,8 @@ is_write_fault WriteFault = true
 is_write_fault Memory = false
 
 -- what a run that is refused leaves written: its one text, or a front of it
-abbrev pub Refuses : List ℕ → Ending → Option (List ℕ) → Option (List ℕ) → Type 0
-Refuses text ending old new = ((ending ≡ InputFault) × Appends old new text) ⊎ ((ending ≡ WriteFault) × AppendsFront old new text)
+abbrev pub LeavesRefused : List ℕ → Ending → Option (List ℕ) → Option (List ℕ) → Type 0
+LeavesRefused text ending old new = ((ending ≡ InputFault) × Appends old new text) ⊎ ((ending ≡ WriteFault) × AppendsFront old new text)
 
 -- a text that speaks of each item alone, and refuses none
 abbrev pub IsPlain : {X C : Type 0} → Text X C → (ℕ × X → List ℕ) → (ℕ × X → Bool) → Type 0

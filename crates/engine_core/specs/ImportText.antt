@@ -25,12 +25,12 @@ abbrev pub left_out_line : ℕ → ℕ → List ℕ
 left_out_line n size = codes "# record " ++ decimal n ++ codes " of " ++ decimal size ++ codes " octets left out\n"
 
 -- the line of a frame at a moment
-abbrev pub frame_line : ℕ → List ℕ → List ℕ
-frame_line moment octets = event_text {A = Unit {0}} (record { moment = moment; kind = Frame octets })
+abbrev pub imported_line : ℕ → List ℕ → List ℕ
+imported_line moment octets = event_text {A = Unit {0}} (record { moment = moment; kind = Frame octets })
 
 -- the line of a record
 abbrev pub record_line : ℕ × CaptureRecord → List ℕ
-record_line r = if is_left_out r then left_out_line r.0 (length r.1.octets) else frame_line r.1.moment r.1.octets
+record_line r = if is_left_out r then left_out_line r.0 (length r.1.octets) else imported_line r.1.moment r.1.octets
 
 -- the last line, on a fault: a comment
 abbrev pub capture_line : CaptureFault → List ℕ

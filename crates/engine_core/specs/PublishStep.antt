@@ -8,9 +8,9 @@ use Rattle.publish_core.specs.declared.table.Step.{Step}
 use Rattle.publish_core.specs.Frames.{Setup, change, setup}
 use Rattle.publish_core.specs.Judgement.{refusal}
 use Rattle.publish_core.specs.Refusal.{next_state}
-use Rattle.publish_core.specs.Run.{Act, Call, Changed, Polled, call, greatest}
-use Rattle.publish_core.specs.Standing.{Standing, StandsAfter}
-use Rattle.publish_core.specs.Step.{act_frame, act_state, fresh}
+use Rattle.publish_core.specs.Run.{Act, Call, Changed, Polled, call, greatest_call_moment}
+use Rattle.publish_core.specs.Standing.{PublisherStanding, PublisherStandsAfter}
+use Rattle.publish_core.specs.Step.{act_frame, act_state, fresh_publisher}
 use Rattle.engine_core.specs.declared.engines.publish.Stage.{Stage}
 use Rattle.engine_core.specs.declared.engines.publish.Stage.TheVariants as stage
 use Rattle.script_core.specs.declared.script.ScriptCause.{ScriptCause}
@@ -18,7 +18,7 @@ use Rattle.script_core.specs.declared.script.ScriptCause.TheVariants as cause
 use Rattle.script_core.specs.declared.script.ScriptItem.{ScriptItem}
 use Rattle.script_core.specs.declared.script.ScriptItem.TheVariants as item
 use Rattle.engine_core.specs.EngineText.{Text}
-use Rattle.engine_core.specs.PublishText.{IsSound, answer_text, items_of_lines, script_cause}
+use Rattle.engine_core.specs.PublishText.{IsScriptSound, answer_text, items_of_lines, script_cause}
 use Rattle.text_core.specs.ScriptLine.{script_line}
 
 -- how far a script has come: nothing was said, a control line and some steps, or some calls too
@@ -57,7 +57,7 @@ abbrev pub progress_after : {A : Type 0} → List (ℕ × ScriptItem A) → Prog
 progress_after items = progress_from nothing (items_of_lines items)
 
 -- what a publisher holds after these calls
-abbrev pub standing_from : {A : Type 0} → Standing A → List Call → Standing A
+abbrev pub standing_from : {A : Type 0} → PublisherStanding A → List Call → PublisherStanding A
 standing_from s [] = s
 standing_from s (c ∷ calls) = standing_from (act_state s c.act c.moment) calls
 
@@ -67,13 +67,13 @@ call_refusal p calls (Changed change) = refusal p.control p.table (next_state p 
 call_refusal p calls Polled = None
 
 -- the text of a call that is not refused
-abbrev pub unless_refused : Option PublishFault → List ℕ → Result (List ℕ × Bool) ScriptCause
-unless_refused None text = Ok (text, false)
-unless_refused (Some why) text = Err (script_cause why)
+abbrev pub text_unless_refused : Option PublishFault → List ℕ → Result (List ℕ × Bool) ScriptCause
+text_unless_refused None text = Ok (text, false)
+text_unless_refused (Some why) text = Err (script_cause why)
 
 -- the text of a call behind others
 abbrev pub call_step : {A : Type 0} → Setup A → List Call → Call → Result (List ℕ × Bool) ScriptCause
-call_step p calls c = unless_refused (call_refusal p calls c.act) (answer_text (greatest (calls ++ c ∷ [])) (act_frame (standing_from (fresh p) calls) c.act c.moment))
+call_step p calls c = text_unless_refused (call_refusal p calls c.act) (answer_text (greatest_call_moment (calls ++ c ∷ [])) (act_frame (standing_from (fresh_publisher p) calls) c.act c.moment))
 
 -- the step waits, and its frame lives longer than that
 abbrev pub is_good : Step → Bool
@@ -120,7 +120,7 @@ publish_text = record {
 abbrev pub Holds : {A : Type 0} → Stage A → Progress A → Type 0
 Holds stage.Start nothing = ⊤
 Holds (stage.Setup control first steps) (setting_up p) = setup control steps.items first ≡ p
-Holds (stage.Running publisher) (calling p calls) = IsSound p × StandsAfter p calls publisher
+Holds (stage.Running publisher) (calling p calls) = IsScriptSound p × PublisherStandsAfter p calls publisher
 Holds _ _ = ⊥
 
 -- an item was taken after this, or refused
@@ -130,13 +130,13 @@ TakesItem g i (Err (line.Cause why)) old new = item_step i g ≡ Err why
 TakesItem g i (Err (line.Memory e)) old new = Unit {0}
 
 -- a call was taken after these, or refused
-abbrev pub TakesCall : {A : Type 0} → Setup A → List Call → Call → Result (Unit {0}) (LineError ScriptCause) → List ℕ → List ℕ → Standing A → Type 0
-TakesCall p calls c (Ok u) old new s = (text : List ℕ) × (call_step p calls c ≡ Ok (text, false)) × (new ≡ old ++ text) × StandsAfter p (calls ++ c ∷ []) s
+abbrev pub TakesCall : {A : Type 0} → Setup A → List Call → Call → Result (Unit {0}) (LineError ScriptCause) → List ℕ → List ℕ → PublisherStanding A → Type 0
+TakesCall p calls c (Ok u) old new s = (text : List ℕ) × (call_step p calls c ≡ Ok (text, false)) × (new ≡ old ++ text) × PublisherStandsAfter p (calls ++ c ∷ []) s
 TakesCall p calls c (Err (line.Cause why)) old new s = call_step p calls c ≡ Err why
 TakesCall p calls c (Err (line.Memory e)) old new s = Unit {0}
 
 -- the publisher that runs after this, or why none does
-abbrev pub Runs : {A : Type 0} → Progress A → Result (Standing A) ScriptCause → Type 0
-Runs {A} g (Ok s) = (p : Setup A) × (calls : List Call) × IsSound p × StandsAfter p calls s
+abbrev pub Runs : {A : Type 0} → Progress A → Result (PublisherStanding A) ScriptCause → Type 0
+Runs {A} g (Ok s) = (p : Setup A) × (calls : List Call) × IsScriptSound p × PublisherStandsAfter p calls s
     × ((c : Call) → (call_at g c ≡ call_step p calls c) × (called g c ≡ calling p (calls ++ c ∷ [])))
 Runs g (Err why) = (c : Call) → call_at g c ≡ Err why

@@ -14,7 +14,7 @@ use Rattle.publish_core.specs.declared.fault.PublishFault.TheVariants as publish
 use Rattle.publish_core.specs.declared.table.Step.{Step}
 use Rattle.publish_core.specs.Frames.{Setup}
 use Rattle.publish_core.specs.Refusal.{Accepts, Refuses}
-use Rattle.publish_core.specs.Run.{Act, Call, Changed, Polled, IsAnswer, greatest, trace}
+use Rattle.publish_core.specs.Run.{Act, Call, Changed, Polled, IsAnswer, greatest_call_moment, trace_of_calls}
 use Rattle.publish_core.specs.Table.{AreSteps}
 use Rattle.script_core.specs.declared.script.ScriptCause.{ScriptCause}
 use Rattle.script_core.specs.declared.script.ScriptCause.TheVariants as cause
@@ -44,7 +44,7 @@ abbrev pub script_of : {A : Type 0} → Setup A → List Call → List (ScriptIt
 script_of p calls = item.Control p.control p.first ∷ (map item.Step p.table ++ map item_of_call calls)
 
 -- a publisher can be set up so: the steps make a table, and the first status number is one
-pub record IsSound {A : Type 0} (p : Setup A) : Type 0 where
+pub record IsScriptSound {A : Type 0} (p : Setup A) : Type 0 where
   pub steps : AreSteps p.table
   pub some : 0 < p.first
   pub most : p.first ≤ 4294967295
@@ -79,8 +79,8 @@ script_cause publish.WouldNotFit = cause.WouldNotFit
 abbrev pub IsCallText : {A : Type 0} → Setup A → List Call → Call → Result (List ℕ × Bool) ScriptCause → Type 0
 IsCallText {A} p calls c said =
     (IsTaken p calls c.act
-    × ((answer : Option (SentFrame A)) × IsAnswer p (trace (calls ++ c ∷ [])) (length calls) answer
-    × (said ≡ Ok (answer_text (greatest (calls ++ c ∷ [])) answer, false))))
+    × ((answer : Option (SentFrame A)) × IsAnswer p (trace_of_calls (calls ++ c ∷ [])) (length calls) answer
+    × (said ≡ Ok (answer_text (greatest_call_moment (calls ++ c ∷ [])) answer, false))))
     ⊎ ((why : PublishFault) × IsRefused p calls c.act why × (said ≡ Err (script_cause why)))
 
 -- ---- the text
@@ -91,7 +91,7 @@ pub record IsPublishText {A : Type 0} (t : Text (ScriptItem A) ScriptCause) : Ty
   pub control : (n first : ℕ) (control : Control A) → t.step [] (n, item.Control control first) ≡ Ok ([], false)
   pub step : (p : Setup A) (before : List (ℕ × ScriptItem A)) → items_of_lines before ≡ script_of p [] → length p.table < 16 →
       (n : ℕ) (s : Step) → t.step before (n, item.Step s) ≡ Ok ([], false)
-  pub call : (p : Setup A) (calls : List Call) (before : List (ℕ × ScriptItem A)) → items_of_lines before ≡ script_of p calls → IsSound p →
+  pub call : (p : Setup A) (calls : List Call) (before : List (ℕ × ScriptItem A)) → items_of_lines before ≡ script_of p calls → IsScriptSound p →
       (n : ℕ) (c : Call) → IsCallText p calls c (t.step before (n, item_of_call c))
   pub last : (f : ItemFault ScriptCause) → t.last f ≡ script_line f
 
@@ -101,8 +101,8 @@ pub record IsPublishText {A : Type 0} (t : Text (ScriptItem A) ScriptCause) : Ty
 abbrev pub StandsBefore : {A : Type 0} → List (ScriptItem A) → ScriptItem A → Type 0
 StandsBefore before (item.Control control first) = before ≡ []
 StandsBefore {A} before (item.Step s) = (p : Setup A) × (before ≡ script_of p []) × (length p.table < 16)
-StandsBefore {A} before (item.Change moment t values) = (p : Setup A) × (calls : List Call) × (before ≡ script_of p calls) × IsSound p
-StandsBefore {A} before (item.Poll moment) = (p : Setup A) × (calls : List Call) × (before ≡ script_of p calls) × IsSound p
+StandsBefore {A} before (item.Change moment t values) = (p : Setup A) × (calls : List Call) × (before ≡ script_of p calls) × IsScriptSound p
+StandsBefore {A} before (item.Poll moment) = (p : Setup A) × (calls : List Call) × (before ≡ script_of p calls) × IsScriptSound p
 
 -- before each item of a script stands what must
 abbrev pub ScriptsAreInOrder : Type 0 → Type 0

@@ -5,7 +5,7 @@ use Rattle.frame_core.specs.declared.list_fault.ListCause.{ListCause}
 use Rattle.frame_core.specs.ListReader.{list_fault_of}
 use Rattle.subscribe_core.specs.declared.block.Block.{Block}
 use Rattle.subscribe_core.specs.Content.{reading_of}
-use Rattle.subscribe_core.specs.Standing.{State, fresh}
+use Rattle.subscribe_core.specs.Standing.{State, fresh_state}
 use Rattle.subscribe_core.specs.Steps.{step_entries, step_state}
 use Rattle.engine_core.specs.EngineText.{Text}
 use Rattle.text_core.specs.EntryText.{entry_lines}
@@ -13,13 +13,13 @@ use Rattle.text_core.specs.LineText.{list_line}
 use Rattle.engine_core.specs.ReplayText.{events_of}
 
 -- what is kept after these events
-abbrev pub state_after : {A : Type 0} → State A → List (Event A) → State A
-state_after s [] = s
-state_after s (e ∷ es) = state_after (step_state s (reading_of e)) es
+abbrev pub state_after_list : {A : Type 0} → State A → List (Event A) → State A
+state_after_list s [] = s
+state_after_list s (e ∷ es) = state_after_list (step_state s (reading_of e)) es
 
 -- what a subscriber of these blocks keeps after these items
 abbrev pub kept_after : {A : Type 0} → List (Block A) → List (ℕ × Event A) → State A
-kept_after blocks items = state_after (fresh blocks) (events_of items)
+kept_after blocks items = state_after_list (fresh_state blocks) (events_of items)
 
 abbrev pub replay_text : {A : Type 0} → List (Block A) → Text (Event A) ListCause
 replay_text blocks = record {

@@ -14,7 +14,7 @@ use Rattle.subscribe_core.specs.Entries.{AreEntriesAt}
 use Rattle.subscribe_core.specs.Standing.{AreApart, IsFirstTwice}
 use Rattle.engine_core.specs.declared.ending.Ending.{Ending}
 use Rattle.engine_core.specs.declared.ending.Ending.TheVariants.{Memory}
-use Rattle.engine_core.specs.EngineText.{Text, Refuses, Writes}
+use Rattle.engine_core.specs.EngineText.{Text, LeavesRefused, Writes}
 use Rattle.text_core.specs.EntryText.{entry_lines}
 use Rattle.text_core.specs.LineText.{list_line}
 
@@ -36,7 +36,7 @@ twice_line i = codes "blocks SameBlockTwice " ++ decimal i ++ codes "\n"
 -- a block is given twice: nothing is read, and its line is written, unless memory is refused for that
 abbrev pub ReplayRefuses : {A : Type 0} → List (Block A) → Ending → List ℕ → Option (List ℕ) → Option (List ℕ) → Type 0
 ReplayRefuses blocks ending given old new =
-    (i : ℕ) × IsFirstTwice blocks i × (given ≡ []) × (Refuses (twice_line i) ending old new ⊎ ((ending ≡ Memory) × (new ≡ old)))
+    (i : ℕ) × IsFirstTwice blocks i × (given ≡ []) × (LeavesRefused (twice_line i) ending old new ⊎ ((ending ≡ Memory) × (new ≡ old)))
 
 -- what a replay of these blocks leaves written of an input
 abbrev pub ReplayWrites : {A : Type 0} → List (Block A) → Ending → InputEnd → List ℕ → Option (List ℕ) → Option (List ℕ) → Type 0

@@ -4,34 +4,34 @@ use Rattle.std.proofs.lemmas.Bool.{cases_lt, cases_order}
 use Rattle.std.proofs.lemmas.Option.{none-some}
 use Rattle.publish_core.specs.Frames.{Change, Setup}
 use Rattle.publish_core.specs.Numbers.{state_number}
-use Rattle.publish_core.specs.Run.{Act, Call, Changed, IsChange, NoWrap, Trace, change_in, changes, trace}
+use Rattle.publish_core.specs.Run.{Act, Call, Changed, IsChange, NoWrap, CallTrace, change_in, changes, trace_of_calls}
 use Rattle.publish_core.proofs.GivesOne.{same_change}
 use Rattle.publish_core.proofs.NumberLaws.{state_number_plain}
 use Rattle.exchange_laws.specs.Laws.{PublishedIsOne}
 
 -- the count of changes only grows, and a change adds one
-changes_grow : (t : Trace) (i n : ℕ) → i ≤ n → changes t i ≤ changes t n
+changes_grow : (t : CallTrace) (i n : ℕ) → i ≤ n → changes t i ≤ changes t n
 changes_grow t i zero le = let same : i ≡ 0 = omega arith in subst (λ (x : ℕ). changes t x ≤ changes t 0) (sym same) (le_refl 0)
 changes_grow t i (suc n) le = elim (cases_lt i (suc n)) [
   | inl lt ↦ let below : changes t i ≤ changes t n = changes_grow t i n (omega arith) in omega arith
   | inr ge ↦ let same : i ≡ suc n = omega arith in subst (λ (x : ℕ). changes t x ≤ changes t (suc n)) (sym same) (le_refl (changes t (suc n)))
 ]
 
-counted : (t : Trace) (i c : ℕ) (change : Change) → IsChange t i c change → changes t (suc i) ≡ suc c
+counted : (t : CallTrace) (i c : ℕ) (change : Change) → IsChange t i c change → changes t (suc i) ≡ suc c
 counted t i c change x =
     let one : change_in (t.act i) ≡ 1 = ap change_in x.act in
     let before : changes t i ≡ c = x.before in
     omega arith
 
 -- one call is change c
-one_call : (t : Trace) (i j c : ℕ) (a b : Change) → IsChange t i c a → IsChange t j c b → i < j → ⊥
+one_call : (t : CallTrace) (i j c : ℕ) (a b : Change) → IsChange t i c a → IsChange t j c b → i < j → ⊥
 one_call t i j c a b x y lt =
     let up : changes t (suc i) ≤ changes t j = changes_grow t (suc i) j lt in
     let past : changes t (suc i) ≡ suc c = counted t i c a x in
     let before : changes t j ≡ c = y.before in
     omega arith
 
-one_change : (t : Trace) (i j c : ℕ) (a b : Change) → IsChange t i c a → IsChange t j c b → a ≡ b
+one_change : (t : CallTrace) (i j c : ℕ) (a b : Change) → IsChange t i c a → IsChange t j c b → a ≡ b
 one_change t i j c a b x y = elim (cases_order i j) [
   | inl same ↦ same_change a b (sym x.act ∙ (ap t.act same ∙ y.act))
   | inr (inl lt) ↦ absurd (one_call t i j c a b x y lt)
@@ -43,7 +43,7 @@ published_is_one p calls number x y u v =
     let first : number ≡ p.first + u.c = u.numbered in
     let second : number ≡ p.first + v.c = v.numbered in
     let same : u.c ≡ v.c = omega arith in
-    one_change (trace calls) u.call v.call v.c x y (subst (λ (c : ℕ). IsChange (trace calls) u.call c x) same u.is_change) v.is_change
+    one_change (trace_of_calls calls) u.call v.call v.c x y (subst (λ (c : ℕ). IsChange (trace_of_calls calls) u.call c x) same u.is_change) v.is_change
 
 -- a change is one of the calls, so its number is below their count of changes
 pub act_below : (calls : List Call) (i : ℕ) (a : Act) → option_map (λ (c : Call). c.act) (slice_get calls i) ≡ Some a → i < length calls
@@ -51,22 +51,22 @@ act_below [] i a e = absurd (none-some a e)
 act_below (c ∷ cs) zero a e = omega arith
 act_below (c ∷ cs) (suc i) a e = omega (arith, act_below cs i a e)
 
-change_below : (calls : List Call) (i c : ℕ) (change : Change) → IsChange (trace calls) i c change → c < changes (trace calls) (length calls)
+change_below : (calls : List Call) (i c : ℕ) (change : Change) → IsChange (trace_of_calls calls) i c change → c < changes (trace_of_calls calls) (length calls)
 change_below calls i c change x =
     let within : i < length calls = act_below calls i (Changed change) x.act in
-    let up : changes (trace calls) (suc i) ≤ changes (trace calls) (length calls) = changes_grow (trace calls) (suc i) (length calls) within in
-    let past : changes (trace calls) (suc i) ≡ suc c = counted (trace calls) i c change x in
+    let up : changes (trace_of_calls calls) (suc i) ≤ changes (trace_of_calls calls) (length calls) = changes_grow (trace_of_calls calls) (suc i) (length calls) within in
+    let past : changes (trace_of_calls calls) (suc i) ≡ suc c = counted (trace_of_calls calls) i c change x in
     omega arith
 
 -- without a wrap state c has the number first + c
-pub number_of_change : {A : Type 0} (p : Setup A) (calls : List Call) (i c : ℕ) (change : Change) → 1 ≤ p.first → NoWrap p calls → IsChange (trace calls) i c change → state_number p.first c ≡ p.first + c
+pub number_of_change : {A : Type 0} (p : Setup A) (calls : List Call) (i c : ℕ) (change : Change) → 1 ≤ p.first → NoWrap p calls → IsChange (trace_of_calls calls) i c change → state_number p.first c ≡ p.first + c
 number_of_change p calls i c change some no_wrap x =
-    let below : c < changes (trace calls) (length calls) = change_below calls i c change x in
-    let most : p.first + changes (trace calls) (length calls) ≤ 4294967295 + 1 = no_wrap in
+    let below : c < changes (trace_of_calls calls) (length calls) = change_below calls i c change x in
+    let most : p.first + changes (trace_of_calls calls) (length calls) ≤ 4294967295 + 1 = no_wrap in
     state_number_plain p.first c some (omega arith)
 
 -- the changes among calls behind a first one
-pub changes_cons : (c : Call) (cs : List Call) (n : ℕ) → changes (trace (c ∷ cs)) (suc n) ≡ change_in (Some c.act) + changes (trace cs) n
+pub changes_cons : (c : Call) (cs : List Call) (n : ℕ) → changes (trace_of_calls (c ∷ cs)) (suc n) ≡ change_in (Some c.act) + changes (trace_of_calls cs) n
 changes_cons c cs zero = omega arith
 changes_cons c cs (suc n) = omega (arith, changes_cons c cs n)
 
@@ -74,6 +74,6 @@ abbrev pub count : List Call → ℕ
 count [] = 0
 count (c ∷ cs) = change_in (Some c.act) + count cs
 
-pub count_all : (cs : List Call) → changes (trace cs) (length cs) ≡ count cs
+pub count_all : (cs : List Call) → changes (trace_of_calls cs) (length cs) ≡ count cs
 count_all [] = refl
 count_all (c ∷ cs) = changes_cons c cs (length cs) ∙ ap (λ (n : ℕ). change_in (Some c.act) + n) (count_all cs)

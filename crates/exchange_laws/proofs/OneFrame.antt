@@ -13,10 +13,10 @@ use Rattle.subscribe_core.specs.declared.registers.Verdict.{Verdict}
 use Rattle.subscribe_core.specs.declared.registers.Verdict.TheVariants.{Acted, Renewed, Again, Stale}
 use Rattle.subscribe_core.specs.Entries.{entry_of}
 use Rattle.subscribe_core.specs.Matching.{facts_of_frame, first_of, is_of, reason_of}
-use Rattle.subscribe_core.specs.Reading.{GooseFrame, OfGoose, Reading}
+use Rattle.subscribe_core.specs.Reading.{GooseFrame, OfGoose, EventRead}
 use Rattle.subscribe_core.specs.Simulation.{is_against}
 use Rattle.subscribe_core.specs.Standing.{AreApart, State}
-use Rattle.subscribe_core.specs.Steps.{after_clock, after_switch, expired_entries, is_due, registers_by, run, said_of, step_entries, step_state, switched_entries, taken, verdict_on}
+use Rattle.subscribe_core.specs.Steps.{after_clock, after_switch, expired_entries, is_over, registers_by, run_events, said_of, step_entries, step_state, switched_entries, held_after_frame, verdict_on}
 use Rattle.subscribe_core.proofs.Clearing.{not_due_stays}
 use Rattle.subscribe_core.proofs.Frames.{answer_good, registers_good}
 
@@ -25,7 +25,7 @@ use Rattle.subscribe_core.proofs.Frames.{answer_good, registers_good}
 abbrev pub alone : {B : Type 0} → Block B → Option Held → ℕ → State B
 alone block h moment = record { blocks = block ∷ []; registers = record { held = h; simulated = false } ∷ []; mode = false; moment = moment }
 
-abbrev pub comes : ℕ → GooseFrame → Reading
+abbrev pub comes : ℕ → GooseFrame → EventRead
 comes now x = record { moment = now; content = OfGoose x }
 
 pub one_apart : {B : Type 0} (block : Block B) → AreApart (block ∷ [])
@@ -59,7 +59,7 @@ module _ {B : Type 0} (block : Block B) (x : GooseFrame) where
   here good = rw good.own refl
 
   -- its entry
-  one_entry : (h : Option Held) (moment now : ℕ) → IsPlain → is_due h now ≡ false → moment ≤ now → step_entries (alone block h moment) (comes now x) ≡ entry_of 0 x (verdict_on h (facts_of_frame x)) ∷ []
+  one_entry : (h : Option Held) (moment now : ℕ) → IsPlain → is_over h now ≡ false → moment ≤ now → step_entries (alone block h moment) (comes now x) ≡ entry_of 0 x (verdict_on h (facts_of_frame x)) ∷ []
   one_entry h moment now good alive le =
       let r : Register = record { held = h; simulated = false } in
       let m : max moment now ≡ now = omega arith in
@@ -71,21 +71,21 @@ module _ {B : Type 0} (block : Block B) (x : GooseFrame) where
       ap (λ (o : Option Held). entry_of 0 x (verdict_on o (facts_of_frame x)) ∷ []) (not_due_stays h now alive))))
 
   -- and what is kept then
-  one_state : (h : Option Held) (moment now : ℕ) → IsPlain → is_due h now ≡ false → moment ≤ now → step_state (alone block h moment) (comes now x) ≡ alone block (taken (verdict_on h (facts_of_frame x)) h now (facts_of_frame x)) now
+  one_state : (h : Option Held) (moment now : ℕ) → IsPlain → is_over h now ≡ false → moment ≤ now → step_state (alone block h moment) (comes now x) ≡ alone block (held_after_frame (verdict_on h (facts_of_frame x)) h now (facts_of_frame x)) now
   one_state h moment now good alive le =
       let r : Register = record { held = h; simulated = false } in
       let m : max moment now ≡ now = omega arith in
-      let kept : registers_by now false (OfGoose x) (block ∷ []) (r ∷ []) ≡ record { held = taken (verdict_on h (facts_of_frame x)) h now (facts_of_frame x); simulated = false } ∷ [] =
+      let kept : registers_by now false (OfGoose x) (block ∷ []) (r ∷ []) ≡ record { held = held_after_frame (verdict_on h (facts_of_frame x)) h now (facts_of_frame x); simulated = false } ∷ [] =
       sym (registers_good now false (block ∷ []) (r ∷ []) x 0 block r refl (one_apart block) (here good) refl refl (clear_here good)) ∙
-      (ap (λ (s : Bool). record { held = taken (verdict_on (after_switch (s && not false) (after_clock h now)) (facts_of_frame x)) (after_switch (s && not false) (after_clock h now)) now (facts_of_frame x); simulated = false || s } ∷ []) good.real ∙
-      ap (λ (o : Option Held). record { held = taken (verdict_on o (facts_of_frame x)) o now (facts_of_frame x); simulated = false } ∷ []) (not_due_stays h now alive)) in
+      (ap (λ (s : Bool). record { held = held_after_frame (verdict_on (after_switch (s && not false) (after_clock h now)) (facts_of_frame x)) (after_switch (s && not false) (after_clock h now)) now (facts_of_frame x); simulated = false || s } ∷ []) good.real ∙
+      ap (λ (o : Option Held). record { held = held_after_frame (verdict_on o (facts_of_frame x)) o now (facts_of_frame x); simulated = false } ∷ []) (not_due_stays h now alive)) in
       ap (λ (n : ℕ). record { blocks = block ∷ []; registers = registers_by n false (OfGoose x) (block ∷ []) (r ∷ []); mode = false; moment = n }) m ∙
       ap (λ (rs : List Register). record { blocks = block ∷ []; registers = rs; mode = false; moment = now }) kept
 
-  pub one_run : (h : Option Held) (moment now : ℕ) (v : Verdict) → IsPlain → is_due h now ≡ false → moment ≤ now → verdict_on h (facts_of_frame x) ≡ v → (es : List Reading) (rest : List (List (Entry B))) → run (alone block (taken v h now (facts_of_frame x)) now) es ≡ rest → run (alone block h moment) (comes now x ∷ es) ≡ (entry_of 0 x v ∷ []) ∷ rest
+  pub one_run : (h : Option Held) (moment now : ℕ) (v : Verdict) → IsPlain → is_over h now ≡ false → moment ≤ now → verdict_on h (facts_of_frame x) ≡ v → (es : List EventRead) (rest : List (List (Entry B))) → run_events (alone block (held_after_frame v h now (facts_of_frame x)) now) es ≡ rest → run_events (alone block h moment) (comes now x ∷ es) ≡ (entry_of 0 x v ∷ []) ∷ rest
   one_run h moment now v good alive le judged es rest next =
-      ap (λ (w : List (Entry B)). w ∷ run (step_state (alone block h moment) (comes now x)) es) (one_entry h moment now good alive le ∙ ap (λ (w : Verdict). entry_of 0 x w ∷ []) judged) ∙
-      (ap (λ (z : State B). (entry_of 0 x v ∷ []) ∷ run z es) (one_state h moment now good alive le ∙ ap (λ (w : Verdict). alone block (taken w h now (facts_of_frame x)) now) judged) ∙
+      ap (λ (w : List (Entry B)). w ∷ run_events (step_state (alone block h moment) (comes now x)) es) (one_entry h moment now good alive le ∙ ap (λ (w : Verdict). entry_of 0 x w ∷ []) judged) ∙
+      (ap (λ (z : State B). (entry_of 0 x v ∷ []) ∷ run_events z es) (one_state h moment now good alive le ∙ ap (λ (w : Verdict). alone block (held_after_frame w h now (facts_of_frame x)) now) judged) ∙
       ap (λ (w : List (List (Entry B))). (entry_of 0 x v ∷ []) ∷ w) next)
 
 -- verdicts

@@ -10,16 +10,16 @@ use Rattle.frame_core.proofs.ReadingLaws.{frame_again}
 use Rattle.pdu_core.specs.declared.goose.GoosePdu.{GoosePdu}
 use Rattle.publish_core.specs.Frames.{Change, Setup, frame}
 use Rattle.publish_core.specs.Numbers.{sequence_number, state_number}
-use Rattle.publish_core.specs.Run.{Act, AreAnswers, Call, Changed, IsAnswer, Polled, changes, trace}
-use Rattle.publish_core.specs.Step.{fresh as new_publisher, run as run_publisher}
+use Rattle.publish_core.specs.Run.{Act, AreAnswers, Call, Changed, IsAnswer, Polled, changes, trace_of_calls}
+use Rattle.publish_core.specs.Step.{fresh_publisher as new_publisher, run_calls as run_publisher}
 use Rattle.publish_core.specs.Table.{step_at, step_of}
 use Rattle.publish_core.proofs.GivesOne.{carried}
 use Rattle.publish_core.proofs.Runs.{answers_are_one, runs_are_whole as publisher_runs}
 use Rattle.subscribe_core.specs.Content.{content_by, reading_of}
 use Rattle.subscribe_core.specs.Entries.{AreEntries}
-use Rattle.subscribe_core.specs.Reading.{Content, Reading}
-use Rattle.subscribe_core.specs.Standing.{fresh}
-use Rattle.subscribe_core.specs.Steps.{run}
+use Rattle.subscribe_core.specs.Reading.{Content, EventRead}
+use Rattle.subscribe_core.specs.Standing.{fresh_state}
+use Rattle.subscribe_core.specs.Steps.{run_events}
 use Rattle.subscribe_core.proofs.Runs.{runs_are_whole}
 use Rattle.exchange_laws.specs.Laws.{WholeRunsReplay}
 use Rattle.exchange_laws.specs.PublishedList.{InTime, Sent, one_entry_each, published_events, sent_from, with_frame}
@@ -50,11 +50,11 @@ sent_read {A} f s =
 list_read : {A : Type 0} (B : Type 0) (sent : List (Sent A)) → AreSpelled sent → map reading_of (published_events {B = B} sent) ≡ readings_of sent
 list_read B [] w = refl
 list_read B (s ∷ rest) w =
-    ap₂ (λ (c : Content) (rs : List Reading). record { moment = s.moment; content = c } ∷ rs) (sent_read s.frame w.0) (list_read B rest w.1)
+    ap₂ (λ (c : Content) (rs : List EventRead). record { moment = s.moment; content = c } ∷ rs) (sent_read s.frame w.0) (list_read B rest w.1)
 
 -- the frames of a run are such
 
-frame_spelled : {A : Type 0} (p : Setup A) (calls : List Call) (i : ℕ) (f : Frame A) → AreHeld p → AreAccepted p calls → IsAnswer p (trace calls) i (Some f) → IsSpelled f
+frame_spelled : {A : Type 0} (p : Setup A) (calls : List Call) (i : ℕ) (f : Frame A) → AreHeld p → AreAccepted p calls → IsAnswer p (trace_of_calls calls) i (Some f) → IsSpelled f
 frame_spelled {A} p calls i f held accepted w =
     let c : ℕ = w.0 in
     let k : ℕ = w.1 in
@@ -84,14 +84,14 @@ act_entries : (n : ℕ) (act : Act) → ((x : Change) → act ≡ Changed x → 
 act_entries n (Changed x) each = each x refl
 act_entries n Polled each = tt
 
-have_entries : (n : ℕ) (calls : List Call) → ((i : ℕ) (x : Change) → (trace calls).act i ≡ Some (Changed x) → length x.values ≡ n) → HaveEntries n calls
+have_entries : (n : ℕ) (calls : List Call) → ((i : ℕ) (x : Change) → (trace_of_calls calls).act i ≡ Some (Changed x) → length x.values ≡ n) → HaveEntries n calls
 have_entries n [] each = tt
 have_entries n (c ∷ cs) each = (act_entries n c.act (λ x e. each 0 x (ap (λ (a : Act). Some a) e)), have_entries n cs (λ i x e. each (suc i) x e))
 
 pub whole_runs_replay : {A B : Type 0} → WholeRunsReplay A B
 whole_runs_replay {A} {B} p block calls answers w few =
     subst (λ (a : List (Option (Frame A))). AreEntries (block ∷ []) (published_events {B = B} (sent_from 0 calls a)) (one_entry_each (sent_from 0 calls a))) (sym one)
-    (subst (AreEntries (block ∷ []) events) (ap (run (fresh (block ∷ []))) read ∙ runs) (runs_are_whole (block ∷ []) events))
+    (subst (AreEntries (block ∷ []) events) (ap (run_events (fresh_state (block ∷ []))) read ∙ runs) (runs_are_whole (block ∷ []) events))
   where
     by_steps : List (Option (Frame A))
     by_steps = run_publisher (new_publisher p) calls
@@ -109,9 +109,9 @@ whole_runs_replay {A} {B} p block calls answers w few =
     read = list_read B (sent_from 0 calls by_steps) (sent_spelled 0 calls by_steps (λ i f at. frame_spelled p calls i f w.held w.accepted (are_answers.1 i (Some f) at)))
 
     all : p.first + count calls ≤ 4294967296
-    all = let bound : p.first + changes (trace calls) (length calls) ≤ 4294967295 + 1 = w.no_wrap in omega (arith, bound, count_all calls)
+    all = let bound : p.first + changes (trace_of_calls calls) (length calls) ≤ 4294967295 + 1 = w.no_wrap in omega (arith, bound, count_all calls)
 
-    runs : run (fresh (block ∷ [])) (readings_of (sent_from 0 calls by_steps)) ≡ one_entry_each (sent_from 0 calls by_steps)
+    runs : run_events (fresh_state (block ∷ [])) (readings_of (sent_from 0 calls by_steps)) ≡ one_entry_each (sent_from 0 calls by_steps)
     runs =
         begin_from p block w.own w.steps calls p.first 0 0 w.some all (subst (λ (a : List (Option (Frame A))). length (sent_from 0 calls a) ≤ 4294967295) one few) (omega arith)
         (have_entries p.control.entries calls (λ i x at. (w.accepted i x at).entries))

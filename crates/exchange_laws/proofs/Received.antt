@@ -14,14 +14,14 @@ use Rattle.pdu_core.specs.declared.goose.GoosePdu.{GoosePdu}
 use Rattle.subscribe_core.specs.declared.block.Block.{Block}
 use Rattle.subscribe_core.specs.declared.entry.Reason.{Reason}
 use Rattle.subscribe_core.specs.declared.registers.Facts.{Facts}
-use Rattle.subscribe_core.specs.Matching.{facts_of_frame, is_of, reason_of, unless_refused}
-use Rattle.subscribe_core.specs.Reading.{AreRead, Content, GooseFrame, IsContent, IsRead, OfClock, OfFault, OfGoose, OfMode, OfSampled, Reading}
-use Rattle.subscribe_core.specs.Sight.{facts_at, facts_of, trace}
+use Rattle.subscribe_core.specs.Matching.{facts_of_frame, is_of, reason_of, facts_unless_refused}
+use Rattle.subscribe_core.specs.Reading.{AreRead, Content, GooseFrame, IsContent, IsRead, OfClock, OfFault, OfGoose, OfMode, OfSampled, EventRead}
+use Rattle.subscribe_core.specs.Sight.{facts_at, facts_of, trace_of_block}
 use Rattle.subscribe_core.specs.Simulation.{is_against, mode_at, takes_simulated}
 use Rattle.subscribe_core.proofs.Readings.{read_one}
 use Rattle.exchange_laws.specs.PublishedList.{Sent}
 
--- the same PDU, whatever memory it stood in
+-- the same APDU, whatever memory it stood in
 
 abbrev pub plain : {A : Type 0} → GoosePdu A → GoosePdu (Unit {0})
 plain p = record {
@@ -84,14 +84,14 @@ pub same_pdu : (x y : GooseFrame) → OfGoose x ≡ OfGoose y → x.pdu ≡ y.pd
 unfolding pdu_or
 same_pdu x y e = ap (pdu_or x.pdu) e
 
--- octets that spell a frame with this PDU are read as it
-pub pdu_read : {A B : Type 0} (e : Event B) (r : Reading) (x : GooseFrame) (o : List ℕ) (f : Frame A) (q : GoosePdu A) → IsRead e r → r.content ≡ OfGoose x → e.kind ≡ kinds.Frame o → SpellsFrame f o → f.apdu ≡ apdus.Goose q → x.pdu ≡ plain q
-pdu_read {A} {B} e r x o f q read goose kind s unit = same_pdu x y (sym goose ∙ ap (λ (z : Reading). z.content) same)
+-- octets that spell a frame with this APDU are read as it
+pub pdu_read : {A B : Type 0} (e : Event B) (r : EventRead) (x : GooseFrame) (o : List ℕ) (f : Frame A) (q : GoosePdu A) → IsRead e r → r.content ≡ OfGoose x → e.kind ≡ kinds.Frame o → SpellsFrame f o → f.apdu ≡ apdus.Goose q → x.pdu ≡ plain q
+pdu_read {A} {B} e r x o f q read goose kind s unit = same_pdu x y (sym goose ∙ ap (λ (z : EventRead). z.content) same)
   where
     y : GooseFrame
     y = record { app_id = f.app_id; pdu = plain q }
 
-    other : Reading
+    other : EventRead
     other = record { moment = e.moment; content = OfGoose y }
 
     told : IsRead e other
@@ -104,11 +104,11 @@ pdu_read {A} {B} e r x o f q read goose kind s unit = same_pdu x y (sym goose �
     same = read_one e r read ∙ sym (read_one e other told)
 
 -- a reading in its place is that of an event
-pub read_at : {A : Type 0} (events : List (Event A)) (readings : List Reading) (i : ℕ) (r : Reading) → AreRead events readings → slice_get readings i ≡ Some r → (e : Event A) × (slice_get events i ≡ Some e) × IsRead e r
+pub read_at : {A : Type 0} (events : List (Event A)) (readings : List EventRead) (i : ℕ) (r : EventRead) → AreRead events readings → slice_get readings i ≡ Some r → (e : Event A) × (slice_get events i ≡ Some e) × IsRead e r
 read_at [] [] i r are at = absurd (none-some r at)
 read_at [] (x ∷ rs) i r are at = absurd are
 read_at (e ∷ es) [] i r are at = absurd are
-read_at (e ∷ es) (x ∷ rs) zero r are at = (e, refl, subst (λ (y : Reading). IsRead e y) (same_Some x r at) are.0)
+read_at (e ∷ es) (x ∷ rs) zero r are at = (e, refl, subst (λ (y : EventRead). IsRead e y) (same_Some x r at) are.0)
 read_at (e ∷ es) (x ∷ rs) (suc i) r are at = read_at es rs i r are.1 at
 
 pub goose_octets : {A : Type 0} (k : EventKind A) (x : GooseFrame) → IsContent k (OfGoose x) → (o : List ℕ) × (k ≡ kinds.Frame o)
@@ -121,7 +121,7 @@ goose_octets (kinds.Mode on) x w = absurd w
 frame_facts : {A : Type 0} (block : Block A) (mode taken : Bool) (x : GooseFrame) (f : Facts) → facts_of block mode taken (OfGoose x) ≡ Some f → f ≡ facts_of_frame x
 frame_facts block mode taken x f e = go (is_of x block) (reason_of (is_against x mode taken) block x) e
   where
-    go : (o : Bool) (r : Option Reason) → (if o then unless_refused r (facts_of_frame x) else None) ≡ Some f → f ≡ facts_of_frame x
+    go : (o : Bool) (r : Option Reason) → (if o then facts_unless_refused r (facts_of_frame x) else None) ≡ Some f → f ≡ facts_of_frame x
     go true None is = sym (same_Some (facts_of_frame x) f is)
     go true (Some r) is = absurd (none-some f is)
     go false r is = absurd (none-some f is)
@@ -133,14 +133,14 @@ content_good block mode taken (OfFault fault) f e = absurd (none-some f e)
 content_good block mode taken OfClock f e = absurd (none-some f e)
 content_good block mode taken (OfMode on) f e = absurd (none-some f e)
 
-reading_good : {A : Type 0} (block : Block A) (mode taken : Bool) (o : Option Reading) (f : Facts) → facts_at block mode taken o ≡ Some f → (r : Reading) × (x : GooseFrame) × (o ≡ Some r) × (r.content ≡ OfGoose x)
+reading_good : {A : Type 0} (block : Block A) (mode taken : Bool) (o : Option EventRead) (f : Facts) → facts_at block mode taken o ≡ Some f → (r : EventRead) × (x : GooseFrame) × (o ≡ Some r) × (r.content ≡ OfGoose x)
 reading_good block mode taken None f e = absurd (none-some f e)
 reading_good block mode taken (Some r) f e = let w = content_good block mode taken r.content f e in (r, w.0, refl, w.1)
 
-pub good_goose : {A : Type 0} (block : Block A) (readings : List Reading) (i : ℕ) (f : Facts) → (trace block readings).good i ≡ Some f → (r : Reading) × (x : GooseFrame) × (slice_get readings i ≡ Some r) × (r.content ≡ OfGoose x)
+pub good_goose : {A : Type 0} (block : Block A) (readings : List EventRead) (i : ℕ) (f : Facts) → (trace_of_block block readings).good i ≡ Some f → (r : EventRead) × (x : GooseFrame) × (slice_get readings i ≡ Some r) × (r.content ≡ OfGoose x)
 good_goose block readings i f e = reading_good block (mode_at readings i) (takes_simulated block readings i) (slice_get readings i) f e
 
-pub good_facts : {A : Type 0} (block : Block A) (readings : List Reading) (i : ℕ) (f : Facts) (r : Reading) (x : GooseFrame) → (trace block readings).good i ≡ Some f → slice_get readings i ≡ Some r → r.content ≡ OfGoose x → f ≡ facts_of_frame x
+pub good_facts : {A : Type 0} (block : Block A) (readings : List EventRead) (i : ℕ) (f : Facts) (r : EventRead) (x : GooseFrame) → (trace_of_block block readings).good i ≡ Some f → slice_get readings i ≡ Some r → r.content ≡ OfGoose x → f ≡ facts_of_frame x
 good_facts block readings i f r x e at goose =
     frame_facts block (mode_at readings i) (takes_simulated block readings i) x f
     (ap (facts_of block (mode_at readings i) (takes_simulated block readings i)) (sym goose) ∙
@@ -152,6 +152,6 @@ abbrev pub received : {A : Type 0} → ℕ → Apdu A → Content
 received app_id (apdus.Goose q) = OfGoose (record { app_id = app_id; pdu = plain q })
 received app_id (apdus.Sampled q) = OfSampled
 
-abbrev pub readings_of : {A : Type 0} → List (Sent A) → List Reading
+abbrev pub readings_of : {A : Type 0} → List (Sent A) → List EventRead
 readings_of [] = []
 readings_of (s ∷ rest) = record { moment = s.moment; content = received s.frame.app_id s.frame.apdu } ∷ readings_of rest

@@ -5,17 +5,17 @@ use Rattle.std.proofs.lemmas.Bool.{eq-eqb, lt-leb, ne_eqb}
 use Rattle.std.proofs.lemmas.Slice.Eq.{bytes_eq-Decides}
 use Rattle.publish_core.specs.declared.publisher.Last.{Last}
 use Rattle.publish_core.specs.Frames.{Change, Setup}
-use Rattle.publish_core.specs.Numbers.{number_after}
+use Rattle.publish_core.specs.Numbers.{number_behind}
 use Rattle.publish_core.specs.Run.{Act, Call, Changed, Polled, call, change_in}
-use Rattle.publish_core.specs.Standing.{Standing, change_of}
-use Rattle.publish_core.specs.Step.{first_last, is_due as is_poll_due, last_frame, next_last, run as run_publisher}
+use Rattle.publish_core.specs.Standing.{PublisherStanding, change_of}
+use Rattle.publish_core.specs.Step.{first_last, is_due as is_poll_due, last_frame, next_last, run_calls as run_publisher}
 use Rattle.publish_core.specs.Table.{AreSteps, step_at}
 use Rattle.subscribe_core.specs.declared.block.Block.{Block}
 use Rattle.subscribe_core.specs.declared.registers.Held.{Held}
 use Rattle.subscribe_core.specs.declared.registers.Verdict.TheVariants.{Acted, Renewed}
 use Rattle.subscribe_core.specs.Matching.{facts_of_frame, has_other_id, holds, reasons}
 use Rattle.subscribe_core.specs.Reading.{GooseFrame}
-use Rattle.subscribe_core.specs.Steps.{run}
+use Rattle.subscribe_core.specs.Steps.{run_events}
 use Rattle.subscribe_core.proofs.BlockNames.{key_is_of}
 use Rattle.exchange_laws.specs.PublishedList.{InTime, InTimeFrom, IsOwnBlock, Sent, one_entry_each, sent_from, with_frame}
 use Rattle.exchange_laws.proofs.Changes.{count}
@@ -51,11 +51,11 @@ no_other_id awaited id (inr same) = ap (λ (o : Option (List ℕ)). has_other_id
     itself None = refl
     itself (Some t) = same_text t t refl
 
-after_plain : (n : ℕ) → n < 4294967295 → number_after n ≡ n + 1
+after_plain : (n : ℕ) → n < 4294967295 → number_behind n ≡ n + 1
 after_plain n lt = ap (λ (b : Bool). if b then 1 else n + 1) (ne_eqb n 4294967295 (λ e. omega arith))
 
 module _ {A B : Type 0} (p : Setup A) (block : Block B) (own : IsOwnBlock p block) (steps : AreSteps p.table) where
-  abbrev standing : ℕ → ℕ → Option (Last A) → Standing A
+  abbrev standing : ℕ → ℕ → Option (Last A) → PublisherStanding A
   standing next m last = record { control = p.control; table = p.table; next = next; moment = m; last = last }
 
   abbrev live_at : Last A → ℕ
@@ -105,7 +105,7 @@ module _ {A B : Type 0} (p : Setup A) (block : Block B) (own : IsOwnBlock p bloc
 
   -- what is kept, with the changes and the frames that are still to come
   record Keeps (changes frames next m : ℕ) (l : Last A) : Type 0 where
-    next_is : next ≡ number_after l.state
+    next_is : next ≡ number_behind l.state
     states : l.state + changes ≤ 4294967295
     sequences : l.sequence + frames ≤ 4294967295
     some : 0 < l.state
@@ -117,34 +117,34 @@ module _ {A B : Type 0} (p : Setup A) (block : Block B) (own : IsOwnBlock p bloc
   Replays cs =
       (next m : ℕ) (l : Last A) → Keeps (count cs) (length (sent_by next m (Some l) cs)) next m l → HaveEntries p.control.entries cs →
       InTimeFrom (l.given + 1000 * live_at l) (sent_by next m (Some l) cs) →
-      run (alone block (Some (held_of l)) l.given) (readings_of (sent_by next m (Some l) cs)) ≡ one_entry_each (sent_by next m (Some l) cs)
+      run_events (alone block (Some (held_of l)) l.given) (readings_of (sent_by next m (Some l) cs)) ≡ one_entry_each (sent_by next m (Some l) cs)
 
-  replay_change : (cs : List Call) → Replays cs → (handed_in : Change) (now next m : ℕ) (l : Last A) → Keeps (1 + count cs) (length (sent_by next m (Some l) (call now (Changed handed_in) ∷ cs))) next m l → length handed_in.values ≡ p.control.entries → HaveEntries p.control.entries cs → InTimeFrom (l.given + 1000 * live_at l) (sent_by next m (Some l) (call now (Changed handed_in) ∷ cs)) → run (alone block (Some (held_of l)) l.given) (readings_of (sent_by next m (Some l) (call now (Changed handed_in) ∷ cs))) ≡ one_entry_each (sent_by next m (Some l) (call now (Changed handed_in) ∷ cs))
+  replay_change : (cs : List Call) → Replays cs → (handed_in : Change) (now next m : ℕ) (l : Last A) → Keeps (1 + count cs) (length (sent_by next m (Some l) (call now (Changed handed_in) ∷ cs))) next m l → length handed_in.values ≡ p.control.entries → HaveEntries p.control.entries cs → InTimeFrom (l.given + 1000 * live_at l) (sent_by next m (Some l) (call now (Changed handed_in) ∷ cs)) → run_events (alone block (Some (held_of l)) l.given) (readings_of (sent_by next m (Some l) (call now (Changed handed_in) ∷ cs))) ≡ one_entry_each (sent_by next m (Some l) (call now (Changed handed_in) ∷ cs))
   replay_change cs rest handed_in now next m l k entries more time =
       let states : l.state + (1 + count cs) ≤ 4294967295 = k.states in
       let up : next ≡ l.state + 1 = k.next_is ∙ after_plain l.state (omega arith) in
       let given : l.given ≤ m = k.given in
       let first : 0 < length p.table = steps.some in
       let last : Last A = first_last next handed_in (max m now) in
-      let sequences : l.sequence + suc (length (sent_by (number_after next) (max m now) (Some last) cs)) ≤ 4294967295 = k.sequences in
+      let sequences : l.sequence + suc (length (sent_by (number_behind next) (max m now) (Some last) cs)) ≤ 4294967295 = k.sequences in
       let above : l.state < next = omega arith in
       let some : 0 < next = omega arith in
       one_run block (read_of last) (Some (held_of l)) l.given (max m now) Acted (is_plain last some first entries)
       (lt-leb _ _ time.0) (omega arith) (verdict_above (held_of l) (facts_of_frame (read_of last)) above) _ _
-      (rest (number_after next) (max m now) last
+      (rest (number_behind next) (max m now) last
       (record { next_is = refl; states = omega arith; sequences = omega arith; some = some; given = omega arith; step = first; entries = entries })
       more time.1)
 
-  replay_due : (cs : List Call) → Replays cs → (now next m : ℕ) (l : Last A) (due : Bool) → Keeps (count cs) (length (with_frame (max m now) Polled (if due then Some (last_frame p.control p.table (next_last p.table l (max m now))) else None) (sent_by next (max m now) (if due then Some (next_last p.table l (max m now)) else Some l) cs))) next m l → HaveEntries p.control.entries cs → InTimeFrom (l.given + 1000 * live_at l) (with_frame (max m now) Polled (if due then Some (last_frame p.control p.table (next_last p.table l (max m now))) else None) (sent_by next (max m now) (if due then Some (next_last p.table l (max m now)) else Some l) cs)) → run (alone block (Some (held_of l)) l.given) (readings_of (with_frame (max m now) Polled (if due then Some (last_frame p.control p.table (next_last p.table l (max m now))) else None) (sent_by next (max m now) (if due then Some (next_last p.table l (max m now)) else Some l) cs))) ≡ one_entry_each (with_frame (max m now) Polled (if due then Some (last_frame p.control p.table (next_last p.table l (max m now))) else None) (sent_by next (max m now) (if due then Some (next_last p.table l (max m now)) else Some l) cs))
+  replay_due : (cs : List Call) → Replays cs → (now next m : ℕ) (l : Last A) (due : Bool) → Keeps (count cs) (length (with_frame (max m now) Polled (if due then Some (last_frame p.control p.table (next_last p.table l (max m now))) else None) (sent_by next (max m now) (if due then Some (next_last p.table l (max m now)) else Some l) cs))) next m l → HaveEntries p.control.entries cs → InTimeFrom (l.given + 1000 * live_at l) (with_frame (max m now) Polled (if due then Some (last_frame p.control p.table (next_last p.table l (max m now))) else None) (sent_by next (max m now) (if due then Some (next_last p.table l (max m now)) else Some l) cs)) → run_events (alone block (Some (held_of l)) l.given) (readings_of (with_frame (max m now) Polled (if due then Some (last_frame p.control p.table (next_last p.table l (max m now))) else None) (sent_by next (max m now) (if due then Some (next_last p.table l (max m now)) else Some l) cs))) ≡ one_entry_each (with_frame (max m now) Polled (if due then Some (last_frame p.control p.table (next_last p.table l (max m now))) else None) (sent_by next (max m now) (if due then Some (next_last p.table l (max m now)) else Some l) cs))
   replay_due cs rest now next m l true k more time =
       let states : l.state + count cs ≤ 4294967295 = k.states in
       let last : Last A = next_last p.table l (max m now) in
       let sequences : l.sequence + suc (length (sent_by next (max m now) (Some last) cs)) ≤ 4294967295 = k.sequences in
-      let up : number_after l.sequence ≡ l.sequence + 1 = after_plain l.sequence (omega arith) in
+      let up : number_behind l.sequence ≡ l.sequence + 1 = after_plain l.sequence (omega arith) in
       let given : l.given ≤ m = k.given in
       let first : 0 < length p.table = steps.some in
       let below : min (l.step + 1) (length p.table - 1) < length p.table = omega arith in
-      let above : l.sequence < number_after l.sequence = omega arith in
+      let above : l.sequence < number_behind l.sequence = omega arith in
       one_run block (read_of last) (Some (held_of l)) l.given (max m now) Renewed (is_plain last k.some below k.entries)
       (lt-leb _ _ time.0) (omega arith) (verdict_next (held_of l) (facts_of_frame (read_of last)) refl above) _ _
       (rest next (max m now) last
@@ -156,7 +156,7 @@ module _ {A B : Type 0} (p : Setup A) (block : Block B) (own : IsOwnBlock p bloc
       (record { next_is = k.next_is; states = k.states; sequences = k.sequences; some = k.some; given = omega arith; step = k.step; entries = k.entries })
       more time
 
-  replay_call : (cs : List Call) → Replays cs → (act : Act) (now next m : ℕ) (l : Last A) → Keeps (change_in (Some act) + count cs) (length (sent_by next m (Some l) (call now act ∷ cs))) next m l → HasEntries p.control.entries act → HaveEntries p.control.entries cs → InTimeFrom (l.given + 1000 * live_at l) (sent_by next m (Some l) (call now act ∷ cs)) → run (alone block (Some (held_of l)) l.given) (readings_of (sent_by next m (Some l) (call now act ∷ cs))) ≡ one_entry_each (sent_by next m (Some l) (call now act ∷ cs))
+  replay_call : (cs : List Call) → Replays cs → (act : Act) (now next m : ℕ) (l : Last A) → Keeps (change_in (Some act) + count cs) (length (sent_by next m (Some l) (call now act ∷ cs))) next m l → HasEntries p.control.entries act → HaveEntries p.control.entries cs → InTimeFrom (l.given + 1000 * live_at l) (sent_by next m (Some l) (call now act ∷ cs)) → run_events (alone block (Some (held_of l)) l.given) (readings_of (sent_by next m (Some l) (call now act ∷ cs))) ≡ one_entry_each (sent_by next m (Some l) (call now act ∷ cs))
   replay_call cs rest (Changed handed_in) now next m l k entries more time = replay_change cs rest handed_in now next m l k entries more time
   replay_call cs rest Polled now next m l k entries more time =
       let states : l.state + (0 + count cs) ≤ 4294967295 = k.states in
@@ -173,9 +173,9 @@ module _ {A B : Type 0} (p : Setup A) (block : Block B) (own : IsOwnBlock p bloc
   abbrev Begins : List Call → Type 0
   Begins cs =
       (next m u : ℕ) → 0 < next → next + count cs ≤ 4294967296 → length (sent_by next m None cs) ≤ 4294967295 → u ≤ m → HaveEntries p.control.entries cs →
-      InTime (sent_by next m None cs) → run (alone block None u) (readings_of (sent_by next m None cs)) ≡ one_entry_each (sent_by next m None cs)
+      InTime (sent_by next m None cs) → run_events (alone block None u) (readings_of (sent_by next m None cs)) ≡ one_entry_each (sent_by next m None cs)
 
-  begin_call : (cs : List Call) → Begins cs → (act : Act) (now next m u : ℕ) → 0 < next → next + (change_in (Some act) + count cs) ≤ 4294967296 → length (sent_by next m None (call now act ∷ cs)) ≤ 4294967295 → u ≤ m → HasEntries p.control.entries act → HaveEntries p.control.entries cs → InTime (sent_by next m None (call now act ∷ cs)) → run (alone block None u) (readings_of (sent_by next m None (call now act ∷ cs))) ≡ one_entry_each (sent_by next m None (call now act ∷ cs))
+  begin_call : (cs : List Call) → Begins cs → (act : Act) (now next m u : ℕ) → 0 < next → next + (change_in (Some act) + count cs) ≤ 4294967296 → length (sent_by next m None (call now act ∷ cs)) ≤ 4294967295 → u ≤ m → HasEntries p.control.entries act → HaveEntries p.control.entries cs → InTime (sent_by next m None (call now act ∷ cs)) → run_events (alone block None u) (readings_of (sent_by next m None (call now act ∷ cs))) ≡ one_entry_each (sent_by next m None (call now act ∷ cs))
   begin_call cs rest Polled now next m u some states short given entries more time =
       let all : next + (0 + count cs) ≤ 4294967296 = states in
       rest next (max m now) u some (omega arith) short (omega arith) more time
@@ -183,10 +183,10 @@ module _ {A B : Type 0} (p : Setup A) (block : Block B) (own : IsOwnBlock p bloc
       let all : next + (1 + count cs) ≤ 4294967296 = states in
       let first : 0 < length p.table = steps.some in
       let last : Last A = first_last next handed_in (max m now) in
-      let frames : suc (length (sent_by (number_after next) (max m now) (Some last) cs)) ≤ 4294967295 = short in
+      let frames : suc (length (sent_by (number_behind next) (max m now) (Some last) cs)) ≤ 4294967295 = short in
       one_run block (read_of last) None u (max m now) Acted (is_plain last some first entries)
       refl (omega arith) refl _ _
-      (replay_from cs (number_after next) (max m now) last
+      (replay_from cs (number_behind next) (max m now) last
       (record { next_is = refl; states = omega arith; sequences = omega arith; some = some; given = omega arith; step = first; entries = entries })
       more time)
 

@@ -12,13 +12,13 @@ use Rattle.mms_data.specs.declared.time.UtcTime.{UtcTime}
 use Rattle.publish_core.specs.declared.control.Control.{Control}
 use Rattle.publish_core.specs.declared.table.Step.{Step}
 use Rattle.publish_core.specs.Frames.{Change, Setup, change, frame, setup}
-use Rattle.publish_core.specs.Run.{Call, Changed, First, Gives, Next, Polled, call, trace}
+use Rattle.publish_core.specs.Run.{Call, Changed, First, GivesFrame, Next, Polled, call, trace_of_calls}
 use Rattle.subscribe_core.specs.declared.block.Block.{Block}
 use Rattle.subscribe_core.specs.declared.entry.Entry.TheVariants as says
 use Rattle.subscribe_core.specs.Content.{content_by, reading_of}
 use Rattle.subscribe_core.specs.Reading.{Content}
-use Rattle.subscribe_core.specs.Standing.{fresh}
-use Rattle.subscribe_core.specs.Steps.{run}
+use Rattle.subscribe_core.specs.Standing.{fresh_state}
+use Rattle.subscribe_core.specs.Steps.{run_events}
 use Rattle.exchange_laws.specs.Stems.{IsOfRun, IsPublishedUnder, StemsFromRun}
 
 abbrev at_zero : UtcTime
@@ -70,10 +70,10 @@ again = frame control steps 5 (to true) 1
 abbrev new : Frame (Unit {0})
 new = frame control steps 6 (to false) 0
 
-gives_again : Gives steps (trace calls) 1 0 1 (to true)
+gives_again : GivesFrame steps (trace_of_calls calls) 1 0 1 (to true)
 gives_again = Next (First (record { act = refl; before = refl })) (record { later = le_refl 1; poll = refl; due = le_refl 10000; between = λ h more less. absurd (omega arith) })
 
-gives_new : Gives steps (trace calls) 2 1 0 (to false)
+gives_new : GivesFrame steps (trace_of_calls calls) 2 1 0 (to false)
 gives_new = First (record { act = refl; before = refl })
 
 -- Octets that spell these two frames are received so: state 5 without its first frame, its retransmission twice, state 6,
@@ -129,6 +129,6 @@ module _ (again_octets new_octets : List ℕ) (again_spelled : SpellsFrame again
       ap₂ (λ (x y : Content). record { moment = 10500; content = x } ∷ record { moment = 10600; content = x } ∷ record { moment = 20500; content = y } ∷ record { moment = 20600; content = x } ∷ [])
       (ap content_by (frame_again again_octets again again_spelled)) (ap content_by (frame_again new_octets new new_spelled))
 
-  entries_are : run (fresh (block ∷ [])) (map reading_of events)
+  entries_are : run_events (fresh_state (block ∷ [])) (map reading_of events)
       ≡ (says.Act 0 5 1 at_zero (simple (boolean true) ∷ []) ∷ []) ∷ (says.Repeated 0 5 1 ∷ []) ∷ (says.Act 0 6 0 at_zero (simple (boolean false) ∷ []) ∷ []) ∷ (says.Older 0 5 1 ∷ []) ∷ []
-  entries_are = ap (run (fresh (block ∷ []))) readings_are
+  entries_are = ap (run_events (fresh_state (block ∷ []))) readings_are

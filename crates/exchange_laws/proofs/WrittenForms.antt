@@ -7,7 +7,7 @@ use Rattle.frame_core.proofs.PutLaws.{frame_spelled}
 use Rattle.publish_core.specs.Frames.{Change, Setup, frame, simulation_word}
 use Rattle.publish_core.specs.Numbers.{state_number}
 use Rattle.publish_core.specs.Refusal.{IsAccepted}
-use Rattle.publish_core.specs.Run.{Call, Changed, IsChange, change_in, changes, trace}
+use Rattle.publish_core.specs.Run.{Call, Changed, IsChange, change_in, changes, trace_of_calls}
 use Rattle.publish_core.specs.Table.{step_of}
 use Rattle.publish_core.proofs.GivesOne.{carried}
 use Rattle.publish_core.proofs.NumberLaws.{sequence_number_most}
@@ -16,7 +16,7 @@ use Rattle.exchange_laws.specs.Stems.{AreAccepted, AreHeld}
 use Rattle.exchange_laws.proofs.Changes.{act_below, changes_cons}
 
 -- the changes before call j
-taken_count : (calls : List Call) (j : ℕ) → j ≤ length calls → changes (trace (take j calls)) (length (take j calls)) ≡ changes (trace calls) j
+taken_count : (calls : List Call) (j : ℕ) → j ≤ length calls → changes (trace_of_calls (take j calls)) (length (take j calls)) ≡ changes (trace_of_calls calls) j
 taken_count calls zero le = refl
 taken_count [] (suc j) le = absurd (omega arith)
 taken_count (c ∷ cs) (suc j) le =
@@ -24,7 +24,7 @@ taken_count (c ∷ cs) (suc j) le =
     (ap (λ (n : ℕ). change_in (Some c.act) + n) (taken_count cs j (omega arith)) ∙ sym (changes_cons c cs j))
 
 -- change c is accepted for the status number of state c
-pub change_accepted : {A : Type 0} (p : Setup A) (calls : List Call) (j c : ℕ) (change : Change) → AreAccepted p calls → IsChange (trace calls) j c change → IsAccepted p.control p.table (state_number p.first c) change
+pub change_accepted : {A : Type 0} (p : Setup A) (calls : List Call) (j c : ℕ) (change : Change) → AreAccepted p calls → IsChange (trace_of_calls calls) j c change → IsAccepted p.control p.table (state_number p.first c) change
 change_accepted p calls j c change accepted x =
     let below : j < length calls = act_below calls j (Changed change) x.act in
     subst (λ (n : ℕ). IsAccepted p.control p.table (state_number p.first n) change) (taken_count calls j (omega arith) ∙ x.before) (accepted j change x.act)

@@ -14,11 +14,11 @@ use Rattle.subscribe_core.specs.declared.registers.Facts.{Facts}
 use Rattle.subscribe_core.specs.Entries.{AreEntries, AreEntriesAt}
 use Rattle.subscribe_core.specs.Epoch.{IsLastStart}
 use Rattle.subscribe_core.specs.Laws.{IsIn}
-use Rattle.subscribe_core.specs.Reading.{AreRead, Reading}
-use Rattle.subscribe_core.specs.Sight.{trace}
+use Rattle.subscribe_core.specs.Reading.{AreRead, EventRead}
+use Rattle.subscribe_core.specs.Sight.{trace_of_block}
 use Rattle.subscribe_core.specs.Standing.{AreApart}
 use Rattle.exchange_laws.specs.PublishedList.{IsWholeRun, one_entry_each, published_events, sent_from}
-use Rattle.exchange_laws.specs.Stems.{AreAccepted, AreHeld, ComesInTime, IsOfRun, IsPublishedUnder, StemsFromRun}
+use Rattle.exchange_laws.specs.Stems.{AreAccepted, AreHeld, ChangeComesInTime, IsOfRun, IsPublishedUnder, StemsFromRun}
 
 -- one thing is published under a status number
 abbrev pub PublishedIsOne : Type 0 → Type 0
@@ -29,16 +29,16 @@ PublishedIsOne A =
 -- the moment of change and the members that were published under its status number.
 abbrev pub ActionsCarryWhatWasPublished : Type 0 → Type 0 → Type 0
 ActionsCarryWhatWasPublished A B =
-    (blocks : List (Block B)) (events : List (Event B)) (readings : List Reading) (b : ℕ) (block : Block B) (s : ℕ) (p : Setup A) (calls : List Call) →
+    (blocks : List (Block B)) (events : List (Event B)) (readings : List EventRead) (b : ℕ) (block : Block B) (s : ℕ) (p : Setup A) (calls : List Call) →
     AreApart blocks → slice_get blocks b ≡ Some block → AreRead events readings → StemsFromRun block events readings s p calls →
     (i : ℕ) (entries : List (Entry B)) (number sequence : ℕ) (t : UtcTime) (members : List Data) →
-    IsLastStart (trace block readings) i s → AreEntriesAt blocks events i entries →
+    IsLastStart (trace_of_block block readings) i s → AreEntriesAt blocks events i entries →
     Contains entries (says.Act b number sequence t members) →
     IsPublishedUnder p calls number (change t members)
 
 -- at event i, in the epoch of s, the block at b acts on change c: an action of it has the status number first + c
-pub record ActsOnChange {B : Type 0} (blocks : List (Block B)) (events : List (Event B)) (readings : List Reading) (b : ℕ) (block : Block B) (s first c i : ℕ) : Type 0 where
-  pub epoch : IsLastStart (trace block readings) i s
+pub record ActsOnChange {B : Type 0} (blocks : List (Block B)) (events : List (Event B)) (readings : List EventRead) (b : ℕ) (block : Block B) (s first c i : ℕ) : Type 0 where
+  pub epoch : IsLastStart (trace_of_block block readings) i s
   pub entries : List (Entry B)
   pub are_entries : AreEntriesAt blocks events i entries
   pub sequence : ℕ
@@ -50,9 +50,9 @@ pub record ActsOnChange {B : Type 0} (blocks : List (Block B)) (events : List (E
 -- acted on in their order, so each of them once.
 abbrev pub ChangesActedOn : Type 0 → Type 0 → Type 0
 ChangesActedOn A B =
-    (blocks : List (Block B)) (events : List (Event B)) (readings : List Reading) (b : ℕ) (block : Block B) (s : ℕ) (p : Setup A) (calls : List Call) →
+    (blocks : List (Block B)) (events : List (Event B)) (readings : List EventRead) (b : ℕ) (block : Block B) (s : ℕ) (p : Setup A) (calls : List Call) →
     AreApart blocks → slice_get blocks b ≡ Some block → AreRead events readings → StemsFromRun block events readings s p calls →
-    ((c : ℕ) → ((i : ℕ) × ActsOnChange blocks events readings b block s p.first c i) ↔ ComesInTime (trace block readings) s p.first c) ×
+    ((c : ℕ) → ((i : ℕ) × ActsOnChange blocks events readings b block s p.first c i) ↔ ChangeComesInTime (trace_of_block block readings) s p.first c) ×
     ((c d i j : ℕ) → ActsOnChange blocks events readings b block s p.first c i → ActsOnChange blocks events readings b block s p.first d j → i < j → c < d)
 
 -- the octets that a publisher gives, whose changes were accepted, are of its run
@@ -64,9 +64,9 @@ WhatIsPublishedIsOfTheRun A =
 -- was lost, repeated or reordered.
 abbrev pub EpochsOfWhatIsPublishedStem : Type 0 → Type 0 → Type 0
 EpochsOfWhatIsPublishedStem A B =
-    (block : Block B) (events : List (Event B)) (readings : List Reading) (s : ℕ) (p : Setup A) (calls : List Call) →
+    (block : Block B) (events : List (Event B)) (readings : List EventRead) (s : ℕ) (p : Setup A) (calls : List Call) →
     1 ≤ p.first → NoWrap p calls → AreHeld p → AreAccepted p calls →
-    ((i : ℕ) (f : Facts) (e : Event B) (octets : List ℕ) → IsIn (trace block readings) s i f → slice_get events i ≡ Some e →
+    ((i : ℕ) (f : Facts) (e : Event B) (octets : List ℕ) → IsIn (trace_of_block block readings) s i f → slice_get events i ≡ Some e →
     e.kind ≡ kinds.Frame octets → (j : ℕ) × PublishesOctets p calls j octets) →
     StemsFromRun block events readings s p calls
 

@@ -8,14 +8,14 @@ use Rattle.frame_core.specs.declared.frame.Frame.{Frame}
 use Rattle.frame_core.specs.Written.{TagIsHeld}
 use Rattle.publish_core.specs.Frames.{Change, Setup}
 use Rattle.publish_core.specs.Refusal.{Accepts}
-use Rattle.publish_core.specs.Run.{Call, Changed, IsChange, NoWrap, Publishes, trace as published_trace}
+use Rattle.publish_core.specs.Run.{Call, Changed, IsChange, NoWrap, Publishes, trace_of_calls as published_trace}
 use Rattle.publish_core.specs.Table.{step_at}
 use Rattle.subscribe_core.specs.declared.block.Block.{Block}
 use Rattle.subscribe_core.specs.declared.registers.Facts.{Facts}
 use Rattle.subscribe_core.specs.Epoch.{Trace}
 use Rattle.subscribe_core.specs.Laws.{IsIn}
-use Rattle.subscribe_core.specs.Reading.{Reading}
-use Rattle.subscribe_core.specs.Sight.{trace}
+use Rattle.subscribe_core.specs.Reading.{EventRead}
+use Rattle.subscribe_core.specs.Sight.{trace_of_block}
 
 -- the octets spell a frame that has the APDU of a frame which some call of the run publishes; its envelope may be another
 pub record IsOfRun {A : Type 0} (p : Setup A) (calls : List Call) (octets : List ℕ) : Type 0 where
@@ -28,10 +28,10 @@ pub record IsOfRun {A : Type 0} (p : Setup A) (calls : List Call) (octets : List
 
 -- Every good frame of the block in the epoch that starts at s stems from the run of one publisher, whose status numbers
 -- begin at 1 or above and don't wrap. The events are read as these readings.
-pub record StemsFromRun {A B : Type 0} (block : Block B) (events : List (Event B)) (readings : List Reading) (s : ℕ) (p : Setup A) (calls : List Call) : Type 0 where
+pub record StemsFromRun {A B : Type 0} (block : Block B) (events : List (Event B)) (readings : List EventRead) (s : ℕ) (p : Setup A) (calls : List Call) : Type 0 where
   pub some : 1 ≤ p.first
   pub no_wrap : NoWrap p calls
-  pub each : (i : ℕ) (f : Facts) (e : Event B) (octets : List ℕ) → IsIn (trace block readings) s i f → slice_get events i ≡ Some e → e.kind ≡ kinds.Frame octets → IsOfRun p calls octets
+  pub each : (i : ℕ) (f : Facts) (e : Event B) (octets : List ℕ) → IsIn (trace_of_block block readings) s i f → slice_get events i ≡ Some e → e.kind ≡ kinds.Frame octets → IsOfRun p calls octets
 
 -- what is published under a status number: what change c hands in, counted from 0, where the number is the first one plus c
 pub record IsPublishedUnder {A : Type 0} (p : Setup A) (calls : List Call) (number : ℕ) (handed_in : Change) : Type 0 where
@@ -47,8 +47,8 @@ pub record ComesAt (t : Trace) (s first c i : ℕ) : Type 0 where
   pub numbered : facts.state ≡ first + c
 
 -- in the epoch of s a good frame of change c comes before any of a later change
-abbrev pub ComesInTime : Trace → ℕ → ℕ → ℕ → Type 0
-ComesInTime t s first c = (i : ℕ) × ComesAt t s first c i × ((j d : ℕ) → ComesAt t s first d j → j < i → d ≤ c)
+abbrev pub ChangeComesInTime : Trace → ℕ → ℕ → ℕ → Type 0
+ChangeComesInTime t s first c = (i : ℕ) × ComesAt t s first c i × ((j d : ℕ) → ComesAt t s first d j → j < i → d ≤ c)
 
 -- each change of the run is accepted behind the calls before it
 abbrev pub AreAccepted : {A : Type 0} → Setup A → List Call → Type 0

@@ -5,10 +5,10 @@ use Rattle.std.specs.Io.KnownBytes.{Consumes}
 use Rattle.frame_core.specs.declared.device.InputEnd.{InputEnd}
 use Rattle.frame_core.specs.declared.list_fault.ListFault.{ListFault}
 use Rattle.frame_core.specs.declared.line_rules.ItemFault.TheVariants as fault
-use Rattle.frame_core.specs.Device.{Gives, OnlyOpen}
+use Rattle.frame_core.specs.Device.{GivesOctets, OnlyOpen}
 use Rattle.frame_core.specs.Lines.{Reading, reading, put_line, fault_at, finished, faulty, CanFollow, Stop, StartsLine}
-use Rattle.frame_core.specs.FirstLine.{ReadsAs}
-use Rattle.frame_core.specs.Items.{Rules, Listing, put_item, put_items, stops, close, missing, put_said, items_of, items_in, listing}
+use Rattle.frame_core.specs.FirstLine.{TextReadsAs}
+use Rattle.frame_core.specs.Items.{Rules, Listing, put_item, put_items, stops, close, missing, put_said, items_said, items_in, listing}
 use Rattle.frame_core.specs.ItemReader.{Place, Answer, TakesItems, Tells, CountsTo, GivesFor, lines_before, TakesOff, OnlyKept, AnswersItem, SkipsLines}
 use Rattle.frame_core.proofs.Devices.{Consumes-append, Gives-append, Consumes-none, Gives-from_Consumes}
 use Rattle.frame_core.specs.Reader.{OnlyWanting}
@@ -32,7 +32,7 @@ counts_after (Ok None) a b c h n = omega arith
 counts_after (Err (Some f)) a b c h n = (omega (arith, n.0), n.1)
 counts_after (Err None) a b c h n = omega arith
 
-pub gives_of : {X C : Type 0} (answer : Answer X C) (a b : Option (List ℕ)) (xs : List ℕ) → GivesFor answer a b xs → Gives a b xs
+pub gives_of : {X C : Type 0} (answer : Answer X C) (a b : Option (List ℕ)) (xs : List ℕ) → GivesFor answer a b xs → GivesOctets a b xs
 gives_of (Ok o) a b xs p = Gives-from_Consumes a b xs p
 gives_of (Err (Some f)) a b xs p = p
 gives_of (Err None) a b xs p = Gives-from_Consumes a b xs p
@@ -41,11 +41,11 @@ put_items-put_item : {X C : Type 0} (es : List (ℕ × X)) (e : ℕ × X) (l : L
 put_items-put_item es e l = ap (λ k. record { items = k; stop = l.stop }) (sym (append_assoc es (e ∷ []) l.items))
 
 pub items_in-end : {S X C : Type 0} (r : Rules S X C) (s : S) (n : ℕ) (stop : Stop ListFault) → items_in r s n (record { lines = []; stop = stop }) ≡ stops (close r s n stop)
-unfolding items_of
+unfolding items_said
 items_in-end r s n stop = refl
 
 pub items_in-line : {S X C : Type 0} (r : Rules S X C) (s : S) (n : ℕ) (line : List ℕ) (l : Reading) → items_in r s n (put_line line l) ≡ put_said n (r.said s line) (λ t. items_in r t (n + 1) l)
-unfolding items_of
+unfolding items_said
 items_in-line r s n line l = refl
 
 module _ {S X C : Type 0} (r : Rules S X C) where
@@ -92,17 +92,17 @@ module _ {S X C : Type 0} (r : Rules S X C) where
   }
 
   -- the end of the input, with what it misses
-  pub listing-end : (s : S) (ending : InputEnd) (n : ℕ) (held : List ℕ) (lacks : Option C) → r.lacks s ≡ lacks → ReadsAs ending n held (λ _ _. record { lines = []; stop = finished }) →
+  pub listing-end : (s : S) (ending : InputEnd) (n : ℕ) (held : List ℕ) (lacks : Option C) → r.lacks s ≡ lacks → TextReadsAs ending n held (λ _ _. record { lines = []; stop = finished }) →
       (more : List ℕ) (z : InputEnd) → CanFollow ending more z → listing r s z n (held ++ more) ≡ stops (missing n lacks)
   listing-end s ending n held lacks e f more z c = ap (items_in r s n) (f more z c) ∙ items_in-end r s n finished ∙ ap (λ o. stops (missing n o)) e
 
-  pub listing-fault : (s : S) (ending : InputEnd) (n : ℕ) (held : List ℕ) (f : ListFault) → f.line ≡ n + 1 → ReadsAs ending n held (λ _ _. fault_at n f.cause) →
+  pub listing-fault : (s : S) (ending : InputEnd) (n : ℕ) (held : List ℕ) (f : ListFault) → f.line ≡ n + 1 → TextReadsAs ending n held (λ _ _. fault_at n f.cause) →
       (more : List ℕ) (z : InputEnd) → CanFollow ending more z → listing r s z n (held ++ more) ≡ stops (faulty (fault.Lines f))
   listing-fault s ending n held f e g more z c = ap (items_in r s n) (g more z c ∙ same_fault n f e) ∙ items_in-end r s n (faulty f)
 
   -- a first line, of which it is known what it says
   pub listing-line : (s : S) (ending : InputEnd) (n : ℕ) (held line rest : List ℕ) (said : Result (Option X × S) C) → r.said s line ≡ said →
-      ReadsAs ending n held (λ z more. put_line line (reading z (n + 1) (rest ++ more))) →
+      TextReadsAs ending n held (λ z more. put_line line (reading z (n + 1) (rest ++ more))) →
       (more : List ℕ) (z : InputEnd) → CanFollow ending more z → listing r s z n (held ++ more) ≡ put_said n said (λ t. listing r t z (n + 1) (rest ++ more))
   listing-line s ending n held line rest said e f more z c =
       ap (items_in r s n) (f more z c) ∙ items_in-line r s n line (reading z (n + 1) (rest ++ more)) ∙ ap (λ x. put_said n x (λ t. listing r t z (n + 1) (rest ++ more))) e
@@ -208,5 +208,5 @@ module _ {S X C : Type 0} (r : Rules S X C) where
       ∙ after_items a b c es p g o [] c.ending (CanFollow-none c.ending) ∙ ap (put_items es) h
 
   -- the octets that were given for several items and an answer
-  pub gives_both : (a b c : Place S) (es : List (ℕ × X)) (answer : Answer X C) (p : TakesItems r a es b) (q : AnswersItem r b answer c) → Gives a.left c.left (p.given ++ q.given)
+  pub gives_both : (a b c : Place S) (es : List (ℕ × X)) (answer : Answer X C) (p : TakesItems r a es b) (q : AnswersItem r b answer c) → GivesOctets a.left c.left (p.given ++ q.given)
   gives_both a b c es answer p q = Gives-append _ _ _ _ _ p.took (gives_of answer _ _ _ q.took)

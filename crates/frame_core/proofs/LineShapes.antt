@@ -19,7 +19,7 @@ use Rattle.frame_core.specs.declared.event.EventKind.TheVariants.{Frame, Clock, 
 use Rattle.frame_core.specs.declared.event_lines.MomentUnit.{MomentUnit}
 use Rattle.frame_core.specs.declared.list_fault.ListCause.{ListCause}
 use Rattle.frame_core.specs.declared.list_fault.ListCause.TheVariants.{LineForm}
-use Rattle.frame_core.specs.EventLine.{fields, is_moment, most_digits, microseconds_in, moment_of, decoded, octets_of, mode_of, mode_text, clock_event, frame_event, mode_event, event_of_fields, event_of, WritesMoment, WritesOctets}
+use Rattle.frame_core.specs.EventLine.{fields, is_moment, most_digits, microseconds_in, moment_of, decoded, frame_octets_by, mode_of, mode_text, clock_event, frame_event, mode_event, event_of_fields, event_of, WritesMoment, WritesOctets}
 use Rattle.frame_core.proofs.Cuts.{cut-part, cut-rest}
 use Rattle.frame_core.proofs.MomentDigits.{digits_test}
 use Rattle.frame_core.proofs.WrittenLines.{IsWord, word-HasNo, hex_above, clock_fields, frame_fields, mode_fields, mode_facts}
@@ -27,7 +27,7 @@ use Rattle.frame_core.proofs.WrittenLines.{IsWord, word-HasNo, hex_above, clock_
 -- what fields say: a clock, a frame, a mode, or nothing by their shape
 Shapes : (A : Type 0) → MomentUnit → List (List ℕ) → Type 0
 Shapes A v fs = ((digits : List ℕ) × (fs ≡ (67 ∷ []) ∷ digits ∷ []) × (event_of_fields {A = A} v fs ≡ clock_event (moment_of v digits)))
-    ⊎ (((digits : List ℕ) × (hex : List ℕ) × (fs ≡ (70 ∷ []) ∷ digits ∷ hex ∷ []) × (event_of_fields {A = A} v fs ≡ frame_event (moment_of v digits) (octets_of hex)))
+    ⊎ (((digits : List ℕ) × (hex : List ℕ) × (fs ≡ (70 ∷ []) ∷ digits ∷ hex ∷ []) × (event_of_fields {A = A} v fs ≡ frame_event (moment_of v digits) (frame_octets_by hex)))
     ⊎ (((digits : List ℕ) × (word : List ℕ) × (fs ≡ (77 ∷ []) ∷ digits ∷ word ∷ []) × (event_of_fields {A = A} v fs ≡ mode_event (moment_of v digits) (mode_of word)))
     ⊎ (event_of_fields {A = A} v fs ≡ Err LineForm)))
 
@@ -92,7 +92,7 @@ decoded_to : (r : Result (List ℕ) FromHexError) (os : List ℕ) → decoded r 
 decoded_to (Ok xs) os h = ap Ok (same_some xs os h)
 decoded_to (Err e) os h = cc
 
-octets_to : (digits os : List ℕ) → octets_of digits ≡ Some os → WritesOctets digits os
+octets_to : (digits os : List ℕ) → frame_octets_by digits ≡ Some os → WritesOctets digits os
 octets_to digits os h =
     let r = some_of (ltb 0 (length digits) && leb (length digits) 4000) (decoded (decode_of digits)) os h in
     let t = both_true (ltb 0 (length digits)) (leb (length digits) 4000) r.0 in
@@ -100,7 +100,7 @@ octets_to digits os h =
     let short = t.1 in
     (grind (arith, nat_tests), grind (arith, nat_tests), decoded_to (decode_of digits) os r.1)
 
-octets_from : (digits os : List ℕ) → WritesOctets digits os → octets_of digits ≡ Some os
+octets_from : (digits os : List ℕ) → WritesOctets digits os → frame_octets_by digits ≡ Some os
 octets_from digits os w =
     let some : 0 < length digits = w.0 in
     let short : length digits ≤ 4000 = w.1 in
@@ -136,7 +136,7 @@ frame-from A v line m os w =
     let hex = w.1 in
     ap (event_of {A = A} v) w.2 ∙ ap (λ ps. event_of_fields {A = A} v ((70 ∷ []) ∷ ps)) (two_fields digits hex (digits_word digits w.3.2) (hex_digits_word hex os w.4.2))
     ∙ frame_fields v digits hex w.3.0 w.4.0
-    ∙ ap (λ o. frame_event {A = A} o (octets_of hex)) (moment_from v digits m w.3) ∙ ap (frame_event {A = A} (Some m)) (octets_from hex os w.4)
+    ∙ ap (λ o. frame_event {A = A} o (frame_octets_by hex)) (moment_from v digits m w.3) ∙ ap (frame_event {A = A} (Some m)) (octets_from hex os w.4)
 
 pub mode-from : (A : Type 0) (v : MomentUnit) (line : List ℕ) (m : ℕ) (on : Bool) →
     (digits : List ℕ) × (line ≡ codes "M " ++ digits ++ codes " " ++ mode_text on) × WritesMoment v digits m →
@@ -221,7 +221,7 @@ fields_spelled A v line e h = elim (shape_of A v (fields line)) [
       let said = clock_said (moment_of v s.0) e (sym s.2 ∙ h) in
       inl (s.0, sym (join_with_byte-slice_split 32 line) ∙ ap (join_with_byte 32) s.1, moment_to v s.0 e.moment said.1, said.0)
   | inr (inl s) ↦
-      let said = frame_said (moment_of v s.0) (octets_of s.1) e (sym s.3 ∙ h) in
+      let said = frame_said (moment_of v s.0) (frame_octets_by s.1) e (sym s.3 ∙ h) in
       let spelled = sym (join_with_byte-slice_split 32 line) ∙ ap (join_with_byte 32) s.2 ∙ ap (λ l. 70 ∷ 32 ∷ l) (sym (append_assoc s.0 (32 ∷ []) s.1)) in
       inr (inl (s.0, s.1, said.0, spelled, moment_to v s.0 e.moment said.2, octets_to s.1 said.0 said.3, said.1))
   | inr (inr (inl s)) ↦

@@ -5,24 +5,23 @@ use Rattle.hex.specs.Hex.{decode_pairs}
 use Rattle.ber_core.specs.ContentsReading.{all_visible_at, any_integer_at, boolean_at, counted_at, integer_at}
 use Rattle.ber_core.specs.FieldReading.{required_at, there_at}
 use Rattle.ber_core.specs.Reading.{header_at, length_at, refused}
-use Rattle.ber_core.specs.Repeated.{each_within}
-use Rattle.ber_core.specs.Written.{integer_size, short_integer, short_length}
+use Rattle.ber_core.specs.RepeatedReading.{each_within}
+use Rattle.ber_core.specs.Written.{integer_size, short_integer, short_length, written_element}
 use Rattle.ber_core.specs.declared.fault.Cause.TheVariants as causes
 use Rattle.ber_core.specs.declared.fault.Fault.{Fault}
 use Rattle.mms_data.specs.ContentsReading.{simple_at}
 use Rattle.mms_data.specs.Data.{boolean, simple}
 use Rattle.mms_data.specs.Kinds.{kind_at}
 use Rattle.mms_data.specs.Reading.{member_at, member_with, members_at, members_with}
-use Rattle.mms_data.specs.Utc.{utc_at}
-use Rattle.mms_data.specs.Written.{element}
+use Rattle.mms_data.specs.UtcReading.{utc_at}
 use Rattle.pdu_core.specs.ContentsReading.{few_at, fixed_in, members_in, number_in}
 use Rattle.pdu_core.specs.GooseReading.{goose_at}
 use Rattle.pdu_core.specs.SampledReading.{asdus_at, count_in, sv_at}
-use Rattle.frame_core.specs.Envelope.{envelope_at, judged}
+use Rattle.frame_core.specs.EnvelopeReading.{envelope_at, envelope_judged}
 use Rattle.frame_core.specs.EventLine.{event_of, event_rules}
 use Rattle.frame_core.specs.Frame.{SpellsFrame}
 use Rattle.frame_core.specs.FrameReading.{frame_at}
-use Rattle.frame_core.specs.Items.{Listing, items_of, listing}
+use Rattle.frame_core.specs.Items.{Listing, items_said, listing}
 use Rattle.frame_core.specs.Lines.{finished, faulty, reading}
 use Rattle.frame_core.specs.VlanTag.{drop_eligible_of, priority_of, vlan_of}
 use Rattle.frame_core.specs.Written.{written_frame}
@@ -85,7 +84,7 @@ pub record AreGooseFrames : Type 0 where
   pub tagged_written : written_frame its_tagged_frame ≡ tagged
 
 pub goose_frames : AreGooseFrames
-unfolding frame_at judged envelope_at goose_at required_at there_at header_at length_at number_in members_in integer_at any_integer_at boolean_at all_visible_at utc_at members_at members_with member_at member_with kind_at simple_at element short_length short_integer integer_size
+unfolding frame_at envelope_judged envelope_at goose_at required_at there_at header_at length_at number_in members_in integer_at any_integer_at boolean_at all_visible_at utc_at members_at members_with member_at member_with kind_at simple_at written_element short_length short_integer integer_size
 goose_frames = record { read = refl; written = refl; tagged_read = refl; tagged_written = refl }
 
 -- so these octets spell these frames
@@ -134,7 +133,7 @@ pub record IsSampledFrame : Type 0 where
   pub written : written_frame its_sampled_frame ≡ sampled
 
 pub sampled_frame : IsSampledFrame
-unfolding frame_at judged envelope_at sv_at asdus_at each_within count_in required_at there_at header_at length_at integer_at any_integer_at all_visible_at counted_at fixed_in few_at element short_length short_integer integer_size
+unfolding frame_at envelope_judged envelope_at sv_at asdus_at each_within count_in required_at there_at header_at length_at integer_at any_integer_at all_visible_at counted_at fixed_in few_at written_element short_length short_integer integer_size
 sampled_frame = record { read = refl; written = refl }
 
 pub sampled_spelled : SpellsFrame its_sampled_frame sampled
@@ -176,7 +175,7 @@ pub record AreFrameFaults : Type 0 where
   pub entry_count : refuses (changed 61 2) ≡ refused 59 causes.EntryCount
 
 pub frame_faults : AreFrameFaults
-unfolding frame_at judged envelope_at goose_at required_at there_at header_at length_at number_in members_in integer_at any_integer_at boolean_at all_visible_at utc_at members_at members_with member_at member_with kind_at simple_at
+unfolding frame_at envelope_judged envelope_at goose_at required_at there_at header_at length_at number_in members_in integer_at any_integer_at boolean_at all_visible_at utc_at members_at members_with member_at member_with kind_at simple_at
 frame_faults = record {
   cut_to_13 = refl;
   cut_to_14 = refl;
@@ -298,5 +297,5 @@ pub record AreLists : Type 0 where
   }
 
 pub lists : AreLists
-unfolding reading items_of decode_pairs
+unfolding reading items_said decode_pairs
 lists = record { nothing = refl; version = refl; one_cr = refl; two_cr = refl; late_version = refl; unread = refl }

@@ -19,7 +19,7 @@ use Rattle.frame_core.specs.declared.event.EventKind.{EventKind}
 use Rattle.frame_core.specs.declared.event.EventKind.TheVariants.{Frame, Clock, Mode}
 use Rattle.frame_core.specs.Cuts.{HasNo}
 use Rattle.frame_core.specs.Lines.{reading, without_cr}
-use Rattle.frame_core.specs.EventLine.{fields, moment_of, decoded, octets_of, clock_event, frame_event, mode_of, mode_event, mode_text, event_of_fields, event_of, event_rules, meant, kind_text, event_text, IsListableKind, IsListable, HoldsOctets}
+use Rattle.frame_core.specs.EventLine.{fields, moment_of, decoded, frame_octets_by, clock_event, frame_event, mode_of, mode_event, mode_text, event_of_fields, event_of, event_rules, meant, kind_text, event_text, IsListableKind, IsListable, HoldsOctets}
 use Rattle.frame_core.specs.declared.event_lines.MomentUnit.{MomentUnit}
 use Rattle.frame_core.specs.declared.event_lines.MomentUnit.TheVariants.{Microseconds}
 use Rattle.frame_core.specs.declared.event_lines.EventLines.TheVariants.{First, After}
@@ -88,7 +88,7 @@ hex_facts xs h = let r = decode_of-ok (encode_lower xs) xs (decode_of-encode_low
 hex_word : (xs : List ℕ) → All (λ x. x < 256) xs → IsWord (encode_lower xs)
 hex_word xs h = All-from_get_or (λ x. 32 < x) (encode_lower xs) 0 (λ k l. hex_above _ (All-get_or (λ x. is_hex_digit x ≡ true) (encode_lower xs) k 0 l (hex_facts xs h).0))
 
-octets_back : (xs : List ℕ) → All (λ x. x < 256) xs → 0 < length xs → length xs ≤ 2000 → octets_of (encode_lower xs) ≡ Some xs
+octets_back : (xs : List ℕ) → All (λ x. x < 256) xs → 0 < length xs → length xs ≤ 2000 → frame_octets_by (encode_lower xs) ≡ Some xs
 octets_back xs h a b =
     let size = (hex_facts xs h).1 in
     let first : ltb 0 (length (encode_lower xs)) ≡ true = grind (arith, nat_tests) in
@@ -99,7 +99,7 @@ pub clock_fields : {A : Type 0} (v : MomentUnit) (m : List ℕ) → 0 < length m
 clock_fields v [] h = absurd (omega arith)
 clock_fields v (m ∷ ms) h = refl
 
-pub frame_fields : {A : Type 0} (v : MomentUnit) (m h : List ℕ) → 0 < length m → 0 < length h → event_of_fields {A = A} v ((70 ∷ []) ∷ m ∷ h ∷ []) ≡ frame_event (moment_of v m) (octets_of h)
+pub frame_fields : {A : Type 0} (v : MomentUnit) (m h : List ℕ) → 0 < length m → 0 < length h → event_of_fields {A = A} v ((70 ∷ []) ∷ m ∷ h ∷ []) ≡ frame_event (moment_of v m) (frame_octets_by h)
 frame_fields v [] h a b = absurd (omega arith)
 frame_fields v (m ∷ ms) [] a b = absurd (omega arith)
 frame_fields v (m ∷ ms) (h ∷ hs) a b = refl
@@ -120,7 +120,7 @@ frame_back {A = A} n xs h o a b =
     ∙ ap (λ ps. m ∷ ps) (cut-rest 32 d (word-HasNo 32 d (omega arith) (hex_word xs o))) in
     ap (λ ps. event_of_fields {A = A} Microseconds ((70 ∷ []) ∷ ps)) parts
     ∙ frame_fields Microseconds m d (decimal_nonempty n (omega arith)) (omega (arith, size))
-    ∙ ap (λ o. frame_event {A = A} o (octets_of d)) (moment_back n h) ∙ ap (frame_event {A = A} (Some n)) (octets_back xs o a b)
+    ∙ ap (λ o. frame_event {A = A} o (frame_octets_by d)) (moment_back n h) ∙ ap (frame_event {A = A} (Some n)) (octets_back xs o a b)
 
 pub mode_fields : {A : Type 0} (v : MomentUnit) (m h : List ℕ) → 0 < length m → 0 < length h → event_of_fields {A = A} v ((77 ∷ []) ∷ m ∷ h ∷ []) ≡ mode_event (moment_of v m) (mode_of h)
 mode_fields v [] h a b = absurd (omega arith)

@@ -46,8 +46,8 @@ decoded (Ok octets) = Some octets
 decoded (Err e) = None
 
 -- the octets that a field writes: 2 to 4,000 hexadecimal digits, two for each octet
-abbrev pub octets_of : List ℕ → Option (List ℕ)
-octets_of digits = if nat_lt 0 (length digits) && nat_le (length digits) 4000 then decoded (decode_of digits) else None
+abbrev pub frame_octets_by : List ℕ → Option (List ℕ)
+frame_octets_by digits = if nat_lt 0 (length digits) && nat_le (length digits) 4000 then decoded (decode_of digits) else None
 
 -- as many digits as can write the octets of a frame
 abbrev pub is_hex_count : ℕ → Bool
@@ -80,7 +80,7 @@ mode_event (Some m) (Some on) = Ok (Some (record { moment = m; kind = Mode on })
 abbrev pub event_of_fields : {A : Type 0} → MomentUnit → List (List ℕ) → Result (Option (Event A)) ListCause
 event_of_fields unit ((c ∷ []) ∷ (m ∷ ms) ∷ []) = if c == 67 then clock_event (moment_of unit (m ∷ ms)) else Err LineForm
 event_of_fields unit ((c ∷ []) ∷ (m ∷ ms) ∷ (h ∷ hs) ∷ []) =
-    if c == 70 then frame_event (moment_of unit (m ∷ ms)) (octets_of (h ∷ hs)) else (if c == 77 then mode_event (moment_of unit (m ∷ ms)) (mode_of (h ∷ hs)) else Err LineForm)
+    if c == 70 then frame_event (moment_of unit (m ∷ ms)) (frame_octets_by (h ∷ hs)) else (if c == 77 then mode_event (moment_of unit (m ∷ ms)) (mode_of (h ∷ hs)) else Err LineForm)
 event_of_fields unit _ = Err LineForm
 
 -- whether the fields give something to keep: those of a frame, with a moment and a count of digits that can write octets

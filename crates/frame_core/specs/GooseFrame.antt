@@ -1,4 +1,4 @@
--- A frame of GOOSE whose unit is kept elsewhere.
+-- A frame of GOOSE whose APDU is kept elsewhere.
 use Rattle.std.specs.Prelude.{[]}
 use Rattle.pdu_core.specs.Parts.{pdu_of_parts}
 use Rattle.frame_core.specs.declared.frame.Apdu.TheVariants as apdus

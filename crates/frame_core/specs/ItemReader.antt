@@ -9,7 +9,7 @@ use Rattle.frame_core.specs.declared.item_reader.ItemError.{ItemError}
 use Rattle.frame_core.specs.declared.item_reader.ItemError.TheVariants as error
 use Rattle.frame_core.specs.declared.item_reader.Tried.{Tried}
 use Rattle.frame_core.specs.declared.item_reader.Tried.TheVariants as tried
-use Rattle.frame_core.specs.Device.{Gives, OnlyOpen}
+use Rattle.frame_core.specs.Device.{GivesOctets, OnlyOpen}
 use Rattle.frame_core.specs.FirstLine.{IsFront}
 use Rattle.frame_core.specs.Lines.{finished, faulty, CanFollow, StartsLine, without_cr}
 use Rattle.frame_core.specs.Items.{Rules, Listing, put_item, put_items, stops, listing}
@@ -52,11 +52,11 @@ line_of (fault.Lines f) = f.line
 line_of (fault.Line n why) = n
 
 -- the number of the line last answered or refused, after an answer
-abbrev pub number_told : {X C : Type 0} → Answer X C → ℕ → ℕ
-number_told (Ok None) n = n
-number_told (Ok (Some e)) n = e.0
-number_told (Err (Some f)) n = line_of f
-number_told (Err None) n = n
+abbrev pub item_number_told : {X C : Type 0} → Answer X C → ℕ → ℕ
+item_number_told (Ok None) n = n
+item_number_told (Ok (Some e)) n = e.0
+item_number_told (Err (Some f)) n = line_of f
+item_number_told (Err None) n = n
 
 -- what an answer says of the text before it and the text after it: an item is taken off, the end, a fault and want of memory stay
 abbrev pub Tells : {X C : Type 0} → Answer X C → Listing X C → Listing X C → Type 0
@@ -75,7 +75,7 @@ CountsTo (Err None) old new = old ≤ new
 -- the octets that a source gave for an answer; which others are left may be no longer told where a fault is answered
 abbrev pub GivesFor : {X C : Type 0} → Answer X C → Option (List ℕ) → Option (List ℕ) → List ℕ → Type 0
 GivesFor (Ok o) old new given = Consumes old new given
-GivesFor (Err (Some f)) old new given = Gives old new given
+GivesFor (Err (Some f)) old new given = GivesOctets old new given
 GivesFor (Err None) old new given = Consumes old new given
 
 -- how many lines stand before the answered one, of those that were taken
@@ -154,4 +154,4 @@ pub record TakesItems {S X C : Type 0} (r : Rules S X C) (old : Place S) (items 
 -- what one line gives: nothing, and then it was taken off, or an answer
 abbrev pub Tries : {S X C : Type 0} → Rules S X C → Place S → ℕ → Tried X C → Place S → ℕ → Type 0
 Tries r old m tried.Skipped new n = SkipsLines r old new × (new.taken ≡ old.taken + 1) × (new.taken ≤ 1000000) × (n ≡ m)
-Tries r old m (tried.Answered a) new n = AnswersItem r old (answer_of n a) new × (n ≡ number_told (answer_of n a) m)
+Tries r old m (tried.Answered a) new n = AnswersItem r old (answer_of n a) new × (n ≡ item_number_told (answer_of n a) m)

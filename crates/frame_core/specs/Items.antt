@@ -52,13 +52,13 @@ put_said n (Ok (Some x, s)) rest = put_item (n + 1, x) (rest s)
 put_said n (Err why) rest = stops (faulty (fault.Line (n + 1) why))
 
 -- the items of lines that follow n others, which settled s
-unfoldable pub items_of : {S X C : Type 0} → Rules S X C → S → ℕ → List (List ℕ) → Stop ListFault → Listing X C
-items_of r s n [] stop = stops (close r s n stop)
-items_of r s n (l ∷ ls) stop = put_said n (r.said s l) (λ t. items_of r t (n + 1) ls stop)
+unfoldable pub items_said : {S X C : Type 0} → Rules S X C → S → ℕ → List (List ℕ) → Stop ListFault → Listing X C
+items_said r s n [] stop = stops (close r s n stop)
+items_said r s n (l ∷ ls) stop = put_said n (r.said s l) (λ t. items_said r t (n + 1) ls stop)
 
 -- the items of a reading that follows n lines
 abbrev pub items_in : {S X C : Type 0} → Rules S X C → S → ℕ → Reading → Listing X C
-items_in r s n l = items_of r s n l.lines l.stop
+items_in r s n l = items_said r s n l.lines l.stop
 
 -- the items of a text that follows n lines, with the ending of its source
 abbrev pub listing : {S X C : Type 0} → Rules S X C → S → InputEnd → ℕ → List ℕ → Listing X C

@@ -11,7 +11,9 @@ pub mod ItemReader
 pub mod ListReader
 pub mod VlanTag
 pub mod Apdu
+pub mod ApduReading
 pub mod Envelope
+pub mod EnvelopeReading
 pub mod Frame
 pub mod Memory
 pub mod GooseFrame

@@ -1,12 +1,12 @@
-// Frames of GOOSE whose unit is kept elsewhere, written in their one form.
+// Frames of GOOSE whose APDU is kept elsewhere, written in their one form.
 
-ghost use Rattle.std.specs.Prelude.{◌≡◌, ◌≤◌, ◌<◌, ◌+◌, ◌↔◌, ◌++◌, [], length, IfOk, IsOk, OnOk, Err, is_ok};
+ghost use Rattle.std.specs.Prelude.{◌≡◌, ◌≤◌, ◌<◌, ◌+◌, ◌↔◌, [], length, IfOk, OnOk, Err, is_ok};
 ghost use Rattle.arrayvec.specs.ArrayVec.{array_vec_len};
 ghost use Rattle.frame_core.specs.Frame.{SpellsFrame};
 ghost use Rattle.frame_core.specs.GooseFrame.{frame_of_parts};
-ghost use Rattle.frame_core.specs.Written.{ApduIsSpellable, IsHeld, IsTooLong, fits, written_apdu, written_frame, written_head};
+ghost use Rattle.frame_core.specs.Written.{ApduIsSpellable, IsHeld, IsTooLong, fits, written_frame, written_head};
 ghost use Rattle.pdu_core.specs.Parts.{pdu_of_parts};
-ghost use Rattle.pdu_core.specs.Spellable.{Spellable};
+ghost use Rattle.pdu_core.specs.Spellable.{IsSpellableGoose};
 ghost use Rattle.pdu_core.specs.Written.{written_goose};
 
 use crate::encoding::{EncodeFault, MOST_APDU, put_body, put_tag, put_word};
@@ -33,7 +33,7 @@ pub struct GooseFrame<'a, A: Allocator> {
     pub reserved1: u16,
     /// Reserved 2.
     pub reserved2: u16,
-    /// The application's protocol data unit.
+    /// The application's protocol data unit (APDU).
     pub parts: GooseParts<'a, A>,
 }
 
@@ -79,21 +79,21 @@ fn write_goose<A: Allocator>(frame: &GooseFrame<'_, A>) -> Result<ArrayVec<u8, 1
     Ok(out)
 }
 
-// Appends the unit alone.
+// Appends the APDU alone.
 fn put_parts<A: Allocator>(
     out: &mut ArrayVec<u8, MOST_APDU>,
     parts: &GooseParts<'_, A>,
 ) -> Result<(), PutFault>
     requires { array_vec_len out.old ≡ 0 }
-    ensures not_spellable { (result ≡ Err PutFault.NotSpellable) ↔ (¬ Spellable (pdu_of_parts parts.now)) }
-    ensures full { (result ≡ Err PutFault.Full) ↔ (Spellable (pdu_of_parts parts.now) × (1492 < length (written_goose (pdu_of_parts parts.now)))) }
-    ensures spellable { OnOk result (Spellable (pdu_of_parts parts.now)) }
+    ensures not_spellable { (result ≡ Err PutFault.NotSpellable) ↔ (¬ IsSpellableGoose (pdu_of_parts parts.now)) }
+    ensures full { (result ≡ Err PutFault.Full) ↔ (IsSpellableGoose (pdu_of_parts parts.now) × (1492 < length (written_goose (pdu_of_parts parts.now)))) }
+    ensures spellable { OnOk result (IsSpellableGoose (pdu_of_parts parts.now)) }
     ensures written { OnOk result (out.new.items ≡ written_goose (pdu_of_parts parts.now)) }
 {
     put_goose_parts(out, parts)
 }
 
-// Appends what stands before a unit of `size` octets.
+// Appends what stands before an APDU of `size` octets.
 fn put_head<A: Allocator>(
     out: &mut ArrayVec<u8, MOST_OCTETS>,
     frame: &GooseFrame<'_, A>,

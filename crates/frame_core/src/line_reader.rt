@@ -4,7 +4,7 @@ ghost use Rattle.std.specs.Io.KnownBytes.{Consumes};
 ghost use Rattle.frame_core.specs.declared.device.InputEnd.{InputEnd};
 ghost use Rattle.frame_core.specs.Cuts.{HasNo, IsFirst};
 ghost use Rattle.frame_core.specs.Lines.{without_cr};
-ghost use Rattle.frame_core.specs.Device.{ending_after, KeepsOrForgets, Gives, TakesTo, OnlyOpen};
+ghost use Rattle.frame_core.specs.Device.{ending_after, KeepsOrForgets, GivesOctets, TakesTo, OnlyOpen};
 
 use crate::cutting::find;
 use crate::device::{DeviceFault, InputEnd, Source};
@@ -30,7 +30,7 @@ pub struct LineReader<R> {
 }
 
 impl<R: Source> LineReader<R> {
-    ghost use Rattle.frame_core.specs.Reader.{held, stream, OnlyWanting, StandsFirst, number_after, AnswersLine, line_at, lent_line, number_of, number_past};
+    ghost use Rattle.frame_core.specs.Reader.{held, stream, OnlyWanting, StandsFirst, number_after, AnswersLine, line_at, lent_line, reader_number, line_number_told};
     ghost use Rattle.std.specs.Borrow.{sem};
     ghost use Rattle.std.specs.Io.BufRead.{Rests};
     ghost use Rattle.frame_core.specs.contracts.line_reader.LineReader.{the_row};
@@ -40,7 +40,7 @@ impl<R: Source> LineReader<R> {
         ensures ending { (stream R.left R.ending result).ending ≡ R.ending reader }
         ensures held { (stream R.left R.ending result).held ≡ [] }
         ensures taken { (stream R.left R.ending result).taken ≡ 0 }
-        ensures number { number_of result ≡ 0 }
+        ensures number { reader_number result ≡ 0 }
     {
         LineReader {
             reader,
@@ -172,7 +172,7 @@ impl<R: Source> LineReader<R> {
     pub(crate) fn fill(&mut self) -> Result<Option<usize>, ListFault>
         ensures given { (given : List ℕ) × (held self.new ≡ held self.old ++ given) × OnlyOpen (R.ending self.old.reader) given (R.ending self.new.reader)
             × MatchResult result (λ _. Consumes (R.left self.old.reader) (R.left self.new.reader) given)
-            (λ _. Gives (R.left self.old.reader) (R.left self.new.reader) given)
+            (λ _. GivesOctets (R.left self.old.reader) (R.left self.new.reader) given)
             × OnlyWanting (R.left self.old.reader) (R.ending self.old.reader) (held self.old) given (R.left self.new.reader) (R.ending self.new.reader) }
         ensures front { StandsFirst (stream R.left R.ending self.new) result }
         ensures bounded { length (held self.new) ≤ 8192 }
@@ -209,7 +209,7 @@ impl<R: Source> LineReader<R> {
     fn advance(&mut self) -> Result<Option<(usize, usize)>, ListFault>
         ensures stream { AnswersLine (stream R.left R.ending self.old) (line_at self.new.buffer result) (stream R.left R.ending self.new) }
         ensures within { IfOk result (λ o. IfSome o (λ p. (p.0 ≤ p.1) × (p.1 ≤ 8192))) }
-        ensures number { self.new.number ≡ number_past (stream R.left R.ending self.old) (line_at self.new.buffer result) self.old.number }
+        ensures number { self.new.number ≡ line_number_told (stream R.left R.ending self.old) (line_at self.new.buffer result) self.old.number }
     {
         match self.fill() {
             Err(fault) => Err(fault),
@@ -257,7 +257,7 @@ impl<R: Source> LineReader<R> {
     pub fn next_line(&mut self) -> Result<Option<&[u8]>, ListFault>
         ensures* stream { sem 𝓛 (Rests (the_row R.row) self.entry (λ new.
             AnswersLine (stream R.left R.ending self.old) (lent_line result) (stream R.left R.ending new)
-            × (number_of new ≡ number_past (stream R.left R.ending self.old) (lent_line result) (number_of self.old)))) }
+            × (reader_number new ≡ line_number_told (stream R.left R.ending self.old) (lent_line result) (reader_number self.old)))) }
     {
         match self.advance() {
             Err(fault) => Err(fault),
@@ -268,7 +268,7 @@ impl<R: Source> LineReader<R> {
 
     /// The number of the line last answered or refused, 0 before the first.
     pub fn line_number(&self) -> u64
-        ensures { result ≡ number_of self.now }
+        ensures { result ≡ reader_number self.now }
     {
         self.number
     }

@@ -1,6 +1,6 @@
 //! One line of a list: the event that it says.
-ghost use Rattle.std.specs.Prelude.{◌≡◌, ◌&&◌, true, ◌^◌, ◌≤◌, ◌<◌, length, ◌∷◌, []};
-ghost use Rattle.frame_core.specs.EventLine.{event_of, event_of_fields, fields, fields_keep, frame_event, is_hex_count, is_moment, mode_of, moment_of, octets_of};
+ghost use Rattle.std.specs.Prelude.{◌≡◌, ◌&&◌, true, ◌<◌, length, ◌∷◌, []};
+ghost use Rattle.frame_core.specs.EventLine.{event_of, event_of_fields, fields, fields_keep, frame_event, is_hex_count, is_moment, mode_of, moment_of, frame_octets_by};
 ghost use Rattle.frame_core.specs.LineAnswer.{Answers, fields_after};
 
 use crate::cutting::cut_first;
@@ -118,7 +118,7 @@ fn frame_of<A: Allocator + Copy>(
     moment: &[u8],
     digits: &[u8],
 ) -> Result<Option<Event<A>>, LineError<ListCause>>
-    ensures { Answers result (frame_event (moment_of unit moment.now) (octets_of digits.now)) (is_moment unit moment.now && is_hex_count (length digits.now)) }
+    ensures { Answers result (frame_event (moment_of unit moment.now) (frame_octets_by digits.now)) (is_moment unit moment.now && is_hex_count (length digits.now)) }
 {
     let Some(moment) = moment_in(unit, moment) else {
         return Err(LineError::Cause(ListCause::Moment));

@@ -47,7 +47,7 @@ pub fn fault_of_list(fault: &ItemFault<ListCause>) -> ListFault
 }
 
 impl<R: Source> ListReader<R> {
-    ghost use Rattle.frame_core.specs.ItemReader.{AnswersItem, number_told};
+    ghost use Rattle.frame_core.specs.ItemReader.{AnswersItem, item_number_told};
     ghost use Rattle.frame_core.specs.ListReader.{list_place, list_number, IsToldAs};
 
     /// A reader of the list that the source gives.
@@ -85,7 +85,7 @@ impl<R: Source> ListReader<R> {
     /// of memory the next call tries the same line again.
     pub fn next<A: Allocator + Copy>(&mut self, alloc: A) -> Result<Option<Event<A>>, ListError>
         ensures event { (answer : Answer (SpecEvent A) SpecCause) × AnswersItem event_rules (list_place R.left R.ending self.old) answer (list_place R.left R.ending self.new)
-            × IsToldAs (list_number self.new) answer result × (list_number self.new ≡ number_told answer (list_number self.old)) }
+            × IsToldAs (list_number self.new) answer result × (list_number self.new ≡ item_number_told answer (list_number self.old)) }
     {
         match self.items.next(alloc) {
             Ok(event) => Ok(event),

@@ -40,7 +40,7 @@ fn push_hex(line: &mut ArrayVec<u8, LONGEST>, octets: &[u8])
 
 /// The line of a frame.
 #[tactic(auto, using(crate::proofs::Decimals::decimal_short))]
-fn frame_line(moment: u64, frame: &[u8]) -> ArrayVec<u8, LONGEST>
+fn listed_frame(moment: u64, frame: &[u8]) -> ArrayVec<u8, LONGEST>
     requires moment { moment < 10 ^ 18 }
     requires frame { length frame.now ≤ 2000 }
     ensures { result.items ≡ codes "F " ++ decimal moment ++ codes " " ++ encode_lower frame.now ++ 10 ∷ [] }
@@ -58,7 +58,7 @@ fn frame_line(moment: u64, frame: &[u8]) -> ArrayVec<u8, LONGEST>
 
 /// The line of a clock moment.
 #[tactic(auto, using(crate::proofs::Decimals::decimal_short))]
-fn clock_line(moment: u64) -> ArrayVec<u8, LONGEST>
+fn listed_clock(moment: u64) -> ArrayVec<u8, LONGEST>
     requires { moment < 10 ^ 18 }
     ensures { result.items ≡ codes "C " ++ decimal moment ++ 10 ∷ [] }
 {
@@ -73,7 +73,7 @@ fn clock_line(moment: u64) -> ArrayVec<u8, LONGEST>
 
 /// The line of a mode.
 #[tactic(auto, using(crate::proofs::Decimals::decimal_short))]
-fn mode_line(moment: u64, on: bool) -> ArrayVec<u8, LONGEST>
+fn listed_mode(moment: u64, on: bool) -> ArrayVec<u8, LONGEST>
     requires { moment < 10 ^ 18 }
     ensures { result.items ≡ kind_text {A = Unit {0}} (decimal moment) (Mode on) }
 {
@@ -125,7 +125,7 @@ fn write_clock<W: Sink>(writer: &mut W, moment: u64) -> Result<(), WriteFault>
     if moment > LAST_MOMENT {
         return Err(WriteFault::NotListable);
     }
-    put_all(writer, clock_line(moment).as_slice())
+    put_all(writer, listed_clock(moment).as_slice())
 }
 
 /// Writes a mode as its line.
@@ -138,7 +138,7 @@ fn write_mode<W: Sink>(writer: &mut W, moment: u64, on: bool) -> Result<(), Writ
     if moment > LAST_MOMENT {
         return Err(WriteFault::NotListable);
     }
-    put_all(writer, mode_line(moment, on).as_slice())
+    put_all(writer, listed_mode(moment, on).as_slice())
 }
 
 /// Writes a frame as its one line, as `write_event` does where an event holds it. Takes no memory. `NotListable` exactly
@@ -160,5 +160,5 @@ pub fn write_frame<W: Sink>(writer: &mut W, moment: u64, frame: &[u8]) -> Result
     if frame.len() > LONGEST_FRAME {
         return Err(WriteFault::NotListable);
     }
-    put_all(writer, frame_line(moment, frame).as_slice())
+    put_all(writer, listed_frame(moment, frame).as_slice())
 }

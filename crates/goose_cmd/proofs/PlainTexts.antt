@@ -5,7 +5,7 @@ use Rattle.std.proofs.lemmas.List.{append_assoc}
 use Rattle.frame_core.specs.declared.line_rules.ItemFault.{ItemFault}
 use Rattle.frame_core.specs.Lines.{Stop}
 use Rattle.frame_core.specs.Items.{Listing}
-use Rattle.engine_core.specs.EngineText.{Text, Account, IsPlain, told_after, put_step, last_text, text_of, told}
+use Rattle.engine_core.specs.EngineText.{Text, Account, IsPlain, told_after, put_step, last_text, whole_text, told}
 
 module _ {X C : Type 0} (t : Text X C) (line : ℕ × X → List ℕ) (finds : ℕ × X → Bool) (p : IsPlain t line finds) where
   plain : (before es : List (ℕ × X)) (stop : Stop (ItemFault C)) →
@@ -20,7 +20,7 @@ module _ {X C : Type 0} (t : Text X C) (line : ℕ × X → List ℕ) (finds : �
       told_by : List ℕ → Bool → Stop (ItemFault C) → Account C
       told_by l f s = record { text = l; found = f; stop = s }
 
-  pub plain_text : (l : Listing X C) → text_of t l ≡ t.first ++ (flat_map line l.items ++ last_text t l.stop)
+  pub plain_text : (l : Listing X C) → whole_text t l ≡ t.first ++ (flat_map line l.items ++ last_text t l.stop)
   plain_text l = ap (λ (o : Account C). t.first ++ o.text) (plain [] l.items l.stop)
 
   pub plain_found : (l : Listing X C) → (told t l).found ≡ list_any finds l.items

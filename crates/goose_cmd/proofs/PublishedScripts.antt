@@ -14,7 +14,7 @@ use Rattle.publish_core.specs.declared.fault.PublishFault.{PublishFault}
 use Rattle.publish_core.specs.declared.table.Step.{Step}
 use Rattle.publish_core.specs.Frames.{Change, Setup, setup}
 use Rattle.publish_core.specs.Refusal.{Accepts, Refuses, next_state}
-use Rattle.publish_core.specs.Run.{Act, Call, Changed, IsAnswer, Polled, greatest, trace}
+use Rattle.publish_core.specs.Run.{Act, Call, Changed, IsAnswer, Polled, greatest_call_moment, trace_of_calls}
 use Rattle.publish_core.specs.Table.{AreSteps}
 use Rattle.publish_core.proofs.Judged.{changes_are_judged}
 use Rattle.publish_core.proofs.Runs.{answer_one, answers_stay}
@@ -25,9 +25,9 @@ use Rattle.exchange_laws.specs.Stems.{AreAccepted}
 use Rattle.script_core.specs.declared.script.ScriptCause.{ScriptCause}
 use Rattle.script_core.specs.declared.script.ScriptItem.{ScriptItem}
 use Rattle.script_core.specs.declared.script.ScriptItem.TheVariants as item
-use Rattle.engine_core.specs.EngineText.{Account, Text, put_step, text_of, told_after}
+use Rattle.engine_core.specs.EngineText.{Account, Text, put_step, whole_text, told_after}
 use Rattle.goose_cmd.specs.PublishedReplay.{PublishedTextsReplay, ScriptsGiveLists}
-use Rattle.engine_core.specs.PublishText.{IsCallText, IsPublishText, IsRefused, IsSound, answer_text, item_of_call, items_of_lines, script_of}
+use Rattle.engine_core.specs.PublishText.{IsCallText, IsPublishText, IsRefused, IsScriptSound, answer_text, item_of_call, items_of_lines, script_of}
 use Rattle.engine_core.proofs.PublishLemmas.{items-push}
 use Rattle.goose_cmd.proofs.WrittenLists.{published_lists_replay}
 
@@ -52,18 +52,18 @@ act_not_refused : {A : Type 0} (p : Setup A) (calls : List Call) (act : Act) (wh
 act_not_refused p calls (Changed change) why steps accepted refused = not_both p calls change why steps (accepted change refl) refused
 act_not_refused p calls Polled why steps accepted refused = refused
 
-module _ {A : Type 0} (B : Type 0) (p : Setup A) (t : Text (ScriptItem A) ScriptCause) (is : IsPublishText t) (sound : IsSound p) where
+module _ {A : Type 0} (B : Type 0) (p : Setup A) (t : Text (ScriptItem A) ScriptCause) (is : IsPublishText t) (sound : IsScriptSound p) where
   -- a call behind others writes what it gives
-  call_is : (done more : List Call) (c : Call) (a : Option (Frame A)) (before : List (ℕ × ScriptItem A)) (n : ℕ) → items_of_lines before ≡ script_of p done → AreAccepted p (done ++ c ∷ more) → IsAnswer p (trace (done ++ c ∷ more)) (length done) a → t.step before (n, item_of_call c) ≡ Ok (answer_text (max (greatest done) c.moment) a, false)
+  call_is : (done more : List Call) (c : Call) (a : Option (Frame A)) (before : List (ℕ × ScriptItem A)) (n : ℕ) → items_of_lines before ≡ script_of p done → AreAccepted p (done ++ c ∷ more) → IsAnswer p (trace_of_calls (done ++ c ∷ more)) (length done) a → t.step before (n, item_of_call c) ≡ Ok (answer_text (max (greatest_call_moment done) c.moment) a, false)
   call_is done more c a before n stands accepted gives = go (is.call p done before stands sound n c)
     where
-      go : IsCallText p done c (t.step before (n, item_of_call c)) → t.step before (n, item_of_call c) ≡ Ok (answer_text (max (greatest done) c.moment) a, false)
+      go : IsCallText p done c (t.step before (n, item_of_call c)) → t.step before (n, item_of_call c) ≡ Ok (answer_text (max (greatest_call_moment done) c.moment) a, false)
       go (inl w) =
           let size : length (done ++ c ∷ []) ≡ length done + 1 = length_push done c in
           let stay = answers_stay p (done ++ c ∷ []) more (length done) w.1.0 (omega arith) w.1.1 in
           let same : w.1.0 ≡ a =
-          answer_one p (trace (done ++ c ∷ more)) (length done) w.1.0 a
-          (subst (λ (l : List Call). IsAnswer p (trace l) (length done) w.1.0) (append_assoc done (c ∷ []) more) stay) gives in
+          answer_one p (trace_of_calls (done ++ c ∷ more)) (length done) w.1.0 a
+          (subst (λ (l : List Call). IsAnswer p (trace_of_calls l) (length done) w.1.0) (append_assoc done (c ∷ []) more) stay) gives in
           w.1.2 ∙ ap₂ (λ (m : ℕ) (o : Option (Frame A)). Ok (answer_text m o, false)) (greatest-push done c) same
       go (inr w) =
           absurd (act_not_refused p done c.act w.0 sound.steps (λ change e.
@@ -79,7 +79,7 @@ module _ {A : Type 0} (B : Type 0) (p : Setup A) (t : Text (ScriptItem A) Script
       ap (λ (l : List (ScriptItem A)). map item.Step p.table ++ l) (sym (map-append item_of_call done (c ∷ [])))))
 
   -- the calls that are left
-  calls_told : (cs done : List Call) (answers : List (Option (Frame A))) (before es : List (ℕ × ScriptItem A)) → items_of_lines before ≡ script_of p done → items_of_lines es ≡ map item_of_call cs → length answers ≡ length cs → AreAccepted p (done ++ cs) → ((i : ℕ) (a : Option (Frame A)) → slice_get answers i ≡ Some a → IsAnswer p (trace (done ++ cs)) (length done + i) a) → told_after t before es finished ≡ sent_told B (sent_from (greatest done) cs answers)
+  calls_told : (cs done : List Call) (answers : List (Option (Frame A))) (before es : List (ℕ × ScriptItem A)) → items_of_lines before ≡ script_of p done → items_of_lines es ≡ map item_of_call cs → length answers ≡ length cs → AreAccepted p (done ++ cs) → ((i : ℕ) (a : Option (Frame A)) → slice_get answers i ≡ Some a → IsAnswer p (trace_of_calls (done ++ cs)) (length done + i) a) → told_after t before es finished ≡ sent_told B (sent_from (greatest_call_moment done) cs answers)
   unfolding told_after
   calls_told [] done answers before [] stands left size accepted gives = refl
   calls_told [] done answers before (e ∷ es) stands left size accepted gives = absurd cc
@@ -87,13 +87,13 @@ module _ {A : Type 0} (B : Type 0) (p : Setup A) (t : Text (ScriptItem A) Script
   calls_told (c ∷ cs) done [] before (e ∷ es) stands left size accepted gives = absurd (omega arith)
   calls_told (c ∷ cs) done (a ∷ answers) before (e ∷ es) stands left size accepted gives =
       ap (λ s. put_step t e.0 s (told_after t (before ++ e ∷ []) es finished)) step ∙
-      (ap (put_step t e.0 (Ok (answer_text (max (greatest done) c.moment) a, false)))
+      (ap (put_step t e.0 (Ok (answer_text (max (greatest_call_moment done) c.moment) a, false)))
       (calls_told cs (done ++ c ∷ []) answers (before ++ e ∷ []) es next others (omega arith)
       (subst (AreAccepted p) same accepted)
-      (λ i y at. subst (λ (j : ℕ). IsAnswer p (trace ((done ++ c ∷ []) ++ cs)) j y) (more i)
-      (subst (λ (l : List Call). IsAnswer p (trace l) (length done + suc i) y) same (gives (suc i) y at))) ∙
+      (λ i y at. subst (λ (j : ℕ). IsAnswer p (trace_of_calls ((done ++ c ∷ []) ++ cs)) j y) (more i)
+      (subst (λ (l : List Call). IsAnswer p (trace_of_calls l) (length done + suc i) y) same (gives (suc i) y at))) ∙
       ap (λ (m : ℕ). sent_told B (sent_from m cs answers)) (greatest-push done c)) ∙
-      ap (λ (l : List ℕ). record { text = l; found = false; stop = finished }) (frame_text B (max (greatest done) c.moment) c.act a (sent_from (max (greatest done) c.moment) cs answers)))
+      ap (λ (l : List ℕ). record { text = l; found = false; stop = finished }) (frame_text B (max (greatest_call_moment done) c.moment) c.act a (sent_from (max (greatest_call_moment done) c.moment) cs answers)))
     where
       here : e.1 ≡ item_of_call c
       here = cc
@@ -101,10 +101,10 @@ module _ {A : Type 0} (B : Type 0) (p : Setup A) (t : Text (ScriptItem A) Script
       others : items_of_lines es ≡ map item_of_call cs
       others = cc
 
-      first : IsAnswer p (trace (done ++ c ∷ cs)) (length done) a
-      first = let none : length done + 0 ≡ length done = omega arith in subst (λ (i : ℕ). IsAnswer p (trace (done ++ c ∷ cs)) i a) none (gives 0 a refl)
+      first : IsAnswer p (trace_of_calls (done ++ c ∷ cs)) (length done) a
+      first = let none : length done + 0 ≡ length done = omega arith in subst (λ (i : ℕ). IsAnswer p (trace_of_calls (done ++ c ∷ cs)) i a) none (gives 0 a refl)
 
-      step : t.step before e ≡ Ok (answer_text (max (greatest done) c.moment) a, false)
+      step : t.step before e ≡ Ok (answer_text (max (greatest_call_moment done) c.moment) a, false)
       step = ap (λ (x : ScriptItem A). t.step before (e.0, x)) here ∙ call_is done cs c a before e.0 stands accepted first
 
       same : done ++ c ∷ cs ≡ (done ++ c ∷ []) ++ cs
@@ -117,12 +117,12 @@ module _ {A : Type 0} (B : Type 0) (p : Setup A) (t : Text (ScriptItem A) Script
       next = ap (λ (x : ScriptItem A). items_of_lines (before ++ (e.0, x) ∷ [])) here ∙ script_push done c before e.0 stands
 
   -- the steps that are left, and then the calls; they write nothing
-  steps_told : (todo done : List Step) (calls : List Call) (answers : List (Option (Frame A))) (before es : List (ℕ × ScriptItem A)) → done ++ todo ≡ p.table → items_of_lines before ≡ script_of (setup p.control done p.first) [] → items_of_lines es ≡ map item.Step todo ++ map item_of_call calls → length answers ≡ length calls → AreAccepted p calls → ((i : ℕ) (a : Option (Frame A)) → slice_get answers i ≡ Some a → IsAnswer p (trace calls) i a) → told_after t before es finished ≡ sent_told B (sent_from 0 calls answers)
+  steps_told : (todo done : List Step) (calls : List Call) (answers : List (Option (Frame A))) (before es : List (ℕ × ScriptItem A)) → done ++ todo ≡ p.table → items_of_lines before ≡ script_of (setup p.control done p.first) [] → items_of_lines es ≡ map item.Step todo ++ map item_of_call calls → length answers ≡ length calls → AreAccepted p calls → ((i : ℕ) (a : Option (Frame A)) → slice_get answers i ≡ Some a → IsAnswer p (trace_of_calls calls) i a) → told_after t before es finished ≡ sent_told B (sent_from 0 calls answers)
   unfolding told_after
   steps_told [] done calls answers before es table stands left size accepted gives =
       calls_told calls [] answers before es
       (stands ∙ ap (λ (steps : List Step). script_of (setup p.control steps p.first) []) (sym (append-nil done) ∙ table)) left size accepted
-      (λ i a at. let none : i ≡ 0 + i = omega arith in subst (λ (j : ℕ). IsAnswer p (trace calls) j a) none (gives i a at))
+      (λ i a at. let none : i ≡ 0 + i = omega arith in subst (λ (j : ℕ). IsAnswer p (trace_of_calls calls) j a) none (gives i a at))
   steps_told (s ∷ todo) done calls answers before [] table stands left size accepted gives = absurd cc
   steps_told (s ∷ todo) done calls answers before (e ∷ es) table stands left size accepted gives =
       ap (λ x. put_step t e.0 x (told_after t (before ++ e ∷ []) es finished)) step ∙
@@ -152,7 +152,7 @@ module _ {A : Type 0} (B : Type 0) (p : Setup A) (t : Text (ScriptItem A) Script
           (ap (λ (l : List (ScriptItem A)). l ++ item.Step s ∷ []) (append-nil (map item.Step done)) ∙
           (sym (map-append item.Step done (s ∷ [])) ∙ sym (append-nil (map item.Step (done ++ s ∷ []))))))
 
-  script_told : (calls : List Call) (answers : List (Option (Frame A))) (es : List (ℕ × ScriptItem A)) → items_of_lines es ≡ script_of p calls → length answers ≡ length calls → AreAccepted p calls → ((i : ℕ) (a : Option (Frame A)) → slice_get answers i ≡ Some a → IsAnswer p (trace calls) i a) → told_after t [] es finished ≡ sent_told B (sent_from 0 calls answers)
+  script_told : (calls : List Call) (answers : List (Option (Frame A))) (es : List (ℕ × ScriptItem A)) → items_of_lines es ≡ script_of p calls → length answers ≡ length calls → AreAccepted p calls → ((i : ℕ) (a : Option (Frame A)) → slice_get answers i ≡ Some a → IsAnswer p (trace_of_calls calls) i a) → told_after t [] es finished ≡ sent_told B (sent_from 0 calls answers)
   unfolding told_after
   script_told calls answers [] left size accepted gives = absurd cc
   script_told calls answers (e ∷ es) left size accepted gives =
@@ -180,7 +180,7 @@ scripts_give_lists {A} B p calls answers script t sound accepted are says is = (
 
 pub published_texts_replay : {A B : Type 0} → PublishedTextsReplay A B
 published_texts_replay {A} {B} p block calls answers script t r run says is can room replay =
-    let sound : IsSound p = record { steps = run.steps; some = run.some; most = run.most } in
+    let sound : IsScriptSound p = record { steps = run.steps; some = run.some; most = run.most } in
     let listed = scripts_give_lists B p calls answers script t sound run.accepted run.are_answers says is in
-    ap (λ (text : List ℕ). text_of r (listing event_rules First End 0 text)) listed.0 ∙
+    ap (λ (text : List ℕ). whole_text r (listing event_rules First End 0 text)) listed.0 ∙
     (published_lists_replay p block calls answers r run can room replay).0

@@ -15,7 +15,7 @@ use Rattle.frame_core.specs.declared.list_fault.ListFault.{ListFault}
 use Rattle.frame_core.specs.declared.vlan_tag.VlanTag.{VlanTag}
 use Rattle.frame_core.specs.Decimal.{decimal_of}
 use Rattle.frame_core.specs.EventLine.{is_version, moment_of}
-use Rattle.frame_core.specs.Items.{Listing, items_of, put_said}
+use Rattle.frame_core.specs.Items.{Listing, items_said, put_said}
 use Rattle.frame_core.specs.Lines.{Stop, reading}
 use Rattle.publish_core.specs.declared.table.Step.{Step}
 use Rattle.publish_core.specs.Frames.{Setup, change, setup}
@@ -28,10 +28,10 @@ use Rattle.script_core.specs.declared.script.ScriptLines.TheVariants.{First, Aft
 use Rattle.script_core.specs.declared.script.ScriptPart.{ScriptPart}
 use Rattle.script_core.specs.declared.script.ScriptPart.TheVariants as part
 use Rattle.script_core.specs.declared.script_control.Numbers.{Numbers}
-use Rattle.script_core.specs.Commas.{at_most_32_bits, comma_fields, number_in, octets_in, text_in, word_in}
-use Rattle.script_core.specs.Script.{ControlLine, all_said, block_of_line, call_said, change_of, change_said, change_to, control_of, control_said, control_with, flag_in, line_said, members_in, numbers_with, poll_of, poll_said, script_rules, script_said, settled, step_of, step_said, tag_in, time_in, too_early}
+use Rattle.script_core.specs.Commas.{at_most_32_bits, comma_fields, number_by, octets_in, text_in, word_in}
+use Rattle.script_core.specs.Script.{ControlLine, all_said, block_of_line, call_said, change_said_by, change_said, change_to, control_of, control_said, control_with, flag_in, line_said, all_octets_in, numbers_with, poll_of, poll_said, script_rules, script_said, settled, step_said_by, step_said, tag_in, time_in, too_early}
 use Rattle.engine_core.specs.PublishStep.{is_good, with_step}
-use Rattle.engine_core.specs.PublishText.{IsSound, ScriptsAreInOrder, StandsBefore, item_of_act, item_of_call, items_of_lines, script_of}
+use Rattle.engine_core.specs.PublishText.{IsScriptSound, ScriptsAreInOrder, StandsBefore, item_of_act, item_of_call, items_of_lines, script_of}
 use Rattle.engine_core.proofs.PublishLemmas.{good_each}
 
 -- ---- scripts that grow
@@ -67,7 +67,7 @@ record HasSteps {A : Type 0} (before : List (ScriptItem A)) (n : ℕ) : Type 0 w
   pub most : p.first ≤ 4294967295
 
 abbrev HasCalls : {A : Type 0} → List (ScriptItem A) → Type 0
-HasCalls {A} before = (p : Setup A) × (calls : List Call) × (before ≡ script_of p calls) × IsSound p
+HasCalls {A} before = (p : Setup A) × (calls : List Call) × (before ≡ script_of p calls) × IsScriptSound p
 
 abbrev Settles : {A : Type 0} → ScriptPart → List (ScriptItem A) → Type 0
 Settles part.Control before = before ≡ []
@@ -138,8 +138,8 @@ control_begins (a ∷ b ∷ c ∷ d ∷ f ∷ g ∷ h ∷ i ∷ j ∷ k ∷ []) 
 control_begins (a ∷ b ∷ c ∷ d ∷ f ∷ g ∷ h ∷ i ∷ j ∷ k ∷ l ∷ []) = tt
 control_begins (a ∷ b ∷ c ∷ d ∷ f ∷ g ∷ h ∷ i ∷ j ∷ k ∷ l ∷ m ∷ []) =
     line_begins (octets_in 6 a) (octets_in 6 b) (tag_in c) (word_in d) (text_in f) (text_in g) (text_in h)
-    (numbers_with (number_in i) (number_in j) (flag_in k) (flag_in l) (number_in m))
-    (begins (number_in i) (number_in j) (flag_in k) (flag_in l) (number_in m) (below (decimal_of 10 m)))
+    (numbers_with (number_by i) (number_by j) (flag_in k) (flag_in l) (number_by m))
+    (begins (number_by i) (number_by j) (flag_in k) (flag_in l) (number_by m) (below (decimal_of 10 m)))
 control_begins (a ∷ b ∷ c ∷ d ∷ f ∷ g ∷ h ∷ i ∷ j ∷ k ∷ l ∷ m ∷ n ∷ more) = tt
 
 module _ {A : Type 0} (before : List (ScriptItem A)) where
@@ -226,7 +226,7 @@ module _ {A : Type 0} (before : List (ScriptItem A)) where
   good_call (part.Steps n) r h c = either (n == 0) _ _ (λ (o : Option ScriptCause). Goes before (call_said o r)) (λ none. tt) (λ some. good_called r c (has_calls n h some))
   good_call part.Calls r h c = good_called r c h
 
-  is_change : (m : Option ℕ) (t : Option UtcTime) (o : Option (List ℕ)) → IsCall (change_of m t o)
+  is_change : (m : Option ℕ) (t : Option UtcTime) (o : Option (List ℕ)) → IsCall (change_said_by m t o)
   is_change None t o = tt
   is_change (Some m) None o = tt
   is_change (Some m) (Some t) None = tt
@@ -244,7 +244,7 @@ module _ {A : Type 0} (before : List (ScriptItem A)) where
   good_change unit q [] h = tt
   good_change unit q (m ∷ []) h = tt
   good_change unit q (m ∷ t ∷ []) h = tt
-  good_change unit q (m ∷ t ∷ o ∷ []) h = good_call q (change_of (moment_of unit m) (time_in t) (members_in o)) h (is_change (moment_of unit m) (time_in t) (members_in o))
+  good_change unit q (m ∷ t ∷ o ∷ []) h = good_call q (change_said_by (moment_of unit m) (time_in t) (all_octets_in o)) h (is_change (moment_of unit m) (time_in t) (all_octets_in o))
   good_change unit q (m ∷ t ∷ o ∷ x ∷ more) h = tt
 
   good_poll : (unit : MomentUnit) (q : ScriptPart) (fields : List (List ℕ)) → Settles q before → Goes before (poll_said unit q fields)
@@ -258,7 +258,7 @@ module _ {A : Type 0} (before : List (ScriptItem A)) where
   good_all unit q [] h = tt
   good_all unit q (name ∷ fields) h =
       either (bytes_eq name (codes "control")) _ _ (Goes before) (λ e. good_control q (control_of fields) h (control_begins fields))
-      (λ e. either (bytes_eq name (codes "step")) _ _ (Goes before) (λ e. good_step q (step_of fields) h)
+      (λ e. either (bytes_eq name (codes "step")) _ _ (Goes before) (λ e. good_step q (step_said_by fields) h)
       (λ e. either (bytes_eq name (codes "change")) _ _ (Goes before) (λ e. good_change unit q fields h)
       (λ e. either (bytes_eq name (codes "poll")) _ _ (Goes before) (λ e. good_poll unit q fields h) (λ e. tt))))
 
@@ -315,11 +315,11 @@ put_in_order {A} before n (Ok (Some i, s)) rest go g (x ∷ xs) more e is =
     subst (λ (b : List (ScriptItem A)). StandsBefore b e.1) (append_assoc before (i ∷ []) (items_of_lines xs) ∙ ap (λ (j : ScriptItem A). before ++ j ∷ items_of_lines xs) same) later
 put_in_order before n (Err why) rest go g xs more e is = absurd (none_left xs more e is)
 
-lines_in_order : {A : Type 0} (s : ScriptLines) (before : List (ScriptItem A)) (n : ℕ) (lines : List (List ℕ)) (stop : Stop ListFault) → SettlesAll before s before → InOrder before (items_of script_rules s n lines stop)
-unfolding items_of
+lines_in_order : {A : Type 0} (s : ScriptLines) (before : List (ScriptItem A)) (n : ℕ) (lines : List (List ℕ)) (stop : Stop ListFault) → SettlesAll before s before → InOrder before (items_said script_rules s n lines stop)
+unfolding items_said
 lines_in_order s before n [] stop h = λ xs more e is. absurd (none_left xs more e is)
 lines_in_order s before n (l ∷ lines) stop h =
-    put_in_order before n (script_said s l) (λ t. items_of script_rules t (n + 1) lines stop) (λ t items g. lines_in_order t items (n + 1) lines stop g) (good_said before s l h)
+    put_in_order before n (script_said s l) (λ t. items_said script_rules t (n + 1) lines stop) (λ t items g. lines_in_order t items (n + 1) lines stop g) (good_said before s l h)
 
 pub scripts_in_order : {A : Type 0} → ScriptsAreInOrder A
 scripts_in_order z text before more e is = lines_in_order First [] 0 (reading z 0 text).lines (reading z 0 text).stop refl before more e is

@@ -8,7 +8,7 @@ use Rattle.frame_core.specs.declared.event_lines.EventLines.TheVariants.{After}
 use Rattle.frame_core.specs.declared.event_lines.MomentUnit.TheVariants.{Microseconds}
 use Rattle.frame_core.specs.declared.list_fault.ListCause.{ListCause}
 use Rattle.frame_core.specs.EventLine.{event_rules, event_text}
-use Rattle.frame_core.specs.Items.{Listing, items_in, items_of, listing, put_item}
+use Rattle.frame_core.specs.Items.{Listing, items_in, items_said, listing, put_item}
 use Rattle.frame_core.specs.Lines.{finished}
 use Rattle.frame_core.proofs.Lines.{reading-end}
 use Rattle.frame_core.proofs.WrittenLines.{version-first, written-first}
@@ -35,7 +35,7 @@ abbrev whole : {A : Type 0} → ℕ → List (Event A) → Listing (Event A) Lis
 whole n events = record { items = numbered n events; stop = finished }
 
 nothing_listed : (A : Type 0) (n : ℕ) → listing (event_rules {A = A}) (After Microseconds) End n [] ≡ whole (n + 1) []
-unfolding items_of
+unfolding items_said
 nothing_listed A n = ap (items_in (event_rules {A = A}) (After Microseconds) n) (reading-end n)
 
 all_listed : {A : Type 0} (n : ℕ) (events : List (Event A)) → CanBeListed events → n + length events ≤ 1000000 → listing event_rules (After Microseconds) End n (flat_map event_text events) ≡ whole (n + 1) events

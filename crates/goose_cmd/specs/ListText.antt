@@ -16,7 +16,7 @@ use Rattle.subscribe_core.specs.declared.entry.Entry.{Entry}
 use Rattle.subscribe_core.specs.Entries.{AreEntries}
 use Rattle.subscribe_core.specs.Standing.{AreApart}
 use Rattle.exchange_laws.specs.PublishedList.{IsWholeRun, one_entry_each, published_events, sent_from}
-use Rattle.engine_core.specs.EngineText.{Text, text_of, told}
+use Rattle.engine_core.specs.EngineText.{Text, whole_text, told}
 use Rattle.text_core.specs.EntryText.{entry_lines}
 use Rattle.engine_core.specs.ReplayText.{IsReplayText}
 
@@ -40,7 +40,7 @@ lines_from n (es ∷ rest) = entry_lines n es ++ lines_from (n + 1) rest
 
 -- a replay of the list writes the lines of these entries, event by event, and nothing else, and reads the list to its end
 abbrev pub ReplayGives : {A : Type 0} → Text (Event A) ListCause → List (Event A) → List (List (Entry A)) → Type 0
-ReplayGives t events entries = (text_of t (list_of_text events) ≡ lines_from 2 entries) × ((told t (list_of_text events)).stop ≡ finished)
+ReplayGives t events entries = (whole_text t (list_of_text events) ≡ lines_from 2 entries) × ((told t (list_of_text events)).stop ≡ finished)
 
 -- a list that is written is replayed as its events are: by the lines of the entries that they have
 abbrev pub WrittenListsReplay : Type 0 → Type 0

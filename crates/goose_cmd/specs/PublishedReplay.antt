@@ -15,9 +15,9 @@ use Rattle.exchange_laws.specs.PublishedList.{IsWholeRun, one_entry_each, publis
 use Rattle.exchange_laws.specs.Stems.{AreAccepted}
 use Rattle.script_core.specs.declared.script.ScriptCause.{ScriptCause}
 use Rattle.script_core.specs.declared.script.ScriptItem.{ScriptItem}
-use Rattle.engine_core.specs.EngineText.{Text, text_of, told}
+use Rattle.engine_core.specs.EngineText.{Text, whole_text, told}
 use Rattle.goose_cmd.specs.ListText.{CanBeListed, lines_from, list_text}
-use Rattle.engine_core.specs.PublishText.{IsPublishText, IsSound, items_of_lines, script_of}
+use Rattle.engine_core.specs.PublishText.{IsPublishText, IsScriptSound, items_of_lines, script_of}
 use Rattle.engine_core.specs.ReplayText.{IsReplayText}
 
 -- a script that is read to its end says these calls of a publisher
@@ -29,8 +29,8 @@ pub record SaysRun {A : Type 0} (p : Setup A) (calls : List Call) (script : List
 abbrev pub ScriptsGiveLists : Type 0 → Type 0 → Type 0
 ScriptsGiveLists A B =
     (p : Setup A) (calls : List Call) (answers : List (Option (Frame A))) (script : Listing (ScriptItem A) ScriptCause) (t : Text (ScriptItem A) ScriptCause) →
-    IsSound p → AreAccepted p calls → AreAnswers p calls answers → SaysRun p calls script → IsPublishText t →
-    (text_of t script ≡ list_text (published_events {B = B} (sent_from 0 calls answers))) × ((told t script).stop ≡ finished)
+    IsScriptSound p → AreAccepted p calls → AreAnswers p calls answers → SaysRun p calls script → IsPublishText t →
+    (whole_text t script ≡ list_text (published_events {B = B} (sent_from 0 calls answers))) × ((told t script).stop ≡ finished)
 
 -- What `publish` writes of a script of a publisher's whole run is replayed with the publisher's own block by one line for
 -- each frame: an action for a change's, a renewal for a poll's.
@@ -39,4 +39,4 @@ PublishedTextsReplay A B =
     (p : Setup A) (block : Block B) (calls : List Call) (answers : List (Option (Frame A))) (script : Listing (ScriptItem A) ScriptCause) (t : Text (ScriptItem A) ScriptCause) (r : Text (Event B) ListCause) →
     IsWholeRun p block calls answers → SaysRun p calls script → IsPublishText t →
     CanBeListed (published_events {B = B} (sent_from 0 calls answers)) → length (sent_from 0 calls answers) < 1000000 → IsReplayText (block ∷ []) r →
-    text_of r (listing event_rules First End 0 (text_of t script)) ≡ lines_from 2 (one_entry_each {B = B} (sent_from 0 calls answers))
+    whole_text r (listing event_rules First End 0 (whole_text t script)) ≡ lines_from 2 (one_entry_each {B = B} (sent_from 0 calls answers))

@@ -2,7 +2,7 @@
 ghost use Rattle.std.specs.Prelude.{◌≡◌, ◌++◌, ℕ, List, Bool};
 ghost use Rattle.std.specs.List.{flat_map, list_any};
 ghost use Rattle.frame_core.specs.Items.{Listing};
-ghost use Rattle.engine_core.specs.EngineText.{IsPlain, Text, last_text, text_of, told};
+ghost use Rattle.engine_core.specs.EngineText.{IsPlain, Text, last_text, whole_text, told};
 ghost use Rattle.goose_cmd.specs.ListText.{PublishedListsReplay, WrittenListsReplay};
 ghost use Rattle.engine_core.specs.PublishText.{ScriptsAreInOrder};
 ghost use Rattle.goose_cmd.specs.PublishedReplay.{PublishedTextsReplay, ScriptsGiveLists};
@@ -17,7 +17,7 @@ use std::alloc::Allocator;
 /// and the last one; something is found where an item is a finding; and the text stops as the list does.
 pub fn plain_texts_follow_one_another<X, C>()
     ensures text { (t : Text X C) (line : ℕ × X → List ℕ) (finds : ℕ × X → Bool) → IsPlain t line finds → (l : Listing X C) →
-        text_of t l ≡ t.first ++ (flat_map line l.items ++ last_text t l.stop) }
+        whole_text t l ≡ t.first ++ (flat_map line l.items ++ last_text t l.stop) }
     ensures found { (t : Text X C) (line : ℕ × X → List ℕ) (finds : ℕ × X → Bool) → IsPlain t line finds → (l : Listing X C) →
         (told t l).found ≡ list_any finds l.items }
     ensures stop { (t : Text X C) (line : ℕ × X → List ℕ) (finds : ℕ × X → Bool) → IsPlain t line finds → (l : Listing X C) →

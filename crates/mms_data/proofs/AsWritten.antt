@@ -13,7 +13,7 @@ use Rattle.ber_core.specs.Contents.{SpellsInteger}
 use Rattle.ber_core.specs.ContentsReading.{integer_at}
 use Rattle.ber_core.specs.Length.{AreOctets, Len, number}
 use Rattle.ber_core.specs.Reading.{header_at}
-use Rattle.ber_core.specs.Written.{integer_size, short_integer, short_length}
+use Rattle.ber_core.specs.Written.{integer_size, short_integer, short_length, written_element}
 use Rattle.ber_core.proofs.ContentsLaws.{integer_again}
 use Rattle.ber_core.proofs.WrittenLemmas.{length-short_integer}
 use Rattle.ber_core.proofs.Headers.{low_found}
@@ -29,7 +29,7 @@ use Rattle.mms_data.specs.declared.kinds.SimpleKind.{SimpleKind}
 use Rattle.mms_data.specs.declared.kinds.SimpleKind.TheVariants as kinds
 use Rattle.mms_data.specs.Reading.{contents_at, known_at, members_at}
 use Rattle.mms_data.specs.Utc.{SpellsUtc}
-use Rattle.mms_data.specs.Written.{element, header_size, simple_contents, written, written_all, written_contents, written_time}
+use Rattle.mms_data.specs.Written.{header_size, simple_contents, written, written_all, written_contents, written_time}
 use Rattle.mms_data.specs.declared.kinds.Kind.{Kind}
 use Rattle.mms_data.specs.declared.kinds.Kind.TheVariants.{Array, Structure, Simple as of_kind}
 use Rattle.mms_data.specs.declared.time.UtcTime.{UtcTime}
@@ -93,8 +93,8 @@ module _ (o : List ℕ) (kind : Kind) (h : Header) (small : AreOctets o) (s : St
   few_contents = Len_small (length (contents_here o h)) s.size size_octets s.sized
 
   -- with the shortest length it is the written element
-  pub element_stands : h.contents_from ≡ header_size (length (contents_here o h)) → o ≡ element (identifier_of kind) (contents_here o h) ++ behind o h
-  unfolding element
+  pub element_stands : h.contents_from ≡ header_size (length (contents_here o h)) → o ≡ written_element (identifier_of kind) (contents_here o h) ++ behind o h
+  unfolding written_element
   element_stands short =
       let n = length (contents_here o h) in
       let w = length_shortest n few_contents in
@@ -221,7 +221,7 @@ kept k is v c small same h = kept_is v c small (ap is_kept same ∙ kept_true k 
 -- ---- members
 
 -- the value of the contents
-pub written_is : (k : ℕ) (kind : Kind) (h : Header) (c : List ℕ) (d : Data) → contents_at (members_at k) kind h c ≡ Ok d → written d ≡ element (identifier_of kind) (written_contents d)
+pub written_is : (k : ℕ) (kind : Kind) (h : Header) (c : List ℕ) (d : Data) → contents_at (members_at k) kind h c ≡ Ok d → written d ≡ written_element (identifier_of kind) (written_contents d)
 unfolding simple_at
 written_is k Array h c d e = let x = bind_ok (members_at k h.contents_from c) _ d e in let is : d ≡ array (items_of x.0) = (let same = x.2 in cc) in rw is refl
 written_is k Structure h c d e = let x = bind_ok (members_at k h.contents_from c) _ d e in let is : d ≡ structure (items_of x.0) = (let same = x.2 in cc) in rw is refl
@@ -229,7 +229,7 @@ written_is k (of_kind kind) h c d e =
     let x = bind_ok (simple_at kind h.at h.contents_from c) _ d e in
     let is : d ≡ simple x.0 = (let same = x.2 in cc) in
     let held = simple_found kind h.at h.contents_from c x.0 x.1 in
-    rw is (ap (λ (j : SimpleKind). element (simple_identifier j) (simple_contents x.0)) held.kind)
+    rw is (ap (λ (j : SimpleKind). written_element (simple_identifier j) (simple_contents x.0)) held.kind)
 
 -- contents of an array or a structure
 pub nested_iff : (k : ℕ) (kind : Kind) (h : Header) (c : List ℕ) (d : Data) → k ≤ 16 → (kind ≡ Array) ⊎ (kind ≡ Structure) → contents_at (members_at k) kind h c ≡ Ok d
@@ -267,11 +267,11 @@ module _ (k : ℕ) (o : List ℕ) (kind : Kind) (h : Header) (few : k ≤ 16) (s
   pub first_stands : h.contents_from ≡ header_size (length (contents_here o h)) → contents_here o h ≡ written_contents f.value → o ≡ written f.value ++ behind o h
   first_stands short same =
       element_stands o kind h small s short
-      ∙ ap (λ (x : List ℕ). x ++ behind o h) (ap (element (identifier_of kind)) same ∙ sym (written_is (k - 1) kind h (contents_here o h) f.value f.contents))
+      ∙ ap (λ (x : List ℕ). x ++ behind o h) (ap (written_element (identifier_of kind)) same ∙ sym (written_is (k - 1) kind h (contents_here o h) f.value f.contents))
 
   -- and the other way round
   first_again : length (written_contents f.value) < 2 ^ 32 → (more : List ℕ) → o ≡ written f.value ++ more → (h.contents_from ≡ header_size (length (contents_here o h))) × (contents_here o h ≡ written_contents f.value)
-  unfolding element
+  unfolding written_element
   first_again fits more e =
       let id = identifier_of kind in
       let c = contents_here o h in

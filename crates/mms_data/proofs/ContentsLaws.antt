@@ -14,11 +14,11 @@ use Rattle.ber_core.proofs.ContentsLaws.{boolean_found, boolean_again, boolean_w
 use Rattle.ber_core.proofs.Steps.{chosen, bind_ok, bind_err, fault_is}
 use Rattle.mms_data.specs.Data.{Simple, boolean, bits, integer, unsigned, floating, octets, visible, binary_time, mms_text, utc}
 use Rattle.mms_data.specs.Kinds.{simple_kind}
-use Rattle.mms_data.specs.Contents.{IsFloatingCount, IsTimeCount, cleared, IsUnused, SpellsBits, SpellsSimple, BitsFault, SimpleFault, least_signed, most_signed, most_unsigned}
-use Rattle.mms_data.specs.ContentsReading.{unsigned_at, counted_at, is_floating_count, is_time_count, is_unused, bits_at, simple_at}
+use Rattle.mms_data.specs.Contents.{IsFewOctets, IsTimeCount, cleared, IsUnused, SpellsBits, SpellsSimple, BitsFault, SimpleFault, least_signed, most_signed, most_unsigned}
+use Rattle.mms_data.specs.ContentsReading.{unsigned_at, counted_if, is_few_octets, is_time_count, is_unused, bits_at, simple_at}
 use Rattle.mms_data.specs.declared.kinds.SimpleKind.{SimpleKind}
 use Rattle.mms_data.specs.declared.kinds.SimpleKind.TheVariants as kinds
-use Rattle.mms_data.specs.Utc.{utc_at}
+use Rattle.mms_data.specs.UtcReading.{utc_at}
 use Rattle.mms_data.proofs.UtcLaws.{utc_found, utc_again, utc_wrong, utc_wrong_again}
 
 -- a test that lets a value through
@@ -38,10 +38,10 @@ fault_of_first r make f e = elim (bind_err r _ f e) [ inl h ↦ h | inr x ↦ ab
 
 -- ---- counts
 
-pub floating_true : (n : ℕ) → IsFloatingCount n → is_floating_count n ≡ true
+pub floating_true : (n : ℕ) → IsFewOctets n → is_few_octets n ≡ true
 floating_true n h = rw (le-leb 1 n h.0, le-leb n 16 h.1) refl
 
-pub floating_is : (n : ℕ) → is_floating_count n ≡ true → IsFloatingCount n
+pub floating_is : (n : ℕ) → is_few_octets n ≡ true → IsFewOctets n
 floating_is n e = let b = and_parts _ _ e in (leb-true _ _ b.0, leb-true _ _ b.1)
 
 pub time_true : (n : ℕ) → IsTimeCount n → is_time_count n ≡ true
@@ -51,10 +51,10 @@ time_true n (inr h) = rw h refl
 pub time_is : (n : ℕ) → is_time_count n ≡ true → IsTimeCount n
 time_is n e = elim (or_cases _ _ e) [ inl a ↦ inl (eqb-true _ _ a) | inr b ↦ inr (eqb-true _ _ b) ]
 
-counted_wrong : (b : Bool) (IsGood : Type 0) (p : ℕ) (c : List ℕ) (f : Fault) → (IsGood → b ≡ true) → counted_at b p c ≡ Err f → (f ≡ fault_of (p + 1) causes.FixedLength) × ¬ IsGood
+counted_wrong : (b : Bool) (IsGood : Type 0) (p : ℕ) (c : List ℕ) (f : Fault) → (IsGood → b ≡ true) → counted_if b p c ≡ Err f → (f ≡ fault_of (p + 1) causes.FixedLength) × ¬ IsGood
 counted_wrong b IsGood p c f law e = let t = tested_err b c f (p + 1) causes.FixedLength e in (t.1, λ g. let yes = law g in let wrong = t.0 in cc)
 
-counted_refused : (b : Bool) (IsGood : Type 0) (p : ℕ) (c : List ℕ) → (b ≡ true → IsGood) → (¬ IsGood) → counted_at b p c ≡ refused (p + 1) causes.FixedLength
+counted_refused : (b : Bool) (IsGood : Type 0) (p : ℕ) (c : List ℕ) → (b ≡ true → IsGood) → (¬ IsGood) → counted_if b p c ≡ refused (p + 1) causes.FixedLength
 counted_refused true IsGood p c law h = absurd (h (law refl))
 counted_refused false IsGood p c law h = refl
 
@@ -130,15 +130,15 @@ simple_found kinds.Unsigned p s c v e =
     let same : y.0 ≡ pos x.0 = natural_is y.0 z.0 ∙ ap pos (sym y.2) in
     rw x.2 (record { kind = refl; spelled = subst (λ (n : ℤ). SpellsInteger (pos 0) most_unsigned n c) same z })
 simple_found kinds.FloatingPoint p s c v e =
-    let x = value_is (counted_at (is_floating_count (length c)) p c) floating v e in
-    let t = tested_ok (is_floating_count (length c)) c x.0 (p + 1) causes.FixedLength x.1 in
+    let x = value_is (counted_if (is_few_octets (length c)) p c) floating v e in
+    let t = tested_ok (is_few_octets (length c)) c x.0 (p + 1) causes.FixedLength x.1 in
     rw (x.2, ← t.1) (record { kind = refl; spelled = (refl, floating_is (length c) t.0) })
 simple_found kinds.OctetString p s c v e = let is : v ≡ octets c = cc in rw is (record { kind = refl; spelled = refl })
 simple_found kinds.VisibleString p s c v e =
     let x = value_is (visible_at s c) visible v e in
     rw x.2 (record { kind = refl; spelled = visible_found s c x.0 x.1 })
 simple_found kinds.BinaryTime p s c v e =
-    let x = value_is (counted_at (is_time_count (length c)) p c) binary_time v e in
+    let x = value_is (counted_if (is_time_count (length c)) p c) binary_time v e in
     let t = tested_ok (is_time_count (length c)) c x.0 (p + 1) causes.FixedLength x.1 in
     rw (x.2, ← t.1) (record { kind = refl; spelled = (refl, time_is (length c) t.0) })
 simple_found kinds.MmsString p s c v e = let is : v ≡ mms_text c = cc in rw is (record { kind = refl; spelled = refl })
@@ -153,11 +153,11 @@ simple_wrong kinds.Integer p s c f e = integer_wrong least_signed most_signed p 
 simple_wrong kinds.Unsigned p s c f e =
     integer_wrong (pos 0) most_unsigned p s c f (fault_of_first (integer_at (pos 0) most_unsigned p s c) natural f (fault_of_first (unsigned_at p s c) unsigned f e))
 simple_wrong kinds.FloatingPoint p s c f e =
-    counted_wrong (is_floating_count (length c)) (IsFloatingCount (length c)) p c f (floating_true (length c)) (fault_of_first (counted_at (is_floating_count (length c)) p c) floating f e)
+    counted_wrong (is_few_octets (length c)) (IsFewOctets (length c)) p c f (floating_true (length c)) (fault_of_first (counted_if (is_few_octets (length c)) p c) floating f e)
 simple_wrong kinds.OctetString p s c f e = let wrong : ⊥ = cc in wrong
 simple_wrong kinds.VisibleString p s c f e = visible_wrong f s c (fault_of_first (visible_at s c) visible f e)
 simple_wrong kinds.BinaryTime p s c f e =
-    counted_wrong (is_time_count (length c)) (IsTimeCount (length c)) p c f (time_true (length c)) (fault_of_first (counted_at (is_time_count (length c)) p c) binary_time f e)
+    counted_wrong (is_time_count (length c)) (IsTimeCount (length c)) p c f (time_true (length c)) (fault_of_first (counted_if (is_time_count (length c)) p c) binary_time f e)
 simple_wrong kinds.MmsString p s c f e = let wrong : ⊥ = cc in wrong
 simple_wrong kinds.UtcTime p s c f e = utc_wrong p c f (fault_of_first (utc_at p c) utc f e)
 
@@ -168,7 +168,7 @@ simple_refused kinds.Boolean p s c f h = rw (boolean_wrong_again f p c h) refl
 simple_refused kinds.BitString p s c f h = rw (bits_refused s c f h) refl
 simple_refused kinds.Integer p s c f h = rw (integer_wrong_again least_signed most_signed p s c f h) refl
 simple_refused kinds.Unsigned p s c f h = rw (integer_wrong_again (pos 0) most_unsigned p s c f h) refl
-simple_refused kinds.FloatingPoint p s c f h = rw (counted_refused (is_floating_count (length c)) (IsFloatingCount (length c)) p c (floating_is (length c)) h.1, h.0) refl
+simple_refused kinds.FloatingPoint p s c f h = rw (counted_refused (is_few_octets (length c)) (IsFewOctets (length c)) p c (floating_is (length c)) h.1, h.0) refl
 simple_refused kinds.OctetString p s c f h = absurd h
 simple_refused kinds.VisibleString p s c f h = rw (visible_wrong_again f s c h) refl
 simple_refused kinds.BinaryTime p s c f h = rw (counted_refused (is_time_count (length c)) (IsTimeCount (length c)) p c (time_is (length c)) h.1, h.0) refl

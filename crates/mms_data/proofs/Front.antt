@@ -8,7 +8,7 @@ use Rattle.ber_core.specs.Reading.{header_at}
 use Rattle.ber_core.proofs.Headers.{low_found}
 use Rattle.ber_core.proofs.Steps.{bind_ok, pair_is}
 use Rattle.mms_data.specs.Data.{Data, array, structure, items_of}
-use Rattle.mms_data.specs.Left.{data_or_none, is_read, data_in, AreMembers}
+use Rattle.mms_data.specs.Left.{data_or_none, was_read, data_in, AreMembers}
 use Rattle.mms_data.specs.Reading.{known_at, contents_within, contents_at, member_with, members_with, member_at, members_at}
 use Rattle.mms_data.specs.Spelling.{SpellsAll, SpellSome}
 use Rattle.mms_data.specs.declared.kinds.Kind.{Kind}
@@ -17,7 +17,7 @@ use Rattle.mms_data.proofs.KindLaws.{here_found}
 use Rattle.mms_data.proofs.Again.{all_again}
 use Rattle.mms_data.proofs.Found.{all_found, member_step, member_found, members_found, no_levels}
 
-read_ok : (r : Result (List Data) Fault) → is_read r ≡ true → r ≡ Ok (data_or_none r)
+read_ok : (r : Result (List Data) Fault) → was_read r ≡ true → r ≡ Ok (data_or_none r)
 read_ok (Ok ds) e = refl
 read_ok (Err f) e = absurd (cc)
 

@@ -7,15 +7,15 @@ use Rattle.ber_core.specs.declared.element.Header.{Header}
 use Rattle.ber_core.specs.Length.{AreOctets, Len}
 use Rattle.ber_core.specs.Element.{Elem}
 use Rattle.ber_core.specs.Reading.{length_at}
-use Rattle.ber_core.specs.Written.{short_length}
+use Rattle.ber_core.specs.Written.{short_length, written_element}
 use Rattle.ber_core.proofs.Headers.{header_for, length_again}
 use Rattle.ber_core.proofs.OneSize.{Len_small}
 use Rattle.ber_core.proofs.Shortest.{length_shortest, integer_shortest}
 use Rattle.ber_core.proofs.Steps.{ok_is}
-use Rattle.mms_data.specs.Contents.{SpellsSimple, cleared}
+use Rattle.mms_data.specs.Contents.{SpellsSimple}
 use Rattle.mms_data.specs.Data.{Simple, boolean, bits, integer, unsigned, floating, octets, visible, binary_time, mms_text, utc, Data, simple, array, structure, Items, no_items, item}
 use Rattle.mms_data.specs.Spelling.{Spells, SpellsItems}
-use Rattle.mms_data.specs.Written.{element, simple_contents, written, written_items, header_size}
+use Rattle.mms_data.specs.Written.{simple_contents, written, written_items, header_size}
 use Rattle.mms_data.proofs.Sizes.{cleared_size}
 use Rattle.mms_data.proofs.SpelledSpellable.{front_octets, back_octets, contents_octets}
 use Rattle.mms_data.proofs.WrittenSizes.{element_size, length_size, time_size}
@@ -49,7 +49,7 @@ contents_small : (id : ℕ) (c o : List ℕ) → AreOctets o → Elem id c o →
 contents_small id c o h e = Len_small (length c) e.size (size_octets id c o h e) e.sized
 
 -- the written element of no more contents is no longer
-element_least : (id : ℕ) (c cw o : List ℕ) → AreOctets o → Elem id c o → length cw ≤ length c → length (element id cw) ≤ length o
+element_least : (id : ℕ) (c cw o : List ℕ) → AreOctets o → Elem id c o → length cw ≤ length c → length (written_element id cw) ≤ length o
 element_least id c cw o h e few =
     let fewest = (length_shortest (length c) (contents_small id c o h e)).fewest e.size (size_octets id c o h e) e.sized in
     omega (arith, element_size id cw, header_grows (length cw) (length c) few, few, length_size (length c), fewest, ap length e.parts, length-append e.size c)

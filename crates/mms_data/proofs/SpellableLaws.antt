@@ -9,7 +9,8 @@ use Rattle.ber_core.specs.Contents.{AreVisible}
 use Rattle.ber_core.specs.ContentsReading.{all_visible_at}
 use Rattle.ber_core.proofs.ContentsLaws.{all_visible_found, all_visible_again}
 use Rattle.mms_data.specs.Contents.{IsSigned, IsUnused, cleared}
-use Rattle.mms_data.specs.Spellable.{IsTime, IsSpellable, Spellable, SpellableItems, is_text_read, is_text, are_bits, is_time, is_signed, is_simple, is_spelled, are_spelled}
+use Rattle.mms_data.specs.Spellable.{IsTime, IsSpellableSimple, IsSpellableAt, ItemsAreSpellable}
+use Rattle.mms_data.specs.SpellableTest.{is_text_read, is_text, are_bits, is_time, is_signed, is_spellable_simple, is_spellable_at, items_are_spellable}
 use Rattle.mms_data.specs.declared.time.UtcTime.{UtcTime}
 use Rattle.mms_data.proofs.ContentsLaws.{floating_true, floating_is, time_true, time_is}
 
@@ -68,7 +69,7 @@ moment_true t h = rw (lt-ltb t.seconds (2 ^ 32) h.0, lt-ltb t.fraction (2 ^ 24) 
 pub moment_is : (t : UtcTime) → is_time t ≡ true → IsTime t
 moment_is t e = let a = and_parts _ _ e in let b = and_parts _ _ a.1 in (ltb-true _ _ a.0, ltb-true _ _ b.0, ltb-true _ _ b.1)
 
-simple_true : (s : Simple) → IsSpellable s → is_simple s ≡ true
+simple_true : (s : Simple) → IsSpellableSimple s → is_spellable_simple s ≡ true
 simple_true (boolean b) h = refl
 simple_true (bits unused ns) h = bits_true unused ns h.0 h.1
 simple_true (integer n) h = signed_true n h
@@ -80,7 +81,7 @@ simple_true (binary_time ns) h = time_true (length ns) h
 simple_true (mms_text ns) h = refl
 simple_true (utc t) h = moment_true t h
 
-simple_is : (s : Simple) → is_simple s ≡ true → IsSpellable s
+simple_is : (s : Simple) → is_spellable_simple s ≡ true → IsSpellableSimple s
 simple_is (boolean b) e = tt
 simple_is (bits unused ns) e = bits_is unused ns e
 simple_is (integer n) e = signed_is n e
@@ -93,21 +94,21 @@ simple_is (mms_text ns) e = tt
 simple_is (utc t) e = moment_is t e
 
 mutual
-  pub spelled_true : (d : Data) (L : ℕ) → Spellable d L → is_spelled d L ≡ true
+  pub spelled_true : (d : Data) (L : ℕ) → IsSpellableAt d L → is_spellable_at d L ≡ true
   spelled_true (simple s) L h = and_from _ _ (le-leb L 16 h.0) (simple_true s h.1)
   spelled_true (array ds) L h = and_from _ _ (le-leb L 16 h.0) (all_true ds (L + 1) h.1)
   spelled_true (structure ds) L h = and_from _ _ (le-leb L 16 h.0) (all_true ds (L + 1) h.1)
 
-  pub all_true : (ds : Items) (L : ℕ) → SpellableItems ds L → are_spelled ds L ≡ true
+  pub all_true : (ds : Items) (L : ℕ) → ItemsAreSpellable ds L → items_are_spellable ds L ≡ true
   all_true no_items L h = refl
   all_true (item d ds) L h = and_from _ _ (spelled_true d L h.0) (all_true ds L h.1)
 
 mutual
-  pub spelled_is : (d : Data) (L : ℕ) → is_spelled d L ≡ true → Spellable d L
-  spelled_is (simple s) L e = let b = and_parts (leb L 16) (is_simple s) e in (leb-true L 16 b.0, simple_is s b.1)
-  spelled_is (array ds) L e = let b = and_parts (leb L 16) (are_spelled ds (L + 1)) e in (leb-true L 16 b.0, all_is ds (L + 1) b.1)
-  spelled_is (structure ds) L e = let b = and_parts (leb L 16) (are_spelled ds (L + 1)) e in (leb-true L 16 b.0, all_is ds (L + 1) b.1)
+  pub spelled_is : (d : Data) (L : ℕ) → is_spellable_at d L ≡ true → IsSpellableAt d L
+  spelled_is (simple s) L e = let b = and_parts (leb L 16) (is_spellable_simple s) e in (leb-true L 16 b.0, simple_is s b.1)
+  spelled_is (array ds) L e = let b = and_parts (leb L 16) (items_are_spellable ds (L + 1)) e in (leb-true L 16 b.0, all_is ds (L + 1) b.1)
+  spelled_is (structure ds) L e = let b = and_parts (leb L 16) (items_are_spellable ds (L + 1)) e in (leb-true L 16 b.0, all_is ds (L + 1) b.1)
 
-  pub all_is : (ds : Items) (L : ℕ) → are_spelled ds L ≡ true → SpellableItems ds L
+  pub all_is : (ds : Items) (L : ℕ) → items_are_spellable ds L ≡ true → ItemsAreSpellable ds L
   all_is no_items L e = tt
-  all_is (item d ds) L e = let b = and_parts (is_spelled d L) (are_spelled ds L) e in (spelled_is d L b.0, all_is ds L b.1)
+  all_is (item d ds) L e = let b = and_parts (is_spellable_at d L) (items_are_spellable ds L) e in (spelled_is d L b.0, all_is ds L b.1)

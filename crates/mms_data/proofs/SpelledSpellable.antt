@@ -6,7 +6,7 @@ use Rattle.ber_core.specs.Length.{AreOctets, number}
 use Rattle.ber_core.proofs.Shortest.{number_small}
 use Rattle.mms_data.specs.Contents.{IsUnused, SpellsSimple, cleared}
 use Rattle.mms_data.specs.Data.{Simple, boolean, bits, integer, unsigned, floating, octets, visible, binary_time, mms_text, utc, Data, simple, array, structure, Items, no_items, item}
-use Rattle.mms_data.specs.Spellable.{IsSpellable, Spellable, SpellableItems}
+use Rattle.mms_data.specs.Spellable.{IsSpellableSimple, IsSpellableAt, ItemsAreSpellable}
 use Rattle.mms_data.specs.Spelling.{Spells, SpellsItems}
 
 -- ---- parts of octets are octets
@@ -46,7 +46,7 @@ cleared_again u (first ∷ next ∷ third ∷ more) = ap (λ (x : List ℕ). fir
 
 -- ---- a value, by its kind
 
-pub simple_spellable : (s : Simple) (c : List ℕ) → AreOctets c → SpellsSimple s c → IsSpellable s
+pub simple_spellable : (s : Simple) (c : List ℕ) → AreOctets c → SpellsSimple s c → IsSpellableSimple s
 simple_spellable (boolean b) c h s = tt
 simple_spellable (bits unused ns) [] h s = absurd s
 simple_spellable (bits unused ns) (count ∷ more) h (same, fits, is) =
@@ -73,12 +73,12 @@ simple_spellable (utc t) c h (seconds, fraction, four, three, first, second, par
 -- ---- values, nested
 
 mutual
-  pub value_spellable : (d : Data) (L : ℕ) (o : List ℕ) → AreOctets o → Spells d L o → Spellable d L
+  pub value_spellable : (d : Data) (L : ℕ) (o : List ℕ) → AreOctets o → Spells d L o → IsSpellableAt d L
   value_spellable (simple s) L o h (low, c, elem, spelled) = (low, simple_spellable s c (contents_octets _ c o h elem) spelled)
   value_spellable (array ds) L o h (low, c, elem, spelled) = (low, items_spellable ds (L + 1) c (contents_octets 161 c o h elem) spelled)
   value_spellable (structure ds) L o h (low, c, elem, spelled) = (low, items_spellable ds (L + 1) c (contents_octets 162 c o h elem) spelled)
 
-  pub items_spellable : (ds : Items) (L : ℕ) (o : List ℕ) → AreOctets o → SpellsItems ds L o → SpellableItems ds L
+  pub items_spellable : (ds : Items) (L : ℕ) (o : List ℕ) → AreOctets o → SpellsItems ds L o → ItemsAreSpellable ds L
   items_spellable no_items L o h s = tt
   items_spellable (item d ds) L o h (first, rest, spelled, more, parts) =
       let all : AreOctets (first ++ rest) = subst AreOctets parts h in

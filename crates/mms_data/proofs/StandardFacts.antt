@@ -4,17 +4,18 @@ use Rattle.std.specs.Prelude.{pos, negsuc}
 use Rattle.ber_core.specs.ContentsReading.{all_visible_at, any_integer_at, boolean_at, integer_at}
 use Rattle.ber_core.specs.Faults.{fault_of}
 use Rattle.ber_core.specs.Reading.{counted_length_at, header_at, length_at, refused}
-use Rattle.ber_core.specs.Written.{integer_size, short_integer, short_length}
+use Rattle.ber_core.specs.Written.{integer_size, short_integer, short_length, written_element}
 use Rattle.ber_core.specs.declared.fault.Cause.TheVariants as causes
 use Rattle.mms_data.specs.Contents.{SpellsBits}
 use Rattle.mms_data.specs.ContentsReading.{simple_at}
 use Rattle.mms_data.specs.Data.{Data, array, structure, items_of, simple, boolean, bits, integer, unsigned, floating, octets, visible, binary_time, mms_text, utc}
 use Rattle.mms_data.specs.Kinds.{kind_at}
 use Rattle.mms_data.specs.Reading.{member_at, member_with, members_at, members_with}
-use Rattle.mms_data.specs.Spellable.{Spellable}
+use Rattle.mms_data.specs.Spellable.{IsSpellableAt}
 use Rattle.mms_data.specs.Spelling.{FaultIn, Spells, SpellsAll}
-use Rattle.mms_data.specs.Utc.{SpellsUtc, utc_at}
-use Rattle.mms_data.specs.Written.{element, written, written_all}
+use Rattle.mms_data.specs.Utc.{SpellsUtc}
+use Rattle.mms_data.specs.UtcReading.{utc_at}
+use Rattle.mms_data.specs.Written.{written, written_all}
 use Rattle.mms_data.specs.declared.time.UtcTime.{UtcTime}
 use Rattle.mms_data.proofs.Found.{all_found}
 use Rattle.mms_data.proofs.Wrong.{all_wrong}
@@ -62,7 +63,7 @@ pub each_kind_spelled : SpellsAll its_values 1 each_kind
 each_kind_spelled = all_found 16 1 (omega arith) 0 each_kind its_values each_kind_read
 
 pub each_kind_written : written_all its_values ≡ each_kind
-unfolding element short_length short_integer integer_size
+unfolding written_element short_length short_integer integer_size
 each_kind_written = refl
 
 -- spellings with octets that are not needed: a long length, zeros in front of a number, true as 1, unused bits set
@@ -77,7 +78,7 @@ unfolding members_at members_with member_at member_with kind_at header_at length
 needless_read = refl
 
 pub needless_written : written its_value ≡ 0xa2 ∷ 11 ∷ 0x83 ∷ 1 ∷ 0xff ∷ 0x85 ∷ 1 ∷ 5 ∷ 0x84 ∷ 3 ∷ 3 ∷ 0xff ∷ 0xf8 ∷ []
-unfolding element short_length short_integer integer_size
+unfolding written_element short_length short_integer integer_size
 needless_written = refl
 
 -- the ends of the ranges of numbers
@@ -191,12 +192,12 @@ faults = record {
 -- ---- what has no spelling
 
 pub record AreNotSpellable : Type 0 where
-  pub control : ¬ Spellable (simple (visible (7 ∷ []))) 1
-  pub late : ¬ Spellable (simple (utc (record moment { fraction = 0x1000000 }))) 1
-  pub deep : ¬ Spellable (simple (boolean true)) 17
-  pub no_float : ¬ Spellable (simple (floating [])) 1
-  pub five_octets : ¬ Spellable (simple (binary_time (0 ∷ 0 ∷ 0 ∷ 0 ∷ 0 ∷ []))) 1
-  pub unused_set : ¬ Spellable (simple (bits 3 (0xff ∷ []))) 1
+  pub control : ¬ IsSpellableAt (simple (visible (7 ∷ []))) 1
+  pub late : ¬ IsSpellableAt (simple (utc (record moment { fraction = 0x1000000 }))) 1
+  pub deep : ¬ IsSpellableAt (simple (boolean true)) 17
+  pub no_float : ¬ IsSpellableAt (simple (floating [])) 1
+  pub five_octets : ¬ IsSpellableAt (simple (binary_time (0 ∷ 0 ∷ 0 ∷ 0 ∷ 0 ∷ []))) 1
+  pub unused_set : ¬ IsSpellableAt (simple (bits 3 (0xff ∷ []))) 1
 
 pub not_spellable : AreNotSpellable
 not_spellable = record {

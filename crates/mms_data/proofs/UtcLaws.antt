@@ -2,12 +2,14 @@
 use Rattle.std.proofs.Common.{◌≡◌, ℕ, ◌+◌, eqb, List, [], ◌∷◌, ◌++◌, length, take, drop, slice_index, Ok, Err, refl, sym, ap, ◌∙◌, arith, inl, inr}
 use Rattle.std.proofs.lemmas.List.{length-append, length-take, length-drop, take-append-drop, drop-drop, drop_at}
 use Rattle.std.proofs.lemmas.Bool.{eqb-true, eqb-false, eq-eqb, ne_eqb}
+use Rattle.ber_core.specs.Contents.{CountedFault}
 use Rattle.byteorder.specs.Endian.{big_number}
 use Rattle.byteorder.specs.Numbers.{big_from-take, big_from-append}
 use Rattle.ber_core.specs.declared.fault.Fault.{Fault}
 use Rattle.ber_core.specs.declared.fault.Cause.TheVariants as causes
 use Rattle.ber_core.proofs.Steps.{chosen, fault_is}
-use Rattle.mms_data.specs.Utc.{SpellsUtc, UtcFault, utc_at, utc_of}
+use Rattle.mms_data.specs.Utc.{SpellsUtc, utc_of}
+use Rattle.mms_data.specs.UtcReading.{utc_at}
 use Rattle.mms_data.specs.declared.time.UtcTime.{UtcTime}
 
 -- the last of eight octets
@@ -63,13 +65,13 @@ module _ (at : ℕ) (c : List ℕ) where
   unfolding utc_at
   utc_again t s = let x = spelled_eight t c s in rw (eq-eqb (length c) 8 x.0) (ap (λ (y : UtcTime). Ok y) x.1)
 
-  pub utc_wrong : (f : Fault) → utc_at at c ≡ Err f → UtcFault f at c
+  pub utc_wrong : (f : Fault) → utc_at at c ≡ Err f → CountedFault f 8 at c
   unfolding utc_at
   utc_wrong f e = elim (chosen (eqb (length c) 8) _ _ _ e) [
     | inl x ↦ absurd (let wrong = x.1 in cc)
     | inr x ↦ (eqb-false (length c) 8 x.0, fault_is {A = UtcTime} (at + 1) causes.FixedLength f x.1)
   ]
 
-  pub utc_wrong_again : (f : Fault) → UtcFault f at c → utc_at at c ≡ Err f
+  pub utc_wrong_again : (f : Fault) → CountedFault f 8 at c → utc_at at c ≡ Err f
   unfolding utc_at
   utc_wrong_again f (n, is) = rw (ne_eqb (length c) 8 n, is) refl

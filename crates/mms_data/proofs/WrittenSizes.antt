@@ -1,16 +1,16 @@
 -- The sizes of written forms, and the written form of members one more at a time.
-use Rattle.std.proofs.Common.{◌≡◌, ℕ, zero, suc, ◌+◌, ◌<◌, ◌≤◌, Bool, true, false, cond, ltb, List, [], ◌∷◌, ◌++◌, length, drop, get_or, refl, sym, ap, ◌∙◌, arith}
+use Rattle.std.proofs.Common.{◌≡◌, ℕ, zero, suc, ◌+◌, ◌<◌, Bool, true, false, cond, ltb, List, [], ◌∷◌, ◌++◌, length, drop, get_or, refl, arith}
 use Rattle.std.proofs.lemmas.List.{length-append}
 use Rattle.std.specs.Prelude.{ℤ}
 use Rattle.byteorder.specs.Endian.{big_bytes}
 use Rattle.byteorder.specs.Numbers.{length-bytes_high_first}
-use Rattle.ber_core.specs.Written.{number_size, short_length, short_integer, integer_size}
+use Rattle.ber_core.specs.Written.{number_size, short_length, short_integer, integer_size, written_element}
 use Rattle.ber_core.proofs.WrittenLemmas.{length-short_integer}
 use Rattle.mms_data.specs.Data.{Data, simple, array, structure}
 use Rattle.mms_data.specs.declared.time.UtcTime.{UtcTime}
 use Rattle.mms_data.specs.declared.value.Value.{Value}
 use Rattle.mms_data.specs.Value.{data_of, datas}
-use Rattle.mms_data.specs.Written.{element, written_time, written, written_all, written_contents, header_size}
+use Rattle.mms_data.specs.Written.{written_time, written, written_all, written_contents, header_size}
 
 by_test : (b : Bool) (n : ℕ) → cond b 2 (2 + number_size n) ≡ 1 + length (cond b (n ∷ []) ((128 + number_size n) ∷ big_bytes (number_size n) n))
 by_test true n = refl
@@ -21,8 +21,8 @@ pub length_size : (n : ℕ) → header_size n ≡ 1 + length (short_length n)
 unfolding short_length
 length_size n = by_test (ltb n 128) n
 
-pub element_size : (id : ℕ) (c : List ℕ) → length (element id c) ≡ header_size (length c) + length c
-unfolding element
+pub element_size : (id : ℕ) (c : List ℕ) → length (written_element id c) ≡ header_size (length c) + length c
+unfolding written_element
 element_size id c = omega (arith, length_size (length c), length-append (short_length (length c)) c)
 
 pub written_size : (d : Data) → length (written d) ≡ header_size (length (written_contents d)) + length (written_contents d)

@@ -14,12 +14,6 @@ ReadsAs view (Err (errors.Fault f)) x = ⊥
 abbrev pub Reads : {X : Type 0} → Result X ReadFault → X → Type 0
 Reads r x = ReadsAs (λ v. v) r x
 
--- it answers this fault, unless memory was refused
-abbrev pub Refuses : {X : Type 0} → Result X ReadFault → Fault → Type 0
-Refuses (Ok v) f = ⊥
-Refuses (Err (errors.Memory e)) f = Unit {0}
-Refuses (Err (errors.Fault g)) f = g ≡ f
-
 -- the fault that it answers, if any, is such
 abbrev pub IfRefused : {X : Type 0} → Result X ReadFault → (Fault → Type 0) → Type 0
 IfRefused (Ok v) P = Unit {0}

@@ -1,14 +1,14 @@
 -- The contents of the kinds without members (ISO 9506-2, Data; ISO/IEC 8825-1, 8.2, 8.3, 8.6 and 8.23), and what is
 -- wrong with contents.
 use Rattle.std.specs.Prelude.{◌≡◌, ◌≤◌, ◌≤ℤ◌, ◌+◌, ◌-◌, ◌^◌, ◌%◌, ◌⊎◌, ℕ, ℤ, pos, negsuc, List, [], ◌∷◌, length}
-use Rattle.ber_core.specs.Contents.{SpellsBoolean, BooleanFault, SpellsInteger, IntegerFault, SpellsVisible, VisibleFault}
+use Rattle.ber_core.specs.Contents.{SpellsBoolean, BooleanFault, SpellsInteger, IntegerFault, SpellsVisible, VisibleFault, CountedFault}
 use Rattle.ber_core.specs.Faults.{fault_of}
 use Rattle.ber_core.specs.declared.fault.Fault.{Fault}
 use Rattle.ber_core.specs.declared.fault.Cause.TheVariants as causes
 use Rattle.mms_data.specs.Data.{Simple, boolean, bits, integer, unsigned, floating, octets, visible, binary_time, mms_text, utc}
 use Rattle.mms_data.specs.declared.kinds.SimpleKind.{SimpleKind}
 use Rattle.mms_data.specs.declared.kinds.SimpleKind.TheVariants as kinds
-use Rattle.mms_data.specs.Utc.{SpellsUtc, UtcFault}
+use Rattle.mms_data.specs.Utc.{SpellsUtc}
 
 -- profile: a signed number lies from -2^63 to 2^63 - 1, an unsigned one from 0 to 2^64 - 1
 abbrev pub least_signed : ℤ
@@ -27,8 +27,8 @@ abbrev pub IsUnsigned : ℤ → Type 0
 IsUnsigned n = (pos 0 ≤ℤ n) × (n ≤ℤ most_unsigned)
 
 -- profile: a floating-point number has 1 to 16 octets
-abbrev pub IsFloatingCount : ℕ → Type 0
-IsFloatingCount n = (1 ≤ n) × (n ≤ 16)
+abbrev pub IsFewOctets : ℕ → Type 0
+IsFewOctets n = (1 ≤ n) × (n ≤ 16)
 
 -- a binary time has 4 or 6 octets
 abbrev pub IsTimeCount : ℕ → Type 0
@@ -56,7 +56,7 @@ SpellsSimple (boolean b) c = SpellsBoolean b c
 SpellsSimple (bits unused ns) c = SpellsBits unused ns c
 SpellsSimple (integer n) c = SpellsInteger least_signed most_signed n c
 SpellsSimple (unsigned n) c = SpellsInteger (pos 0) most_unsigned (pos n) c
-SpellsSimple (floating ns) c = (c ≡ ns) × IsFloatingCount (length ns)
+SpellsSimple (floating ns) c = (c ≡ ns) × IsFewOctets (length ns)
 SpellsSimple (octets ns) c = c ≡ ns
 SpellsSimple (visible ns) c = SpellsVisible ns c
 SpellsSimple (binary_time ns) c = (c ≡ ns) × IsTimeCount (length ns)
@@ -76,9 +76,9 @@ SimpleFault f kinds.Boolean p s c = BooleanFault f p c
 SimpleFault f kinds.BitString p s c = BitsFault f s c
 SimpleFault f kinds.Integer p s c = IntegerFault f least_signed most_signed p s c
 SimpleFault f kinds.Unsigned p s c = IntegerFault f (pos 0) most_unsigned p s c
-SimpleFault f kinds.FloatingPoint p s c = (f ≡ fault_of (p + 1) causes.FixedLength) × ¬ IsFloatingCount (length c)
+SimpleFault f kinds.FloatingPoint p s c = (f ≡ fault_of (p + 1) causes.FixedLength) × ¬ IsFewOctets (length c)
 SimpleFault f kinds.OctetString p s c = ⊥
 SimpleFault f kinds.VisibleString p s c = VisibleFault f s c
 SimpleFault f kinds.BinaryTime p s c = (f ≡ fault_of (p + 1) causes.FixedLength) × ¬ IsTimeCount (length c)
 SimpleFault f kinds.MmsString p s c = ⊥
-SimpleFault f kinds.UtcTime p s c = UtcFault f p c
+SimpleFault f kinds.UtcTime p s c = CountedFault f 8 p c

@@ -9,18 +9,18 @@ use Rattle.mms_data.specs.Contents.{cleared, least_signed, most_signed, most_uns
 use Rattle.mms_data.specs.Data.{Simple, boolean, bits, integer, unsigned, floating, octets, visible, binary_time, mms_text, utc}
 use Rattle.mms_data.specs.declared.kinds.SimpleKind.{SimpleKind}
 use Rattle.mms_data.specs.declared.kinds.SimpleKind.TheVariants as kinds
-use Rattle.mms_data.specs.Utc.{utc_at}
+use Rattle.mms_data.specs.UtcReading.{utc_at}
 
 -- an unsigned number, of 64 bits
 abbrev pub unsigned_at : ℕ → ℕ → List ℕ → Result ℕ Fault
 unsigned_at p s c = integer_at (pos 0) most_unsigned p s c >>= λ n. Ok (natural n)
 
 -- contents whose count of octets is good are kept as they are
-abbrev pub counted_at : Bool → ℕ → List ℕ → Result (List ℕ) Fault
-counted_at is_good p c = if is_good then Ok c else refused (p + 1) causes.FixedLength
+abbrev pub counted_if : Bool → ℕ → List ℕ → Result (List ℕ) Fault
+counted_if is_good p c = if is_good then Ok c else refused (p + 1) causes.FixedLength
 
-abbrev pub is_floating_count : ℕ → Bool
-is_floating_count n = nat_le 1 n && nat_le n 16
+abbrev pub is_few_octets : ℕ → Bool
+is_few_octets n = nat_le 1 n && nat_le n 16
 
 abbrev pub is_time_count : ℕ → Bool
 is_time_count n = n == 4 || n == 6
@@ -40,9 +40,9 @@ simple_at kinds.Boolean p s c = boolean_at p c >>= λ b. Ok (boolean b)
 simple_at kinds.BitString p s c = bits_at s c >>= λ x. Ok (bits x.0 (cleared x.0 x.1))
 simple_at kinds.Integer p s c = integer_at least_signed most_signed p s c >>= λ n. Ok (integer n)
 simple_at kinds.Unsigned p s c = unsigned_at p s c >>= λ n. Ok (unsigned n)
-simple_at kinds.FloatingPoint p s c = counted_at (is_floating_count (length c)) p c >>= λ o. Ok (floating o)
+simple_at kinds.FloatingPoint p s c = counted_if (is_few_octets (length c)) p c >>= λ o. Ok (floating o)
 simple_at kinds.OctetString p s c = Ok (octets c)
 simple_at kinds.VisibleString p s c = visible_at s c >>= λ text. Ok (visible text)
-simple_at kinds.BinaryTime p s c = counted_at (is_time_count (length c)) p c >>= λ o. Ok (binary_time o)
+simple_at kinds.BinaryTime p s c = counted_if (is_time_count (length c)) p c >>= λ o. Ok (binary_time o)
 simple_at kinds.MmsString p s c = Ok (mms_text c)
 simple_at kinds.UtcTime p s c = utc_at p c >>= λ t. Ok (utc t)

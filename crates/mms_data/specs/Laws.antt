@@ -4,7 +4,7 @@ use Rattle.ber_core.specs.declared.fault.Fault.{Fault}
 use Rattle.ber_core.specs.Length.{AreOctets}
 use Rattle.mms_data.specs.Data.{Data}
 use Rattle.mms_data.specs.Spelling.{Spells, SpellsAll, SpellSome, FaultIn}
-use Rattle.mms_data.specs.Spellable.{Spellable, AllSpellable}
+use Rattle.mms_data.specs.Spellable.{IsSpellableAt, AllAreSpellable}
 use Rattle.mms_data.specs.Written.{HasWritten, written, written_all}
 use Rattle.mms_data.specs.Meaning.{left}
 use Rattle.mms_data.specs.Place.{level_of, source_of}
@@ -28,15 +28,15 @@ FaultIsOne = (L p : ℕ) (o : List ℕ) (f g : Fault) → L ≤ 17 → FaultIn f
 
 -- the written form of a value that has a spelling, and contents of at most 4294967295 octets, spells it
 abbrev pub WrittenIsSpelled : Type 0
-WrittenIsSpelled = (d : Data) (L : ℕ) → Spellable d L → HasWritten d → Spells d L (written d)
+WrittenIsSpelled = (d : Data) (L : ℕ) → IsSpellableAt d L → HasWritten d → Spells d L (written d)
 
 -- the same of members, one after the other
 abbrev pub AllWrittenAreSpelled : Type 0
-AllWrittenAreSpelled = (ds : List Data) (L : ℕ) → AllSpellable ds L → length (written_all ds) < 2 ^ 32 → SpellsAll ds L (written_all ds)
+AllWrittenAreSpelled = (ds : List Data) (L : ℕ) → AllAreSpellable ds L → length (written_all ds) < 2 ^ 32 → SpellsAll ds L (written_all ds)
 
 -- a value that octets spell at a level has a spelling there in the sense of its fields: what is read can be written
 abbrev pub SpelledIsSpellable : Type 0
-SpelledIsSpellable = (d : Data) (L : ℕ) (o : List ℕ) → AreOctets o → Spells d L o → Spellable d L
+SpelledIsSpellable = (d : Data) (L : ℕ) (o : List ℕ) → AreOctets o → Spells d L o → IsSpellableAt d L
 
 -- no spelling of a value has fewer octets than its written form
 abbrev pub WrittenIsShortest : Type 0

@@ -13,9 +13,9 @@ abbrev pub data_or_none : Result (List Data) Fault → List Data
 data_or_none (Ok ds) = ds
 data_or_none (Err f) = []
 
-abbrev pub is_read : Result (List Data) Fault → Bool
-is_read (Ok ds) = true
-is_read (Err f) = false
+abbrev pub was_read : Result (List Data) Fault → Bool
+was_read (Ok ds) = true
+was_read (Err f) = false
 
 -- the members that stand in these octets, where levels is how many levels may stand from here on
 unfoldable pub data_in : ℕ → List ℕ → List Data
@@ -23,4 +23,4 @@ data_in levels o = data_or_none (members_at levels 0 o)
 
 -- the octets spell members
 abbrev pub AreMembers : ℕ → List ℕ → Type 0
-AreMembers levels o = is_read (members_at levels 0 o) ≡ true
+AreMembers levels o = was_read (members_at levels 0 o) ≡ true

@@ -4,6 +4,7 @@ pub mod Value
 pub mod Weight
 pub mod Falls
 pub mod Kinds
+pub mod KindReading
 pub mod Contents
 pub mod ContentsReading
 pub mod Spelling
@@ -13,7 +14,9 @@ pub mod Meaning
 pub mod Place
 pub mod Answers
 pub mod Utc
+pub mod UtcReading
 pub mod Spellable
+pub mod SpellableTest
 pub mod Written
 pub mod Laws
 pub mod Memory

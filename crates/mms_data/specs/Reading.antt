@@ -6,15 +6,15 @@ use Rattle.ber_core.specs.declared.element.Header.{Header}
 use Rattle.ber_core.specs.declared.fault.Fault.{Fault}
 use Rattle.ber_core.specs.declared.fault.Cause.TheVariants as causes
 use Rattle.mms_data.specs.Data.{Data, simple, array, structure, items_of}
-use Rattle.mms_data.specs.Kinds.{kind_here}
+use Rattle.mms_data.specs.KindReading.{kind_here}
 use Rattle.mms_data.specs.ContentsReading.{simple_at}
 use Rattle.mms_data.specs.declared.kinds.SimpleKind.{SimpleKind}
 use Rattle.mms_data.specs.declared.kinds.Kind.{Kind}
 use Rattle.mms_data.specs.declared.kinds.Kind.TheVariants as kinds
 
 -- how members are read behind a header
-abbrev pub Members : Type 0
-Members = ℕ → List ℕ → Result (List Data) Fault
+abbrev pub ReadsMembers : Type 0
+ReadsMembers = ℕ → List ℕ → Result (List Data) Fault
 
 -- the contents of the element behind this header, which begins at the front
 abbrev pub contents_within : Header → List ℕ → List ℕ
@@ -25,7 +25,7 @@ abbrev pub simple_data_at : SimpleKind → ℕ → ℕ → List ℕ → Result D
 simple_data_at k p s c = simple_at k p s c >>= λ v. Ok (simple v)
 
 -- the value that these contents of a kind spell
-abbrev pub contents_at : Members → Kind → Header → List ℕ → Result Data Fault
+abbrev pub contents_at : ReadsMembers → Kind → Header → List ℕ → Result Data Fault
 contents_at members kinds.Array h c = members h.contents_from c >>= λ ds. Ok (array (items_of ds))
 contents_at members kinds.Structure h c = members h.contents_from c >>= λ ds. Ok (structure (items_of ds))
 contents_at members (kinds.Simple k) h c = simple_data_at k h.at h.contents_from c
@@ -36,7 +36,7 @@ known_at p [] = refused p causes.Ends
 known_at p (id ∷ more) = kind_here p id
 
 -- the member at the front, and the place after it
-unfoldable pub member_with : Members → ℕ → List ℕ → Result (Data × ℕ) Fault
+unfoldable pub member_with : ReadsMembers → ℕ → List ℕ → Result (Data × ℕ) Fault
 member_with members p o = do
   k ← known_at p o
   h ← header_at p o
@@ -44,7 +44,7 @@ member_with members p o = do
   Ok (d, h.contents_to)
 
 -- members one after the other; the number bounds the turns, and the count of the octets is always enough
-unfoldable pub members_with : (ℕ → List ℕ → Result (Data × ℕ) Fault) → ℕ → Members
+unfoldable pub members_with : (ℕ → List ℕ → Result (Data × ℕ) Fault) → ℕ → ReadsMembers
 members_with member n p [] = Ok []
 members_with member zero p (id ∷ more) = refused p causes.Ends
 members_with member (suc n) p (id ∷ more) = do

@@ -14,8 +14,8 @@ abbrev mutual
   -- o spells the value, which stands at the level L, at most 16 (profile)
   pub Spells : Data → ℕ → List ℕ → Type 0
   Spells (simple s) L o = (L ≤ 16) × (c : List ℕ) × Elem (simple_identifier (simple_kind s)) c o × SpellsSimple s c
-  Spells (array ds) L o = (L ≤ 16) × (c : List ℕ) × Elem 161 c o × SpellsItems ds (L + 1) c
-  Spells (structure ds) L o = (L ≤ 16) × (c : List ℕ) × Elem 162 c o × SpellsItems ds (L + 1) c
+  Spells (array ds) L o = (L ≤ 16) × (c : List ℕ) × Elem 0xa1 c o × SpellsItems ds (L + 1) c
+  Spells (structure ds) L o = (L ≤ 16) × (c : List ℕ) × Elem 0xa2 c o × SpellsItems ds (L + 1) c
 
   -- o is the spellings of members, one after the other
   pub SpellsItems : Items → ℕ → List ℕ → Type 0
@@ -41,5 +41,5 @@ pub data FaultIn (f : Fault) : ℕ → ℕ → List ℕ → Type 0 where
   in_length : {L p id : ℕ} {more : List ℕ} → L ≤ 16 → IsKnown id → LengthFault f p more → FaultIn f L p (id ∷ more)
   in_contents : {L p : ℕ} {o : List ℕ} (k : SimpleKind) (c size rest : List ℕ) → L ≤ 16 → o ≡ simple_identifier k ∷ size ++ (c ++ rest) → Len (length c) size
       → SimpleFault f k p (p + 1 + length size) c → FaultIn f L p o
-  within : {L p : ℕ} {o : List ℕ} (id : ℕ) (c size rest : List ℕ) → L ≤ 16 → (id ≡ 161) ⊎ (id ≡ 162) → o ≡ id ∷ size ++ (c ++ rest) → Len (length c) size
+  within : {L p : ℕ} {o : List ℕ} (id : ℕ) (c size rest : List ℕ) → L ≤ 16 → (id ≡ 0xa1) ⊎ (id ≡ 0xa2) → o ≡ id ∷ size ++ (c ++ rest) → Len (length c) size
       → FaultIn f (L + 1) (p + 1 + length size) c → FaultIn f L p o

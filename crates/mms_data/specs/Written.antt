@@ -7,10 +7,6 @@ use Rattle.mms_data.specs.Data.{Simple, boolean, bits, integer, unsigned, floati
 use Rattle.mms_data.specs.Kinds.{simple_identifier, simple_kind}
 use Rattle.mms_data.specs.declared.time.UtcTime.{UtcTime}
 
--- the element of this identifier and these contents
-unfoldable pub element : ℕ → List ℕ → List ℕ
-element id contents = written_element id contents
-
 -- four octets of seconds, three of fraction, one of quality
 abbrev pub written_time : UtcTime → List ℕ
 written_time t = big_bytes 4 t.seconds ++ (big_bytes 3 t.fraction ++ t.quality ∷ [])
@@ -36,9 +32,9 @@ simple_contents (utc t) = written_time t
 abbrev mutual
   -- the written form of a value
   pub written : Data → List ℕ
-  written (simple s) = element (simple_identifier (simple_kind s)) (simple_contents s)
-  written (array ds) = element 161 (written_items ds)
-  written (structure ds) = element 162 (written_items ds)
+  written (simple s) = written_element (simple_identifier (simple_kind s)) (simple_contents s)
+  written (array ds) = written_element 0xa1 (written_items ds)
+  written (structure ds) = written_element 0xa2 (written_items ds)
 
   -- and of members, one after the other
   pub written_items : Items → List ℕ

@@ -37,6 +37,22 @@ impl<A: Allocator> Octets<A> {
         octets
     }
 
+    /// The octets of a slice, in memory of their own.
+    ///
+    /// # Errors
+    ///
+    /// `AllocError` where memory is refused.
+    pub fn try_from_slice(alloc: A, octets: &[u8]) -> Result<Octets<A>, AllocError>
+        ensures value { IfOk result (λ o. o ≡ octets.now) }
+
+        // No octets need no memory.
+        ensures none { octets.now ≡ [] → IsOk result }
+    {
+        let mut copy = Vec::with_capacity(alloc, octets.len())?;
+        copy.extend_from_slice(octets)?;
+        Ok(Octets { octets: copy })
+    }
+
     /// The same octets in further memory.
     ///
     /// # Errors
@@ -48,18 +64,8 @@ impl<A: Allocator> Octets<A> {
         // No octets need no memory.
         ensures none { self.now ≡ [] → IsOk result }
     {
-        copied(alloc, self.octets.as_slice())
+        Octets::try_from_slice(alloc, self.octets.as_slice())
     }
-}
-
-// The octets, in memory of their own.
-pub(crate) fn copied<A: Allocator>(alloc: A, octets: &[u8]) -> Result<Octets<A>, AllocError>
-    ensures value { IfOk result (λ o. o ≡ octets.now) }
-    ensures none { octets.now ≡ [] → IsOk result }
-{
-    let mut copy = Vec::with_capacity(alloc, octets.len())?;
-    copy.extend_from_slice(octets)?;
-    Ok(Octets { octets: copy })
 }
 
 impl<A: Allocator> From<Vec<u8, A>> for Octets<A> {

@@ -6,7 +6,7 @@ ghost use Rattle.mms_data.specs.Meaning.{left, meaning};
 ghost use Rattle.mms_data.specs.Memory.{NeedsNoMemory};
 ghost use Rattle.mms_data.specs.Value.{data_of, datas};
 
-use crate::octets::{Octets, copied};
+use crate::octets::Octets;
 use crate::value::{BitText, Value, ValueList};
 use crate::view::{BitView, Members, View};
 use std::alloc::{AllocError, Allocator};
@@ -36,11 +36,13 @@ impl<'a> View<'a> {
             })),
             View::Integer(n) => Ok(Value::Integer(*n)),
             View::Unsigned(n) => Ok(Value::Unsigned(*n)),
-            View::Floating(octets) => Ok(Value::Floating(copied(alloc, octets)?)),
-            View::Octets(octets) => Ok(Value::Octets(copied(alloc, octets)?)),
-            View::Visible(octets) => Ok(Value::Visible(copied(alloc, octets)?)),
-            View::BinaryTime(octets) => Ok(Value::BinaryTime(copied(alloc, octets)?)),
-            View::MmsText(octets) => Ok(Value::MmsText(copied(alloc, octets)?)),
+            View::Floating(octets) => Ok(Value::Floating(Octets::try_from_slice(alloc, octets)?)),
+            View::Octets(octets) => Ok(Value::Octets(Octets::try_from_slice(alloc, octets)?)),
+            View::Visible(octets) => Ok(Value::Visible(Octets::try_from_slice(alloc, octets)?)),
+            View::BinaryTime(octets) => Ok(Value::BinaryTime(Octets::try_from_slice(
+                alloc, octets,
+            )?)),
+            View::MmsText(octets) => Ok(Value::MmsText(Octets::try_from_slice(alloc, octets)?)),
             View::Utc(time) => Ok(Value::Utc(*time)),
         }
     }
@@ -73,7 +75,7 @@ fn cleared_octets<A: Allocator>(alloc: A, bits: &BitView) -> Result<Octets<A>, A
     ensures none { cleared bits.now.unused bits.now.octets.now ≡ [] → IsOk result }
 {
     match bits.octets {
-        [] => copied(alloc, bits.octets),
+        [] => Octets::try_from_slice(alloc, bits.octets),
         [front @ .., last] => {
             let mut octets = Vec::with_capacity(alloc, bits.octets.len())?;
             octets.extend_from_slice(front)?;

@@ -3,9 +3,9 @@
 ghost use Rattle.std.specs.Prelude.{◌≡◌, ◌≤◌, ◌<◌, ◌+◌, ◌^◌, ◌-◌, ◌++◌, ◌∷◌, ◌≤ℤ◌, ◌<ℤ◌, pos, negsuc, length};
 ghost use Rattle.arrayvec.specs.ArrayVec.{array_vec_len};
 ghost use Rattle.ber_core.specs.Element.{IsIdentifier};
-ghost use Rattle.ber_core.specs.Written.{short_integer, written_header};
+ghost use Rattle.ber_core.specs.Written.{short_integer, written_header, written_element};
 ghost use Rattle.mms_data.specs.Value.{data_of};
-ghost use Rattle.mms_data.specs.Written.{HasWritten, element, written, written_all, written_time};
+ghost use Rattle.mms_data.specs.Written.{HasWritten, written, written_all, written_time};
 
 use crate::measuring::values_length;
 use crate::time::UtcTime;
@@ -31,23 +31,23 @@ pub(crate) fn put_slice<const N: usize>(out: &mut ArrayVec<u8, N>, octets: &[u8]
 }
 
 // The element of these contents.
-#[tactic(auto, unfolding(crate::specs::Written::element))]
+#[tactic(auto, unfolding(ber_core::specs::Written::written_element))]
 fn put_octets<const N: usize>(out: &mut ArrayVec<u8, N>, identifier: u8, octets: &[u8])
     requires identifier { IsIdentifier identifier }
     requires size { length octets.now < 2 ^ 32 }
-    requires room { array_vec_len out.old + length (element identifier octets.now) ≤ N }
-    ensures { out.new.items ≡ out.old.items ++ element identifier octets.now }
+    requires room { array_vec_len out.old + length (written_element identifier octets.now) ≤ N }
+    ensures { out.new.items ≡ out.old.items ++ written_element identifier octets.now }
 {
     put_front(out, identifier, octets.len());
     put_slice(out, octets);
 }
 
 // The element of these bits.
-#[tactic(auto, unfolding(crate::specs::Written::element))]
+#[tactic(auto, unfolding(ber_core::specs::Written::written_element))]
 fn put_bits<const N: usize>(out: &mut ArrayVec<u8, N>, unused: u8, octets: &[u8])
     requires size { length octets.now + 1 < 2 ^ 32 }
-    requires room { array_vec_len out.old + length (element 132 (unused ∷ octets.now)) ≤ N }
-    ensures { out.new.items ≡ out.old.items ++ element 132 (unused ∷ octets.now) }
+    requires room { array_vec_len out.old + length (written_element 0x84 (unused ∷ octets.now)) ≤ N }
+    ensures { out.new.items ≡ out.old.items ++ written_element 0x84 (unused ∷ octets.now) }
 {
     put_front(out, 0x84, octets.len() + 1);
     out.push(unused);
@@ -55,21 +55,21 @@ fn put_bits<const N: usize>(out: &mut ArrayVec<u8, N>, unused: u8, octets: &[u8]
 }
 
 // The element of this number.
-#[tactic(auto, unfolding(crate::specs::Written::element))]
+#[tactic(auto, unfolding(ber_core::specs::Written::written_element))]
 fn put_number<const N: usize>(out: &mut ArrayVec<u8, N>, identifier: u8, number: i128)
     requires identifier { IsIdentifier identifier }
     requires low { negsuc (2 ^ 71 - 1) ≤ℤ number }
     requires high { number <ℤ pos (2 ^ 71) }
-    requires room { array_vec_len out.old + length (element identifier (short_integer number)) ≤ N }
-    ensures { out.new.items ≡ out.old.items ++ element identifier (short_integer number) }
+    requires room { array_vec_len out.old + length (written_element identifier (short_integer number)) ≤ N }
+    ensures { out.new.items ≡ out.old.items ++ written_element identifier (short_integer number) }
 {
     let _fits = put_integer(out, identifier, number);
 }
 
 // The element of this moment.
 fn put_time<const N: usize>(out: &mut ArrayVec<u8, N>, time: UtcTime)
-    requires room { array_vec_len out.old + length (element 145 (written_time time)) ≤ N }
-    ensures { out.new.items ≡ out.old.items ++ element 145 (written_time time) }
+    requires room { array_vec_len out.old + length (written_element 0x91 (written_time time)) ≤ N }
+    ensures { out.new.items ≡ out.old.items ++ written_element 0x91 (written_time time) }
 {
     put_octets(out, 0x91, &time.to_octets());
 }
@@ -99,7 +99,7 @@ pub(crate) fn put<A: Allocator, const N: usize>(out: &mut ArrayVec<u8, N>, value
 
 // The element of these members.
 #[cycle(putting)]
-#[tactic(auto, unfolding(crate::specs::Written::element))]
+#[tactic(auto, unfolding(ber_core::specs::Written::written_element))]
 fn put_members<A: Allocator, const N: usize>(
     out: &mut ArrayVec<u8, N>,
     identifier: u8,
@@ -107,8 +107,8 @@ fn put_members<A: Allocator, const N: usize>(
 )
     requires identifier { IsIdentifier identifier }
     requires size { length (written_all values.now) < 2 ^ 32 }
-    requires room { array_vec_len out.old + length (element identifier (written_all values.now)) ≤ N }
-    ensures { out.new.items ≡ out.old.items ++ element identifier (written_all values.now) }
+    requires room { array_vec_len out.old + length (written_element identifier (written_all values.now)) ≤ N }
+    ensures { out.new.items ≡ out.old.items ++ written_element identifier (written_all values.now) }
 {
     let Some(size) = values_length(values, 0xffff_ffff) else {
         unreachable!()

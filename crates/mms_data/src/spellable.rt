@@ -1,7 +1,8 @@
 // Which values have a spelling.
 
 ghost use Rattle.std.specs.Prelude.{◌≡◌, ◌≤◌, ◌^◌, ◌↔◌, nat_lt, true};
-ghost use Rattle.mms_data.specs.Spellable.{AllSpellable, Spellable, all_spelled, are_bits, is_signed, is_spelled, is_text, is_time};
+ghost use Rattle.mms_data.specs.Spellable.{AllAreSpellable, IsSpellableAt};
+ghost use Rattle.mms_data.specs.SpellableTest.{all_are_spellable, are_bits, is_signed, is_spellable_at, is_text, is_time};
 ghost use Rattle.mms_data.specs.Value.{data_of};
 
 use crate::time::UtcTime;
@@ -16,8 +17,8 @@ use std::alloc::Allocator;
 pub fn is_spellable<A: Allocator>(value: &Value<A>, level: u8) -> bool
     requires first { 1 ≤ level }
     requires last { level ≤ 17 }
-    ensures exactly { (result ≡ true) ↔ Spellable (data_of value.now) level }
-    ensures exact { result ≡ is_spelled (data_of value.now) level }
+    ensures exactly { (result ≡ true) ↔ IsSpellableAt (data_of value.now) level }
+    ensures exact { result ≡ is_spellable_at (data_of value.now) level }
 {
     test_value(value, level)
 }
@@ -26,8 +27,8 @@ pub fn is_spellable<A: Allocator>(value: &Value<A>, level: u8) -> bool
 pub fn are_spellable<A: Allocator>(values: &ValueList<A>, level: u8) -> bool
     requires first { 1 ≤ level }
     requires last { level ≤ 17 }
-    ensures exactly { (result ≡ true) ↔ AllSpellable values.now level }
-    ensures exact { result ≡ all_spelled values.now level }
+    ensures exactly { (result ≡ true) ↔ AllAreSpellable values.now level }
+    ensures exact { result ≡ all_are_spellable values.now level }
 {
     test_values(values, level)
 }
@@ -35,7 +36,7 @@ pub fn are_spellable<A: Allocator>(values: &ValueList<A>, level: u8) -> bool
 #[cycle(testing)]
 fn test_value<A: Allocator>(value: &Value<A>, level: u8) -> bool
     requires { level ≤ 17 }
-    ensures { result ≡ is_spelled (data_of value.now) level }
+    ensures { result ≡ is_spellable_at (data_of value.now) level }
 {
     if 16 < level {
         return false;
@@ -59,7 +60,7 @@ fn test_value<A: Allocator>(value: &Value<A>, level: u8) -> bool
 #[cycle(testing)]
 fn test_values<A: Allocator>(values: &ValueList<A>, level: u8) -> bool
     requires { level ≤ 17 }
-    ensures { result ≡ all_spelled values.now level }
+    ensures { result ≡ all_are_spellable values.now level }
 {
     let values = values.as_slice();
     for value in values {

@@ -1,9 +1,11 @@
 //! The contents of a UtcTime.
 
 ghost use Rattle.std.specs.Prelude.{◌≡◌, ◌≤◌, ◌<◌, ◌+◌, ◌^◌, Ok, Err, IfOk, IfErr, length};
+ghost use Rattle.ber_core.specs.Contents.{CountedFault};
 ghost use Rattle.ber_core.specs.Element.{contents_of};
 ghost use Rattle.ber_core.specs.declared.fault.Fault.{Fault};
-ghost use Rattle.mms_data.specs.Utc.{SpellsUtc, UtcFault, utc_at};
+ghost use Rattle.mms_data.specs.Utc.{SpellsUtc};
+ghost use Rattle.mms_data.specs.UtcReading.{utc_at};
 ghost use Rattle.mms_data.specs.declared.time.UtcTime.{UtcTime};
 
 use crate::time::UtcTime;
@@ -25,8 +27,8 @@ pub fn utc_time(octets: &[u8], header: &Header) -> Result<UtcTime, Fault>
     ensures only { (t : UtcTime) → SpellsUtc t (contents_of octets.now header.now) → result ≡ Ok t }
 
     // The same of the fault.
-    ensures fault { IfErr result (λ f. UtcFault f header.now.at (contents_of octets.now header.now)) }
-    ensures fault_only { (f : Fault) → UtcFault f header.now.at (contents_of octets.now header.now) → result ≡ Err f }
+    ensures fault { IfErr result (λ f. CountedFault f 8 header.now.at (contents_of octets.now header.now)) }
+    ensures fault_only { (f : Fault) → CountedFault f 8 header.now.at (contents_of octets.now header.now) → result ≡ Err f }
 
     // For callers: the function on octets that it computes.
     ensures exact { result ≡ utc_at header.now.at (contents_of octets.now header.now) }
@@ -35,7 +37,7 @@ pub fn utc_time(octets: &[u8], header: &Header) -> Result<UtcTime, Fault>
 }
 
 // The time that the contents spell, behind the identifier that stands at `at`.
-#[tactic(auto, unfolding(crate::specs::Utc::utc_at))]
+#[tactic(auto, unfolding(crate::specs::UtcReading::utc_at))]
 pub(crate) fn eight_octets(contents: &[u8], at: usize) -> Result<UtcTime, Fault>
     requires { at + 1 < 2 ^ 64 }
     ensures { result ≡ utc_at at contents.now }

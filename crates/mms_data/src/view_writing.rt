@@ -4,9 +4,10 @@
 ghost use Rattle.std.specs.Prelude.{◌≡◌, ◌≤◌, ◌<◌, ◌+◌, ◌^◌, ◌++◌, ◌∷◌, ◌↔◌, length, IsOk, OnOk, OnErr};
 ghost use Rattle.arrayvec.specs.ArrayVec.{array_vec_len};
 ghost use Rattle.ber_core.specs.Element.{IsIdentifier};
+ghost use Rattle.ber_core.specs.Written.{written_element};
 ghost use Rattle.mms_data.specs.Contents.{cleared};
 ghost use Rattle.mms_data.specs.Meaning.{left, meaning};
-ghost use Rattle.mms_data.specs.Written.{element, written, written_all};
+ghost use Rattle.mms_data.specs.Written.{written, written_all};
 
 use crate::elements::put_element;
 use crate::owning::clear;
@@ -32,8 +33,8 @@ fn put_cleared<const N: usize>(out: &mut ArrayVec<u8, N>, bits: BitView<'_>)
 // Appends the element of bits.
 #[tactic(auto, using(crate::proofs::Sizes::bits_size))]
 fn put_bits<const N: usize>(out: &mut ArrayVec<u8, N>, bits: BitView<'_>) -> Result<(), Full>
-    ensures enough { length (element 132 (bits.entry.unused ∷ cleared bits.entry.unused bits.entry.octets.now)) < 2 ^ 32 → array_vec_len out.old + length (element 132 (bits.entry.unused ∷ cleared bits.entry.unused bits.entry.octets.now)) ≤ N → IsOk result }
-    ensures written { OnOk result (out.new.items ≡ out.old.items ++ element 132 (bits.entry.unused ∷ cleared bits.entry.unused bits.entry.octets.now)) }
+    ensures enough { length (written_element 0x84 (bits.entry.unused ∷ cleared bits.entry.unused bits.entry.octets.now)) < 2 ^ 32 → array_vec_len out.old + length (written_element 0x84 (bits.entry.unused ∷ cleared bits.entry.unused bits.entry.octets.now)) ≤ N → IsOk result }
+    ensures written { OnOk result (out.new.items ≡ out.old.items ++ written_element 0x84 (bits.entry.unused ∷ cleared bits.entry.unused bits.entry.octets.now)) }
 {
     if 0xffff_fffe < bits.octets.len() {
         return Err(Full);
@@ -50,7 +51,7 @@ fn put_bits<const N: usize>(out: &mut ArrayVec<u8, N>, bits: BitView<'_>) -> Res
 
 // Appends the element of a value.
 #[cycle(putting_views)]
-#[tactic(auto, using(crate::proofs::Sizes::element_size), unfolding(crate::specs::Written::element))]
+#[tactic(auto, using(crate::proofs::Sizes::element_size), unfolding(ber_core::specs::Written::written_element))]
 fn put_view<'a, const N: usize>(out: &mut ArrayVec<u8, N>, view: View<'a>) -> Result<(), Full>
     ensures enough { length (written (meaning view.entry)) < 2 ^ 32 → array_vec_len out.old + length (written (meaning view.entry)) ≤ N → IsOk result }
     ensures written { OnOk result (out.new.items ≡ out.old.items ++ written (meaning view.entry)) }
@@ -99,8 +100,8 @@ pub fn put_members<'a, const N: usize>(
     members: Members<'a>,
 ) -> Result<(), Full>
     requires identifier { IsIdentifier identifier }
-    ensures fits { IsOk result ↔ ((length (written_all (left members.entry)) < 2 ^ 32) × (array_vec_len out.old + length (element identifier (written_all (left members.entry))) ≤ N)) }
-    ensures written { OnOk result (out.new.items ≡ out.old.items ++ element identifier (written_all (left members.entry))) }
+    ensures fits { IsOk result ↔ ((length (written_all (left members.entry)) < 2 ^ 32) × (array_vec_len out.old + length (written_element identifier (written_all (left members.entry))) ≤ N)) }
+    ensures written { OnOk result (out.new.items ≡ out.old.items ++ written_element identifier (written_all (left members.entry))) }
     ensures unchanged { OnErr result (out.new ≡ out.old) }
 {
     if let Some(octets) = members.as_written() {

@@ -2,7 +2,7 @@
 
 ghost use Rattle.std.specs.Prelude.{◌≡◌, ◌≤◌, ◌<◌, ◌+◌, ◌^◌, ◌++◌, ◌↔◌, length, Err, SomeIff, IsOk, OnOk, OnErr};
 ghost use Rattle.arrayvec.specs.ArrayVec.{array_vec_len};
-ghost use Rattle.mms_data.specs.Spellable.{AllSpellable, Spellable};
+ghost use Rattle.mms_data.specs.Spellable.{AllAreSpellable, IsSpellableAt};
 ghost use Rattle.mms_data.specs.Value.{data_of};
 ghost use Rattle.mms_data.specs.Written.{HasWritten, written, written_all};
 
@@ -17,7 +17,7 @@ use std::alloc::Allocator;
 /// How many octets the written form of the value has, where the value has a spelling at level 1 and they are
 /// at most 65535.
 pub fn spelled_length<A: Allocator>(value: &Value<A>) -> Option<usize>
-    ensures { SomeIff result (Spellable (data_of value.now) 1 × (length (written (data_of value.now)) ≤ 65535)) (length (written (data_of value.now))) }
+    ensures { SomeIff result (IsSpellableAt (data_of value.now) 1 × (length (written (data_of value.now)) ≤ 65535)) (length (written (data_of value.now))) }
 {
     if !is_spellable(value, 1) {
         return None;
@@ -36,8 +36,8 @@ pub fn put_value<A: Allocator, const N: usize>(
     out: &mut ArrayVec<u8, N>,
     value: &Value<A>,
 ) -> Result<(), PutFault>
-    ensures not_spellable { (result ≡ Err PutFault.NotSpellable) ↔ (¬ Spellable (data_of value.now) 1) }
-    ensures fits { IsOk result ↔ (Spellable (data_of value.now) 1 × HasWritten (data_of value.now) × (array_vec_len out.old + length (written (data_of value.now)) ≤ N)) }
+    ensures not_spellable { (result ≡ Err PutFault.NotSpellable) ↔ (¬ IsSpellableAt (data_of value.now) 1) }
+    ensures fits { IsOk result ↔ (IsSpellableAt (data_of value.now) 1 × HasWritten (data_of value.now) × (array_vec_len out.old + length (written (data_of value.now)) ≤ N)) }
     ensures written { OnOk result (out.new.items ≡ out.old.items ++ written (data_of value.now)) }
     ensures unchanged { OnErr result (out.new ≡ out.old) }
 {
@@ -65,8 +65,8 @@ pub fn put_values<A: Allocator, const N: usize>(
     out: &mut ArrayVec<u8, N>,
     values: &ValueList<A>,
 ) -> Result<(), PutFault>
-    ensures not_spellable { (result ≡ Err PutFault.NotSpellable) ↔ (¬ AllSpellable values.now 1) }
-    ensures fits { IsOk result ↔ (AllSpellable values.now 1 × (length (written_all values.now) < 2 ^ 32) × (array_vec_len out.old + length (written_all values.now) ≤ N)) }
+    ensures not_spellable { (result ≡ Err PutFault.NotSpellable) ↔ (¬ AllAreSpellable values.now 1) }
+    ensures fits { IsOk result ↔ (AllAreSpellable values.now 1 × (length (written_all values.now) < 2 ^ 32) × (array_vec_len out.old + length (written_all values.now) ≤ N)) }
     ensures written { OnOk result (out.new.items ≡ out.old.items ++ written_all values.now) }
     ensures unchanged { OnErr result (out.new ≡ out.old) }
 {

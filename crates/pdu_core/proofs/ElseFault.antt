@@ -1,4 +1,4 @@
--- Reading answers for all octets: so there is a PDU, or a fault.
+-- Reading answers for all octets: so there is an APDU, or a fault.
 use Rattle.std.proofs.Common.{◌≡◌, ℕ, ◌+◌, List, ◌++◌, length, Result, Ok, Err, refl, subst, arith, inl, inr}
 use Rattle.std.specs.Prelude.{◌⊎◌}
 use Rattle.ber_core.specs.declared.fault.Fault.{Fault}

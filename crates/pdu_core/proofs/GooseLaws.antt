@@ -1,4 +1,4 @@
--- Reading of a PDU against its spellings and its faults.
+-- Reading of an APDU against its spellings and its faults.
 use Rattle.std.proofs.Common.{◌≡◌, ◌≢◌, ℕ, ◌+◌, ◌≤◌, Bool, eqb, List, [], ◌∷◌, ◌++◌, length, Result, Ok, Err, Option, Some, None, refl, sym, ap, ap₂, subst, ◌∙◌, arith, inl, inr}
 use Rattle.std.proofs.lemmas.List.{length-append, append-nil, drop_at}
 use Rattle.std.proofs.lemmas.Bool.{le-ltb, eqb-false, eq-eqb, ne_eqb}
@@ -140,7 +140,7 @@ outer_form vs o (a, b, inr (means, none), more, parts) = absurd means
 form_outer : (vs : List (Option Item)) (o c : List ℕ) → Elem 0x61 c o → SpellsFields contents_grammar goose_fields vs c → SpellsFields apdu_grammar apdu_fields (Some vs ∷ []) o
 form_outer vs o c elem s = (o, [], inl (vs, c, refl, elem, s), refl, sym (append-nil o))
 
--- the octets of a PDU that was read but for its count
+-- the octets of an APDU that was read but for its count
 record Split (octets : List ℕ) (p e : ℕ) (values all : List (Option Item)) (place : ℕ) : Type 0 where
   size : List ℕ
   front : List ℕ
@@ -309,7 +309,7 @@ module _ (octets : List ℕ) (p e : ℕ) (order : p ≤ e) (within : e ≤ lengt
       ]
   goose_wrong_again f (inr k) = count_again f k
 
--- ---- one PDU
+-- ---- one APDU
 
 text_if_one : (s t : Option (List ℕ)) → text_if s ≡ text_if t → s ≡ t
 text_if_one None None e = refl

@@ -8,6 +8,7 @@ use lib.Dec.{T}
 use lib.IntN.{nat_abs}
 use lib.Signed.{non_neg}
 use mir.Syntax.{w128}
+use Rattle.mms_data.specs.Contents.{IsFewOctets}
 use Rattle.mms_data.specs.Place.{IsPart}
 use Rattle.std.specs.Prelude.{◌≤ℤ◌, ◌&&◌}
 use Rattle.byteorder.specs.Endian.{big_number}
@@ -25,13 +26,13 @@ use Rattle.ber_core.proofs.FieldNested.{ok_is}
 use Rattle.ber_core.proofs.Steps.{chosen, bind_ok, bind_err}
 use Rattle.mms_data.specs.Data.{Data}
 use Rattle.mms_data.specs.Spelling.{SpellsAll, FaultIn}
-use Rattle.mms_data.specs.Utc.{utc_at}
+use Rattle.mms_data.specs.UtcReading.{utc_at}
 use Rattle.mms_data.proofs.Found.{all_found}
 use Rattle.mms_data.proofs.Again.{all_again}
 use Rattle.mms_data.proofs.Wrong.{all_wrong}
 use Rattle.mms_data.proofs.WrongAgain.{all_wrong_again}
 use Rattle.mms_data.proofs.UtcLaws.{utc_found, utc_again, utc_wrong, utc_wrong_again}
-use Rattle.pdu_core.specs.Contents.{Kind, text, number, flag, time, members, fixed, raw, few, Item, a_text, a_number, a_flag, a_time, some_members, a_fixed, some_octets, IsFew, SpellsFixed, FewFault, SpellsContents, ContentsFault, contents_grammar}
+use Rattle.pdu_core.specs.Contents.{Kind, text, number, flag, time, members, fixed, raw, few, Item, a_text, a_number, a_flag, a_time, some_members, a_fixed, some_octets, SpellsFixed, FewFault, SpellsContents, ContentsFault, contents_grammar}
 use Rattle.pdu_core.specs.ContentsReading.{number_in, members_in, fixed_in, few_at, item_at}
 
 -- one step behind which nothing fails
@@ -119,23 +120,23 @@ module _ (size : ℕ) (octets : List ℕ) (h : Header) where
 
 -- ---- one to sixteen octets
 
-few_true : (n : ℕ) → IsFew n → (leb 1 n && leb n 16) ≡ true
+few_true : (n : ℕ) → IsFewOctets n → (leb 1 n && leb n 16) ≡ true
 few_true n h = rw (le-leb 1 n h.0, le-leb n 16 h.1) refl
 
-few_is : (n : ℕ) → (leb 1 n && leb n 16) ≡ true → IsFew n
+few_is : (n : ℕ) → (leb 1 n && leb n 16) ≡ true → IsFewOctets n
 few_is n e = let b = and_parts _ _ e in (leb-true _ _ b.0, leb-true _ _ b.1)
 
 module _ (at : ℕ) (c : List ℕ) where
-  pub few_found : (o : List ℕ) → few_at at c ≡ Ok o → (c ≡ o) × IsFew (length o)
+  pub few_found : (o : List ℕ) → few_at at c ≡ Ok o → (c ≡ o) × IsFewOctets (length o)
   unfolding few_at
   few_found o e = elim (chosen (leb 1 (length c) && leb (length c) 16) _ _ _ e) [
-    | inl t ↦ let same = ok_is c o t.1 in (same, subst (λ (x : List ℕ). IsFew (length x)) same (few_is (length c) t.0))
+    | inl t ↦ let same = ok_is c o t.1 in (same, subst (λ (x : List ℕ). IsFewOctets (length x)) same (few_is (length c) t.0))
     | inr t ↦ absurd (let wrong = t.1 in cc)
   ]
 
-  pub few_again : (o : List ℕ) → (c ≡ o) × IsFew (length o) → few_at at c ≡ Ok o
+  pub few_again : (o : List ℕ) → (c ≡ o) × IsFewOctets (length o) → few_at at c ≡ Ok o
   unfolding few_at
-  few_again o (same, size) = rw (few_true (length c) (subst (λ (x : List ℕ). IsFew (length x)) (sym same) size)) (ap (λ (x : List ℕ). Ok x) same)
+  few_again o (same, size) = rw (few_true (length c) (subst (λ (x : List ℕ). IsFewOctets (length x)) (sym same) size)) (ap (λ (x : List ℕ). Ok x) same)
 
   pub few_wrong : (f : Fault) → few_at at c ≡ Err f → FewFault f at c
   unfolding few_at

@@ -1,4 +1,4 @@
--- The PDU that reading makes of the values of its fields keeps each of them: so what is read is spelled, and a fault
+-- The APDU that reading makes of the values of its fields keeps each of them: so what is read is spelled, and a fault
 -- that is read is there.
 use Rattle.std.proofs.Common.{◌≡◌, ℕ, ◌≤◌, eqb, List, [], ◌∷◌, length, drop, Option, Some, None, Ok, Err, refl, sym, ap, ap₂, ◌∙◌, inl, inr}
 use Rattle.std.proofs.lemmas.Bool.{eqb-true}
@@ -15,10 +15,10 @@ use Rattle.pdu_core.specs.Contents.{Item, Kind, SpellsContents, a_fixed, a_flag,
 use Rattle.pdu_core.specs.ContentsReading.{item_at}
 use Rattle.pdu_core.specs.Goose.{GooseFault, SpellsGoose, goose_end, goose_fields, goose_front, goose_items, text_if}
 use Rattle.pdu_core.specs.GooseReading.{count_at, counted_end, goose_at}
-use Rattle.pdu_core.specs.GooseValue.{flag_of, goose_value, members_of, number_of, pdu_of_items, text_if_there, text_of, time_of}
+use Rattle.pdu_core.specs.GooseValue.{flag_of, goose_value, members_of, number_of, pdu_of_items, optional_text, text_of, time_of}
 use Rattle.pdu_core.specs.Sampled.{SpellsSv, SvFault, a_count, asdu_grammar, items_of_each, some_asdus, sv_fields, sv_grammar}
 use Rattle.pdu_core.specs.SampledReading.{sv_at}
-use Rattle.pdu_core.specs.SampledValue.{asdu_of_items, asdus_of_items, fixed_if_there, fixed_of, octets_if_there, octets_of, sv_value, time_if_there}
+use Rattle.pdu_core.specs.SampledValue.{asdu_of_items, asdus_of_items, optional_fixed, fixed_of, optional_octets, octets_of, sv_value, optional_time}
 use Rattle.pdu_core.specs.declared.goose.GoosePdu.{GoosePdu}
 use Rattle.pdu_core.specs.declared.sampled.asdu.SvPdu.{SvPdu}
 use Rattle.pdu_core.proofs.GooseLaws.{goose_found, goose_wrong}
@@ -28,7 +28,7 @@ use Rattle.pdu_core.proofs.SvShown.{sv_spelled}
 
 -- ---- one field
 
--- the value that a PDU has again for a field that is there, or has a default
+-- the value that an APDU has again for a field that is there, or has a default
 abbrev kept : Kind → Option Item → Option Item
 kept text v = Some (a_text (text_of v))
 kept number v = Some (a_number (number_of v))
@@ -41,16 +41,16 @@ kept few v = Some (some_octets (octets_of v))
 
 -- the same for a field that may be absent
 abbrev kept_if : Kind → Option Item → Option Item
-kept_if text v = text_if (text_if_there v)
-kept_if time v = time_if (time_if_there v)
-kept_if (fixed size) v = fixed_if size (fixed_if_there v)
-kept_if raw v = some_octets_if (octets_if_there v)
-kept_if few v = some_octets_if (octets_if_there v)
+kept_if text v = text_if (optional_text v)
+kept_if time v = time_if (optional_time v)
+kept_if (fixed size) v = fixed_if size (optional_fixed v)
+kept_if raw v = some_octets_if (optional_octets v)
+kept_if few v = some_octets_if (optional_octets v)
 kept_if number v = v
 kept_if flag v = v
 kept_if members v = v
 
--- a PDU keeps this value, and it does so for a default's if it keeps the default
+-- an APDU keeps this value, and it does so for a default's if it keeps the default
 abbrev IsKept : Presence Item → Kind → Option Item → Type 0
 IsKept always k v = kept k v ≡ v
 IsKept optional k v = kept_if k v ≡ v
@@ -120,7 +120,7 @@ fields_kept (g ∷ gs) (v ∷ vs) o (a, b, first, more, parts) = (field_kept g v
 cons_is : {X : Type 0} {x y : X} {xs ys : List X} → x ≡ y → xs ≡ ys → ◌≡◌ {A = List X} (x ∷ xs) (y ∷ ys)
 cons_is first more = ap₂ (λ y ys. y ∷ ys) first more
 
--- ---- the fields of a GOOSE PDU
+-- ---- the fields of a GOOSE APDU
 
 -- the count of members, and the members
 abbrev counted_items : List Data → List (Option Item)
@@ -153,7 +153,7 @@ last_kept u v ds is =
     let second : v ≡ Some (some_members ds) = cc in
     (rw (first, second) refl, rw second refl)
 
--- the PDU that the values make up has them
+-- the APDU that the values make up has them
 goose_kept : (A : Type 0) (vs : List (Option Item)) → AreKept goose_fields vs → (ds : List Data) → drop 10 vs ≡ counted_items ds → goose_items (pdu_of_items {A = A} vs) ≡ vs
 goose_kept A (v0 ∷ v1 ∷ v2 ∷ v3 ∷ v4 ∷ v5 ∷ v6 ∷ v7 ∷ v8 ∷ v9 ∷ v10 ∷ v11 ∷ []) (k0, (k1, (k2, (k3, (k4, (k5, (k6, (k7, (k8, (k9, more)))))))))) ds is =
     let last = last_kept v10 v11 ds is in
@@ -200,10 +200,10 @@ sv_kept A vss o (a, b, first, (a', b', inl (some_asdus wss, c, is, element, spel
 sv_kept A vss o (a, b, first, (a', b', inl (a_count n, c, is, element, spelled), more, parts'), parts) = absurd spelled
 sv_kept A vss o (a, b, first, (a', b', inr (means, none), more, parts'), parts) = absurd means
 
--- ---- PDUs
+-- ---- APDUs
 
 module _ (octets : List ℕ) (p e : ℕ) (order : p ≤ e) (within : e ≤ length octets) where
-  -- the PDU that is read is spelled
+  -- the APDU that is read is spelled
   pub value_found : {A : Type 0} (q : GoosePdu A) → goose_value octets p e ≡ Ok q → SpellsGoose q (slice_range octets p e)
   value_found {A = A} q is =
       let x = bind_ok (goose_at octets p e) (λ vs. Ok (pdu_of_items {A = A} vs)) q is in

@@ -1,4 +1,4 @@
--- Reading is a function: so there is one PDU, or one fault, and never both.
+-- Reading is a function: so there is one APDU, or one fault, and never both.
 use Rattle.std.proofs.Common.{◌≡◌, ℕ, zero, suc, ◌+◌, ◌-◌, ◌≤◌, Option, List, [], ◌∷◌, ◌++◌, length, take, drop, Result, Ok, Err, refl, sym, ap, subst, ◌∙◌, arith}
 use Rattle.std.proofs.lemmas.List.{length-append, append-nil, drop_at, take_at}
 use Rattle.std.specs.Prelude.{slice_range}

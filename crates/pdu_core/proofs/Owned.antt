@@ -1,5 +1,5 @@
--- A PDU in memory of its own is that of the view whose octets were copied. Stated apart, since a search for it
--- compares whole PDUs, and where one number differs it would go on into the members before it gives up.
+-- An APDU in memory of its own is that of the view whose octets were copied. Stated apart, since a search for it
+-- compares whole APDUs, and where one number differs it would go on into the members before it gives up.
 use Rattle.std.specs.Prelude.{◌≡◌, ℕ, List, Option}
 use Rattle.std.proofs.Common.{ap₂, ◌∙◌}
 use Rattle.mms_data.specs.Data.{Data}
@@ -8,7 +8,7 @@ use Rattle.pdu_core.specs.Views.{octets_if, pdu_of}
 use Rattle.pdu_core.specs.declared.goose.GoosePdu.{GoosePdu}
 use Rattle.pdu_core.specs.declared.view.GooseView.{GooseView}
 
--- the PDU with the view's numbers and flags and these octets and members
+-- the APDU with the view's numbers and flags and these octets and members
 abbrev with_octets : {A : Type 0} → GooseView → List ℕ → List ℕ → Option (List ℕ) → List Data → GoosePdu A
 with_octets v block set name entries = record {
   gocb_ref = block;

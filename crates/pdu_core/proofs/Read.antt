@@ -1,4 +1,4 @@
--- What a call that reads a PDU into memory of its own says of spellings and faults.
+-- What a call that reads an APDU into memory of its own says of spellings and faults.
 use Rattle.std.proofs.Common.{◌≡◌, ℕ, ◌≤◌, List, length, Ok, Err, sym, subst, ◌∙◌}
 use Rattle.std.specs.Prelude.{slice_range, Option}
 use Rattle.ber_core.specs.declared.fault.Fault.{Fault}
@@ -11,15 +11,15 @@ use Rattle.pdu_core.specs.declared.goose.GoosePdu.{GoosePdu}
 use Rattle.pdu_core.proofs.GooseLaws.{goose_found, goose_again, goose_wrong_again, items_one}
 
 module _ {A : Type 0} (octets : List ℕ) (p e : ℕ) (order : p ≤ e) (within : e ≤ length octets) where
-  -- where reading gives a PDU, it is spelled
+  -- where reading gives an APDU, it is spelled
   pub read_found : (q r : GoosePdu A) → goose_at octets p e ≡ Ok (goose_items q) → r ≡ q → SpellsGoose r (slice_range octets p e)
   read_found q r is same = subst (λ (x : GoosePdu A). SpellsGoose x (slice_range octets p e)) (sym same) (goose_found octets p e order within (goose_items q) is)
 
-  -- where reading gives a PDU, no other is spelled
+  -- where reading gives an APDU, no other is spelled
   pub read_only : (q r s : GoosePdu A) → goose_at octets p e ≡ Ok (goose_items q) → r ≡ q → SpellsGoose s (slice_range octets p e) → r ≡ s
   read_only q r s is same spelled = same ∙ items_one q s (ok_is (goose_items q) (goose_items s) (sym is ∙ goose_again octets p e order within s spelled))
 
-  -- where reading gives a PDU, there is no fault
+  -- where reading gives an APDU, there is no fault
   pub read_no_fault : (q : GoosePdu A) (f : Fault) → goose_at octets p e ≡ Ok (goose_items q) → GooseFault f p (slice_range octets p e) → ⊥
   read_no_fault q f is wrong = let no = sym is ∙ goose_wrong_again octets p e order within f wrong in cc
 

@@ -1,4 +1,4 @@
--- The test of a PDU of Sampled Values passes exactly where the PDU has a spelling.
+-- The test of an APDU of Sampled Values passes exactly where the APDU has a spelling.
 use Rattle.std.proofs.Common.{◌≡◌, ℕ, ◌^◌, true, leb, List, [], ◌∷◌, length, Option, Some, None, refl}
 use Rattle.std.proofs.lemmas.Bool.{and_from, le-leb, leb-true, lt-ltb, ltb-true}
 use Rattle.std.specs.List.{AllByRecursion}
@@ -6,7 +6,7 @@ use Rattle.std.specs.Prelude.{IfSome}
 use Rattle.mms_data.proofs.SpellableLaws.{moment_is, moment_true}
 use Rattle.mms_data.specs.Spellable.{IsTime}
 use Rattle.mms_data.specs.declared.time.UtcTime.{UtcTime}
-use Rattle.pdu_core.specs.SampledSpellable.{AreFew, IsFixed, SpellableAsdu, SpellableSv, are_few_if, are_spelled_asdus, is_fixed_if, is_spelled_asdu, is_spelled_sv, is_time_if}
+use Rattle.pdu_core.specs.SampledSpellable.{AreFew, IsFixed, IsSpellableAsdu, IsSpellableSv, are_few_if, asdus_are_spellable, is_fixed_if, is_asdu_spellable, is_sv_spellable, is_time_if}
 use Rattle.pdu_core.specs.declared.sampled.asdu.Asdu.{Asdu}
 use Rattle.pdu_core.specs.declared.sampled.asdu.SvPdu.{SvPdu}
 use Rattle.pdu_core.proofs.SpellableTests.{both, test_text, test_text_if, text_if_test, text_test}
@@ -35,7 +35,7 @@ few_if_test : (o : Option (List ℕ)) → IfSome o AreFew → are_few_if o ≡ t
 few_if_test None s = refl
 few_if_test (Some o) s = and_from _ _ (le-leb 1 (length o) s.0) (le-leb (length o) 16 s.1)
 
-test_spelled_asdu : {A : Type 0} (a : Asdu A) → is_spelled_asdu a ≡ true → SpellableAsdu a
+test_spelled_asdu : {A : Type 0} (a : Asdu A) → is_asdu_spellable a ≡ true → IsSpellableAsdu a
 test_spelled_asdu a e =
     let t1 = both _ _ e in
     let t2 = both _ _ t1.1 in
@@ -57,7 +57,7 @@ test_spelled_asdu a e =
       field_89 = test_few_if a.field_89 t8.1;
     }
 
-spelled_asdu_test : {A : Type 0} (a : Asdu A) → SpellableAsdu a → is_spelled_asdu a ≡ true
+spelled_asdu_test : {A : Type 0} (a : Asdu A) → IsSpellableAsdu a → is_asdu_spellable a ≡ true
 spelled_asdu_test a s =
     rw (
       text_test a.sv_id s.sv_id,
@@ -71,19 +71,19 @@ spelled_asdu_test a s =
       few_if_test a.field_89 s.field_89,
     ) refl
 
-test_spelled_asdus : {A : Type 0} (asdus : List (Asdu A)) → are_spelled_asdus asdus ≡ true → AllByRecursion SpellableAsdu asdus
+test_spelled_asdus : {A : Type 0} (asdus : List (Asdu A)) → asdus_are_spellable asdus ≡ true → AllByRecursion IsSpellableAsdu asdus
 test_spelled_asdus [] e = tt
-test_spelled_asdus (a ∷ more) e = let b = both (is_spelled_asdu a) (are_spelled_asdus more) e in (test_spelled_asdu a b.0, test_spelled_asdus more b.1)
+test_spelled_asdus (a ∷ more) e = let b = both (is_asdu_spellable a) (asdus_are_spellable more) e in (test_spelled_asdu a b.0, test_spelled_asdus more b.1)
 
-spelled_asdus_test : {A : Type 0} (asdus : List (Asdu A)) → AllByRecursion SpellableAsdu asdus → are_spelled_asdus asdus ≡ true
+spelled_asdus_test : {A : Type 0} (asdus : List (Asdu A)) → AllByRecursion IsSpellableAsdu asdus → asdus_are_spellable asdus ≡ true
 spelled_asdus_test [] s = refl
 spelled_asdus_test (a ∷ more) (first, rest) = and_from _ _ (spelled_asdu_test a first) (spelled_asdus_test more rest)
 
-pub test_spelled_sv : {A : Type 0} (p : SvPdu A) → is_spelled_sv p ≡ true → SpellableSv p
+pub test_spelled_sv : {A : Type 0} (p : SvPdu A) → is_sv_spellable p ≡ true → IsSpellableSv p
 test_spelled_sv p e =
     let low = both (leb 1 (length p.asdus)) _ e in
-    let high = both (leb (length p.asdus) 65535) (are_spelled_asdus p.asdus) low.1 in
+    let high = both (leb (length p.asdus) 65535) (asdus_are_spellable p.asdus) low.1 in
     record { count = (leb-true 1 (length p.asdus) low.0, leb-true (length p.asdus) 65535 high.0); each = test_spelled_asdus p.asdus high.1 }
 
-pub spelled_sv_test : {A : Type 0} (p : SvPdu A) → SpellableSv p → is_spelled_sv p ≡ true
+pub spelled_sv_test : {A : Type 0} (p : SvPdu A) → IsSpellableSv p → is_sv_spellable p ≡ true
 spelled_sv_test p s = and_from _ _ (le-leb 1 (length p.asdus) s.count.0) (and_from _ _ (le-leb (length p.asdus) 65535 s.count.1) (spelled_asdus_test p.asdus s.each))

@@ -1,4 +1,4 @@
--- A PDU of Sampled Values that octets spell has a spelling in the sense of its fields.
+-- An APDU of Sampled Values that octets spell has a spelling in the sense of its fields.
 use Rattle.std.proofs.Common.{◌≡◌, ℕ, List, [], ◌∷◌, ◌++◌, length, Option, Some, None, subst, arith, inl, inr}
 use Rattle.std.proofs.lemmas.Int.{ints}
 use Rattle.std.specs.List.{AllByRecursion}
@@ -13,7 +13,7 @@ use Rattle.pdu_core.specs.Asdu.{asdu_fields, asdu_items, fixed_if, some_octets_i
 use Rattle.pdu_core.specs.Contents.{contents_grammar, few, fixed, time}
 use Rattle.pdu_core.specs.Sampled.{SpellsSvContents, SvItem, SvKind, a_count, asdu_count, asdu_grammar, asdus, items_of_each, some_asdus, sv_grammar}
 use Rattle.pdu_core.specs.SampledLaws.{SpelledSvIsSpellable}
-use Rattle.pdu_core.specs.SampledSpellable.{AreFew, IsFixed, SpellableAsdu}
+use Rattle.pdu_core.specs.SampledSpellable.{AreFew, IsFixed, IsSpellableAsdu}
 use Rattle.pdu_core.specs.declared.sampled.asdu.Asdu.{Asdu}
 use Rattle.pdu_core.proofs.SpelledSpellable.{Defaults, There, fields_spellable, text_there}
 
@@ -34,7 +34,7 @@ few_there (Some o) h = h
 asdu_defaults : Defaults asdu_fields
 asdu_defaults = (tt, (tt, (tt, (tt, (tt, (tt, (tt, (tt, (tt, (tt, tt))))))))))
 
-asdu_spellable : {A : Type 0} (a : Asdu A) (c : List ℕ) → AreOctets c → SpellsFields contents_grammar asdu_fields (asdu_items a) c → SpellableAsdu a
+asdu_spellable : {A : Type 0} (a : Asdu A) (c : List ℕ) → AreOctets c → SpellsFields contents_grammar asdu_fields (asdu_items a) c → IsSpellableAsdu a
 asdu_spellable a c h spelled =
     let all = fields_spellable asdu_fields (asdu_items a) c asdu_defaults h spelled in
     record {
@@ -51,13 +51,13 @@ asdu_spellable a c h spelled =
 
 -- ---- ASDUs, one after the other
 
-asdus_spellable : {A : Type 0} (each : List (Asdu A)) (o : List ℕ) → AreOctets o → SpellsEach asdu_grammar 0x30 tt (items_of_each each) o → AllByRecursion SpellableAsdu each
+asdus_spellable : {A : Type 0} (each : List (Asdu A)) (o : List ℕ) → AreOctets o → SpellsEach asdu_grammar 0x30 tt (items_of_each each) o → AllByRecursion IsSpellableAsdu each
 asdus_spellable [] o h s = tt
 asdus_spellable (a ∷ more) o h (c, first, rest, elem, spelled, others, parts) =
     let all : AreOctets (first ++ rest) = subst AreOctets parts h in
     (asdu_spellable a c (contents_octets 0x30 c first (front_octets first rest all) elem) spelled, asdus_spellable more rest (back_octets first rest all) others)
 
--- ---- the PDU
+-- ---- the APDU
 
 -- the contents of a field that is always there
 field_contents : (id : ℕ) (k : SvKind) (x : SvItem) (o : List ℕ) → AreOctets o → SpellsField sv_grammar (record { identifier = id; kind = k; presence = always }) (Some x) o → (c : List ℕ) × AreOctets c × SpellsSvContents k x c

@@ -6,16 +6,15 @@ use Rattle.std.specs.List.{AllByRecursion}
 use Rattle.std.specs.Prelude.{IfSome}
 use Rattle.ber_core.specs.Contents.{SpellsInteger, AreVisible}
 use Rattle.ber_core.specs.Repeated.{SpellsEach}
-use Rattle.ber_core.specs.Written.{short_integer}
+use Rattle.ber_core.specs.Written.{short_integer, written_element}
 use Rattle.ber_core.proofs.Shortest.{integer_shortest}
 use Rattle.mms_data.specs.Spellable.{IsTime}
-use Rattle.mms_data.specs.Written.{element}
 use Rattle.mms_data.specs.declared.time.UtcTime.{UtcTime}
 use Rattle.pdu_core.specs.Asdu.{asdu_fields, asdu_items, fixed_if, some_octets_if, time_if}
 use Rattle.pdu_core.specs.Goose.{text_if}
 use Rattle.pdu_core.specs.Sampled.{a_count, asdu_grammar, items_of_each, some_asdus}
 use Rattle.pdu_core.specs.SampledLaws.{WrittenSvIsSpelled}
-use Rattle.pdu_core.specs.SampledSpellable.{AreFew, IsAsduCount, IsFixed, SpellableAsdu}
+use Rattle.pdu_core.specs.SampledSpellable.{AreFew, IsAsduCount, IsFixed, IsSpellableAsdu}
 use Rattle.pdu_core.specs.SampledWritten.{asdu_contents, sv_contents, written_asdu, written_asdus}
 use Rattle.pdu_core.specs.declared.sampled.asdu.Asdu.{Asdu}
 use Rattle.mms_data.proofs.Sizes.{element_size}
@@ -24,7 +23,7 @@ use Rattle.pdu_core.proofs.WrittenSpelled.{Suit, element_written, fields_written
 -- ---- an ASDU
 
 -- the fields from sample on
-octets_suit : {A : Type 0} (a : Asdu A) → SpellableAsdu a → Suit (drop 7 asdu_fields) (drop 7 (asdu_items a))
+octets_suit : {A : Type 0} (a : Asdu A) → IsSpellableAsdu a → Suit (drop 7 asdu_fields) (drop 7 (asdu_items a))
 octets_suit a s = (one_octet 0x87 refl, tt, with_mod a.smp_mod s.smp_mod) where
   with_last : (o : Option (List ℕ)) → IfSome o AreFew → Suit (drop 9 asdu_fields) (some_octets_if o ∷ [])
   with_last None h = (refl, tt)
@@ -35,13 +34,13 @@ octets_suit a s = (one_octet 0x87 refl, tt, with_mod a.smp_mod s.smp_mod) where
   with_mod (Some o) few = (one_octet 0x88 refl, few, with_last a.field_89 s.field_89)
 
 -- the fields from smpSynch on
-samples_suit : {A : Type 0} (a : Asdu A) → SpellableAsdu a → Suit (drop 5 asdu_fields) (drop 5 (asdu_items a))
+samples_suit : {A : Type 0} (a : Asdu A) → IsSpellableAsdu a → Suit (drop 5 asdu_fields) (drop 5 (asdu_items a))
 samples_suit a s = (one_octet 0x85 refl, (refl, s.smp_synch), with_rate a.smp_rate s.smp_rate) where
   with_rate : (n : Option ℕ) → IfSome n (IsFixed 2) → Suit (drop 6 asdu_fields) (fixed_if 2 n ∷ drop 7 (asdu_items a))
   with_rate None h = (refl, octets_suit a s)
   with_rate (Some n) small = (one_octet 0x86 refl, (refl, small), octets_suit a s)
 
-asdu_suits : {A : Type 0} (a : Asdu A) → SpellableAsdu a → Suit asdu_fields (asdu_items a)
+asdu_suits : {A : Type 0} (a : Asdu A) → IsSpellableAsdu a → Suit asdu_fields (asdu_items a)
 asdu_suits a s = (one_octet 0x80 refl, s.sv_id, with_set a.dat_set s.dat_set) where
   with_time : (t : Option UtcTime) → IfSome t IsTime → Suit (drop 4 asdu_fields) (time_if t ∷ drop 5 (asdu_items a))
   with_time None h = (refl, samples_suit a s)
@@ -56,7 +55,7 @@ asdu_suits a s = (one_octet 0x80 refl, s.sv_id, with_set a.dat_set s.dat_set) wh
 
 -- ---- ASDUs, one after the other
 
-asdus_written : {A : Type 0} (asdus : List (Asdu A)) → AllByRecursion SpellableAsdu asdus → length (written_asdus asdus) < 2 ^ 32
+asdus_written : {A : Type 0} (asdus : List (Asdu A)) → AllByRecursion IsSpellableAsdu asdus → length (written_asdus asdus) < 2 ^ 32
     → SpellsEach asdu_grammar 0x30 tt (items_of_each asdus) (written_asdus asdus)
 asdus_written [] s small = refl
 asdus_written (a ∷ more) (first, rest) small =
@@ -72,7 +71,7 @@ asdus_written (a ∷ more) (first, rest) small =
       refl,
     )
 
--- ---- the PDU
+-- ---- the APDU
 
 count_written : (n : ℕ) → IsAsduCount n → SpellsInteger (pos 1) (pos 65535) (pos n) (short_integer (pos n))
 count_written n (low, high) = (omega (arith, ints), omega (arith, ints), (integer_shortest (pos n) (omega (arith, ints)) (omega (arith, ints))).spells)
@@ -81,7 +80,7 @@ pub written_sv_is_spelled : {A : Type 0} → WrittenSvIsSpelled A
 written_sv_is_spelled p s small =
     let count = short_integer (pos (length p.asdus)) in
     let each = written_asdus p.asdus in
-    let size : length (sv_contents p) ≡ length (element 0x80 count) + length (element 0xa2 each) = length-append (element 0x80 count) (element 0xa2 each) in
+    let size : length (sv_contents p) ≡ length (written_element 0x80 count) + length (written_element 0xa2 each) = length-append (written_element 0x80 count) (written_element 0xa2 each) in
     let of_count = element_size 0x80 count in
     let of_each = element_size 0xa2 each in
     let few_each : length each < 2 ^ 32 = omega (arith, size, of_each, small) in
@@ -89,15 +88,15 @@ written_sv_is_spelled p s small =
       sv_contents p,
       element_written 0x60 (sv_contents p) (one_octet 0x60 refl) small,
       (
-        element 0x80 count,
-        element 0xa2 each,
+        written_element 0x80 count,
+        written_element 0xa2 each,
         inl (a_count (length p.asdus), count, refl, element_written 0x80 count (one_octet 0x80 refl) few_count, count_written (length p.asdus) s.count),
         (
-          element 0xa2 each,
+          written_element 0xa2 each,
           [],
           inl (some_asdus (items_of_each p.asdus), each, refl, element_written 0xa2 each (one_octet 0xa2 refl) few_each, asdus_written p.asdus s.each few_each),
           refl,
-          sym (append-nil (element 0xa2 each)),
+          sym (append-nil (written_element 0xa2 each)),
         ),
         refl,
       ),

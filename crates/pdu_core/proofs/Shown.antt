@@ -1,4 +1,4 @@
--- What a call that gives what reading gives says of spellings and faults of a PDU.
+-- What a call that gives what reading gives says of spellings and faults of an APDU.
 use Rattle.std.proofs.Common.{◌≡◌, ℕ, ◌≤◌, List, length, Result, Ok, Err, sym, ◌∙◌}
 use Rattle.std.specs.Prelude.{slice_range, IfOk, IfErr}
 use Rattle.ber_core.specs.Reading.{Gives}
@@ -7,7 +7,7 @@ use Rattle.ber_core.proofs.Exact.{answer_fault, answer_fault_only}
 use Rattle.ber_core.proofs.FieldNested.{ok_is}
 use Rattle.pdu_core.specs.Goose.{goose_items, SpellsGoose, GooseFault}
 use Rattle.pdu_core.specs.GooseReading.{goose_at}
-use Rattle.pdu_core.specs.Views.{pdu_of, Shows}
+use Rattle.pdu_core.specs.Views.{pdu_of, ShowsGoose}
 use Rattle.pdu_core.specs.declared.goose.GoosePdu.{GoosePdu}
 use Rattle.pdu_core.specs.declared.view.GooseView.{GooseView}
 use Rattle.pdu_core.proofs.GooseLaws.{goose_found, goose_again, goose_wrong, goose_wrong_again, items_one}
@@ -17,7 +17,7 @@ module _ (A : Type 0) (octets : List ℕ) (p e : ℕ) (order : p ≤ e) (within 
   shown_found (Ok v) is = goose_found octets p e order within (goose_items (pdu_of {A = A} v)) is
   shown_found (Err f) is = tt
 
-  pub shown_only : (r : Result GooseView Fault) → Gives (λ v. goose_items (pdu_of {A = A} v)) r (goose_at octets p e) → (q : GoosePdu A) → SpellsGoose q (slice_range octets p e) → Shows r q
+  pub shown_only : (r : Result GooseView Fault) → Gives (λ v. goose_items (pdu_of {A = A} v)) r (goose_at octets p e) → (q : GoosePdu A) → SpellsGoose q (slice_range octets p e) → ShowsGoose r q
   shown_only (Ok v) is q s = items_one (pdu_of v) q (ok_is (goose_items (pdu_of {A = A} v)) (goose_items q) (sym is ∙ goose_again octets p e order within q s))
   shown_only (Err f) is q s = let wrong = sym is ∙ goose_again octets p e order within q s in cc
 

@@ -1,14 +1,14 @@
--- The test of a PDU passes exactly where the PDU has a spelling.
+-- The test of an APDU passes exactly where the APDU has a spelling.
 use Rattle.std.proofs.Common.{◌≡◌, ℕ, ◌^◌, Bool, true, false, ◌&&◌, List, length, Option, Some, None, Result, Ok, Err, refl}
 use Rattle.std.proofs.lemmas.Bool.{ltb-true, lt-ltb}
 use Rattle.std.specs.Prelude.{IfSome}
 use Rattle.ber_core.specs.ContentsReading.{all_visible_at}
 use Rattle.ber_core.specs.declared.fault.Fault.{Fault}
 use Rattle.ber_core.specs.Contents.{AreVisible}
-use Rattle.mms_data.specs.Spellable.{is_text, is_text_read}
+use Rattle.mms_data.specs.SpellableTest.{is_text, is_text_read}
 use Rattle.mms_data.specs.Data.{items_of}
 use Rattle.mms_data.proofs.SpellableLaws.{all_is, all_true, moment_is, moment_true}
-use Rattle.pdu_core.specs.Spellable.{Spellable, are_numbers, are_texts, is_spelled, is_text_if}
+use Rattle.pdu_core.specs.Spellable.{IsSpellableGoose, are_numbers, are_texts, is_goose_spellable, is_text_if}
 use Rattle.pdu_core.specs.declared.goose.GoosePdu.{GoosePdu}
 use Rattle.pdu_core.proofs.Texts.{text_is, text_is_not}
 
@@ -36,7 +36,7 @@ pub text_if_test : (t : Option (List ℕ)) → IfSome t AreVisible → is_text_i
 text_if_test None s = refl
 text_if_test (Some t) s = text_test t s
 
-pub test_spelled : {A : Type 0} (p : GoosePdu A) → is_spelled p ≡ true → Spellable p
+pub test_spelled : {A : Type 0} (p : GoosePdu A) → is_goose_spellable p ≡ true → IsSpellableGoose p
 test_spelled p e =
     let a = both (are_texts p.gocb_ref p.dat_set p.go_id) _ e in
     let b = both (are_numbers p.live p.st_num p.sq_num p.conf_rev (length p.members)) _ a.1 in
@@ -60,7 +60,7 @@ test_spelled p e =
       members = all_is (items_of p.members) 1 c.1;
     }
 
-pub spelled_test : {A : Type 0} (p : GoosePdu A) → Spellable p → is_spelled p ≡ true
+pub spelled_test : {A : Type 0} (p : GoosePdu A) → IsSpellableGoose p → is_goose_spellable p ≡ true
 spelled_test p s =
     rw (
       text_test p.gocb_ref s.gocb_ref,

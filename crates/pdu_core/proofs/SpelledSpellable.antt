@@ -1,5 +1,5 @@
--- A PDU that octets spell has a spelling in the sense of the test: nothing is read that could not be written.
-use Rattle.std.proofs.Common.{ℕ, ◌<◌, ◌^◌, List, [], ◌∷◌, ◌++◌, length, Option, Some, None, sym, subst, arith, inl, inr}
+-- An APDU that octets spell has a spelling in the sense of the test: nothing is read that could not be written.
+use Rattle.std.proofs.Common.{ℕ, ◌<◌, ◌^◌, List, [], ◌∷◌, ◌++◌, Option, Some, None, sym, subst, arith, inl, inr}
 use Rattle.std.proofs.lemmas.Int.{ints}
 use Rattle.std.specs.Prelude.{IfSome}
 use Rattle.ber_core.specs.Fields.{AbsenceMeans, Field, Presence, SpellsField, SpellsFields, always, default, optional}
@@ -11,7 +11,7 @@ use Rattle.pdu_core.specs.Contents.{Item, Kind, SpellsContents, SpellsFixed, a_f
 use Rattle.pdu_core.specs.Contents.{number as a_kind_of_number}
 use Rattle.pdu_core.specs.Goose.{SpellsGoose, goose_fields, goose_items, text_if}
 use Rattle.pdu_core.specs.SampledSpellable.{IsFixed}
-use Rattle.pdu_core.specs.Spellable.{Spellable}
+use Rattle.pdu_core.specs.Spellable.{IsSpellableGoose}
 use Rattle.pdu_core.specs.declared.goose.GoosePdu.{GoosePdu}
 use Rattle.ber_core.proofs.Shortest.{number_small}
 use Rattle.pdu_core.proofs.WrittenSpelled.{IsSpellable}
@@ -76,7 +76,7 @@ text_there (Some t) h = h
 goose_defaults : Defaults goose_fields
 goose_defaults = (tt, (tt, (tt, (tt, (tt, (tt, (tt, (tt, (tt, (tt, (tt, (tt, tt))))))))))))
 
-pub goose_spellable : {A : Type 0} (p : GoosePdu A) (o : List ℕ) → AreOctets o → SpellsGoose p o → Spellable p
+pub goose_spellable : {A : Type 0} (p : GoosePdu A) (o : List ℕ) → AreOctets o → SpellsGoose p o → IsSpellableGoose p
 goose_spellable p o h (c, elem, spelled) =
     let all = fields_spellable goose_fields (goose_items p) c goose_defaults (contents_octets 0x61 c o h elem) spelled in
     record {

@@ -4,15 +4,14 @@ use Rattle.std.specs.Prelude.{slice_range}
 use Rattle.ber_core.specs.ContentsReading.{all_visible_at, any_integer_at, boolean_at, counted_at, integer_at}
 use Rattle.ber_core.specs.FieldReading.{required_at, there_at}
 use Rattle.ber_core.specs.Reading.{counted_length_at, header_at, length_at, refused}
-use Rattle.ber_core.specs.Repeated.{each_within}
-use Rattle.ber_core.specs.Written.{integer_size, short_integer, short_length}
+use Rattle.ber_core.specs.RepeatedReading.{each_within}
+use Rattle.ber_core.specs.Written.{integer_size, short_integer, short_length, written_element}
 use Rattle.ber_core.specs.declared.fault.Cause.TheVariants as causes
 use Rattle.mms_data.specs.ContentsReading.{simple_at}
 use Rattle.mms_data.specs.Data.{boolean, simple}
 use Rattle.mms_data.specs.Kinds.{kind_at}
 use Rattle.mms_data.specs.Reading.{member_at, member_with, members_at, members_with}
-use Rattle.mms_data.specs.Utc.{utc_at}
-use Rattle.mms_data.specs.Written.{element}
+use Rattle.mms_data.specs.UtcReading.{utc_at}
 use Rattle.pdu_core.specs.ContentsReading.{few_at, fixed_in, members_in, number_in}
 use Rattle.pdu_core.specs.Goose.{SpellsGoose, goose_items}
 use Rattle.pdu_core.specs.GooseReading.{goose_at}
@@ -27,7 +26,7 @@ use Rattle.pdu_core.proofs.SvShown.{sv_spelled}
 
 -- ---- GOOSE
 
--- the example's frame: its PDU stands from 22 to 67
+-- the example's frame: its APDU stands from 22 to 67
 abbrev frame : List ℕ
 frame =
     0x01 ∷ 0x0c ∷ 0xcd ∷ 0x01 ∷ 0x00 ∷ 0x01 ∷ 0x02 ∷ 0x00 ∷ 0x00 ∷ 0x00 ∷ 0x00 ∷ 0x01 ∷ 0x88 ∷ 0xb8 ∷ 0x00 ∷ 0x01 ∷ 0x00 ∷ 0x35 ∷ 0x00 ∷ 0x00 ∷ 0x00 ∷ 0x00
@@ -53,12 +52,12 @@ pub goose_read : goose_at frame 22 67 ≡ Ok (goose_items its_pdu)
 unfolding goose_at required_at there_at header_at length_at number_in members_in integer_at any_integer_at boolean_at all_visible_at utc_at members_at members_with member_at member_with kind_at simple_at
 goose_read = refl
 
--- so these octets spell this PDU
+-- so these octets spell this APDU
 pub goose_spelled : SpellsGoose its_pdu (slice_range frame 22 67)
 goose_spelled = goose_found frame 22 67 (omega arith) (omega arith) (goose_items its_pdu) goose_read
 
 pub goose_written : written_goose its_pdu ≡ slice_range frame 22 67
-unfolding element short_length short_integer integer_size
+unfolding written_element short_length short_integer integer_size
 goose_written = refl
 
 -- a goID, true as 01 and as FF, a long length, a padded number, and a boolean that is absent
@@ -130,7 +129,7 @@ goose_faults = record {
 
 -- ---- Sampled Values
 
--- the other example's frame: its PDU stands from 22 to 54
+-- the other example's frame: its APDU stands from 22 to 54
 abbrev sampled : List ℕ
 sampled =
     0x01 ∷ 0x0c ∷ 0xcd ∷ 0x04 ∷ 0x00 ∷ 0x01 ∷ 0x02 ∷ 0x00 ∷ 0x00 ∷ 0x00 ∷ 0x00 ∷ 0x01 ∷ 0x88 ∷ 0xba ∷ 0x40 ∷ 0x00 ∷ 0x00 ∷ 0x28 ∷ 0x00 ∷ 0x00 ∷ 0x00 ∷ 0x00
@@ -161,7 +160,7 @@ pub sv_pdu_spelled : SpellsSv its_sv_pdu (slice_range sampled 22 54)
 sv_pdu_spelled = sv_spelled sampled 22 54 (omega arith) (omega arith) its_sv_pdu sv_read
 
 pub sv_written : written_sv its_sv_pdu ≡ slice_range sampled 22 54
-unfolding element short_length short_integer integer_size
+unfolding written_element short_length short_integer integer_size
 sv_written = refl
 
 -- the frame with another octet at a place

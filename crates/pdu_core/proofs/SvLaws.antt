@@ -132,7 +132,7 @@ unfolding sv_at
 sv_at_is octets p e h x r1 r2 r3 r4 = rw (r1, r2, r3, r4) refl
 
 module _ (octets : List ℕ) (p e : ℕ) (order : p ≤ e) (within : e ≤ length octets) where
-  -- the octets of a PDU that was read but for its count
+  -- the octets of an APDU that was read but for its count
   wrong_count : (t : Steps octets p e) (f : Fault) → sv_at octets p e ≡ Err f → AsduCountFault f p (slice_range octets p e)
   wrong_count t f is =
       let found = if_there_found 0x60 p refl (slice_range octets p e) t.h (required_found 0x60 p e octets t.h t.header) in

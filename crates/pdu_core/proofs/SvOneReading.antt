@@ -1,4 +1,4 @@
--- Reading of a savPdu is a function: so there is one PDU, or one fault, and never both.
+-- Reading of a savPdu is a function: so there is one APDU, or one fault, and never both.
 use Rattle.std.proofs.Common.{◌≡◌, ℕ, ◌+◌, Option, List, ◌++◌, length, Result, Ok, Err, sym, subst, ◌∙◌, arith}
 use Rattle.ber_core.specs.declared.fault.Fault.{Fault}
 use Rattle.ber_core.proofs.FieldNested.{ok_is}

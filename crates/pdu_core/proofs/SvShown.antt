@@ -52,13 +52,13 @@ pub none_counted : (A : Type 0) (s : Asdus) (count : ℕ) → asdus_left {A = A}
 none_counted A s count none counted = omega (arith, counted, ap length (none_in A (Unit {0}) s none))
 
 module _ (octets : List ℕ) (p e : ℕ) (order : p ≤ e) (within : e ≤ length octets) where
-  -- the PDU whose values are read is spelled
+  -- the APDU whose values are read is spelled
   pub sv_spelled : {A : Type 0} (q : SvPdu A) → sv_at octets p e ≡ Ok (items_of_each q.asdus) → SpellsSv q (slice_range octets p e)
   sv_spelled q is =
       let s = sv_found octets p e order within (items_of_each q.asdus) is in
       (s.0, s.1, subst (λ (n : ℕ). SpellsFields sv_grammar sv_fields (both_items n (items_of_each q.asdus)) s.0) (each_count q.asdus) s.2)
 
-  -- where reading gives values, no other PDU is spelled
+  -- where reading gives values, no other APDU is spelled
   pub sv_only : {A : Type 0} (q s : SvPdu A) → sv_at octets p e ≡ Ok (items_of_each q.asdus) → SpellsSv s (slice_range octets p e) → q ≡ s
   sv_only q s is spelled = pdus_one q s (ok_is (items_of_each q.asdus) (items_of_each s.asdus) (sym is ∙ sv_again octets p e order within s spelled))
 
@@ -90,7 +90,7 @@ module _ (octets : List ℕ) (p e : ℕ) (order : p ≤ e) (within : e ≤ lengt
     pub sv_shown_fault_only : (r : Result SvView Fault) → Gives (λ v. items_of_each (asdus_left {A = A} v.asdus)) r (sv_at octets p e) → (f : Fault) → SvFault f p (slice_range octets p e) → r ≡ Err f
     sv_shown_fault_only r is f w = answer_fault_only (λ v. items_of_each (asdus_left {A = A} v.asdus)) (sv_at octets p e) f (sv_wrong_again octets p e order within f w) r is
 
-  -- what a PDU that was made from such a view says
+  -- what an APDU that was made from such a view says
   module _ {A : Type 0} (v : SvView) (q : SvPdu A) (is : sv_at octets p e ≡ Ok (items_of_each (asdus_left {A = Unit {0}} v.asdus))) (made : q ≡ sv_of v) where
     read_in : sv_at octets p e ≡ Ok (items_of_each q.asdus)
     read_in = is ∙ ap (λ x. Ok x) (left_in (Unit {0}) A v.asdus ∙ ap (λ (x : SvPdu A). items_of_each x.asdus) (sym made))

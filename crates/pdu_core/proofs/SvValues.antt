@@ -6,26 +6,26 @@ use Rattle.ber_core.specs.Reading.{◌>>=◌}
 use Rattle.ber_core.specs.declared.fault.Fault.{Fault}
 use Rattle.mms_data.specs.declared.time.UtcTime.{UtcTime}
 use Rattle.pdu_core.specs.Goose.{text_if}
-use Rattle.pdu_core.specs.GooseValue.{text_if_there}
+use Rattle.pdu_core.specs.GooseValue.{optional_text}
 use Rattle.pdu_core.specs.Asdu.{asdu_items, fixed_if, some_octets_if, time_if}
 use Rattle.pdu_core.specs.Contents.{Item}
 use Rattle.pdu_core.specs.Sampled.{items_of_each, SpellsSv, SvFault}
 use Rattle.pdu_core.specs.SampledReading.{asdus_at}
-use Rattle.pdu_core.specs.SampledValue.{asdu_of_items, asdus_in, asdus_of_items, fixed_if_there, octets_if_there, sv_value, time_if_there}
+use Rattle.pdu_core.specs.SampledValue.{asdu_of_items, asdus_in, asdus_of_items, optional_fixed, optional_octets, sv_value, optional_time}
 use Rattle.pdu_core.specs.declared.sampled.asdu.Asdu.{Asdu}
 use Rattle.pdu_core.specs.declared.sampled.asdu.SvPdu.{SvPdu}
 use Rattle.pdu_core.proofs.SvLaws.{sv_again, sv_wrong_again}
 use Rattle.pdu_core.proofs.ValueLaws.{text_back}
 
-time_back : (t : Option UtcTime) → time_if_there (time_if t) ≡ t
+time_back : (t : Option UtcTime) → optional_time (time_if t) ≡ t
 time_back None = refl
 time_back (Some t) = refl
 
-fixed_back : (size : ℕ) (n : Option ℕ) → fixed_if_there (fixed_if size n) ≡ n
+fixed_back : (size : ℕ) (n : Option ℕ) → optional_fixed (fixed_if size n) ≡ n
 fixed_back size None = refl
 fixed_back size (Some n) = refl
 
-octets_back : (o : Option (List ℕ)) → octets_if_there (some_octets_if o) ≡ o
+octets_back : (o : Option (List ℕ)) → optional_octets (some_octets_if o) ≡ o
 octets_back None = refl
 octets_back (Some o) = refl
 
@@ -37,7 +37,7 @@ rebuilt a d t r m n ed et er em en = rw (ed, et, er, em, en) refl
 -- the values of an ASDU make it up
 pub asdu_back : {A : Type 0} (a : Asdu A) → asdu_of_items (asdu_items a) ≡ a
 asdu_back a =
-    rebuilt a (text_if_there (text_if a.dat_set)) (time_if_there (time_if a.refr_tm)) (fixed_if_there (fixed_if 2 a.smp_rate)) (octets_if_there (some_octets_if a.smp_mod)) (octets_if_there (some_octets_if a.field_89))
+    rebuilt a (optional_text (text_if a.dat_set)) (optional_time (time_if a.refr_tm)) (optional_fixed (fixed_if 2 a.smp_rate)) (optional_octets (some_octets_if a.smp_mod)) (optional_octets (some_octets_if a.field_89))
     (text_back a.dat_set) (time_back a.refr_tm) (fixed_back 2 a.smp_rate) (octets_back a.smp_mod) (octets_back a.field_89)
 
 pub asdus_back : {A : Type 0} (xs : List (Asdu A)) → asdus_of_items (items_of_each xs) ≡ xs

@@ -1,19 +1,19 @@
--- Reading gives the PDU that is spelled, and the fault that is there.
+-- Reading gives the APDU that is spelled, and the fault that is there.
 use Rattle.std.proofs.Common.{◌≡◌, ℕ, ◌≤◌, List, length, Option, Some, None, Result, Ok, Err, refl, ap, ◌∙◌}
 use Rattle.std.specs.Prelude.{slice_range}
 use Rattle.ber_core.specs.Reading.{◌>>=◌}
 use Rattle.ber_core.specs.declared.fault.Fault.{Fault}
 use Rattle.pdu_core.specs.Contents.{Item}
 use Rattle.pdu_core.specs.Goose.{GooseFault, SpellsGoose, goose_items, text_if}
-use Rattle.pdu_core.specs.GooseValue.{goose_value, pdu_of_items, text_if_there}
+use Rattle.pdu_core.specs.GooseValue.{goose_value, pdu_of_items, optional_text}
 use Rattle.pdu_core.specs.declared.goose.GoosePdu.{GoosePdu}
 use Rattle.pdu_core.proofs.GooseLaws.{goose_again, goose_wrong_again}
 
-pub text_back : (t : Option (List ℕ)) → text_if_there (text_if t) ≡ t
+pub text_back : (t : Option (List ℕ)) → optional_text (text_if t) ≡ t
 text_back None = refl
 text_back (Some t) = refl
 
--- the values of a PDU make it up
+-- the values of an APDU make it up
 pub items_back : {A : Type 0} (q : GoosePdu A) → pdu_of_items (goose_items q) ≡ q
 items_back q = ap (λ (t : Option (List ℕ)). record q { go_id = t }) (text_back q.go_id)
 

@@ -9,7 +9,7 @@ use Rattle.byteorder.specs.Numbers.{length-bytes_high_first, big_number-reads_ba
 use Rattle.ber_core.specs.Element.{Elem, IsIdentifier}
 use Rattle.ber_core.specs.Fields.{Field, AbsenceMeans, SpellsFields}
 use Rattle.ber_core.specs.Length.{number}
-use Rattle.ber_core.specs.Written.{short_integer, short_length}
+use Rattle.ber_core.specs.Written.{short_integer, short_length, written_element}
 use Rattle.ber_core.proofs.Shortest.{integer_shortest, length_shortest}
 use Rattle.ber_core.specs.Contents.{AreVisible}
 use Rattle.mms_data.specs.Utc.{SpellsUtc}
@@ -20,10 +20,10 @@ use Rattle.pdu_core.specs.Contents.{number as a_kind_of_number}
 use Rattle.pdu_core.specs.Goose.{goose_fields, goose_items, text_if}
 use Rattle.pdu_core.specs.Laws.{WrittenIsSpelled}
 use Rattle.pdu_core.specs.SampledSpellable.{AreFew, IsFixed}
-use Rattle.pdu_core.specs.Spellable.{IsNumber, Spellable}
-use Rattle.mms_data.specs.Spellable.{AllSpellable, IsTime}
-use Rattle.mms_data.specs.Written.{element, written_time}
-use Rattle.pdu_core.specs.Written.{written_contents, written_fields, written_item}
+use Rattle.pdu_core.specs.Spellable.{IsNumber, IsSpellableGoose}
+use Rattle.mms_data.specs.Spellable.{AllAreSpellable, IsTime}
+use Rattle.mms_data.specs.Written.{written_time}
+use Rattle.pdu_core.specs.Written.{goose_contents, written_fields, written_item}
 use Rattle.pdu_core.specs.declared.goose.GoosePdu.{GoosePdu}
 use Rattle.mms_data.proofs.Sizes.{element_size}
 
@@ -53,7 +53,7 @@ IsSpellable text (a_text t) = AreVisible t
 IsSpellable a_kind_of_number (a_number n) = IsNumber n
 IsSpellable flag (a_flag b) = Unit {0}
 IsSpellable time (a_time t) = IsTime t
-IsSpellable members (some_members ds) = AllSpellable ds 1
+IsSpellable members (some_members ds) = AllAreSpellable ds 1
 IsSpellable (fixed size) (a_fixed count n) = (count ≡ size) × IsFixed count n
 IsSpellable raw (some_octets o) = Unit {0}
 IsSpellable few (some_octets o) = AreFew o
@@ -72,8 +72,8 @@ item_written _ _ s small = absurd s
 
 -- ---- elements and fields
 
-pub element_written : (id : ℕ) (c : List ℕ) → IsIdentifier id → length c < 2 ^ 32 → Elem id c (element id c)
-unfolding element
+pub element_written : (id : ℕ) (c : List ℕ) → IsIdentifier id → length c < 2 ^ 32 → Elem id c (written_element id c)
+unfolding written_element
 element_written id c identifier small = record { identifier = identifier; size = short_length (length c); sized = (length_shortest (length c) small).spells; parts = refl }
 
 -- the values are of the kinds that the fields have, and spellable, and one that is absent may be
@@ -90,19 +90,19 @@ fields_written [] (v ∷ vs) suit small = absurd suit
 fields_written (g ∷ gs) [] suit small = absurd suit
 fields_written (g ∷ gs) (None ∷ vs) (means, suit) small = ([], written_fields gs vs, inr (means, refl), fields_written gs vs suit small, refl)
 fields_written (g ∷ gs) (Some x ∷ vs) (identifier, spellable, suit) small =
-    let first = element g.identifier (written_item x) in
+    let first = written_element g.identifier (written_item x) in
     let size : length (written_fields (g ∷ gs) (Some x ∷ vs)) ≡ length first + length (written_fields gs vs) = length-append first (written_fields gs vs) in
     let holds = element_size g.identifier (written_item x) in
     let few : length (written_item x) < 2 ^ 32 = omega (arith, size, holds, small) in
     (first, written_fields gs vs, inl (x, written_item x, refl, element_written g.identifier (written_item x) identifier few, item_written g.kind x spellable few), fields_written gs vs suit (omega (arith, size, small)), refl)
 
--- ---- the PDU
+-- ---- the APDU
 
 pub one_octet : (id : ℕ) → eqb (id % 32) 31 ≡ false → IsIdentifier id
 one_octet id e = eqb-false (id % 32) 31 e
 
 -- the fields from t on
-rest_suits : {A : Type 0} (p : GoosePdu A) → Spellable p → Suit (drop 4 goose_fields) (drop 4 (goose_items p))
+rest_suits : {A : Type 0} (p : GoosePdu A) → IsSpellableGoose p → Suit (drop 4 goose_fields) (drop 4 (goose_items p))
 rest_suits p s = (
   one_octet 0x84 refl,
   s.t,
@@ -117,11 +117,11 @@ rest_suits p s = (
   ),
 )
 
-goose_suits : {A : Type 0} (p : GoosePdu A) → Spellable p → Suit goose_fields (goose_items p)
+goose_suits : {A : Type 0} (p : GoosePdu A) → IsSpellableGoose p → Suit goose_fields (goose_items p)
 goose_suits p s = (one_octet 0x80 refl, s.gocb_ref, (one_octet 0x81 refl, s.live, (one_octet 0x82 refl, s.dat_set, with_id p.go_id s.go_id))) where
   with_id : (id : Option (List ℕ)) → IfSome id AreVisible → Suit (drop 3 goose_fields) (text_if id ∷ drop 4 (goose_items p))
   with_id None t = (refl, rest_suits p s)
   with_id (Some t) visible = (one_octet 0x83 refl, visible, rest_suits p s)
 
 pub written_is_spelled : {A : Type 0} → WrittenIsSpelled A
-written_is_spelled p s small = (written_contents p, element_written 0x61 (written_contents p) (one_octet 0x61 refl) small, fields_written goose_fields (goose_items p) (goose_suits p s) small)
+written_is_spelled p s small = (goose_contents p, element_written 0x61 (goose_contents p) (one_octet 0x61 refl) small, fields_written goose_fields (goose_items p) (goose_suits p s) small)

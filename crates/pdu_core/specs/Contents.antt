@@ -1,14 +1,15 @@
--- The kinds of contents that the fields of a PDU have, what they spell, and their faults.
-use Rattle.std.specs.Prelude.{◌≡◌, ◌≤◌, ℕ, pos, ◌^◌, ◌+◌, ◌-◌, Bool, List, length}
+-- The kinds of contents that the fields of an APDU have, what they spell, and their faults.
+use Rattle.std.specs.Prelude.{◌≡◌, ℕ, pos, ◌^◌, ◌+◌, ◌-◌, Bool, List, length}
 use Rattle.ber_core.specs.Contents.{SpellsBoolean, BooleanFault, SpellsInteger, IntegerFault, SpellsVisible, VisibleFault, CountedFault}
 use Rattle.ber_core.specs.Faults.{fault_of}
 use Rattle.ber_core.specs.Fields.{Grammar}
 use Rattle.ber_core.specs.Length.{number as octets_number}
 use Rattle.ber_core.specs.declared.fault.Fault.{Fault}
 use Rattle.ber_core.specs.declared.fault.Cause.TheVariants as causes
+use Rattle.mms_data.specs.Contents.{IsFewOctets}
 use Rattle.mms_data.specs.Data.{Data}
 use Rattle.mms_data.specs.Spelling.{SpellsAll, FaultIn}
-use Rattle.mms_data.specs.Utc.{SpellsUtc, UtcFault}
+use Rattle.mms_data.specs.Utc.{SpellsUtc}
 use Rattle.mms_data.specs.declared.time.UtcTime.{UtcTime}
 
 -- a visible text, an integer, a boolean, a time, members of Data, a number in a stated count of octets, octets of
@@ -33,17 +34,13 @@ pub data Item : Type 0 where
   a_fixed : ℕ → ℕ → Item
   some_octets : List ℕ → Item
 
--- profile: contents that are kept as they are and have a bound have one to sixteen octets
-abbrev pub IsFew : ℕ → Type 0
-IsFew n = (1 ≤ n) × (n ≤ 16)
-
 -- c is the number n in so many octets, the most significant first
 abbrev pub SpellsFixed : ℕ → ℕ → List ℕ → Type 0
 SpellsFixed size n c = (length c ≡ size) × (octets_number c ≡ n)
 
 -- contents of no octet, or of more than sixteen, are at fault
 abbrev pub FewFault : Fault → ℕ → List ℕ → Type 0
-FewFault f at c = ¬ IsFew (length c) × (f ≡ fault_of (at + 1) causes.FixedLength)
+FewFault f at c = ¬ IsFewOctets (length c) × (f ≡ fault_of (at + 1) causes.FixedLength)
 
 -- the contents of a kind spell the value (profile: a number is at most 4294967295)
 abbrev pub SpellsContents : Kind → Item → List ℕ → Type 0
@@ -54,7 +51,7 @@ SpellsContents time (a_time t) c = SpellsUtc t c
 SpellsContents members (some_members ds) c = SpellsAll ds 1 c
 SpellsContents (fixed size) (a_fixed count n) c = (count ≡ size) × SpellsFixed size n c
 SpellsContents raw (some_octets o) c = c ≡ o
-SpellsContents few (some_octets o) c = (c ≡ o) × IsFew (length o)
+SpellsContents few (some_octets o) c = (c ≡ o) × IsFewOctets (length o)
 SpellsContents _ _ c = ⊥
 
 -- the fault of contents of a kind that spell nothing, where the element stands at one place and its contents at another
@@ -62,7 +59,7 @@ abbrev pub ContentsFault : Fault → Kind → ℕ → ℕ → List ℕ → Type 
 ContentsFault f text at from c = VisibleFault f from c
 ContentsFault f number at from c = IntegerFault f (pos 0) (pos (2 ^ 32 - 1)) at from c
 ContentsFault f flag at from c = BooleanFault f at c
-ContentsFault f time at from c = UtcFault f at c
+ContentsFault f time at from c = CountedFault f 8 at c
 ContentsFault f members at from c = FaultIn f 1 from c
 ContentsFault f (fixed size) at from c = CountedFault f size at c
 ContentsFault f raw at from c = ⊥

@@ -1,5 +1,5 @@
 -- Reading the contents of a field, by their kind.
-use Rattle.std.specs.Prelude.{◌&&◌, ℕ, pos, ◌^◌, ◌+◌, ◌-◌, List, length, nat_le, Result, Ok, if◌then◌else◌}
+use Rattle.std.specs.Prelude.{ℕ, pos, ◌^◌, ◌+◌, ◌-◌, List, length, Result, Ok, if◌then◌else◌}
 use Rattle.byteorder.specs.Endian.{big_number}
 use Rattle.ber_core.specs.ContentsReading.{boolean_at, counted_at, integer_at, visible_at, natural}
 use Rattle.ber_core.specs.Element.{contents_of}
@@ -8,9 +8,10 @@ use Rattle.ber_core.specs.Reading.{refused, ◌>>=◌}
 use Rattle.ber_core.specs.declared.element.Header.{Header}
 use Rattle.ber_core.specs.declared.fault.Fault.{Fault}
 use Rattle.ber_core.specs.declared.fault.Cause.TheVariants as causes
+use Rattle.mms_data.specs.ContentsReading.{is_few_octets}
 use Rattle.mms_data.specs.Data.{Data}
 use Rattle.mms_data.specs.Reading.{members_at}
-use Rattle.mms_data.specs.Utc.{utc_at}
+use Rattle.mms_data.specs.UtcReading.{utc_at}
 use Rattle.pdu_core.specs.Contents.{Kind, text, number, flag, time, members, fixed, raw, few, Item, a_text, a_number, a_flag, a_time, some_members, a_fixed, some_octets}
 
 -- the number of contents
@@ -27,7 +28,7 @@ fixed_in size octets h = counted_at size h.at (contents_of octets h) >>= λ c. O
 
 -- contents of one to sixteen octets
 unfoldable pub few_at : ℕ → List ℕ → Result (List ℕ) Fault
-few_at at c = if nat_le 1 (length c) && nat_le (length c) 16 then Ok c else refused (at + 1) causes.FixedLength
+few_at at c = if is_few_octets (length c) then Ok c else refused (at + 1) causes.FixedLength
 
 -- the value of contents
 abbrev pub item_at : Read Kind Item

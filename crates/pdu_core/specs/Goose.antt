@@ -4,7 +4,7 @@ use Rattle.ber_core.specs.Length.{Len}
 use Rattle.ber_core.specs.Element.{Elem}
 use Rattle.ber_core.specs.Faults.{fault_of}
 use Rattle.ber_core.specs.Fields.{Field, always, optional, default, Grammar, SpellsFields, FieldsFault}
-use Rattle.ber_core.specs.FieldReading.{nested}
+use Rattle.ber_core.specs.Fields.{nested}
 use Rattle.ber_core.specs.declared.fault.Fault.{Fault}
 use Rattle.ber_core.specs.declared.fault.Cause.TheVariants as causes
 use Rattle.mms_data.specs.Data.{Data}
@@ -33,7 +33,7 @@ goose_end =
     ∷ record { identifier = 0xab; kind = members; presence = always }
     ∷ []
 
--- the fields of a PDU, in their order
+-- the fields of an APDU, in their order
 abbrev pub goose_fields : List (Field Kind Item)
 goose_fields = goose_front ++ goose_end
 
@@ -69,7 +69,7 @@ apdu_grammar = nested contents_grammar goose_fields
 abbrev pub apdu_fields : List (Field (Unit {0}) (List (Option Item)))
 apdu_fields = record { identifier = 0x61; kind = tt; presence = always } ∷ []
 
--- o, which stands at the place p, spells a PDU but for the count of entries: the fault is at the identifier of
+-- o, which stands at the place p, spells an APDU but for the count of entries: the fault is at the identifier of
 -- the count
 pub record CountFault (f : Fault) (p : ℕ) (o : List ℕ) : Type 0 where
   pub size : List ℕ
@@ -85,6 +85,6 @@ pub record CountFault (f : Fault) (p : ℕ) (o : List ℕ) : Type 0 where
   pub differs : count ≢ length entries
   pub fault : f ≡ fault_of (p + 1 + length size + length front) causes.EntryCount
 
--- the fault of octets that stand at the place p and spell no PDU: the first of the fields, and after them the count
+-- the fault of octets that stand at the place p and spell no APDU: the first of the fields, and after them the count
 abbrev pub GooseFault : Fault → ℕ → List ℕ → Type 0
 GooseFault f p o = FieldsFault apdu_grammar f apdu_fields p o ⊎ CountFault f p o

@@ -1,4 +1,4 @@
--- Reading a PDU from left to right, with the first fault that is met. Laws in both directions tie it to the
+-- Reading an APDU from left to right, with the first fault that is met. Laws in both directions tie it to the
 -- spellings and the faults.
 use Rattle.std.specs.Prelude.{◌==◌, ℕ, drop, List, [], ◌∷◌, length, Option, Some, Result, Ok, if◌then◌else◌}
 use Rattle.ber_core.specs.FieldReading.{ends_at, fields_at, required_at}
@@ -22,7 +22,7 @@ counted_end place vs _ = refused place causes.EntryCount
 abbrev pub counted : ℕ → List (Option Item) → Result (List (Option Item)) Fault
 counted place vs = counted_end place vs (drop 10 vs)
 
--- the values of the PDU that fills the octets from p to e
+-- the values of the APDU that fills the octets from p to e
 unfoldable pub goose_at : List ℕ → ℕ → ℕ → Result (List (Option Item)) Fault
 goose_at octets p e = do
   h ← required_at 0x61 octets p e

@@ -1,4 +1,4 @@
--- The PDU that reading gives, from the values of its fields.
+-- The APDU that reading gives, from the values of its fields.
 use Rattle.std.specs.Prelude.{ℕ, Bool, false, List, [], Option, Some, None, Result, Ok, get_or}
 use Rattle.ber_core.specs.Reading.{◌>>=◌}
 use Rattle.ber_core.specs.declared.fault.Fault.{Fault}
@@ -8,9 +8,9 @@ use Rattle.pdu_core.specs.Contents.{Item, a_text, a_number, a_flag, a_time, some
 use Rattle.pdu_core.specs.GooseReading.{goose_at}
 use Rattle.pdu_core.specs.declared.goose.GoosePdu.{GoosePdu}
 
-abbrev pub text_if_there : Option Item → Option (List ℕ)
-text_if_there (Some (a_text t)) = Some t
-text_if_there _ = None
+abbrev pub optional_text : Option Item → Option (List ℕ)
+optional_text (Some (a_text t)) = Some t
+optional_text _ = None
 
 abbrev pub text_of : Option Item → List ℕ
 text_of (Some (a_text t)) = t
@@ -32,13 +32,13 @@ abbrev pub members_of : Option Item → List Data
 members_of (Some (some_members ds)) = ds
 members_of _ = []
 
--- the PDU whose fields have these values
+-- the APDU whose fields have these values
 abbrev pub pdu_of_items : {A : Type 0} → List (Option Item) → GoosePdu A
 pdu_of_items vs = record {
   gocb_ref = text_of (get_or vs 0 None);
   live = number_of (get_or vs 1 None);
   dat_set = text_of (get_or vs 2 None);
-  go_id = text_if_there (get_or vs 3 None);
+  go_id = optional_text (get_or vs 3 None);
   t = time_of (get_or vs 4 None);
   st_num = number_of (get_or vs 5 None);
   sq_num = number_of (get_or vs 6 None);
@@ -48,6 +48,6 @@ pdu_of_items vs = record {
   members = members_of (get_or vs 11 None);
 }
 
--- the PDU that fills the octets from p to e
+-- the APDU that fills the octets from p to e
 abbrev pub goose_value : {A : Type 0} → List ℕ → ℕ → ℕ → Result (GoosePdu A) Fault
 goose_value octets p e = goose_at octets p e >>= λ vs. Ok (pdu_of_items vs)

@@ -1,10 +1,10 @@
--- Which PDUs are kept without memory of their own.
+-- Which APDUs are kept without memory of their own.
 use Rattle.std.specs.Prelude.{◌≡◌, [], IfSome}
 use Rattle.pdu_core.specs.declared.goose.GoosePdu.{GoosePdu}
 use Rattle.pdu_core.specs.declared.sampled.asdu.Asdu.{Asdu}
 
--- texts without octets, and no members: such a PDU needs no memory
-pub record NeedsNoMemory {A : Type 0} (p : GoosePdu A) : Type 0 where
+-- texts without octets, and no members: such an APDU needs no memory
+pub record GooseNeedsNoMemory {A : Type 0} (p : GoosePdu A) : Type 0 where
   pub gocb_ref : p.gocb_ref ≡ []
   pub dat_set : p.dat_set ≡ []
   pub go_id : IfSome p.go_id (λ o. o ≡ [])

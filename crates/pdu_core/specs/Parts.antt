@@ -1,9 +1,9 @@
--- A PDU whose texts and members are kept elsewhere.
+-- An APDU whose texts and members are kept elsewhere.
 use Rattle.pdu_core.specs.Views.{octets_if}
 use Rattle.pdu_core.specs.declared.goose.GoosePdu.{GoosePdu}
 use Rattle.pdu_core.specs.declared.parts.GooseParts.{GooseParts}
 
--- the PDU that has these fields
+-- the APDU that has these fields
 abbrev pub pdu_of_parts : {A : Type 0} → GooseParts A → GoosePdu A
 pdu_of_parts p = record {
   gocb_ref = p.gocb_ref.now;

@@ -3,7 +3,7 @@ use Rattle.std.specs.Prelude.{◌≡◌, ◌≢◌, ℕ, pos, ◌+◌, ◌⊎◌
 use Rattle.ber_core.specs.Contents.{SpellsInteger, IntegerFault}
 use Rattle.ber_core.specs.Element.{Elem}
 use Rattle.ber_core.specs.Faults.{fault_of}
-use Rattle.ber_core.specs.FieldReading.{nested}
+use Rattle.ber_core.specs.Fields.{nested}
 use Rattle.ber_core.specs.Fields.{Field, always, Grammar, SpellsFields, FieldsFault}
 use Rattle.ber_core.specs.Length.{Len}
 use Rattle.ber_core.specs.Repeated.{SpellsEach, EachFault}
@@ -69,7 +69,7 @@ sv_apdu_grammar = nested sv_grammar sv_fields
 abbrev pub sv_apdu_fields : List (Field (Unit {0}) (List (Option SvItem)))
 sv_apdu_fields = record { identifier = 0x60; kind = tt; presence = always } ∷ []
 
--- o, which stands at the place p, spells a PDU but for the count of ASDUs: the fault is at the identifier of the count
+-- o, which stands at the place p, spells an APDU but for the count of ASDUs: the fault is at the identifier of the count
 pub record AsduCountFault (f : Fault) (p : ℕ) (o : List ℕ) : Type 0 where
   pub size : List ℕ
   pub fields : List ℕ
@@ -81,6 +81,6 @@ pub record AsduCountFault (f : Fault) (p : ℕ) (o : List ℕ) : Type 0 where
   pub differs : count ≢ length values
   pub fault : f ≡ fault_of (p + 1 + length size) causes.AsduCount
 
--- the fault of octets that stand at the place p and spell no PDU: the first of the fields, and after them the count
+-- the fault of octets that stand at the place p and spell no APDU: the first of the fields, and after them the count
 abbrev pub SvFault : Fault → ℕ → List ℕ → Type 0
 SvFault f p o = FieldsFault sv_apdu_grammar f sv_apdu_fields p o ⊎ AsduCountFault f p o

@@ -3,22 +3,22 @@ use Rattle.std.specs.Prelude.{◌≡◌, ◌⊎◌, ℕ, List}
 use Rattle.ber_core.specs.declared.fault.Fault.{Fault}
 use Rattle.ber_core.specs.Length.{AreOctets}
 use Rattle.pdu_core.specs.Sampled.{SpellsAsdus, SpellsSv, SvFault}
-use Rattle.pdu_core.specs.SampledSpellable.{SpellableSv}
+use Rattle.pdu_core.specs.SampledSpellable.{IsSpellableSv}
 use Rattle.pdu_core.specs.SampledViews.{asdus_left, asdus_region}
 use Rattle.pdu_core.specs.SampledWritten.{HasWrittenSv, written_sv}
 use Rattle.pdu_core.specs.declared.sampled.asdu.Asdu.{Asdu}
 use Rattle.pdu_core.specs.declared.sampled.asdu.SvPdu.{SvPdu}
 use Rattle.pdu_core.specs.declared.sampled.view.Asdus.{Asdus}
 
--- no octets spell two PDUs
+-- no octets spell two APDUs
 abbrev pub SvPduIsOne : Type 0 → Type 0
 SvPduIsOne A = (o : List ℕ) (p q : SvPdu A) → SpellsSv p o → SpellsSv q o → p ≡ q
 
--- octets that spell a PDU have no fault, wherever they stand
+-- octets that spell an APDU have no fault, wherever they stand
 abbrev pub SvPduOrFault : Type 0 → Type 0
 SvPduOrFault A = (o : List ℕ) (at : ℕ) (p : SvPdu A) (f : Fault) → SpellsSv p o → SvFault f at o → ⊥
 
--- octets that spell no PDU have one, wherever they stand
+-- octets that spell no APDU have one, wherever they stand
 abbrev pub SvPduElseFault : Type 0 → Type 0
 SvPduElseFault A = (o : List ℕ) (at : ℕ) → ((p : SvPdu A) × SpellsSv p o) ⊎ ((f : Fault) × SvFault f at o)
 
@@ -26,13 +26,13 @@ SvPduElseFault A = (o : List ℕ) (at : ℕ) → ((p : SvPdu A) × SpellsSv p o)
 abbrev pub SvFaultIsOne : Type 0
 SvFaultIsOne = (o : List ℕ) (at : ℕ) (f g : Fault) → SvFault f at o → SvFault g at o → f ≡ g
 
--- the written form of a PDU that has a spelling is one, unless its contents have more than 4294967295 octets
+-- the written form of an APDU that has a spelling is one, unless its contents have more than 4294967295 octets
 abbrev pub WrittenSvIsSpelled : Type 0 → Type 0
-WrittenSvIsSpelled A = (p : SvPdu A) → SpellableSv p → HasWrittenSv p → SpellsSv p (written_sv p)
+WrittenSvIsSpelled A = (p : SvPdu A) → IsSpellableSv p → HasWrittenSv p → SpellsSv p (written_sv p)
 
--- a PDU that octets spell has a spelling in the sense of its fields: what is read can be written
+-- an APDU that octets spell has a spelling in the sense of its fields: what is read can be written
 abbrev pub SpelledSvIsSpellable : Type 0 → Type 0
-SpelledSvIsSpellable A = (p : SvPdu A) (o : List ℕ) → AreOctets o → SpellsSv p o → SpellableSv p
+SpelledSvIsSpellable A = (p : SvPdu A) (o : List ℕ) → AreOctets o → SpellsSv p o → IsSpellableSv p
 
 -- the octets that ASDUs are seen in spell the ASDUs that they stand for
 abbrev pub SeenIsSpelled : Type 0 → Type 0

@@ -5,7 +5,7 @@ use Rattle.ber_core.specs.ContentsReading.{integer_at, natural}
 use Rattle.ber_core.specs.Element.{contents_of}
 use Rattle.ber_core.specs.FieldReading.{Read, ends_at, fields_at, required_at}
 use Rattle.ber_core.specs.Reading.{refused, ◌>>=◌}
-use Rattle.ber_core.specs.Repeated.{each_at}
+use Rattle.ber_core.specs.RepeatedReading.{each_at}
 use Rattle.ber_core.specs.declared.element.Header.{Header}
 use Rattle.ber_core.specs.declared.fault.Fault.{Fault}
 use Rattle.ber_core.specs.declared.fault.Cause.TheVariants as causes
@@ -44,7 +44,7 @@ abbrev pub counted_asdus : ℕ → List (Option SvItem) → Result (List (List (
 counted_asdus place (Some (a_count n) ∷ Some (some_asdus vss) ∷ []) = asdu_count_at place n vss >>= λ _. Ok vss
 counted_asdus place _ = refused place causes.AsduCount
 
--- the values of the ASDUs of the PDU that fills the octets from p to e
+-- the values of the ASDUs of the APDU that fills the octets from p to e
 unfoldable pub sv_at : List ℕ → ℕ → ℕ → Result (List (List (Option Item))) Fault
 sv_at octets p e = do
   h ← required_at 0x60 octets p e

@@ -31,11 +31,11 @@ asdu_of v = record {
 abbrev pub asdus_left : {A : Type 0} → Asdus → List (Asdu A)
 asdus_left s = asdus_in s.octets.now s.at s.end
 
--- the PDU that a view stands for
+-- the APDU that a view stands for
 abbrev pub sv_of : {A : Type 0} → SvView → SvPdu A
 sv_of v = record { asdus = asdus_left v.asdus }
 
--- the call answers a view of this PDU
+-- the call answers a view of this APDU
 abbrev pub ShowsSv : {A : Type 0} → Result SvView Fault → SvPdu A → Type 0
 ShowsSv (Ok v) p = sv_of v ≡ p
 ShowsSv (Err f) p = ⊥

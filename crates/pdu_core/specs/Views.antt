@@ -1,4 +1,4 @@
--- What a view of a PDU stands for, and where its slices stand.
+-- What a view of an APDU stands for, and where its slices stand.
 use Rattle.std.specs.Prelude.{◌≡◌, ℕ, List, Option, Some, None, Result, Ok, Err}
 use Rattle.std.specs.Borrow.{Bor}
 use Rattle.ber_core.specs.declared.fault.Fault.{Fault}
@@ -11,7 +11,7 @@ abbrev pub octets_if : Option (Bor (List ℕ)) → Option (List ℕ)
 octets_if None = None
 octets_if (Some t) = Some t.now
 
--- the PDU that a view stands for
+-- the APDU that a view stands for
 abbrev pub pdu_of : {A : Type 0} → GooseView → GoosePdu A
 pdu_of v = record {
   gocb_ref = v.gocb_ref.now;
@@ -27,17 +27,17 @@ pdu_of v = record {
   members = left v.members;
 }
 
--- the call answers a view of this PDU
-abbrev pub Shows : {A : Type 0} → Result GooseView Fault → GoosePdu A → Type 0
-Shows (Ok v) p = pdu_of v ≡ p
-Shows (Err f) p = ⊥
+-- the call answers a view of this APDU
+abbrev pub ShowsGoose : {A : Type 0} → Result GooseView Fault → GoosePdu A → Type 0
+ShowsGoose (Ok v) p = pdu_of v ≡ p
+ShowsGoose (Err f) p = ⊥
 
 abbrev pub IsPartIf : Option (Bor (List ℕ)) → Bor (List ℕ) → Type 0
 IsPartIf None source = Unit {0}
 IsPartIf (Some t) source = IsPart t source
 
 -- whatever octets the view hands out are a part of the source
-pub record AreParts (v : GooseView) (source : Bor (List ℕ)) : Type 0 where
+pub record GooseIsPart (v : GooseView) (source : Bor (List ℕ)) : Type 0 where
   pub gocb_ref : IsPart v.gocb_ref source
   pub dat_set : IsPart v.dat_set source
   pub go_id : IsPartIf v.go_id source

@@ -1,4 +1,4 @@
-// The fields of a PDU, kind by kind: the value of each, and the place behind it.
+// The fields of an APDU, kind by kind: the value of each, and the place behind it.
 
 ghost use Rattle.std.specs.Prelude.{◌≡◌, ◌<◌, ◌≤◌, length, IfOk, Some, None, false};
 ghost use Rattle.ber_core.specs.FieldReading.{field_as};

@@ -5,7 +5,7 @@ ghost use Rattle.pdu_core.specs.SampledLaws.{SeenIsOne, SeenIsSpelled, SpelledSv
 
 use std::alloc::Allocator;
 
-/// Octets spell one PDU, or have one first fault, and never both.
+/// Octets spell one APDU, or have one first fault, and never both.
 pub fn one_reading<A: Allocator>()
     ensures pdu { PduIsOne A }
     ensures either { PduOrFault A }
@@ -19,13 +19,13 @@ pub fn one_reading<A: Allocator>()
     ensures sv_fault { SvFaultIsOne }
 {}
 
-/// The written form of a PDU that has a spelling is one, unless its contents have more than 4294967295 octets.
+/// The written form of an APDU that has a spelling is one, unless its contents have more than 4294967295 octets.
 pub fn written_is_spelled<A: Allocator>()
     ensures goose { WrittenIsSpelled A }
     ensures sv { WrittenSvIsSpelled A }
 {}
 
-/// A PDU that octets spell has a spelling in the sense of its fields: what is read can be written.
+/// An APDU that octets spell has a spelling in the sense of its fields: what is read can be written.
 pub fn spelled_is_spellable<A: Allocator>()
     ensures goose { SpelledIsSpellable A }
     ensures sv { SpelledSvIsSpellable A }

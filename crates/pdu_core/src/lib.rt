@@ -1,4 +1,4 @@
-//! The PDUs of GOOSE (IEC 61850-8-1) and of Sampled Values (IEC 61850-9-2): seen where they stand, read into memory
+//! The APDUs of GOOSE (IEC 61850-8-1) and of Sampled Values (IEC 61850-9-2): seen where they stand, read into memory
 //! of their own, and written.
 #![tactic(auto)]
 

@@ -1,7 +1,7 @@
-// A PDU in memory of its own, from where it stands.
+// An APDU in memory of its own, from where it stands.
 
 ghost use Rattle.std.specs.Prelude.{◌≡◌, [], IfOk, IfSome, IsOk};
-ghost use Rattle.pdu_core.specs.Memory.{NeedsNoMemory};
+ghost use Rattle.pdu_core.specs.Memory.{GooseNeedsNoMemory};
 ghost use Rattle.pdu_core.specs.Views.{octets_if, pdu_of};
 
 use crate::goose::GoosePdu;
@@ -9,17 +9,7 @@ use crate::view::GooseView;
 use mms_data::{Octets, ValueList};
 use std::alloc::{AllocError, Allocator};
 
-// The octets in memory of their own.
-pub(crate) fn own<A: Allocator>(alloc: A, octets: &[u8]) -> Result<Octets<A>, AllocError>
-    ensures value { IfOk result (λ o. o ≡ octets.now) }
-    ensures none { octets.now ≡ [] → IsOk result }
-{
-    let mut copy = Vec::with_capacity(alloc, octets.len())?;
-    copy.extend_from_slice(octets)?;
-    Ok(Octets::from(copy))
-}
-
-// The same of octets that may be absent.
+// Octets that may be absent, in memory of their own.
 pub(crate) fn own_if<A: Allocator>(
     alloc: A,
     octets: Option<&[u8]>,
@@ -28,13 +18,13 @@ pub(crate) fn own_if<A: Allocator>(
     ensures none { IfSome (octets_if octets.entry) (λ o. o ≡ []) → IsOk result }
 {
     match octets {
-        Some(octets) => Ok(Some(own(alloc, octets)?)),
+        Some(octets) => Ok(Some(Octets::try_from_slice(alloc, octets)?)),
         None => Ok(None),
     }
 }
 
 impl<'a> GooseView<'a> {
-    /// The PDU that the view stands for, in memory of its own.
+    /// The APDU that the view stands for, in memory of its own.
     ///
     /// # Errors
     ///
@@ -42,13 +32,13 @@ impl<'a> GooseView<'a> {
     pub fn to_pdu<A: Allocator + Copy>(&self, alloc: A) -> Result<GoosePdu<A>, AllocError>
         ensures value { IfOk result (λ p. p ≡ pdu_of self.now) }
 
-        // A PDU that needs no memory is made without any.
-        ensures none { NeedsNoMemory (pdu_of {A = A} self.now) → IsOk result }
+        // An APDU that needs no memory is made without any.
+        ensures none { GooseNeedsNoMemory (pdu_of {A = A} self.now) → IsOk result }
     {
         Ok(GoosePdu {
-            gocb_ref: own(alloc, self.gocb_ref)?,
+            gocb_ref: Octets::try_from_slice(alloc, self.gocb_ref)?,
             live: self.live,
-            dat_set: own(alloc, self.dat_set)?,
+            dat_set: Octets::try_from_slice(alloc, self.dat_set)?,
             go_id: own_if(alloc, self.go_id)?,
             t: self.t,
             st_num: self.st_num,

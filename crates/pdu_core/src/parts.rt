@@ -1,4 +1,4 @@
-// The fields of a PDU of GOOSE that are kept elsewhere.
+// The fields of an APDU of GOOSE that are kept elsewhere.
 
 ghost use Rattle.std.specs.Prelude.{◌≡◌};
 ghost use Rattle.pdu_core.specs.Parts.{pdu_of_parts};
@@ -8,7 +8,7 @@ use crate::goose::GoosePdu;
 use mms_data::{Octets, UtcTime, ValueList};
 use std::alloc::Allocator;
 
-/// The fields of an IECGoosePdu (IEC 61850-8-1), its texts and members kept elsewhere: a PDU that is written without
+/// The fields of an IECGoosePdu (IEC 61850-8-1), its texts and members kept elsewhere: an APDU that is written without
 /// being put together in memory of its own. The fields mean what those of `GoosePdu` do.
 #[derive(Drop)]
 pub struct GooseParts<'a, A: Allocator> {

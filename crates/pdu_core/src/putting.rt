@@ -1,10 +1,10 @@
-// Appending the fields of a PDU, kind by kind. Where a field does not fit, nothing is said of `out`, which then
+// Appending the fields of an APDU, kind by kind. Where a field does not fit, nothing is said of `out`, which then
 // is given up.
 
 ghost use Rattle.std.specs.Prelude.{◌≡◌, ◌≤◌, ◌<◌, ◌+◌, ◌^◌, ◌++◌, length, IsOk, OnOk, Some};
 ghost use Rattle.arrayvec.specs.ArrayVec.{array_vec_len};
 ghost use Rattle.ber_core.specs.Element.{IsIdentifier};
-ghost use Rattle.mms_data.specs.Spellable.{AllSpellable};
+ghost use Rattle.mms_data.specs.Spellable.{AllAreSpellable};
 ghost use Rattle.pdu_core.specs.Contents.{a_flag, a_number, a_text, a_time, some_members};
 ghost use Rattle.pdu_core.specs.Goose.{text_if};
 ghost use Rattle.pdu_core.specs.Views.{octets_if};
@@ -47,7 +47,7 @@ pub fn put_text_there<const N: usize>(
 }
 
 // Appends the field of a number.
-#[tactic(auto, unfolding(mms_data::specs::Written::element))]
+#[tactic(auto, unfolding(ber_core::specs::Written::written_element))]
 pub fn put_number<const N: usize>(
     out: &mut ArrayVec<u8, N>,
     identifier: u8,
@@ -98,7 +98,7 @@ pub fn put_members<A: Allocator, const N: usize>(
     members: &ValueList<A>,
 ) -> Result<(), Full>
     requires identifier { IsIdentifier identifier }
-    requires spellable { AllSpellable members.now 1 }
+    requires spellable { AllAreSpellable members.now 1 }
     ensures enough { length (written_field identifier (Some (some_members members.now))) < 2 ^ 32 → array_vec_len out.old + length (written_field identifier (Some (some_members members.now))) ≤ N → IsOk result }
     ensures written { OnOk result (out.new.items ≡ out.old.items ++ written_field identifier (Some (some_members members.now))) }
 {

@@ -1,9 +1,9 @@
-// Whether a PDU has a spelling.
+// Whether an APDU has a spelling.
 
 ghost use Rattle.std.specs.Prelude.{◌↔◌, ◌<◌, ◌^◌, IfSome, IsTrue};
 ghost use Rattle.ber_core.specs.Contents.{AreVisible};
 ghost use Rattle.pdu_core.specs.Parts.{pdu_of_parts};
-ghost use Rattle.pdu_core.specs.Spellable.{Spellable};
+ghost use Rattle.pdu_core.specs.Spellable.{IsSpellableGoose};
 ghost use Rattle.pdu_core.specs.Views.{octets_if};
 
 use crate::goose::GoosePdu;
@@ -51,17 +51,17 @@ fn know_ranges(live: u32, t: UtcTime, st_num: u32, sq_num: u32, conf_rev: u32)
     let _ = (t.seconds, t.quality);
 }
 
-/// Whether each field of the PDU has a spelling: texts are visible, the fraction of the time is below 2^24,
+/// Whether each field of the APDU has a spelling: texts are visible, the fraction of the time is below 2^24,
 /// the members are spellable and at most 4294967295.
 pub fn is_spellable<A: Allocator>(pdu: &GoosePdu<A>) -> bool
-    ensures { IsTrue result ↔ Spellable pdu.now }
+    ensures { IsTrue result ↔ IsSpellableGoose pdu.now }
 {
     are_spellable_parts(&pdu.parts())
 }
 
 /// Whether each of these fields has a spelling.
 pub fn are_spellable_parts<A: Allocator>(parts: &GooseParts<'_, A>) -> bool
-    ensures { IsTrue result ↔ Spellable (pdu_of_parts parts.now) }
+    ensures { IsTrue result ↔ IsSpellableGoose (pdu_of_parts parts.now) }
 {
     if !is_visible(parts.gocb_ref) {
         return false;

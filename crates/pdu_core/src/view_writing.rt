@@ -1,11 +1,11 @@
-// Appending a PDU in its written form from where it stands.
+// Appending an APDU in its written form from where it stands.
 
 ghost use Rattle.std.specs.Prelude.{◌≡◌, ◌≤◌, ◌<◌, ◌+◌, ◌^◌, ◌↔◌, ◌++◌, drop, length, IsOk, OnOk, OnErr};
 ghost use Rattle.arrayvec.specs.ArrayVec.{array_vec_len};
 ghost use Rattle.pdu_core.specs.Goose.{SpellsGoose, goose_fields, goose_items};
-ghost use Rattle.pdu_core.specs.Spellable.{Spellable};
+ghost use Rattle.pdu_core.specs.Spellable.{IsSpellableGoose};
 ghost use Rattle.pdu_core.specs.Views.{pdu_of};
-ghost use Rattle.pdu_core.specs.Written.{Appends, HasWritten, written_contents, written_fields, written_goose};
+ghost use Rattle.pdu_core.specs.Written.{Appends, HasWrittenGoose, goose_contents, written_fields, written_goose};
 
 use crate::putting::{put_flag, put_number, put_text, put_text_there, put_time};
 use crate::view::GooseView;
@@ -15,8 +15,8 @@ use mms_data::{put_element, put_members};
 
 // Appends the fields from gocbRef on.
 fn put_fields<const N: usize>(out: &mut ArrayVec<u8, N>, view: &GooseView<'_>) -> Result<(), Full>
-    ensures enough { length (written_contents (pdu_of {A = Unit {0}} view.now)) < 2 ^ 32 → array_vec_len out.old + length (written_contents (pdu_of {A = Unit {0}} view.now)) ≤ N → IsOk result }
-    ensures written { OnOk result (out.new.items ≡ out.old.items ++ written_contents (pdu_of {A = Unit {0}} view.now)) }
+    ensures enough { length (goose_contents (pdu_of {A = Unit {0}} view.now)) < 2 ^ 32 → array_vec_len out.old + length (goose_contents (pdu_of {A = Unit {0}} view.now)) ≤ N → IsOk result }
+    ensures written { OnOk result (out.new.items ≡ out.old.items ++ goose_contents (pdu_of {A = Unit {0}} view.now)) }
 {
     put_text(out, 0x80, view.gocb_ref)?;
     put_number(out, 0x81, u64::from(view.live))?;
@@ -48,7 +48,7 @@ fn put_entries<const N: usize>(out: &mut ArrayVec<u8, N>, view: &GooseView<'_>) 
     put_members(out, 0xab, view.members)
 }
 
-/// Appends the written form of the PDU that the view stands for, each length and number in the fewest octets and both
+/// Appends the written form of the APDU that the view stands for, each length and number in the fewest octets and both
 /// booleans there, where it fits; else `out` is unchanged. Whether each field has a spelling is not judged: those of a
 /// view that `view_goose` answers do, and of a changed view what is written may spell nothing.
 ///
@@ -59,12 +59,12 @@ pub fn put_goose_view<const N: usize>(
     out: &mut ArrayVec<u8, N>,
     view: &GooseView<'_>,
 ) -> Result<(), Full>
-    ensures fits { IsOk result ↔ (HasWritten (pdu_of {A = Unit {0}} view.now) × (array_vec_len out.old + length (written_goose (pdu_of {A = Unit {0}} view.now)) ≤ N)) }
+    ensures fits { IsOk result ↔ (HasWrittenGoose (pdu_of {A = Unit {0}} view.now) × (array_vec_len out.old + length (written_goose (pdu_of {A = Unit {0}} view.now)) ≤ N)) }
     ensures written { OnOk result (out.new.items ≡ out.old.items ++ written_goose (pdu_of {A = Unit {0}} view.now)) }
     ensures unchanged { OnErr result (out.new ≡ out.old) }
 
-    // What is appended spells the PDU, where each of its fields has a spelling.
-    ensures spelled { Spellable (pdu_of {A = Unit {0}} view.now) → OnOk result (Appends (SpellsGoose (pdu_of {A = Unit {0}} view.now)) out.old.items out.new.items) }
+    // What is appended spells the APDU, where each of its fields has a spelling.
+    ensures spelled { IsSpellableGoose (pdu_of {A = Unit {0}} view.now) → OnOk result (Appends (SpellsGoose (pdu_of {A = Unit {0}} view.now)) out.old.items out.new.items) }
 {
     put_written(out, view)
 }
@@ -72,7 +72,7 @@ pub fn put_goose_view<const N: usize>(
 // Appends the written form.
 #[tactic(auto, using(mms_data::proofs::Sizes::element_size))]
 fn put_written<const N: usize>(out: &mut ArrayVec<u8, N>, view: &GooseView<'_>) -> Result<(), Full>
-    ensures fits { IsOk result ↔ (HasWritten (pdu_of {A = Unit {0}} view.now) × (array_vec_len out.old + length (written_goose (pdu_of {A = Unit {0}} view.now)) ≤ N)) }
+    ensures fits { IsOk result ↔ (HasWrittenGoose (pdu_of {A = Unit {0}} view.now) × (array_vec_len out.old + length (written_goose (pdu_of {A = Unit {0}} view.now)) ≤ N)) }
     ensures written { OnOk result (out.new.items ≡ out.old.items ++ written_goose (pdu_of {A = Unit {0}} view.now)) }
     ensures unchanged { OnErr result (out.new ≡ out.old) }
 {

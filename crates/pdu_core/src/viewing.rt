@@ -1,4 +1,4 @@
-// Seeing a PDU where it stands.
+// Seeing an APDU where it stands.
 
 ghost use Rattle.std.specs.Prelude.{◌≡◌, ◌≤◌, Err, length, slice_range, IfOk, IfErr};
 ghost use Rattle.ber_core.specs.Reading.{Gives};
@@ -6,7 +6,7 @@ ghost use Rattle.ber_core.specs.declared.fault.Fault.{Fault};
 ghost use Rattle.mms_data.specs.Meaning.{left};
 ghost use Rattle.pdu_core.specs.Goose.{goose_items, SpellsGoose, GooseFault};
 ghost use Rattle.pdu_core.specs.GooseReading.{count_at, goose_at};
-ghost use Rattle.pdu_core.specs.Views.{pdu_of, AreParts, Shows};
+ghost use Rattle.pdu_core.specs.Views.{pdu_of, GooseIsPart, ShowsGoose};
 ghost use Rattle.pdu_core.specs.declared.goose.GoosePdu.{GoosePdu};
 
 use crate::fields::{
@@ -29,13 +29,13 @@ fn check_count(place: usize, count: u32, entries: &CountedMembers<'_>) -> Result
     }
 }
 
-// The PDU that fills the octets from `at` to `end`, as reading from left to right gives it.
+// The APDU that fills the octets from `at` to `end`, as reading from left to right gives it.
 #[tactic(auto, unfolding(crate::specs::GooseReading::goose_at))]
 fn goose<'a>(octets: &'a [u8], at: usize, end: usize) -> Result<GooseView<'a>, Fault>
     requires ordered { at ≤ end }
     requires inside { end ≤ length octets.now }
     ensures exact { Gives (λ v. goose_items (pdu_of {A = Unit {0}} v)) result (goose_at octets.now at end) }
-    ensures parts { IfOk result (λ v. AreParts v octets.entry) }
+    ensures parts { IfOk result (λ v. GooseIsPart v octets.entry) }
     ensures entries { IfOk result (λ v. v.entries ≡ length (left v.members)) }
 {
     let header = required(octets, at, end, 0x61)?;
@@ -72,7 +72,7 @@ fn goose<'a>(octets: &'a [u8], at: usize, end: usize) -> Result<GooseView<'a>, F
     })
 }
 
-/// The PDU whose one element fills the octets from `at` to `end` (IEC 61850-8-1, IECGoosePdu).
+/// The APDU whose one element fills the octets from `at` to `end` (IEC 61850-8-1, IECGoosePdu).
 ///
 /// # Errors
 ///
@@ -84,14 +84,14 @@ pub fn view_goose<'a>(octets: &'a [u8], at: usize, end: usize) -> Result<GooseVi
 
     // What is seen is spelled so, and what is spelled so is seen.
     ensures found { IfOk result (λ v. SpellsGoose {A = Unit {0}} (pdu_of v) (slice_range octets.now at end)) }
-    ensures only { (p : GoosePdu (Unit {0})) → SpellsGoose p (slice_range octets.now at end) → Shows result p }
+    ensures only { (p : GoosePdu (Unit {0})) → SpellsGoose p (slice_range octets.now at end) → ShowsGoose result p }
 
     // The fault that is answered is there, and the fault that is there is answered.
     ensures fault { IfErr result (λ f. GooseFault f at (slice_range octets.now at end)) }
     ensures fault_only { (f : Fault) → GooseFault f at (slice_range octets.now at end) → result ≡ Err f }
 
     // Texts and members are parts of the octets, and the entries are counted.
-    ensures parts { IfOk result (λ v. AreParts v octets.entry) }
+    ensures parts { IfOk result (λ v. GooseIsPart v octets.entry) }
     ensures entries { IfOk result (λ v. v.entries ≡ length (left v.members)) }
 
     // For callers: the function on octets that it computes.

@@ -1,11 +1,11 @@
-// Appending a PDU in its written form.
+// Appending an APDU in its written form.
 
 ghost use Rattle.std.specs.Prelude.{◌≡◌, ◌≤◌, ◌<◌, ◌+◌, ◌^◌, ◌↔◌, ◌++◌, drop, length, IsOk, OnOk, OnErr, Err};
 ghost use Rattle.arrayvec.specs.ArrayVec.{array_vec_len};
 ghost use Rattle.pdu_core.specs.Goose.{goose_fields, goose_items};
 ghost use Rattle.pdu_core.specs.Parts.{pdu_of_parts};
-ghost use Rattle.pdu_core.specs.Spellable.{Spellable};
-ghost use Rattle.pdu_core.specs.Written.{HasWritten, written_contents, written_fields, written_goose};
+ghost use Rattle.pdu_core.specs.Spellable.{IsSpellableGoose};
+ghost use Rattle.pdu_core.specs.Written.{HasWrittenGoose, goose_contents, written_fields, written_goose};
 
 use crate::goose::GoosePdu;
 use crate::parts::GooseParts;
@@ -21,9 +21,9 @@ fn put_fields<A: Allocator, const N: usize>(
     out: &mut ArrayVec<u8, N>,
     parts: &GooseParts<'_, A>,
 ) -> Result<(), Full>
-    requires spellable { Spellable (pdu_of_parts parts.now) }
-    ensures enough { length (written_contents (pdu_of_parts parts.now)) < 2 ^ 32 → array_vec_len out.old + length (written_contents (pdu_of_parts parts.now)) ≤ N → IsOk result }
-    ensures written { OnOk result (out.new.items ≡ out.old.items ++ written_contents (pdu_of_parts parts.now)) }
+    requires spellable { IsSpellableGoose (pdu_of_parts parts.now) }
+    ensures enough { length (goose_contents (pdu_of_parts parts.now)) < 2 ^ 32 → array_vec_len out.old + length (goose_contents (pdu_of_parts parts.now)) ≤ N → IsOk result }
+    ensures written { OnOk result (out.new.items ≡ out.old.items ++ goose_contents (pdu_of_parts parts.now)) }
 {
     put_text(out, 0x80, parts.gocb_ref)?;
     put_number(out, 0x81, u64::from(parts.live))?;
@@ -38,7 +38,7 @@ fn put_numbers<A: Allocator, const N: usize>(
     out: &mut ArrayVec<u8, N>,
     parts: &GooseParts<'_, A>,
 ) -> Result<(), Full>
-    requires spellable { Spellable (pdu_of_parts parts.now) }
+    requires spellable { IsSpellableGoose (pdu_of_parts parts.now) }
     ensures enough { length (written_fields (drop 5 goose_fields) (drop 5 (goose_items (pdu_of_parts parts.now)))) < 2 ^ 32 → array_vec_len out.old + length (written_fields (drop 5 goose_fields) (drop 5 (goose_items (pdu_of_parts parts.now)))) ≤ N → IsOk result }
     ensures written { OnOk result (out.new.items ≡ out.old.items ++ written_fields (drop 5 goose_fields) (drop 5 (goose_items (pdu_of_parts parts.now)))) }
 {
@@ -55,7 +55,7 @@ fn put_entries<A: Allocator, const N: usize>(
     out: &mut ArrayVec<u8, N>,
     parts: &GooseParts<'_, A>,
 ) -> Result<(), Full>
-    requires spellable { Spellable (pdu_of_parts parts.now) }
+    requires spellable { IsSpellableGoose (pdu_of_parts parts.now) }
     ensures enough { length (written_fields (drop 10 goose_fields) (drop 10 (goose_items (pdu_of_parts parts.now)))) < 2 ^ 32 → array_vec_len out.old + length (written_fields (drop 10 goose_fields) (drop 10 (goose_items (pdu_of_parts parts.now)))) ≤ N → IsOk result }
     ensures written { OnOk result (out.new.items ≡ out.old.items ++ written_fields (drop 10 goose_fields) (drop 10 (goose_items (pdu_of_parts parts.now)))) }
 {
@@ -64,7 +64,7 @@ fn put_entries<A: Allocator, const N: usize>(
     put_members(out, 0xab, parts.members)
 }
 
-/// Appends the written form of the PDU, each length and number in the fewest octets and both booleans there, where it
+/// Appends the written form of the APDU, each length and number in the fewest octets and both booleans there, where it
 /// is spellable and fits; else `out` is unchanged.
 ///
 /// # Errors
@@ -76,15 +76,15 @@ pub fn put_goose<A: Allocator, const N: usize>(
     out: &mut ArrayVec<u8, N>,
     pdu: &GoosePdu<A>,
 ) -> Result<(), PutFault>
-    ensures not_spellable { (result ≡ Err PutFault.NotSpellable) ↔ (¬ Spellable pdu.now) }
-    ensures fits { IsOk result ↔ (Spellable pdu.now × HasWritten pdu.now × (array_vec_len out.old + length (written_goose pdu.now) ≤ N)) }
+    ensures not_spellable { (result ≡ Err PutFault.NotSpellable) ↔ (¬ IsSpellableGoose pdu.now) }
+    ensures fits { IsOk result ↔ (IsSpellableGoose pdu.now × HasWrittenGoose pdu.now × (array_vec_len out.old + length (written_goose pdu.now) ≤ N)) }
     ensures written { OnOk result (out.new.items ≡ out.old.items ++ written_goose pdu.now) }
     ensures unchanged { OnErr result (out.new ≡ out.old) }
 {
     put_goose_parts(out, &pdu.parts())
 }
 
-/// Appends the written form of the PDU that has these fields, as `put_goose` does.
+/// Appends the written form of the APDU that has these fields, as `put_goose` does.
 ///
 /// # Errors
 ///
@@ -94,8 +94,8 @@ pub fn put_goose_parts<A: Allocator, const N: usize>(
     out: &mut ArrayVec<u8, N>,
     parts: &GooseParts<'_, A>,
 ) -> Result<(), PutFault>
-    ensures not_spellable { (result ≡ Err PutFault.NotSpellable) ↔ (¬ Spellable (pdu_of_parts parts.now)) }
-    ensures fits { IsOk result ↔ (Spellable (pdu_of_parts parts.now) × HasWritten (pdu_of_parts parts.now) × (array_vec_len out.old + length (written_goose (pdu_of_parts parts.now)) ≤ N)) }
+    ensures not_spellable { (result ≡ Err PutFault.NotSpellable) ↔ (¬ IsSpellableGoose (pdu_of_parts parts.now)) }
+    ensures fits { IsOk result ↔ (IsSpellableGoose (pdu_of_parts parts.now) × HasWrittenGoose (pdu_of_parts parts.now) × (array_vec_len out.old + length (written_goose (pdu_of_parts parts.now)) ≤ N)) }
     ensures written { OnOk result (out.new.items ≡ out.old.items ++ written_goose (pdu_of_parts parts.now)) }
     ensures unchanged { OnErr result (out.new ≡ out.old) }
 {

@@ -1,11 +1,11 @@
 -- The test of a change says why it is refused, and nothing else.
-use Rattle.std.proofs.Common.{◌≡◌, ℕ, zero, suc, ◌+◌, ◌<◌, ◌≤◌, ◌==◌, ◌&&◌, Bool, true, false, if◌then◌else◌, List, length, Option, Some, None, inl, inr, sym, refl, ap, ◌∙◌, subst, arith}
+use Rattle.std.proofs.Common.{◌≡◌, ℕ, zero, suc, ◌+◌, ◌<◌, ◌≤◌, ◌==◌, true, false, List, length, Option, Some, None, inl, inr, refl, subst, arith}
 use Rattle.std.specs.Prelude.{nat_le}
-use Rattle.std.proofs.lemmas.Bool.{and_from, and_parts, and_cases, both_ways, cases_Bool, cases_lt, eqb-false, eqb-true, eq-eqb, ne_eqb, false_from_ne_true, le-leb, lt-leb, leb-false, leb-true}
+use Rattle.std.proofs.lemmas.Bool.{and_parts, and_cases, both_ways, cases_Bool, cases_lt, eqb-false, eqb-true, eq-eqb, ne_eqb, false_from_ne_true, leb-false, leb-true}
 use Rattle.mms_data.specs.Data.{items_of}
-use Rattle.mms_data.specs.Spellable.{all_spelled, is_text, is_time}
+use Rattle.mms_data.specs.SpellableTest.{is_text, is_time}
 use Rattle.mms_data.proofs.SpellableLaws.{all_is, all_true, moment_is, moment_true}
-use Rattle.pdu_core.specs.Spellable.{are_texts, is_text_if}
+use Rattle.pdu_core.specs.Spellable.{are_texts}
 use Rattle.pdu_core.proofs.SpellableTests.{test_text, test_text_if, text_if_test, text_test}
 use Rattle.frame_core.specs.declared.frame.Frame.{Frame}
 use Rattle.frame_core.specs.Written.{IsTooLong, written_apdu, written_frame}
@@ -14,15 +14,15 @@ use Rattle.publish_core.specs.declared.fault.PublishFault.{PublishFault}
 use Rattle.publish_core.specs.declared.fault.PublishFault.TheVariants as faults
 use Rattle.publish_core.specs.declared.table.Step.{Step}
 use Rattle.publish_core.specs.Frames.{Change, frame}
-use Rattle.publish_core.specs.Judgement.{ChangesAreJudged, IsJudged, are_short, is_short, is_spelled, refusal}
-use Rattle.publish_core.specs.Refusal.{CanBeSpelled, EveryFrameFits, IsAccepted, IsRefusal}
+use Rattle.publish_core.specs.Judgement.{ChangesAreJudged, IsJudged, are_short, is_short, is_change_spellable, refusal}
+use Rattle.publish_core.specs.Refusal.{CanBeSpelled, EveryFrameFits}
 use Rattle.publish_core.specs.Step.{judged_frame}
 use Rattle.publish_core.specs.Table.{AreSteps}
 use Rattle.publish_core.proofs.Fits.{every_frame, some_frame}
 
 -- spellings
 
-spelled_is : {A : Type 0} (control : Control A) (change : Change) → is_spelled control change ≡ true → CanBeSpelled control change
+spelled_is : {A : Type 0} (control : Control A) (change : Change) → is_change_spellable control change ≡ true → CanBeSpelled control change
 spelled_is control change e =
     let a = and_parts (are_texts control.gocb_ref control.dat_set control.go_id) _ e in
     let t = and_parts (is_text control.gocb_ref) _ a.0 in
@@ -36,7 +36,7 @@ spelled_is control change e =
       values = all_is (items_of change.values) 1 m.1;
     }
 
-is_spelled_since : {A : Type 0} (control : Control A) (change : Change) → CanBeSpelled control change → is_spelled control change ≡ true
+is_spelled_since : {A : Type 0} (control : Control A) (change : Change) → CanBeSpelled control change → is_change_spellable control change ≡ true
 is_spelled_since control change s =
     rw (
       text_test control.gocb_ref s.gocb_ref,
@@ -114,8 +114,8 @@ module _ {A : Type 0} (control : Control A) (table : List Step) (state : ℕ) (c
           | inr differs ↦ rw differs (λ same. eqb-false _ _ differs same)
           | inl counts ↦
               let entries : length change.values ≡ control.entries = eqb-true _ _ counts in
-              elim (cases_Bool (is_spelled control change)) [
-                | inr fails ↦ rw (counts, fails) (entries, λ s. both_ways (is_spelled control change) fails (is_spelled_since control change s))
+              elim (cases_Bool (is_change_spellable control change)) [
+                | inr fails ↦ rw (counts, fails) (entries, λ s. both_ways (is_change_spellable control change) fails (is_spelled_since control change s))
                 | inl holds ↦
                     let spelled = spelled_is control change holds in
                     elim (cases_Bool (are_short control table state change (length table))) [
@@ -134,7 +134,7 @@ module _ {A : Type 0} (control : Control A) (table : List Step) (state : ℕ) (c
     judged_only (Some faults.FirstState) refused = absurd refused
     judged_only (Some faults.EntriesDiffer) refused = rw (ne_eqb _ _ refused) refl
     judged_only (Some faults.NotSpellable) refused =
-        rw (eq-eqb _ _ refused.0, false_from_ne_true (is_spelled control change) (λ yes. refused.1 (spelled_is control change yes))) refl
+        rw (eq-eqb _ _ refused.0, false_from_ne_true (is_change_spellable control change) (λ yes. refused.1 (spelled_is control change yes))) refl
     judged_only (Some faults.WouldNotFit) refused =
         rw (
           eq-eqb _ _ refused.0,

@@ -4,31 +4,31 @@ use Rattle.publish_core.specs.declared.table.Step.{Step}
 use Rattle.publish_core.specs.declared.publisher.Last.{Last}
 use Rattle.publish_core.specs.Table.{step_at, step_of}
 use Rattle.publish_core.specs.Frames.{Setup, Change}
-use Rattle.publish_core.specs.Run.{Trace, IsDue, IsNext, Gives, First, Next, changes, change_in}
-use Rattle.publish_core.specs.Standing.{HoldsAfter}
+use Rattle.publish_core.specs.Run.{CallTrace, IsDue, IsNext, GivesFrame, First, Next, changes, change_in}
+use Rattle.publish_core.specs.Standing.{PublisherHolds}
 
-pub record SameBelow (n : ℕ) (t u : Trace) : Type 0 where
+pub record SameBelow (n : ℕ) (t u : CallTrace) : Type 0 where
   pub now : (i : ℕ) → i < n → t.now i ≡ u.now i
   pub act : (i : ℕ) → i < n → t.act i ≡ u.act i
 
-pub same_sym : {n : ℕ} {t u : Trace} → SameBelow n t u → SameBelow n u t
+pub same_sym : {n : ℕ} {t u : CallTrace} → SameBelow n t u → SameBelow n u t
 same_sym a = record { now = λ i lt. sym (a.now i lt); act = λ i lt. sym (a.act i lt) }
 
-pub changes_same : (n : ℕ) (t u : Trace) → SameBelow n t u → (i : ℕ) → i ≤ n → changes t i ≡ changes u i
+pub changes_same : (n : ℕ) (t u : CallTrace) → SameBelow n t u → (i : ℕ) → i ≤ n → changes t i ≡ changes u i
 changes_same n t u a zero le = refl
 changes_same n t u a (suc i) le =
     let rest : changes t i ≡ changes u i = changes_same n t u a i (omega arith) in
     let here : change_in (t.act i) ≡ change_in (u.act i) = ap change_in (a.act i (omega arith)) in
     omega (arith, rest, here)
 
-pub due_as : {n : ℕ} {t u : Trace} (table : List Step) → SameBelow n t u → (i k j : ℕ) → i < n → j < n → IsDue table t i k j → IsDue table u i k j
+pub due_as : {n : ℕ} {t u : CallTrace} (table : List Step) → SameBelow n t u → (i k j : ℕ) → i < n → j < n → IsDue table t i k j → IsDue table u i k j
 due_as {n} {t} {u} table a i k j below lt d =
     let x : t.now i ≡ u.now i = a.now i below in
     let y : t.now j ≡ u.now j = a.now j lt in
     let z : t.now i + 1000 * (step_at table (step_of table k)).wait_ms ≤ t.now j = d in
     omega (arith, x, y, z)
 
-pub next_same : {n : ℕ} {t u : Trace} (table : List Step) → SameBelow n t u → (i k j : ℕ) → j < n → IsNext table t i k j → IsNext table u i k j
+pub next_same : {n : ℕ} {t u : CallTrace} (table : List Step) → SameBelow n t u → (i k j : ℕ) → j < n → IsNext table t i k j → IsNext table u i k j
 next_same table a i k j lt w =
     let later : i < j = w.later in
     record {
@@ -41,14 +41,14 @@ next_same table a i k j lt w =
       );
     }
 
-pub gives_same : {n : ℕ} {t u : Trace} {table : List Step} → SameBelow n t u → {i c k : ℕ} {change : Change} → i < n → Gives table t i c k change → Gives table u i c k change
+pub gives_same : {n : ℕ} {t u : CallTrace} {table : List Step} → SameBelow n t u → {i c k : ℕ} {change : Change} → i < n → GivesFrame table t i c k change → GivesFrame table u i c k change
 gives_same {n} {t} {u} {table} a {i} {c} {k} {change} lt (First x) =
     First (record { act = sym (a.act i lt) ∙ x.act; before = sym (changes_same n t u a i (omega arith)) ∙ x.before })
 gives_same {n} {t} {u} {table} a {i} {c} {k} {change} lt (Next {i = p} {k = l} g w) =
     let later : p < i = w.later in
     Next (gives_same a (omega arith) g) (next_same table a p l i lt w)
 
-pub holds_same : {A : Type 0} {n : ℕ} {t u : Trace} → SameBelow n t u → (p : Setup A) (last : Option (Last A)) → HoldsAfter p t n last → HoldsAfter p u n last
+pub holds_same : {A : Type 0} {n : ℕ} {t u : CallTrace} → SameBelow n t u → (p : Setup A) (last : Option (Last A)) → PublisherHolds p t n last → PublisherHolds p u n last
 holds_same {A} {n} {t} {u} a p None e = sym (changes_same n t u a n (omega arith)) ∙ e
 holds_same {A} {n} {t} {u} a p (Some l) b =
     record {

@@ -5,10 +5,10 @@ use Rattle.std.proofs.lemmas.List.{length_push, take-append-le}
 use Rattle.publish_core.specs.Numbers.{state_number}
 use Rattle.frame_core.specs.declared.frame.Frame.{Frame}
 use Rattle.publish_core.specs.Frames.{Setup, Change, frame}
-use Rattle.publish_core.specs.Run.{Act, Changed, Polled, Call, call, Trace, greatest, trace, IsAnswer, AreAnswers}
+use Rattle.publish_core.specs.Run.{Act, Changed, Polled, Call, call, CallTrace, greatest_call_moment, trace_of_calls, IsAnswer, AreAnswers}
 use Rattle.publish_core.specs.Laws.{AnswersAreOne, AnswersAreThere, AnswersStay, PollsGive}
-use Rattle.publish_core.specs.Standing.{Standing, StandsAfter}
-use Rattle.publish_core.specs.Step.{act_frame, act_state, run, fresh}
+use Rattle.publish_core.specs.Standing.{PublisherStanding, PublisherStandsAfter}
+use Rattle.publish_core.specs.Step.{act_frame, act_state, run_calls, fresh_publisher}
 use Rattle.publish_core.proofs.NumberLaws.{state_number_first}
 use Rattle.publish_core.proofs.GivesOne.{gives_one}
 use Rattle.publish_core.proofs.Prefix.{SameBelow, same_sym, gives_same}
@@ -17,7 +17,7 @@ use Rattle.publish_core.proofs.Whole.{poll_ok, change_ok, get_front}
 
 -- one answer
 
-pub answer_one : {A : Type 0} (p : Setup A) (t : Trace) (i : ℕ) (a b : Option (Frame A)) → IsAnswer p t i a → IsAnswer p t i b → a ≡ b
+pub answer_one : {A : Type 0} (p : Setup A) (t : CallTrace) (i : ℕ) (a b : Option (Frame A)) → IsAnswer p t i a → IsAnswer p t i b → a ≡ b
 answer_one p t i None None x y = refl
 answer_one p t i None (Some g) x y = absurd (x y.0 y.1 y.2 y.3)
 answer_one p t i (Some f) None x y = absurd (y x.0 x.1 x.2 x.3)
@@ -39,18 +39,18 @@ list_same {X} (x ∷ xs) (y ∷ ys) e h =
 
 pub answers_are_one : {A : Type 0} → AnswersAreOne A
 answers_are_one p calls xs ys a b =
-    list_same xs ys (a.0 ∙ sym b.0) (λ i x y e f. answer_one p (trace calls) i x y (a.1 i x e) (b.1 i y f))
+    list_same xs ys (a.0 ∙ sym b.0) (λ i x y e f. answer_one p (trace_of_calls calls) i x y (a.1 i x e) (b.1 i y f))
 
 -- later calls change nothing
 
-trace_longer : (calls later : List Call) → SameBelow (length calls) (trace calls) (trace (calls ++ later))
+trace_longer : (calls later : List Call) → SameBelow (length calls) (trace_of_calls calls) (trace_of_calls (calls ++ later))
 trace_longer calls later =
     record {
-      now = λ i lt. ap greatest (sym (take-append-le (i + 1) calls later (omega arith)));
+      now = λ i lt. ap greatest_call_moment (sym (take-append-le (i + 1) calls later (omega arith)));
       act = λ i lt. ap (option_map (λ (c : Call). c.act)) (sym (get_front calls later i lt));
     }
 
-answer_same : {A : Type 0} {n : ℕ} {t u : Trace} → SameBelow n t u → (p : Setup A) (i : ℕ) (a : Option (Frame A)) → i < n → IsAnswer p t i a → IsAnswer p u i a
+answer_same : {A : Type 0} {n : ℕ} {t u : CallTrace} → SameBelow n t u → (p : Setup A) (i : ℕ) (a : Option (Frame A)) → i < n → IsAnswer p t i a → IsAnswer p u i a
 answer_same e p i None lt x = λ c k change g. x c k change (gives_same (same_sym e) lt g)
 answer_same e p i (Some f) lt x = (x.0, x.1, x.2, gives_same e lt x.3, x.4)
 
@@ -59,46 +59,46 @@ answers_stay p calls later i a lt x = answer_same (trace_longer calls later) p i
 
 -- a run
 
-pub act_ok : {A : Type 0} (p : Setup A) (calls : List Call) (s : Standing A) (act : Act) (now : ℕ) → StandsAfter p calls s → IsAnswer p (trace (calls ++ call now act ∷ [])) (length calls) (act_frame s act now) × StandsAfter p (calls ++ call now act ∷ []) (act_state s act now)
+pub act_ok : {A : Type 0} (p : Setup A) (calls : List Call) (s : PublisherStanding A) (act : Act) (now : ℕ) → PublisherStandsAfter p calls s → IsAnswer p (trace_of_calls (calls ++ call now act ∷ [])) (length calls) (act_frame s act now) × PublisherStandsAfter p (calls ++ call now act ∷ []) (act_state s act now)
 act_ok p calls s (Changed change) now w = change_ok p calls s change now w
 act_ok p calls s Polled now w = poll_ok p calls s now w
 
-run_length : {A : Type 0} (cs : List Call) (s : Standing A) → length (run s cs) ≡ length cs
+run_length : {A : Type 0} (cs : List Call) (s : PublisherStanding A) → length (run_calls s cs) ≡ length cs
 run_length [] s = refl
 run_length (c ∷ cs) s = ap suc (run_length cs (act_state s c.act c.moment))
 
-run_from : {A : Type 0} (p : Setup A) (cs before : List Call) (s : Standing A) → StandsAfter p before s → (i : ℕ) (a : Option (Frame A)) → slice_get (run s cs) i ≡ Some a → IsAnswer p (trace (before ++ cs)) (length before + i) a
+run_from : {A : Type 0} (p : Setup A) (cs before : List Call) (s : PublisherStanding A) → PublisherStandsAfter p before s → (i : ℕ) (a : Option (Frame A)) → slice_get (run_calls s cs) i ≡ Some a → IsAnswer p (trace_of_calls (before ++ cs)) (length before + i) a
 run_from p [] before s w i a e = absurd (none-some a e)
 run_from {A} p (c ∷ cs) before s w zero a is =
     let step = act_ok p before s c.act c.moment w in
-    let here : IsAnswer p (trace ((before ++ c ∷ []) ++ cs)) (length before) (act_frame s c.act c.moment) =
+    let here : IsAnswer p (trace_of_calls ((before ++ c ∷ []) ++ cs)) (length before) (act_frame s c.act c.moment) =
     answers_stay p (before ++ c ∷ []) cs (length before) (act_frame s c.act c.moment) (omega (arith, length_push before c)) step.0 in
-    let there : IsAnswer p (trace (before ++ c ∷ cs)) (length before) (act_frame s c.act c.moment) =
-    subst (λ (l : List Call). IsAnswer p (trace l) (length before) (act_frame s c.act c.moment)) (append_assoc before (c ∷ []) cs) here in
+    let there : IsAnswer p (trace_of_calls (before ++ c ∷ cs)) (length before) (act_frame s c.act c.moment) =
+    subst (λ (l : List Call). IsAnswer p (trace_of_calls l) (length before) (act_frame s c.act c.moment)) (append_assoc before (c ∷ []) cs) here in
     let e : length before ≡ length before + 0 = omega arith in
-    subst (λ (n : ℕ). IsAnswer p (trace (before ++ c ∷ cs)) n a) e
-    (subst (λ (x : Option (Frame A)). IsAnswer p (trace (before ++ c ∷ cs)) (length before) x) (same_Some (act_frame s c.act c.moment) a is) there)
+    subst (λ (n : ℕ). IsAnswer p (trace_of_calls (before ++ c ∷ cs)) n a) e
+    (subst (λ (x : Option (Frame A)). IsAnswer p (trace_of_calls (before ++ c ∷ cs)) (length before) x) (same_Some (act_frame s c.act c.moment) a is) there)
 run_from {A} p (c ∷ cs) before s w (suc i) a is =
     let step = act_ok p before s c.act c.moment w in
     let rest = run_from p cs (before ++ c ∷ []) (act_state s c.act c.moment) step.1 i a is in
     let e : length (before ++ c ∷ []) + i ≡ length before + suc i = omega (arith, length_push before c) in
-    subst (λ (n : ℕ). IsAnswer p (trace (before ++ c ∷ cs)) n a) e
-    (subst (λ (l : List Call). IsAnswer p (trace l) (length (before ++ c ∷ []) + i) a) (append_assoc before (c ∷ []) cs) rest)
+    subst (λ (n : ℕ). IsAnswer p (trace_of_calls (before ++ c ∷ cs)) n a) e
+    (subst (λ (l : List Call). IsAnswer p (trace_of_calls l) (length (before ++ c ∷ []) + i) a) (append_assoc before (c ∷ []) cs) rest)
 
-pub fresh_stands : {A : Type 0} (p : Setup A) → 0 < p.first → p.first ≤ 4294967295 → StandsAfter p [] (fresh p)
+pub fresh_stands : {A : Type 0} (p : Setup A) → 0 < p.first → p.first ≤ 4294967295 → PublisherStandsAfter p [] (fresh_publisher p)
 fresh_stands p some most =
     record { control = refl; table = refl; next = sym (state_number_first p.first some most); moment = refl; holds = refl }
 
-pub runs_are_whole : {A : Type 0} (p : Setup A) (calls : List Call) → 0 < p.first → p.first ≤ 4294967295 → AreAnswers p calls (run (fresh p) calls)
+pub runs_are_whole : {A : Type 0} (p : Setup A) (calls : List Call) → 0 < p.first → p.first ≤ 4294967295 → AreAnswers p calls (run_calls (fresh_publisher p) calls)
 runs_are_whole p calls some most = (
-  run_length calls (fresh p),
+  run_length calls (fresh_publisher p),
   λ i a is.
       let e : 0 + i ≡ i = omega arith in
-      subst (λ (n : ℕ). IsAnswer p (trace calls) n a) e (run_from p calls [] (fresh p) (fresh_stands p some most) i a is),
+      subst (λ (n : ℕ). IsAnswer p (trace_of_calls calls) n a) e (run_from p calls [] (fresh_publisher p) (fresh_stands p some most) i a is),
 )
 
 pub answers_are_there : {A : Type 0} → AnswersAreThere A
-answers_are_there p calls some most = (run (fresh p) calls, runs_are_whole p calls some most)
+answers_are_there p calls some most = (run_calls (fresh_publisher p) calls, runs_are_whole p calls some most)
 
 -- polls
 
@@ -108,7 +108,7 @@ get_less (y ∷ xs) zero j x e lt n = none-some y (sym n)
 get_less (y ∷ xs) (suc i) zero x e lt n = absurd (omega arith)
 get_less (y ∷ xs) (suc i) (suc j) x e lt n = get_less xs i j x e (omega arith) n
 
-act_less : (calls : List Call) (n h : ℕ) (a : Act) → (trace calls).act n ≡ Some a → h < n → (trace calls).act h ≡ None → ⊥
+act_less : (calls : List Call) (n h : ℕ) (a : Act) → (trace_of_calls calls).act n ≡ Some a → h < n → (trace_of_calls calls).act h ≡ None → ⊥
 act_less calls n h a is lt none = go (slice_get calls n) (slice_get calls h) refl refl is none
   where
     go : (o q : Option Call) → slice_get calls n ≡ o → slice_get calls h ≡ q → option_map (λ (c : Call). c.act) o ≡ Some a → option_map (λ (c : Call). c.act) q ≡ None → ⊥
@@ -118,6 +118,6 @@ act_less calls n h a is lt none = go (slice_get calls n) (slice_get calls h) ref
 
 pub polls_give : PollsGive
 polls_give table calls n poll = (
-  poll_gives table (trace calls) n (λ h lt. act_less calls n h Polled poll lt) poll,
-  λ zero_yet c k change. none_yet table (trace calls) n zero_yet poll c k change,
+  poll_gives table (trace_of_calls calls) n (λ h lt. act_less calls n h Polled poll lt) poll,
+  λ zero_yet c k change. none_yet table (trace_of_calls calls) n zero_yet poll c k change,
 )

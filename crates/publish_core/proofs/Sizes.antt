@@ -4,8 +4,8 @@ use Rattle.std.proofs.Common.{◌≡◌, ℕ, ◌+◌, ◌<◌, ◌≤◌, ◌^�
 use Rattle.std.proofs.lemmas.Bool.{ltb-true, ltb-false, lt-ltb}
 use Rattle.std.proofs.lemmas.List.{length-append}
 use Rattle.byteorder.specs.Numbers.{length-bytes_high_first}
-use Rattle.ber_core.specs.Written.{integer_size, number_size, short_integer, signed_size}
-use Rattle.mms_data.specs.Written.{element, header_size}
+use Rattle.ber_core.specs.Written.{integer_size, number_size, short_integer, signed_size, written_element}
+use Rattle.mms_data.specs.Written.{header_size}
 use Rattle.mms_data.proofs.WrittenSizes.{element_size, integer_count}
 use Rattle.pdu_core.specs.Contents.{a_flag, a_number, a_text, a_time, some_members}
 use Rattle.pdu_core.specs.Goose.{text_if}
@@ -48,7 +48,7 @@ header_size_grows m n le =
     let sizes : number_size m ≤ number_size n = number_size_grows m n le in
     if_grows 128 m n 2 (2 + number_size m) (2 + number_size n) le (omega arith) (omega arith)
 
-element_grows : (id : ℕ) (c d : List ℕ) → length c ≤ length d → length (element id c) ≤ length (element id d)
+element_grows : (id : ℕ) (c d : List ℕ) → length c ≤ length d → length (written_element id c) ≤ length (written_element id d)
 element_grows id c d le =
     omega (arith, element_size id c, element_size id d, header_size_grows (length c) (length d) le)
 
@@ -99,7 +99,7 @@ module _ {A : Type 0} (control : Control A) (change : Change) (state live q r : 
 
   -- sqNum and what follows it
   numbered : ℕ → List ℕ
-  numbered n = element 0x86 (short_integer (pos n)) ++ rest
+  numbered n = written_element 0x86 (short_integer (pos n)) ++ rest
 
   -- all fields
   contents : ℕ → List ℕ
@@ -114,7 +114,7 @@ module _ {A : Type 0} (control : Control A) (change : Change) (state live q r : 
       (behind (written_field 0x83 (text_if control.go_id)) _ _
       (behind (written_field 0x84 (Some (a_time change.t))) _ _
       (behind (written_field 0x85 (Some (a_number state))) _ _
-      (before (element 0x86 (short_integer (pos q))) (element 0x86 (short_integer (pos r))) rest
+      (before (written_element 0x86 (short_integer (pos q))) (written_element 0x86 (short_integer (pos r))) rest
       (element_grows 0x86 (short_integer (pos q)) (short_integer (pos r)) shorter)))))))
 
   unit_grows : length (written_apdu (frame_with control change state q live).apdu) ≤ length (written_apdu (frame_with control change state r live).apdu)

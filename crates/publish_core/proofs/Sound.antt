@@ -3,7 +3,7 @@ use Rattle.std.proofs.Common.{◌≡◌, ℕ, suc, ◌+◌, ◌-◌, min, List, 
 use Rattle.publish_core.specs.declared.table.Step.{Step}
 use Rattle.publish_core.specs.declared.control.Control.{Control}
 use Rattle.publish_core.specs.declared.publisher.Last.{Last}
-use Rattle.publish_core.specs.Numbers.{number_after}
+use Rattle.publish_core.specs.Numbers.{number_behind}
 use Rattle.publish_core.specs.Table.{step_of}
 use Rattle.publish_core.specs.Frames.{Change}
 use Rattle.publish_core.specs.Refusal.{IsAccepted}
@@ -11,11 +11,11 @@ use Rattle.publish_core.specs.Step.{IsFrameOf, first_last}
 use Rattle.publish_core.proofs.NumberLaws.{sequence_number_next}
 use Rattle.publish_core.proofs.Steps.{step_next}
 
-pub next_held : {A : Type 0} (control : Control A) (table : List Step) (l : Last A) (q i now : ℕ) → q ≡ number_after l.sequence → i ≡ min (l.step + 1) (length table - 1) → IsFrameOf control table l → IsFrameOf control table (record l { sequence = q; step = i; given = now })
+pub next_held : {A : Type 0} (control : Control A) (table : List Step) (l : Last A) (q i now : ℕ) → q ≡ number_behind l.sequence → i ≡ min (l.step + 1) (length table - 1) → IsFrameOf control table l → IsFrameOf control table (record l { sequence = q; step = i; given = now })
 next_held control table l q i now e f s =
     record {
       k = suc s.k;
-      sequence = e ∙ ap number_after s.sequence ∙ sym (sequence_number_next s.k);
+      sequence = e ∙ ap number_behind s.sequence ∙ sym (sequence_number_next s.k);
       step = f ∙ ap (λ (y : ℕ). min (y + 1) (length table - 1)) s.step ∙ step_next table s.k;
       accepted = s.accepted;
     }

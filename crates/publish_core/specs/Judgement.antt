@@ -1,8 +1,8 @@
 -- Why a change is refused, as a test: beneath the definition of a refusal, to which a law ties it.
-use Rattle.std.specs.Prelude.{◌≡◌, ◌⊎◌, ℕ, zero, suc, ◌+◌, ◌==◌, ◌&&◌, Bool, true, nat_le, Option, Some, None, List, length, if◌then◌else◌}
+use Rattle.std.specs.Prelude.{◌≡◌, ℕ, zero, suc, ◌+◌, ◌==◌, ◌&&◌, Bool, true, nat_le, Option, Some, None, List, length, if◌then◌else◌}
 use Rattle.frame_core.specs.declared.frame.Frame.{Frame}
 use Rattle.frame_core.specs.Written.{written_apdu, written_frame}
-use Rattle.mms_data.specs.Spellable.{all_spelled, is_time}
+use Rattle.mms_data.specs.SpellableTest.{all_are_spellable, is_time}
 use Rattle.pdu_core.specs.Spellable.{are_texts}
 use Rattle.publish_core.specs.declared.control.Control.{Control}
 use Rattle.publish_core.specs.declared.fault.PublishFault.{PublishFault}
@@ -14,8 +14,8 @@ use Rattle.publish_core.specs.Step.{judged_frame}
 use Rattle.publish_core.specs.Table.{AreSteps}
 
 -- the texts of the control, the moment of the change and each value have a spelling
-abbrev pub is_spelled : {A : Type 0} → Control A → Change → Bool
-is_spelled control change = are_texts control.gocb_ref control.dat_set control.go_id && (is_time change.t && all_spelled change.values 1)
+abbrev pub is_change_spellable : {A : Type 0} → Control A → Change → Bool
+is_change_spellable control change = are_texts control.gocb_ref control.dat_set control.go_id && (is_time change.t && all_are_spellable change.values 1)
 
 -- the frame is not too long
 abbrev pub is_short : {A : Type 0} → Frame A → Bool
@@ -30,7 +30,7 @@ are_short control table state change (suc i) = is_short (judged_frame control ta
 abbrev pub refusal : {A : Type 0} → Control A → List Step → ℕ → Change → Option PublishFault
 refusal control table state change =
     if length change.values == control.entries
-    then (if is_spelled control change then (if are_short control table state change (length table) then None else Some faults.WouldNotFit) else Some faults.NotSpellable)
+    then (if is_change_spellable control change then (if are_short control table state change (length table) then None else Some faults.WouldNotFit) else Some faults.NotSpellable)
     else Some faults.EntriesDiffer
 
 -- what an answer says of a change: it is accepted, or refused for this reason

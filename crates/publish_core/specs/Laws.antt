@@ -2,9 +2,9 @@
 use Rattle.std.specs.Prelude.{◌≡◌, ℕ, suc, ◌<◌, ◌≤◌, ◌↔◌, Option, Some, List, ◌++◌, length}
 use Rattle.frame_core.specs.declared.frame.Frame.{Frame}
 use Rattle.publish_core.specs.declared.table.Step.{Step}
-use Rattle.publish_core.specs.Numbers.{number_after, sequence_number, state_number}
+use Rattle.publish_core.specs.Numbers.{number_behind, sequence_number, state_number}
 use Rattle.publish_core.specs.Frames.{Setup, Change}
-use Rattle.publish_core.specs.Run.{Polled, Call, Gives, IsNewest, IsDue, IsAnswer, AreAnswers, changes, trace, IsChange}
+use Rattle.publish_core.specs.Run.{Polled, Call, GivesFrame, IsNewestFrame, IsDue, IsAnswer, AreAnswers, changes, trace_of_calls, IsChange}
 
 -- a list of calls has one list of answers
 abbrev pub AnswersAreOne : Type 0 → Type 0
@@ -16,27 +16,27 @@ AnswersAreThere A = (p : Setup A) (calls : List Call) → 0 < p.first → p.firs
 
 -- the answer to a call does not depend on later calls
 abbrev pub AnswersStay : Type 0 → Type 0
-AnswersStay A = (p : Setup A) (calls later : List Call) (i : ℕ) (a : Option (Frame A)) → i < length calls → IsAnswer p (trace calls) i a → IsAnswer p (trace (calls ++ later)) i a
+AnswersStay A = (p : Setup A) (calls later : List Call) (i : ℕ) (a : Option (Frame A)) → i < length calls → IsAnswer p (trace_of_calls calls) i a → IsAnswer p (trace_of_calls (calls ++ later)) i a
 
 -- a poll gives the frame behind the newest one exactly where the wait behind that is over, and no other frame; before
 -- any change it gives none
 abbrev pub PollsGive : Type 0
 PollsGive =
-    (table : List Step) (calls : List Call) (n : ℕ) → (trace calls).act n ≡ Some Polled →
-    ((i c k : ℕ) (change : Change) → IsNewest table (trace calls) n i c k change →
-    (Gives table (trace calls) n c (suc k) change ↔ IsDue table (trace calls) i k n) ×
-    ((d m : ℕ) (other : Change) → Gives table (trace calls) n d m other → (d ≡ c) × (m ≡ suc k) × (other ≡ change))) ×
-    (changes (trace calls) n ≡ 0 → (c k : ℕ) (change : Change) → ¬ Gives table (trace calls) n c k change)
+    (table : List Step) (calls : List Call) (n : ℕ) → (trace_of_calls calls).act n ≡ Some Polled →
+    ((i c k : ℕ) (change : Change) → IsNewestFrame table (trace_of_calls calls) n i c k change →
+    (GivesFrame table (trace_of_calls calls) n c (suc k) change ↔ IsDue table (trace_of_calls calls) i k n) ×
+    ((d m : ℕ) (other : Change) → GivesFrame table (trace_of_calls calls) n d m other → (d ≡ c) × (m ≡ suc k) × (other ≡ change))) ×
+    (changes (trace_of_calls calls) n ≡ 0 → (c k : ℕ) (change : Change) → ¬ GivesFrame table (trace_of_calls calls) n c k change)
 
 -- a number is followed by the next one, and 4294967295 by 1; the first state has the first number, and the first frame
 -- of a state the sequence number 0
 abbrev pub NumbersGoOn : Type 0
 NumbersGoOn =
     ((first : ℕ) → 0 < first → first ≤ 4294967295 → state_number first 0 ≡ first) ×
-    ((first c : ℕ) → state_number first (suc c) ≡ number_after (state_number first c)) ×
+    ((first c : ℕ) → state_number first (suc c) ≡ number_behind (state_number first c)) ×
     (sequence_number 0 ≡ 0) ×
-    ((k : ℕ) → sequence_number (suc k) ≡ number_after (sequence_number k))
+    ((k : ℕ) → sequence_number (suc k) ≡ number_behind (sequence_number k))
 
 -- a frame of state c carries what change c handed in, and comes no earlier than that change
 abbrev pub FramesCarryTheirChange : Type 0
-FramesCarryTheirChange = (table : List Step) (calls : List Call) (i c k : ℕ) (change : Change) → Gives table (trace calls) i c k change → (j : ℕ) × (j ≤ i) × IsChange (trace calls) j c change
+FramesCarryTheirChange = (table : List Step) (calls : List Call) (i c k : ℕ) (change : Change) → GivesFrame table (trace_of_calls calls) i c k change → (j : ℕ) × (j ≤ i) × IsChange (trace_of_calls calls) j c change

@@ -11,5 +11,5 @@ sequence_number zero = 0
 sequence_number (suc k) = k % 4294967295 + 1
 
 -- the number behind n
-abbrev pub number_after : ℕ → ℕ
-number_after n = if n == 4294967295 then 1 else n + 1
+abbrev pub number_behind : ℕ → ℕ
+number_behind n = if n == 4294967295 then 1 else n + 1

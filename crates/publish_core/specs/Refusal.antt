@@ -1,7 +1,7 @@
 -- Which changes a publisher accepts, and why it refuses the others.
 use Rattle.std.specs.Prelude.{◌≡◌, ℕ, List, length, IfSome}
 use Rattle.ber_core.specs.Contents.{AreVisible}
-use Rattle.mms_data.specs.Spellable.{AllSpellable, IsTime}
+use Rattle.mms_data.specs.Spellable.{AllAreSpellable, IsTime}
 use Rattle.frame_core.specs.Written.{IsTooLong}
 use Rattle.publish_core.specs.declared.control.Control.{Control}
 use Rattle.publish_core.specs.declared.fault.PublishFault.{PublishFault}
@@ -9,7 +9,7 @@ use Rattle.publish_core.specs.declared.fault.PublishFault.TheVariants as faults
 use Rattle.publish_core.specs.declared.table.Step.{Step}
 use Rattle.publish_core.specs.Numbers.{state_number}
 use Rattle.publish_core.specs.Frames.{Change, Setup, frame}
-use Rattle.publish_core.specs.Run.{Call, changes, trace}
+use Rattle.publish_core.specs.Run.{Call, changes, trace_of_calls}
 
 -- the texts of the control, the moment of the change and each value have a spelling
 pub record CanBeSpelled {A : Type 0} (control : Control A) (change : Change) : Type 0 where
@@ -17,7 +17,7 @@ pub record CanBeSpelled {A : Type 0} (control : Control A) (change : Change) : T
   pub dat_set : AreVisible control.dat_set
   pub go_id : IfSome control.go_id AreVisible
   pub t : IsTime change.t
-  pub values : AllSpellable change.values 1
+  pub values : AllAreSpellable change.values 1
 
 -- every frame k of the state can be written, the first and each retransmission: none is too long
 abbrev pub EveryFrameFits : {A : Type 0} → Control A → List Step → ℕ → Change → Type 0
@@ -41,7 +41,7 @@ pub record IsAccepted {A : Type 0} (control : Control A) (table : List Step) (st
 
 -- the status number of the state that a change behind these calls begins
 abbrev pub next_state : {A : Type 0} → Setup A → List Call → ℕ
-next_state p calls = state_number p.first (changes (trace calls) (length calls))
+next_state p calls = state_number p.first (changes (trace_of_calls calls) (length calls))
 
 -- behind these calls the change is accepted
 abbrev pub Accepts : {A : Type 0} → Setup A → List Call → Change → Type 0

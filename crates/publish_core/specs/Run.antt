@@ -21,17 +21,17 @@ abbrev pub call : ℕ → Act → Call
 call moment act = record { moment = moment; act = act }
 
 -- what a list of calls says, position by position: the greatest moment of the calls up to there, and what the call does
-pub record Trace : Type 0 where
+pub record CallTrace : Type 0 where
   pub now : ℕ → ℕ
   pub act : ℕ → Option Act
 
 -- the greatest of the moments, 0 for none
-abbrev pub greatest : List Call → ℕ
-greatest [] = 0
-greatest (c ∷ cs) = max c.moment (greatest cs)
+abbrev pub greatest_call_moment : List Call → ℕ
+greatest_call_moment [] = 0
+greatest_call_moment (c ∷ cs) = max c.moment (greatest_call_moment cs)
 
-abbrev pub trace : List Call → Trace
-trace calls = record { now = λ i. greatest (take (i + 1) calls); act = λ i. option_map (λ (c : Call). c.act) (slice_get calls i) }
+abbrev pub trace_of_calls : List Call → CallTrace
+trace_of_calls calls = record { now = λ i. greatest_call_moment (take (i + 1) calls); act = λ i. option_map (λ (c : Call). c.act) (slice_get calls i) }
 
 -- how many changes an act is
 abbrev pub change_in : Option Act → ℕ
@@ -40,21 +40,21 @@ change_in (Some (Changed change)) = 1
 change_in (Some Polled) = 0
 
 -- how many of the first n calls are changes
-abbrev pub changes : Trace → ℕ → ℕ
+abbrev pub changes : CallTrace → ℕ → ℕ
 changes t zero = 0
 changes t (suc n) = changes t n + change_in (t.act n)
 
 -- call i is change c, counted from 0
-pub record IsChange (t : Trace) (i c : ℕ) (change : Change) : Type 0 where
+pub record IsChange (t : CallTrace) (i c : ℕ) (change : Change) : Type 0 where
   pub act : t.act i ≡ Some (Changed change)
   pub before : changes t i ≡ c
 
 -- at call j the wait behind frame k, which call i gave, is over: waits are in milliseconds
-abbrev pub IsDue : List Step → Trace → ℕ → ℕ → ℕ → Type 0
+abbrev pub IsDue : List Step → CallTrace → ℕ → ℕ → ℕ → Type 0
 IsDue table t i k j = t.now i + 1000 * (step_at table (step_of table k)).wait_ms ≤ t.now j
 
 -- call j is the first poll at which the wait behind frame k, which call i gave, is over, and no change comes before it
-pub record IsNext (table : List Step) (t : Trace) (i k j : ℕ) : Type 0 where
+pub record IsNext (table : List Step) (t : CallTrace) (i k j : ℕ) : Type 0 where
   pub later : i < j
   pub poll : t.act j ≡ Some Polled
   pub due : IsDue table t i k j
@@ -62,29 +62,29 @@ pub record IsNext (table : List Step) (t : Trace) (i k j : ℕ) : Type 0 where
 
 -- Call i gives frame k of state c, which is the state of this change. A change gives frame 0 of its state, and the first
 -- poll that is due behind a frame gives the next one. Nothing else gives a frame.
-pub data Gives (table : List Step) (t : Trace) : ℕ → ℕ → ℕ → Change → Type 0 where
-  First : {i c : ℕ} {change : Change} → IsChange t i c change → Gives table t i c 0 change
-  Next : {i j c k : ℕ} {change : Change} → Gives table t i c k change → IsNext table t i k j → Gives table t j c (suc k) change
+pub data GivesFrame (table : List Step) (t : CallTrace) : ℕ → ℕ → ℕ → Change → Type 0 where
+  First : {i c : ℕ} {change : Change} → IsChange t i c change → GivesFrame table t i c 0 change
+  Next : {i j c k : ℕ} {change : Change} → GivesFrame table t i c k change → IsNext table t i k j → GivesFrame table t j c (suc k) change
 
 -- of what the first n calls give, frame k of state c is the newest, and call i gives it
-pub record IsNewest (table : List Step) (t : Trace) (n i c k : ℕ) (change : Change) : Type 0 where
-  pub gives : Gives table t i c k change
+pub record IsNewestFrame (table : List Step) (t : CallTrace) (n i c k : ℕ) (change : Change) : Type 0 where
+  pub gives : GivesFrame table t i c k change
   pub before : i < n
-  pub newest : (j d m : ℕ) (other : Change) → Gives table t j d m other → j < n → j ≤ i
+  pub newest : (j d m : ℕ) (other : Change) → GivesFrame table t j d m other → j < n → j ≤ i
 
 -- what call i answers: some frame k of some state c that it gives, or nothing where it gives none
-abbrev pub IsAnswer : {A : Type 0} → Setup A → Trace → ℕ → Option (Frame A) → Type 0
-IsAnswer p t i None = (c k : ℕ) (change : Change) → ¬ Gives p.table t i c k change
+abbrev pub IsAnswer : {A : Type 0} → Setup A → CallTrace → ℕ → Option (Frame A) → Type 0
+IsAnswer p t i None = (c k : ℕ) (change : Change) → ¬ GivesFrame p.table t i c k change
 IsAnswer p t i (Some f) =
-    (c : ℕ) × (k : ℕ) × (change : Change) × Gives p.table t i c k change × (f ≡ frame p.control p.table (state_number p.first c) change k)
+    (c : ℕ) × (k : ℕ) × (change : Change) × GivesFrame p.table t i c k change × (f ≡ frame p.control p.table (state_number p.first c) change k)
 
 -- call i of the list publishes this frame
 abbrev pub Publishes : {A : Type 0} → Setup A → List Call → ℕ → Frame A → Type 0
-Publishes p calls i f = IsAnswer p (trace calls) i (Some f)
+Publishes p calls i f = IsAnswer p (trace_of_calls calls) i (Some f)
 
 -- call i of the list publishes nothing
 abbrev pub PublishesNone : {A : Type 0} → Setup A → List Call → ℕ → Type 0
-PublishesNone p calls i = IsAnswer p (trace calls) i None
+PublishesNone p calls i = IsAnswer p (trace_of_calls calls) i None
 
 -- call i of the list publishes a frame whose written form are these octets
 abbrev pub PublishesOctets : {A : Type 0} → Setup A → List Call → ℕ → List ℕ → Type 0
@@ -93,8 +93,8 @@ PublishesOctets {A = A} p calls i octets = (f : Frame A) × Publishes p calls i 
 -- the answers of a whole list of calls, call by call
 abbrev pub AreAnswers : {A : Type 0} → Setup A → List Call → List (Option (Frame A)) → Type 0
 AreAnswers {A = A} p calls answers =
-    (length answers ≡ length calls) × ((i : ℕ) (a : Option (Frame A)) → slice_get answers i ≡ Some a → IsAnswer p (trace calls) i a)
+    (length answers ≡ length calls) × ((i : ℕ) (a : Option (Frame A)) → slice_get answers i ≡ Some a → IsAnswer p (trace_of_calls calls) i a)
 
 -- the status numbers of the calls do not wrap: that of the last change is at most 4294967295
 abbrev pub NoWrap : {A : Type 0} → Setup A → List Call → Type 0
-NoWrap p calls = p.first + changes (trace calls) (length calls) ≤ 4294967295 + 1
+NoWrap p calls = p.first + changes (trace_of_calls calls) (length calls) ≤ 4294967295 + 1

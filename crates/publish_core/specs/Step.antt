@@ -6,12 +6,12 @@ use Rattle.frame_core.specs.Written.{written_frame}
 use Rattle.publish_core.specs.declared.control.Control.{Control}
 use Rattle.publish_core.specs.declared.publisher.Last.{Last}
 use Rattle.publish_core.specs.declared.table.Step.{Step}
-use Rattle.publish_core.specs.Numbers.{number_after, sequence_number}
+use Rattle.publish_core.specs.Numbers.{number_behind, sequence_number}
 use Rattle.publish_core.specs.Table.{step_at, step_of}
 use Rattle.publish_core.specs.Frames.{Setup, Change, frame_with}
 use Rattle.publish_core.specs.Run.{Act, Changed, Polled, Call}
 use Rattle.publish_core.specs.Refusal.{IsAccepted}
-use Rattle.publish_core.specs.Standing.{Standing, change_of}
+use Rattle.publish_core.specs.Standing.{PublisherStanding, change_of}
 
 -- the wait behind the frame that was given last is over
 abbrev pub is_due : {A : Type 0} → List Step → Last A → ℕ → Bool
@@ -23,7 +23,7 @@ last_frame control table l = frame_with control (change_of l) l.state l.sequence
 
 -- the next one, given now
 abbrev pub next_last : {A : Type 0} → List Step → Last A → ℕ → Last A
-next_last table l now = record l { sequence = number_after l.sequence; step = min (l.step + 1) (length table - 1); given = now }
+next_last table l now = record l { sequence = number_behind l.sequence; step = min (l.step + 1) (length table - 1); given = now }
 
 -- what is held after a poll
 abbrev pub polled : {A : Type 0} → List Step → Option (Last A) → ℕ → Option (Last A)
@@ -35,22 +35,22 @@ abbrev pub polled_frame : {A : Type 0} → Control A → List Step → Option (L
 polled_frame control table None now = None
 polled_frame control table (Some l) now = if is_due table l now then Some (last_frame control table (next_last table l now)) else None
 
-abbrev pub poll_frame : {A : Type 0} → Standing A → ℕ → Option (Frame A)
+abbrev pub poll_frame : {A : Type 0} → PublisherStanding A → ℕ → Option (Frame A)
 poll_frame s now = polled_frame s.control s.table s.last (max s.moment now)
 
-abbrev pub poll_state : {A : Type 0} → Standing A → ℕ → Standing A
+abbrev pub poll_state : {A : Type 0} → PublisherStanding A → ℕ → PublisherStanding A
 poll_state s now = record s { moment = max s.moment now; last = polled s.table s.last (max s.moment now) }
 
 -- the first frame of a state
 abbrev pub first_last : {A : Type 0} → ℕ → Change → ℕ → Last A
 first_last state change now = record { t = change.t; values = change.values; state = state; sequence = 0; step = 0; given = now }
 
-abbrev pub change_frame : {A : Type 0} → Standing A → Change → ℕ → Frame A
+abbrev pub change_frame : {A : Type 0} → PublisherStanding A → Change → ℕ → Frame A
 change_frame s change now = last_frame s.control s.table (first_last s.next change (max s.moment now))
 
-abbrev pub change_state : {A : Type 0} → Standing A → Change → ℕ → Standing A
+abbrev pub change_state : {A : Type 0} → PublisherStanding A → Change → ℕ → PublisherStanding A
 change_state s change now = record s {
-  next = number_after s.next;
+  next = number_behind s.next;
   moment = max s.moment now;
   last = Some (first_last s.next change (max s.moment now));
 }
@@ -75,24 +75,24 @@ pub record IsFrameOf {A : Type 0} (control : Control A) (table : List Step) (l :
   pub step : l.step ≡ step_of table k
   pub accepted : IsAccepted control table l.state (change_of l)
 
-abbrev pub IsSound : {A : Type 0} → Control A → List Step → Option (Last A) → Type 0
-IsSound control table None = Unit {0}
-IsSound control table (Some l) = IsFrameOf control table l
+abbrev pub IsStandingSound : {A : Type 0} → Control A → List Step → Option (Last A) → Type 0
+IsStandingSound control table None = Unit {0}
+IsStandingSound control table (Some l) = IsFrameOf control table l
 
 -- what a call gives and leaves
-abbrev pub act_frame : {A : Type 0} → Standing A → Act → ℕ → Option (Frame A)
+abbrev pub act_frame : {A : Type 0} → PublisherStanding A → Act → ℕ → Option (Frame A)
 act_frame s (Changed change) now = Some (change_frame s change now)
 act_frame s Polled now = poll_frame s now
 
-abbrev pub act_state : {A : Type 0} → Standing A → Act → ℕ → Standing A
+abbrev pub act_state : {A : Type 0} → PublisherStanding A → Act → ℕ → PublisherStanding A
 act_state s (Changed change) now = change_state s change now
 act_state s Polled now = poll_state s now
 
 -- the answers of calls, one behind the other
-abbrev pub run : {A : Type 0} → Standing A → List Call → List (Option (Frame A))
-run s [] = []
-run s (c ∷ cs) = act_frame s c.act c.moment ∷ run (act_state s c.act c.moment) cs
+abbrev pub run_calls : {A : Type 0} → PublisherStanding A → List Call → List (Option (Frame A))
+run_calls s [] = []
+run_calls s (c ∷ cs) = act_frame s c.act c.moment ∷ run_calls (act_state s c.act c.moment) cs
 
 -- what a publisher holds before any call
-abbrev pub fresh : {A : Type 0} → Setup A → Standing A
-fresh p = record { control = p.control; table = p.table; next = p.first; moment = 0; last = None }
+abbrev pub fresh_publisher : {A : Type 0} → Setup A → PublisherStanding A
+fresh_publisher p = record { control = p.control; table = p.table; next = p.first; moment = 0; last = None }

@@ -1,8 +1,8 @@
 // Frames of a state: their octets, and whether they can be written.
 
-ghost use Rattle.std.specs.Prelude.{◌≡◌, ◌<◌, ◌≤◌, ◌^◌, ◌↔◌, IsTrue, length};
+ghost use Rattle.std.specs.Prelude.{◌≡◌, ◌<◌, ◌^◌, ◌↔◌, IsTrue, length};
 ghost use Rattle.frame_core.specs.GooseFrame.{frame_of_parts};
-ghost use Rattle.frame_core.specs.Written.{ApduIsSpellable, IsTooLong, written_frame};
+ghost use Rattle.frame_core.specs.Written.{IsTooLong, written_frame};
 ghost use Rattle.publish_core.specs.Frames.{change, frame_with, simulation_word};
 ghost use Rattle.publish_core.specs.Refusal.{CanBeSpelled};
 

@@ -1,13 +1,13 @@
 // Publishers.
 
-ghost use Rattle.std.specs.Prelude.{◌≡◌, ◌<◌, ◌≤◌, ◌+◌, ◌*◌, ◌↔◌, ◌∷◌, ◌++◌, [], ℕ, List, IfErr, IfOk, IsTrue, MatchOption, OnErr, OnOk, Err, None, length};
+ghost use Rattle.std.specs.Prelude.{◌≡◌, ◌<◌, ◌≤◌, ◌+◌, ◌*◌, ◌↔◌, ◌∷◌, ◌++◌, [], List, IfErr, IfOk, IsTrue, MatchOption, OnErr, OnOk, Err, None, length};
 ghost use Rattle.frame_core.specs.Written.{written_frame};
 ghost use Rattle.publish_core.specs.declared.fault.PublishFault.TheVariants.{FirstState};
 ghost use Rattle.publish_core.specs.Frames.{Setup, change, setup};
-ghost use Rattle.publish_core.specs.Numbers.{number_after};
+ghost use Rattle.publish_core.specs.Numbers.{number_behind};
 ghost use Rattle.publish_core.specs.Refusal.{Accepts, IsAccepted, IsRefusal, Refuses};
-ghost use Rattle.publish_core.specs.Run.{Call, Changed, Polled, PublishesNone, PublishesOctets, call, greatest};
-ghost use Rattle.publish_core.specs.Standing.{StandsAfter};
+ghost use Rattle.publish_core.specs.Run.{Call, Changed, Polled, PublishesNone, PublishesOctets, call, greatest_call_moment};
+ghost use Rattle.publish_core.specs.Standing.{PublisherStandsAfter};
 ghost use Rattle.publish_core.specs.Step.{IsFrameOf, IsWritten, change_frame, change_state, last_frame, poll_frame, poll_state};
 ghost use Rattle.publish_core.specs.Table.{AreSteps};
 
@@ -46,23 +46,23 @@ pub struct Publisher<A: Allocator> {
 
 impl<A: Allocator> Model for Publisher<A> {
     ghost use Rattle.std.specs.Prelude.{◌<◌};
-    ghost use Rattle.publish_core.specs.Standing.{Standing};
-    ghost use Rattle.publish_core.specs.Step.{IsSound};
+    ghost use Rattle.publish_core.specs.Standing.{PublisherStanding};
+    ghost use Rattle.publish_core.specs.Step.{IsStandingSound};
     ghost use Rattle.std.specs.Coded.{codes};
     ghost use Rattle.mms_data.specs.DataCode.{data_code};
 
-    ghost Value = { Standing A };
+    ghost Value = { PublisherStanding A };
 
     ghost coded = { Prim.hlevel (codes, data_code) };
 
     ghost view = { λ p. record { control = p.control; table = p.table; next = p.next; moment = p.moment; last = p.last } };
 
-    ghost invariant = { λ p. (0 < p.next) × IsSound p.control p.table p.last };
+    ghost invariant = { λ p. (0 < p.next) × IsStandingSound p.control p.table p.last };
 }
 
 // The number behind this one.
 fn next_number(number: u32) -> u32
-    ensures { result ≡ number_after number }
+    ensures { result ≡ number_behind number }
 {
     if number == u32::MAX { 1 } else { number + 1 }
 }
@@ -103,7 +103,7 @@ impl<A: Allocator> Publisher<A> {
         table: Table,
         first_state: u32,
     ) -> Result<Publisher<A>, PublishFault>
-        ensures stands { IfOk result (λ s. StandsAfter (setup control table first_state) [] s) }
+        ensures stands { IfOk result (λ s. PublisherStandsAfter (setup control table first_state) [] s) }
         ensures first { OnOk result (0 < first_state) }
         ensures steps { AreSteps table }
         ensures fault { IfErr result (λ e. (e ≡ FirstState) × (first_state ≡ 0)) }
@@ -123,7 +123,7 @@ impl<A: Allocator> Publisher<A> {
 
     /// The greatest moment of the accepted changes and of the polls so far, in microseconds; 0 before the first.
     pub fn moment(&self) -> u64
-        ensures { (p : Setup A) (calls : List Call) → StandsAfter p calls self.now → result ≡ greatest calls }
+        ensures { (p : Setup A) (calls : List Call) → PublisherStandsAfter p calls self.now → result ≡ greatest_call_moment calls }
     {
         let Publisher { moment, .. } = self;
         *moment
@@ -144,16 +144,16 @@ impl<A: Allocator> Publisher<A> {
         t: UtcTime,
         values: ValueList<A>,
     ) -> Result<ArrayVec<u8, 1600>, (PublishFault, ValueList<A>)>
-        ensures accepted { (p : Setup A) (calls : List Call) → StandsAfter p calls self.old →
+        ensures accepted { (p : Setup A) (calls : List Call) → PublisherStandsAfter p calls self.old →
             OnOk result (Accepts p calls (change t values)) }
-        ensures refused { (p : Setup A) (calls : List Call) → StandsAfter p calls self.old →
+        ensures refused { (p : Setup A) (calls : List Call) → PublisherStandsAfter p calls self.old →
             IfErr result (λ e. Refuses p calls (change t values) e.0) }
         ensures handed_back { IfErr result (λ e. e.1 ≡ values) }
         ensures unchanged { OnErr result (self.new ≡ self.old) }
-        ensures published { (p : Setup A) (calls : List Call) → StandsAfter p calls self.old →
+        ensures published { (p : Setup A) (calls : List Call) → PublisherStandsAfter p calls self.old →
             IfOk result (λ o. PublishesOctets p (calls ++ call now (Changed (change t values)) ∷ []) (length calls) o.items) }
-        ensures stands { (p : Setup A) (calls : List Call) → StandsAfter p calls self.old →
-            OnOk result (StandsAfter p (calls ++ call now (Changed (change t values)) ∷ []) self.new) }
+        ensures stands { (p : Setup A) (calls : List Call) → PublisherStandsAfter p calls self.old →
+            OnOk result (PublisherStandsAfter p (calls ++ call now (Changed (change t values)) ∷ []) self.new) }
     {
         self.take_change(now, t, values)
     }
@@ -162,12 +162,12 @@ impl<A: Allocator> Publisher<A> {
     /// wait behind the last one is over. A moment below the publisher's counts as the publisher's. A poll that gives
     /// None counts its moment too. Takes no memory and never fails.
     pub fn poll(&mut self, now: u64) -> Option<ArrayVec<u8, 1600>>
-        ensures published { (p : Setup A) (calls : List Call) → StandsAfter p calls self.old →
+        ensures published { (p : Setup A) (calls : List Call) → PublisherStandsAfter p calls self.old →
             MatchOption result
             (PublishesNone p (calls ++ call now Polled ∷ []) (length calls))
             (λ o. PublishesOctets p (calls ++ call now Polled ∷ []) (length calls) o.items) }
-        ensures stands { (p : Setup A) (calls : List Call) → StandsAfter p calls self.old →
-            StandsAfter p (calls ++ call now Polled ∷ []) self.new }
+        ensures stands { (p : Setup A) (calls : List Call) → PublisherStandsAfter p calls self.old →
+            PublisherStandsAfter p (calls ++ call now Polled ∷ []) self.new }
     {
         self.take_poll(now)
     }

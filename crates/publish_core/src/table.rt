@@ -1,6 +1,6 @@
 // Tables of retransmission.
 
-ghost use Rattle.std.specs.Prelude.{◌≡◌, ◌<◌, ◌≤◌, ◌↔◌, IfErr, IfNone, IfOk, IfSome, IsTrue, OnOk, length, ℕ};
+ghost use Rattle.std.specs.Prelude.{◌≡◌, ◌<◌, ◌↔◌, IfErr, IfNone, IfOk, IfSome, IsTrue, OnOk, length, ℕ};
 ghost use Rattle.publish_core.specs.Table.{AreSteps, IsFirstBad, IsGood, IsTableFault, step_at};
 
 use crate::fault::PublishFault;

@@ -3,7 +3,7 @@ use Rattle.std.specs.Prelude.{◌≡◌, ℕ, true, List, [], ◌∷◌, Option,
 use Rattle.subscribe_core.specs.declared.block.Block.{Block}
 use Rattle.script_core.specs.declared.block_text.BlockError.{BlockError}
 use Rattle.script_core.specs.declared.block_text.BlockError.TheVariants as refused
-use Rattle.script_core.specs.Commas.{comma_fields, number_in, text_in, word_in}
+use Rattle.script_core.specs.Commas.{comma_fields, number_by, text_in, word_in}
 
 -- a goID that is looked at, unless it is empty
 abbrev pub go_id_of : List ℕ → Option (List ℕ)
@@ -19,7 +19,7 @@ block_with _ _ _ _ _ _ = None
 -- APPID by four hexadecimal digits, gocbRef, datSet, goID (empty: not looked at), confRev and the count of entries in decimal
 abbrev pub block_of : {A : Type 0} → List (List ℕ) → Option (Block A)
 block_of (app_id ∷ gocb_ref ∷ dat_set ∷ go_id ∷ conf_rev ∷ entries ∷ []) =
-    block_with (word_in app_id) (text_in gocb_ref) (text_in dat_set) (text_in go_id) (number_in conf_rev) (number_in entries)
+    block_with (word_in app_id) (text_in gocb_ref) (text_in dat_set) (text_in go_id) (number_by conf_rev) (number_by entries)
 block_of _ = None
 
 -- the block that a text says, if it says one

@@ -25,8 +25,8 @@ abbrev pub at_most_32_bits : ℕ → Option ℕ
 at_most_32_bits n = if nat_le n 4294967295 then Some n else None
 
 -- such a number, by 1 to 10 decimal digits
-abbrev pub number_in : List ℕ → Option ℕ
-number_in digits = option_and_then at_most_32_bits (decimal_of 10 digits)
+abbrev pub number_by : List ℕ → Option ℕ
+number_by digits = option_and_then at_most_32_bits (decimal_of 10 digits)
 
 -- a text of octets from 20 to 7E; it may be empty
 abbrev pub text_in : List ℕ → Option (List ℕ)

@@ -18,7 +18,7 @@ use Rattle.frame_core.specs.declared.vlan_tag.VlanTag.{VlanTag}
 use Rattle.publish_core.specs.declared.control.Control.{Control}
 use Rattle.publish_core.specs.declared.table.Step.{Step}
 use Rattle.script_core.specs.BlockText.{go_id_of}
-use Rattle.script_core.specs.Commas.{comma_fields, number_in, octets_in, text_in, word_in}
+use Rattle.script_core.specs.Commas.{comma_fields, number_by, octets_in, text_in, word_in}
 use Rattle.script_core.specs.declared.script_control.Numbers.{Numbers}
 use Rattle.script_core.specs.declared.script.ScriptCause.{ScriptCause}
 use Rattle.script_core.specs.declared.script.ScriptCause.TheVariants as cause
@@ -46,8 +46,8 @@ abbrev pub time_in : List ℕ → Option UtcTime
 time_in digits = option_map utc_of (octets_in 8 digits)
 
 -- octets by hexadecimal digits, also none
-abbrev pub members_in : List ℕ → Option (List ℕ)
-members_in digits = decoded (decode_of digits)
+abbrev pub all_octets_in : List ℕ → Option (List ℕ)
+all_octets_in digits = decoded (decode_of digits)
 
 -- ---- lines
 
@@ -94,7 +94,7 @@ numbers_with _ _ _ _ _ = None
 abbrev pub control_of : List (List ℕ) → Option ControlLine
 control_of (destination ∷ source ∷ tag ∷ app_id ∷ gocb_ref ∷ dat_set ∷ go_id ∷ conf_rev ∷ entries ∷ simulation ∷ nds_com ∷ first ∷ []) =
     control_with (octets_in 6 destination) (octets_in 6 source) (tag_in tag) (word_in app_id) (text_in gocb_ref) (text_in dat_set) (text_in go_id)
-    (numbers_with (number_in conf_rev) (number_in entries) (flag_in simulation) (flag_in nds_com) (number_in first))
+    (numbers_with (number_by conf_rev) (number_by entries) (flag_in simulation) (flag_in nds_com) (number_by first))
 control_of _ = None
 
 -- a step of these times
@@ -103,9 +103,9 @@ step_with (Some wait) (Some live) = Some (record { wait_ms = wait; live_ms = liv
 step_with _ _ = None
 
 -- WAIT, LIVE
-abbrev pub step_of : List (List ℕ) → Option Step
-step_of (wait ∷ live ∷ []) = step_with (number_in wait) (number_in live)
-step_of _ = None
+abbrev pub step_said_by : List (List ℕ) → Option Step
+step_said_by (wait ∷ live ∷ []) = step_with (number_by wait) (number_by live)
+step_said_by _ = None
 
 -- the control line stands first, and its first status number is not 0
 abbrev pub control_said : {A : Type 0} → ScriptPart → Option ControlLine → Result (Option (ScriptItem A) × ScriptPart) ScriptCause
@@ -136,11 +136,11 @@ change_to moment t (Ok values) = Ok (item.Change moment t values)
 change_to moment t (Err fault) = Err (cause.Members fault)
 
 -- MOMENT, T, MEMBERS, of which the first that says nothing is told
-abbrev pub change_of : {A : Type 0} → Option ℕ → Option UtcTime → Option (List ℕ) → Result (ScriptItem A) ScriptCause
-change_of None t octets = Err cause.Moment
-change_of (Some moment) None octets = Err cause.Hex
-change_of (Some moment) (Some t) None = Err cause.Hex
-change_of (Some moment) (Some t) (Some octets) = change_to moment t (members_at 16 0 octets)
+abbrev pub change_said_by : {A : Type 0} → Option ℕ → Option UtcTime → Option (List ℕ) → Result (ScriptItem A) ScriptCause
+change_said_by None t octets = Err cause.Moment
+change_said_by (Some moment) None octets = Err cause.Hex
+change_said_by (Some moment) (Some t) None = Err cause.Hex
+change_said_by (Some moment) (Some t) (Some octets) = change_to moment t (members_at 16 0 octets)
 
 -- MOMENT
 abbrev pub poll_of : {A : Type 0} → Option ℕ → Result (ScriptItem A) ScriptCause
@@ -148,7 +148,7 @@ poll_of None = Err cause.Moment
 poll_of (Some moment) = Ok (item.Poll moment)
 
 abbrev pub change_said : {A : Type 0} → MomentUnit → ScriptPart → List (List ℕ) → Result (Option (ScriptItem A) × ScriptPart) ScriptCause
-change_said unit p (moment ∷ t ∷ members ∷ []) = call_said (too_early p) (change_of (moment_of unit moment) (time_in t) (members_in members))
+change_said unit p (moment ∷ t ∷ members ∷ []) = call_said (too_early p) (change_said_by (moment_of unit moment) (time_in t) (all_octets_in members))
 change_said unit p _ = Err cause.ScriptForm
 
 abbrev pub poll_said : {A : Type 0} → MomentUnit → ScriptPart → List (List ℕ) → Result (Option (ScriptItem A) × ScriptPart) ScriptCause
@@ -159,7 +159,7 @@ poll_said unit p _ = Err cause.ScriptForm
 abbrev pub fields_said : {A : Type 0} → MomentUnit → ScriptPart → List ℕ → List (List ℕ) → Result (Option (ScriptItem A) × ScriptPart) ScriptCause
 fields_said unit p name fields =
     if bytes_eq name (codes "control") then control_said p (control_of fields)
-    else (if bytes_eq name (codes "step") then step_said p (step_of fields)
+    else (if bytes_eq name (codes "step") then step_said p (step_said_by fields)
     else (if bytes_eq name (codes "change") then change_said unit p fields
     else (if bytes_eq name (codes "poll") then poll_said unit p fields else Err cause.ScriptForm)))
 
@@ -196,14 +196,14 @@ abbrev pub change_keeps : MomentUnit → ScriptPart → List (List ℕ) → Bool
 change_keeps unit p (moment ∷ t ∷ members ∷ []) = is_none (too_early p) && (is_some (moment_of unit moment) && (is_some (time_in t) && (length members % 2 == 0)))
 change_keeps unit p _ = false
 
-abbrev pub fields_keep : MomentUnit → ScriptPart → List ℕ → List (List ℕ) → Bool
-fields_keep unit p name fields =
+abbrev pub part_keeps : MomentUnit → ScriptPart → List ℕ → List (List ℕ) → Bool
+part_keeps unit p name fields =
     if bytes_eq name (codes "control") then is_ok (control_said {A = Unit {0}} p (control_of fields))
     else (if bytes_eq name (codes "change") then change_keeps unit p fields else false)
 
 abbrev pub all_keep : MomentUnit → ScriptPart → List (List ℕ) → Bool
 all_keep unit p [] = false
-all_keep unit p (name ∷ fields) = fields_keep unit p name fields
+all_keep unit p (name ∷ fields) = part_keeps unit p name fields
 
 abbrev pub line_keeps : MomentUnit → ScriptPart → List ℕ → Bool
 line_keeps unit p [] = false
@@ -218,7 +218,7 @@ abbrev pub script_rules : {A : Type 0} → Rules ScriptLines (ScriptItem A) Scri
 script_rules = record { said = script_said; keeps = script_keeps; lacks = script_lacks }
 
 -- the answer is what the line says, or memory was wanted where the line has something to keep
-abbrev pub AnswersLine : {X : Type 0} → Result X (LineError ScriptCause) → Result X ScriptCause → Bool → Type 0
-AnswersLine (Ok x) said keeps = said ≡ Ok x
-AnswersLine (Err (line.Cause why)) said keeps = said ≡ Err why
-AnswersLine (Err (line.Memory e)) said keeps = keeps ≡ true
+abbrev pub AnswersScriptLine : {X : Type 0} → Result X (LineError ScriptCause) → Result X ScriptCause → Bool → Type 0
+AnswersScriptLine (Ok x) said keeps = said ≡ Ok x
+AnswersScriptLine (Err (line.Cause why)) said keeps = said ≡ Err why
+AnswersScriptLine (Err (line.Memory e)) said keeps = keeps ≡ true

@@ -1,7 +1,7 @@
 -- What the fields of a control line say, where they stand.
 use Rattle.std.specs.Prelude.{ℕ, List, [], ◌∷◌, Option, None, option_map}
 use Rattle.std.specs.Borrow.{Bor}
-use Rattle.script_core.specs.Commas.{number_in}
+use Rattle.script_core.specs.Commas.{number_by}
 use Rattle.script_core.specs.Script.{ControlLine, flag_in, numbers_with}
 use Rattle.script_core.specs.declared.script_control.ControlView.{ControlView}
 use Rattle.script_core.specs.declared.script_control.Numbers.{Numbers}
@@ -21,5 +21,5 @@ control_seen v = record {
 -- the numbers that the last five fields of a control line say
 abbrev pub numbers_in : List (List ℕ) → Option Numbers
 numbers_in (conf_rev ∷ entries ∷ simulation ∷ nds_com ∷ first ∷ []) =
-    numbers_with (number_in conf_rev) (number_in entries) (flag_in simulation) (flag_in nds_com) (number_in first)
+    numbers_with (number_by conf_rev) (number_by entries) (flag_in simulation) (flag_in nds_com) (number_by first)
 numbers_in _ = None

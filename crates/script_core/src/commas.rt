@@ -1,9 +1,8 @@
 //! Fields of a text that commas divide, and what one of them says.
-ghost use Rattle.std.specs.Prelude.{◌≡◌, ◌<◌, ◌++◌, length, map, MatchOption, option_map};
+ghost use Rattle.std.specs.Prelude.{◌≡◌, ◌<◌, length, map, MatchOption, option_map};
 ghost use Rattle.std.specs.List.{list_all};
 ghost use Rattle.ber_core.specs.ContentsReading.{is_visible as visible};
-ghost use Rattle.arrayvec.specs.ArrayVec.{array_vec_len};
-ghost use Rattle.script_core.specs.Commas.{comma_fields, number_in, text_in, word_in};
+ghost use Rattle.script_core.specs.Commas.{comma_fields, number_by, text_in, word_in};
 
 use arrayvec::ArrayVec;
 use byteorder::{BigEndian, ByteOrder};
@@ -42,7 +41,7 @@ pub fn word_of(digits: &[u8]) -> Option<u16>
 
 /// A number of at most 4,294,967,295 by 1 to 10 decimal digits.
 pub fn number_of(digits: &[u8]) -> Option<u32>
-    ensures { result ≡ number_in digits.now }
+    ensures { result ≡ number_by digits.now }
 {
     let number = decimal_in(digits, 10)?;
     if number <= u32::MAX as u64 {

@@ -1,8 +1,8 @@
 //! The control line of a script, and the lines of its steps.
 ghost use Rattle.std.specs.Prelude.{◌≡◌, option_map, IfOk, is_ok};
 ghost use Rattle.frame_core.specs.Cuts.{parts_after};
-ghost use Rattle.script_core.specs.Commas.{comma_fields, number_in, octets_in, text_in, word_in};
-ghost use Rattle.script_core.specs.Script.{AnswersLine, block_of_line, control_of, control_said, control_with, flag_in, numbers_with, step_of, step_said, tag_in};
+ghost use Rattle.script_core.specs.Commas.{number_by, octets_in, text_in, word_in};
+ghost use Rattle.script_core.specs.Script.{AnswersScriptLine, block_of_line, control_of, control_said, control_with, flag_in, numbers_with, step_said_by, step_said, tag_in};
 ghost use Rattle.script_core.specs.ScriptView.{control_seen, numbers_in};
 
 use crate::commas::{fields_of, number_of, text_of, word_of};
@@ -81,7 +81,7 @@ fn numbers_of(
     nds_com: &[u8],
     first: &[u8],
 ) -> Option<Numbers>
-    ensures { result ≡ numbers_with (number_in conf_rev.now) (number_in entries.now) (flag_in simulation.now) (flag_in nds_com.now) (number_in first.now) }
+    ensures { result ≡ numbers_with (number_by conf_rev.now) (number_by entries.now) (flag_in simulation.now) (flag_in nds_com.now) (number_by first.now) }
 {
     let conf_rev = number_of(conf_rev)?;
     let entries = number_of(entries)?;
@@ -199,7 +199,7 @@ pub fn control_in<A: Allocator + Copy>(
     part: ScriptPart,
     fields: Option<&[u8]>,
 ) -> Result<(Option<ScriptItem<A>>, ScriptPart), LineError<ScriptCause>>
-    ensures { AnswersLine result (control_said part (control_of (parts_after 44 fields.entry))) (is_ok (control_said {A = Unit {0}} part (control_of (parts_after 44 fields.entry)))) }
+    ensures { AnswersScriptLine result (control_said part (control_of (parts_after 44 fields.entry))) (is_ok (control_said {A = Unit {0}} part (control_of (parts_after 44 fields.entry)))) }
 {
     let ScriptPart::Control = part else {
         return Err(LineError::Cause(ScriptCause::ScriptForm));
@@ -222,7 +222,7 @@ pub fn control_in<A: Allocator + Copy>(
 
 // The step that the fields behind the name of the line say.
 fn view_step(fields: Option<&[u8]>) -> Option<Step>
-    ensures { result ≡ step_of (parts_after 44 fields.entry) }
+    ensures { result ≡ step_said_by (parts_after 44 fields.entry) }
 {
     let fields = fields_of(fields?)?;
     match fields.as_slice() {
@@ -240,7 +240,7 @@ pub fn step_in<A: Allocator>(
     part: ScriptPart,
     fields: Option<&[u8]>,
 ) -> Result<(Option<ScriptItem<A>>, ScriptPart), ScriptCause>
-    ensures { result ≡ step_said part (step_of (parts_after 44 fields.entry)) }
+    ensures { result ≡ step_said part (step_said_by (parts_after 44 fields.entry)) }
 {
     let ScriptPart::Steps(steps) = part else {
         return Err(ScriptCause::ScriptForm);

@@ -1,9 +1,9 @@
 //! One line of a script: what it says.
-ghost use Rattle.std.specs.Prelude.{◌≡◌, ◌&&◌, ◌%◌, ◌==◌, Ok, is_none, is_some, length, true};
+ghost use Rattle.std.specs.Prelude.{◌≡◌, ◌&&◌, ◌%◌, ◌==◌, Ok, is_some, length, true};
 ghost use Rattle.frame_core.specs.Cuts.{parts_after};
 ghost use Rattle.frame_core.specs.EventLine.{moment_of};
 ghost use Rattle.script_core.specs.Commas.{comma_fields};
-ghost use Rattle.script_core.specs.Script.{AnswersLine, all_keep, all_said, change_keeps, change_of, change_said, fields_keep, fields_said, line_keeps, line_said, members_in, poll_said, time_in, too_early};
+ghost use Rattle.script_core.specs.Script.{AnswersScriptLine, all_keep, all_said, change_keeps, change_said_by, change_said, part_keeps, fields_said, line_keeps, line_said, all_octets_in, poll_said, time_in, too_early};
 
 use crate::script::{ScriptCause, ScriptItem, ScriptPart};
 use crate::script_control::{control_in, step_in};
@@ -71,7 +71,7 @@ fn values_in<A: Allocator + Copy>(
     t: UtcTime,
     octets: &[u8],
 ) -> Result<ScriptItem<A>, LineError<ScriptCause>>
-    ensures { AnswersLine result (change_of (Some moment) (Some t) (Some octets.now)) true }
+    ensures { AnswersScriptLine result (change_said_by (Some moment) (Some t) (Some octets.now)) true }
 {
     match read_members(alloc, octets, 0, octets.len(), 1) {
         Ok(values) => Ok(ScriptItem::Change(moment, t, ValueList::from(values))),
@@ -88,7 +88,7 @@ fn change_of_fields<A: Allocator + Copy>(
     t: &[u8],
     members: &[u8],
 ) -> Result<ScriptItem<A>, LineError<ScriptCause>>
-    ensures { AnswersLine result (change_of (moment_of unit moment.now) (time_in t.now) (members_in members.now)) (is_some (moment_of unit moment.now) && (is_some (time_in t.now) && (length members.now % 2 == 0))) }
+    ensures { AnswersScriptLine result (change_said_by (moment_of unit moment.now) (time_in t.now) (all_octets_in members.now)) (is_some (moment_of unit moment.now) && (is_some (time_in t.now) && (length members.now % 2 == 0))) }
 {
     let Some(moment) = moment_in(unit, moment) else {
         return Err(LineError::Cause(ScriptCause::Moment));
@@ -113,7 +113,7 @@ pub fn change_in<A: Allocator + Copy>(
     part: ScriptPart,
     fields: Option<&[u8]>,
 ) -> Result<(Option<ScriptItem<A>>, ScriptPart), LineError<ScriptCause>>
-    ensures { AnswersLine result (change_said unit part (parts_after 44 fields.entry)) (change_keeps unit part (parts_after 44 fields.entry)) }
+    ensures { AnswersScriptLine result (change_said unit part (parts_after 44 fields.entry)) (change_keeps unit part (parts_after 44 fields.entry)) }
 {
     let Some(fields) = fields else {
         return Err(LineError::Cause(ScriptCause::ScriptForm));
@@ -147,7 +147,7 @@ fn fields_in<A: Allocator + Copy>(
     name: &[u8],
     fields: Option<&[u8]>,
 ) -> Result<(Option<ScriptItem<A>>, ScriptPart), LineError<ScriptCause>>
-    ensures { AnswersLine result (fields_said unit part name.now (parts_after 44 fields.entry)) (fields_keep unit part name.now (parts_after 44 fields.entry)) }
+    ensures { AnswersScriptLine result (fields_said unit part name.now (parts_after 44 fields.entry)) (part_keeps unit part name.now (parts_after 44 fields.entry)) }
 {
     if name == b"control".as_slice() {
         control_in(alloc, part, fields)
@@ -175,7 +175,7 @@ fn all_in<A: Allocator + Copy>(
     part: ScriptPart,
     line: &[u8],
 ) -> Result<(Option<ScriptItem<A>>, ScriptPart), LineError<ScriptCause>>
-    ensures { AnswersLine result (all_said unit part (comma_fields line.now)) (all_keep unit part (comma_fields line.now)) }
+    ensures { AnswersScriptLine result (all_said unit part (comma_fields line.now)) (all_keep unit part (comma_fields line.now)) }
 {
     let (name, fields) = cut_first(line, b',');
     fields_in(alloc, unit, part, name, fields)
@@ -188,7 +188,7 @@ pub fn line_in<A: Allocator + Copy>(
     part: ScriptPart,
     line: &[u8],
 ) -> Result<(Option<ScriptItem<A>>, ScriptPart), LineError<ScriptCause>>
-    ensures { AnswersLine result (line_said unit part line.now) (line_keeps unit part line.now) }
+    ensures { AnswersScriptLine result (line_said unit part line.now) (line_keeps unit part line.now) }
 {
     match line {
         [] | [b'#', ..] => Ok((None, part)),

@@ -3,14 +3,14 @@ use Rattle.std.proofs.Common.{◌≡◌, ℕ, zero, suc, ◌+◌, ◌-◌, ◌<�
 use Rattle.std.proofs.lemmas.Bool.{cases_lt, cases_Bool, false≢true, and_parts, and_from, or_parts, not-false}
 use Rattle.std.proofs.lemmas.Option.{none-some}
 use Rattle.subscribe_core.specs.declared.block.Block.{Block}
-use Rattle.subscribe_core.specs.Reading.{GooseFrame, Reading, Content, OfGoose}
+use Rattle.subscribe_core.specs.Reading.{GooseFrame, EventRead, Content, OfGoose}
 use Rattle.subscribe_core.specs.declared.registers.Facts.{Facts}
 use Rattle.subscribe_core.specs.declared.entry.Reason.{Reason}
 use Rattle.subscribe_core.specs.declared.entry.Reason.TheVariants.{DatSet, GoId, ConfRev, Commissioning, Simulated, Entries, StateZero, LiveZero}
 use Rattle.subscribe_core.specs.Epoch.{Trace, IsOver, Ends, Next, IsLastStart}
-use Rattle.subscribe_core.specs.Matching.{first_of, holds, is_of, reason_of, is_clear, unless_refused, facts_of_frame}
+use Rattle.subscribe_core.specs.Matching.{first_of, holds, is_of, reason_of, is_clear, facts_unless_refused, facts_of_frame}
 use Rattle.subscribe_core.specs.Simulation.{is_against, holds_at, is_plain_simulated, mode_at, invites, sets_off, takes_simulated, is_switched}
-use Rattle.subscribe_core.specs.Sight.{facts_of, facts_at, trace}
+use Rattle.subscribe_core.specs.Sight.{facts_of, facts_at, trace_of_block}
 use Rattle.subscribe_core.specs.Laws.{IsIn, OneKind}
 use Rattle.subscribe_core.proofs.Epochs.{first_good, over_after}
 use Rattle.subscribe_core.proofs.Flags.{taken_is, taken_from, taken_here, taken_back, taken_same}
@@ -46,7 +46,7 @@ no_switch t s j g l e k lt le =
     ]
 
 -- so the block takes the same frames all along
-steady : {A : Type 0} → (d : ℕ) (b : Block A) (events : List Reading) (s j : ℕ) → ((k : ℕ) → s < k → k ≤ j → is_switched b events k ≡ false) → j ≡ suc s + d → takes_simulated b events j ≡ takes_simulated b events (suc s)
+steady : {A : Type 0} → (d : ℕ) (b : Block A) (events : List EventRead) (s j : ℕ) → ((k : ℕ) → s < k → k ≤ j → is_switched b events k ≡ false) → j ≡ suc s + d → takes_simulated b events j ≡ takes_simulated b events (suc s)
 steady zero b events s j h e = let at : j ≡ suc s = omega arith in ap (takes_simulated b events) at
 steady (suc d) b events s zero h e = absurd (omega arith)
 steady (suc d) b events s (suc j) h e =
@@ -65,7 +65,7 @@ refused true b f e =
 pub good_frame : {A : Type 0} → (b : Block A) (mode taken : Bool) (f : GooseFrame) (g : Facts) → facts_of b mode taken (OfGoose f) ≡ Some g → (is_of f b ≡ true) × (reason_of (is_against f mode taken) b f ≡ None)
 good_frame b mode taken f g e = go (is_of f b) refl (reason_of (is_against f mode taken) b f) refl e
   where
-    go : (o : Bool) → is_of f b ≡ o → (r : Option Reason) → reason_of (is_against f mode taken) b f ≡ r → (if o then unless_refused r (facts_of_frame f) else None) ≡ Some g → (is_of f b ≡ true) × (reason_of (is_against f mode taken) b f ≡ None)
+    go : (o : Bool) → is_of f b ≡ o → (r : Option Reason) → reason_of (is_against f mode taken) b f ≡ r → (if o then facts_unless_refused r (facts_of_frame f) else None) ≡ Some g → (is_of f b ≡ true) × (reason_of (is_against f mode taken) b f ≡ None)
     go true o None r e = (o, r)
     go true o (Some reason) r e = absurd (none-some g e)
     go false o r rs e = absurd (none-some g e)
@@ -74,11 +74,11 @@ against_is : (f : GooseFrame) (mode taken v : Bool) → f.pdu.simulation ≡ v �
 against_is f mode taken v e = ap (λ (x : Bool). if x then not mode else taken) e
 
 -- a good frame at i is simulated or real as the block takes them afterwards
-record Tells {A : Type 0} (b : Block A) (events : List Reading) (i : ℕ) (f : GooseFrame) : Type 0 where
+record Tells {A : Type 0} (b : Block A) (events : List EventRead) (i : ℕ) (f : GooseFrame) : Type 0 where
   simulated : f.pdu.simulation ≡ true → invites b events i ≡ true
   real : f.pdu.simulation ≡ false → (takes_simulated b events i ≡ false) × (invites b events i ≡ false)
 
-tells : {A : Type 0} → (b : Block A) (events : List Reading) (i : ℕ) (g : Facts) (e : Reading) (f : GooseFrame) → (trace b events).good i ≡ Some g → slice_get events i ≡ Some e → e.content ≡ OfGoose f → Tells b events i f
+tells : {A : Type 0} → (b : Block A) (events : List EventRead) (i : ℕ) (g : Facts) (e : EventRead) (f : GooseFrame) → (trace_of_block b events).good i ≡ Some g → slice_get events i ≡ Some e → e.content ≡ OfGoose f → Tells b events i f
 tells b events i g e f good at kind =
     let mode : Bool = mode_at events i in
     let event : slice_get events i ≡ Some e = at in
@@ -90,7 +90,7 @@ tells b events i g e f good at kind =
     refused (is_against f (mode_at events i) (takes_simulated b events i)) b f x.1 in
     let clear : reason_of false b f ≡ None = ap (λ (y : Bool). reason_of y b f) (sym no_reason) ∙ x.1 in
     let invite_is : invites b events i ≡ ((is_of f b && (is_clear (reason_of false b f) && f.pdu.simulation)) && mode_at events i) =
-    ap (λ (o : Option Reading). holds_at (is_plain_simulated b) o && mode_at events i) at ∙
+    ap (λ (o : Option EventRead). holds_at (is_plain_simulated b) o && mode_at events i) at ∙
     ap (λ (k : Content). is_plain_simulated b k && mode_at events i) kind in
     record {
       simulated = λ s.
@@ -113,7 +113,7 @@ tells b events i g e f good at kind =
     }
 
 -- the kind of a good frame is the one that the block takes since its epoch's start
-kind_at_start : {A : Type 0} → (b : Block A) (events : List Reading) (s : ℕ) (f : GooseFrame) → Tells b events s f → f.pdu.simulation ≡ takes_simulated b events (s + 1)
+kind_at_start : {A : Type 0} → (b : Block A) (events : List EventRead) (s : ℕ) (f : GooseFrame) → Tells b events s f → f.pdu.simulation ≡ takes_simulated b events (s + 1)
 kind_at_start b events s f x =
     elim (cases_Bool f.pdu.simulation) [
       | inl y ↦
@@ -130,7 +130,7 @@ kind_at_start b events s f x =
           ]
     ]
 
-kind_later : {A : Type 0} → (b : Block A) (events : List Reading) (i : ℕ) (f : GooseFrame) → Tells b events i f → is_switched b events i ≡ false → f.pdu.simulation ≡ takes_simulated b events i
+kind_later : {A : Type 0} → (b : Block A) (events : List EventRead) (i : ℕ) (f : GooseFrame) → Tells b events i f → is_switched b events i ≡ false → f.pdu.simulation ≡ takes_simulated b events i
 kind_later b events i f x same =
     let parts = or_parts (invites b events i && not (takes_simulated b events i)) (sets_off events i && takes_simulated b events i) same in
     elim (cases_Bool f.pdu.simulation) [
@@ -143,7 +143,7 @@ kind_later b events i f x same =
       | inr n ↦ n ∙ sym (x.real n).0
     ]
 
-kind_is : {A : Type 0} → (b : Block A) (events : List Reading) (s i : ℕ) (g : Facts) (e : Reading) (f : GooseFrame) → IsIn (trace b events) s i g → slice_get events i ≡ Some e → e.content ≡ OfGoose f → f.pdu.simulation ≡ takes_simulated b events (s + 1)
+kind_is : {A : Type 0} → (b : Block A) (events : List EventRead) (s i : ℕ) (g : Facts) (e : EventRead) (f : GooseFrame) → IsIn (trace_of_block b events) s i g → slice_get events i ≡ Some e → e.content ≡ OfGoose f → f.pdu.simulation ≡ takes_simulated b events (s + 1)
 kind_is b events s i g e f a at kind =
     let within : s ≤ i = a.epoch.within in
     let told : Tells b events i f = tells b events i g e f a.good at kind in
@@ -152,7 +152,7 @@ kind_is b events s i g e f a at kind =
           let same : i ≡ s = omega arith in
           kind_at_start b events s f (subst (λ k. Tells b events k f) same told)
       | inl lt ↦
-          let quiet : (k : ℕ) → s < k → k ≤ i → is_switched b events k ≡ false = no_switch (trace b events) s i g a.epoch a.good in
+          let quiet : (k : ℕ) → s < k → k ≤ i → is_switched b events k ≡ false = no_switch (trace_of_block b events) s i g a.epoch a.good in
           let at : suc s ≡ s + 1 = omega arith in
           kind_later b events i f told (quiet i lt (omega arith)) ∙
           (steady (i - suc s) b events s i quiet (omega arith) ∙ ap (takes_simulated b events) at)

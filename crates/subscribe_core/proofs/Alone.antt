@@ -3,7 +3,7 @@ use Rattle.std.proofs.Common.{◌≡◌, ℕ, zero, suc, ◌+◌, ◌<◌, Bool,
 use Rattle.std.proofs.lemmas.Bool.{false≢true}
 use Rattle.std.proofs.lemmas.Option.{none-some, same_Some}
 use Rattle.subscribe_core.specs.declared.block.Block.{Block}
-use Rattle.subscribe_core.specs.Reading.{GooseFrame, Reading, Content, OfGoose, OfSampled, OfFault, OfClock, OfMode}
+use Rattle.subscribe_core.specs.Reading.{GooseFrame, EventRead, Content, OfGoose, OfSampled, OfFault, OfClock, OfMode}
 use Rattle.subscribe_core.specs.declared.registers.Facts.{Facts}
 use Rattle.subscribe_core.specs.declared.entry.Reason.{Reason}
 use Rattle.subscribe_core.specs.declared.registers.Verdict.{Verdict}
@@ -12,7 +12,7 @@ use Rattle.subscribe_core.specs.declared.entry.Entry.{Entry}
 use Rattle.subscribe_core.specs.declared.entry.Entry.TheVariants as says
 use Rattle.subscribe_core.specs.Epoch.{Trace, IsExpiry, IsVerdict}
 use Rattle.subscribe_core.specs.Matching.{is_of, facts_of_frame}
-use Rattle.subscribe_core.specs.Sight.{trace}
+use Rattle.subscribe_core.specs.Sight.{trace_of_block}
 use Rattle.subscribe_core.specs.Entries.{AreExpired, AreOfContent, IsFrameEntry, IsBlockEntry, entry_of, AreReadEntriesAt, reason_at, switched_at}
 use Rattle.subscribe_core.specs.Simulation.{is_switched}
 use Rattle.subscribe_core.proofs.BlockNames.{is_of_key}
@@ -41,7 +41,7 @@ verdict_unique t i f Stale Stale a b = refl
 
 -- one list of entries
 
-expired_unique : {A : Type 0} → (events : List Reading) (i b : ℕ) (blocks : List (Block A)) (es fs : List (Entry A)) → AreExpired events i b blocks es → AreExpired events i b blocks fs → es ≡ fs
+expired_unique : {A : Type 0} → (events : List EventRead) (i b : ℕ) (blocks : List (Block A)) (es fs : List (Entry A)) → AreExpired events i b blocks es → AreExpired events i b blocks fs → es ≡ fs
 expired_unique {A} events i b [] es fs a c = a ∙ sym c
 expired_unique {A} events i b (x ∷ xs) es fs (inl a) (inl c) =
     a.1.1 ∙ (ap (λ (r : List (Entry A)). says.Expired b ∷ r) (expired_unique events i (b + 1) xs a.1.0 c.1.0 a.1.2 c.1.2) ∙ sym c.1.1)
@@ -49,10 +49,10 @@ expired_unique {A} events i b (x ∷ xs) es fs (inl a) (inr c) = absurd (c.0 a.0
 expired_unique {A} events i b (x ∷ xs) es fs (inr a) (inl c) = absurd (a.0 c.0)
 expired_unique {A} events i b (x ∷ xs) es fs (inr a) (inr c) = expired_unique events i (b + 1) xs es fs a.1 c.1
 
-block_unique : {A : Type 0} → (events : List Reading) (i b : ℕ) (block : Block A) (f : GooseFrame) (r : Option Reason) (x y : Entry A) → IsBlockEntry events i b block f r x → IsBlockEntry events i b block f r y → x ≡ y
+block_unique : {A : Type 0} → (events : List EventRead) (i b : ℕ) (block : Block A) (f : GooseFrame) (r : Option Reason) (x y : Entry A) → IsBlockEntry events i b block f r x → IsBlockEntry events i b block f r y → x ≡ y
 block_unique {A} events i b block f (Some r) x y a c = a ∙ sym c
 block_unique {A} events i b block f None x y a c =
-    a.2 ∙ (ap (entry_of b f) (verdict_unique (trace block events) i (facts_of_frame f) a.0 c.0 a.1 c.1) ∙ sym c.2)
+    a.2 ∙ (ap (entry_of b f) (verdict_unique (trace_of_block block events) i (facts_of_frame f) a.0 c.0 a.1 c.1) ∙ sym c.2)
 
 -- two blocks of one frame are one
 pub same_place : {A : Type 0} → (blocks : List (Block A)) → AreApart blocks → (f : GooseFrame) (b c : ℕ) (x y : Block A) → slice_get blocks b ≡ Some x → slice_get blocks c ≡ Some y → is_of f x ≡ true → is_of f y ≡ true → b ≡ c
@@ -64,7 +64,7 @@ same_place {A} blocks apart f b c x y p q u v =
 pub same_block : {A : Type 0} → (blocks : List (Block A)) (b c : ℕ) (x y : Block A) → slice_get blocks b ≡ Some x → slice_get blocks c ≡ Some y → b ≡ c → x ≡ y
 same_block {A} blocks b c x y p q e = same_Some x y (sym p ∙ (ap (slice_get blocks) e ∙ q))
 
-frame_unique : {A : Type 0} → (blocks : List (Block A)) → AreApart blocks → (events : List Reading) (i : ℕ) (f : GooseFrame) (x y : Entry A) → IsFrameEntry blocks events i f x → IsFrameEntry blocks events i f y → x ≡ y
+frame_unique : {A : Type 0} → (blocks : List (Block A)) → AreApart blocks → (events : List EventRead) (i : ℕ) (f : GooseFrame) (x y : Entry A) → IsFrameEntry blocks events i f x → IsFrameEntry blocks events i f y → x ≡ y
 frame_unique {A} blocks apart events i f x y (inl a) (inl c) = a.1 ∙ sym c.1
 frame_unique {A} blocks apart events i f x y (inl a) (inr c) = absurd (false≢true (sym (a.0 c.0 c.1 c.2) ∙ c.3))
 frame_unique {A} blocks apart events i f x y (inr a) (inl c) = absurd (false≢true (sym (c.0 a.0 a.1 a.2) ∙ a.3))
@@ -75,7 +75,7 @@ frame_unique {A} blocks apart events i f x y (inr a) (inr c) =
     (subst (λ (z : Block A). IsBlockEntry events i a.0 z f (reason_at z events i f) y) block
     (subst (λ b. IsBlockEntry events i b c.1 f (reason_at c.1 events i f) y) place c.4))
 
-content_unique : {A : Type 0} → (blocks : List (Block A)) → AreApart blocks → (events : List Reading) (i : ℕ) (k : Content) (es fs : List (Entry A)) → AreOfContent blocks events i k es → AreOfContent blocks events i k fs → es ≡ fs
+content_unique : {A : Type 0} → (blocks : List (Block A)) → AreApart blocks → (events : List EventRead) (i : ℕ) (k : Content) (es fs : List (Entry A)) → AreOfContent blocks events i k es → AreOfContent blocks events i k fs → es ≡ fs
 content_unique {A} blocks apart events i (OfGoose f) es fs a c =
     a.2 ∙ (ap (λ (x : Entry A). x ∷ []) (frame_unique blocks apart events i f a.0 c.0 a.1 c.1) ∙ sym c.2)
 content_unique {A} blocks apart events i OfSampled es fs a c = a ∙ sym c
@@ -83,12 +83,12 @@ content_unique {A} blocks apart events i (OfFault fault) es fs a c = a ∙ sym c
 content_unique {A} blocks apart events i OfClock es fs a c = a ∙ sym c
 content_unique {A} blocks apart events i (OfMode on) es fs a c = a ∙ sym c
 
-pub read_entries_are_one : {A : Type 0} → (blocks : List (Block A)) (events : List Reading) (i : ℕ) (es fs : List (Entry A)) → AreApart blocks → AreReadEntriesAt blocks events i es → AreReadEntriesAt blocks events i fs → es ≡ fs
+pub read_entries_are_one : {A : Type 0} → (blocks : List (Block A)) (events : List EventRead) (i : ℕ) (es fs : List (Entry A)) → AreApart blocks → AreReadEntriesAt blocks events i es → AreReadEntriesAt blocks events i fs → es ≡ fs
 read_entries_are_one {A} blocks events i es fs apart a c =
     let event : c.event ≡ a.event = same_Some c.event a.event (sym c.at ∙ a.at) in
     let said : a.said ≡ c.said =
     content_unique blocks apart events i a.event.content a.said c.said a.are_said
-    (subst (λ (e : Reading). AreOfContent blocks events i e.content c.said) event c.are_said) in
+    (subst (λ (e : EventRead). AreOfContent blocks events i e.content c.said) event c.are_said) in
     let expired : a.expired ≡ c.expired = expired_unique events i 0 blocks a.expired c.expired a.are_expired c.are_expired in
     let switched : List (Entry A) = switched_at events i 0 blocks in
     a.whole ∙ (ap (λ (x : List (Entry A)). x ++ (switched_at events i 0 blocks ++ a.said)) expired ∙
@@ -112,26 +112,26 @@ own_expired_is A b c e = ap (one_expired A) (eq-eqb c b e)
 own_expired_not : (A : Type 0) (b c : ℕ) → (c ≡ b → ⊥) → own_of {A = A} b (says.Expired c) ≡ []
 own_expired_not A b c ne = ap (one_expired A) (ne_eqb c b ne)
 
-own_below : {A : Type 0} → (events : List Reading) (i from c : ℕ) (blocks : List (Block A)) (es : List (Entry A)) → c < from → AreExpired events i from blocks es → own c es ≡ []
+own_below : {A : Type 0} → (events : List EventRead) (i from c : ℕ) (blocks : List (Block A)) (es : List (Entry A)) → c < from → AreExpired events i from blocks es → own c es ≡ []
 own_below {A} events i from c [] es lt a = ap (own c) a
 own_below {A} events i from c (x ∷ xs) es lt (inl a) =
     ap (own c) a.1.1 ∙ (ap (λ (y : List (Entry A)). y ++ own c a.1.0) (own_expired_not A c from (λ e. omega arith)) ∙ own_below events i (from + 1) c xs a.1.0 (omega arith) a.1.2)
 own_below {A} events i from c (x ∷ xs) es lt (inr a) = own_below events i (from + 1) c xs es (omega arith) a.1
 
 -- what the expiries leave of block c, by whether it expires
-abbrev Left : {A : Type 0} → List Reading → ℕ → Block A → List (Entry A) → Type 0
-Left {A} events i block es = (IsExpiry (trace block events) i → es ≡ says.Expired 0 ∷ []) × (¬ IsExpiry (trace block events) i → es ≡ [])
+abbrev Left : {A : Type 0} → List EventRead → ℕ → Block A → List (Entry A) → Type 0
+Left {A} events i block es = (IsExpiry (trace_of_block block events) i → es ≡ says.Expired 0 ∷ []) × (¬ IsExpiry (trace_of_block block events) i → es ≡ [])
 
-own_expired : {A : Type 0} → (events : List Reading) (i from c k : ℕ) (blocks : List (Block A)) (block : Block A) (es : List (Entry A)) → c ≡ from + k → slice_get blocks k ≡ Some block → AreExpired events i from blocks es → Left events i block (own c es)
+own_expired : {A : Type 0} → (events : List EventRead) (i from c k : ℕ) (blocks : List (Block A)) (block : Block A) (es : List (Entry A)) → c ≡ from + k → slice_get blocks k ≡ Some block → AreExpired events i from blocks es → Left events i block (own c es)
 own_expired {A} events i from c k [] block es e is a = absurd (none-some block is)
 own_expired {A} events i from c zero (x ∷ xs) block es e is (inl a) =
     let same : x ≡ block = same_Some x block is in
     let whole : own c es ≡ says.Expired 0 ∷ [] =
     ap (own c) a.1.1 ∙ (ap (λ (y : List (Entry A)). y ++ own c a.1.0) (own_expired_is A c from (omega arith)) ∙ ap (λ (y : List (Entry A)). says.Expired 0 ∷ y) (own_below events i (from + 1) c xs a.1.0 (omega arith) a.1.2)) in
-    ((λ w. whole), (λ w. absurd (w (subst (λ (y : Block A). IsExpiry (trace y events) i) same a.0))))
+    ((λ w. whole), (λ w. absurd (w (subst (λ (y : Block A). IsExpiry (trace_of_block y events) i) same a.0))))
 own_expired {A} events i from c zero (x ∷ xs) block es e is (inr a) =
     let same : x ≡ block = same_Some x block is in (
-      (λ w. absurd (a.0 (subst (λ (y : Block A). IsExpiry (trace y events) i) (sym same) w))),
+      (λ w. absurd (a.0 (subst (λ (y : Block A). IsExpiry (trace_of_block y events) i) (sym same) w))),
       (λ w. own_below events i (from + 1) c xs es (omega arith) a.1),
     )
 own_expired {A} events i from c (suc k) (x ∷ xs) block es e is (inl a) =
@@ -159,12 +159,12 @@ switched_here A c from true l same rest =
     ap (λ (x : List (Entry A)). x ++ own c l) (own_switched_is A c from same) ∙ ap (λ (x : List (Entry A)). says.Switched 0 ∷ x) rest
 switched_here A c from false l same rest = rest
 
-switched_below : {A : Type 0} → (events : List Reading) (i from c : ℕ) (blocks : List (Block A)) → c < from → own c (switched_at events i from blocks) ≡ []
+switched_below : {A : Type 0} → (events : List EventRead) (i from c : ℕ) (blocks : List (Block A)) → c < from → own c (switched_at events i from blocks) ≡ []
 switched_below events i from c [] lt = refl
 switched_below {A} events i from c (x ∷ xs) lt =
     switched_other A c from (is_switched x events i) (switched_at events i (from + 1) xs) [] (λ e. omega arith) (switched_below events i (from + 1) c xs (omega arith))
 
-own_switched : {A : Type 0} → (events : List Reading) (i from c k : ℕ) (blocks : List (Block A)) (block : Block A) → c ≡ from + k → slice_get blocks k ≡ Some block → own c (switched_at events i from blocks) ≡ one_switched A (is_switched block events i)
+own_switched : {A : Type 0} → (events : List EventRead) (i from c k : ℕ) (blocks : List (Block A)) (block : Block A) → c ≡ from + k → slice_get blocks k ≡ Some block → own c (switched_at events i from blocks) ≡ one_switched A (is_switched block events i)
 own_switched events i from c k [] block e is = absurd (none-some block is)
 own_switched {A} events i from c zero (x ∷ xs) block e is =
     switched_here A c from (is_switched x events i) (switched_at events i (from + 1) xs) (omega arith) (switched_below events i (from + 1) c xs (omega arith)) ∙
@@ -189,16 +189,16 @@ own_entry_not A b c f Renewed ne = ap (λ (x : Bool). if x then entry_of {A = A}
 own_entry_not A b c f Again ne = ap (λ (x : Bool). if x then entry_of {A = A} 0 f Again ∷ [] else []) (ne_eqb c b ne)
 own_entry_not A b c f Stale ne = ap (λ (x : Bool). if x then entry_of {A = A} 0 f Stale ∷ [] else []) (ne_eqb c b ne)
 
-own_block_not : {A : Type 0} → (events : List Reading) (i b c : ℕ) (block : Block A) (f : GooseFrame) (r : Option Reason) (x : Entry A) → (c ≡ b → ⊥) → IsBlockEntry events i c block f r x → own_of b x ≡ []
+own_block_not : {A : Type 0} → (events : List EventRead) (i b c : ℕ) (block : Block A) (f : GooseFrame) (r : Option Reason) (x : Entry A) → (c ≡ b → ⊥) → IsBlockEntry events i c block f r x → own_of b x ≡ []
 own_block_not {A} events i b c block f (Some r) x ne a =
     ap (own_of b) a ∙ ap (λ (y : Bool). if y then says.Refused 0 r ∷ [] else []) (ne_eqb c b ne)
 own_block_not {A} events i b c block f None x ne a = ap (own_of b) a.2 ∙ own_entry_not A b c f a.0 ne
 
-own_block_same : {A : Type 0} → (events : List Reading) (i b : ℕ) (block : Block A) (f : GooseFrame) (r : Option Reason) (x y : Entry A) → IsBlockEntry events i b block f r x → IsBlockEntry events i 0 block f r y → own_of b x ≡ own_of 0 y
+own_block_same : {A : Type 0} → (events : List EventRead) (i b : ℕ) (block : Block A) (f : GooseFrame) (r : Option Reason) (x y : Entry A) → IsBlockEntry events i b block f r x → IsBlockEntry events i 0 block f r y → own_of b x ≡ own_of 0 y
 own_block_same {A} events i b block f (Some r) x y a c =
     ap (own_of b) a ∙ (ap (λ (z : Bool). if z then says.Refused 0 r ∷ [] else []) (eq-eqb b b refl) ∙ sym (ap (own_of 0) c))
 own_block_same {A} events i b block f None x y a c =
-    let v = verdict_unique (trace block events) i (facts_of_frame f) a.0 c.0 a.1 c.1 in
+    let v = verdict_unique (trace_of_block block events) i (facts_of_frame f) a.0 c.0 a.1 c.1 in
     ap (own_of b) a.2 ∙ (own_entry_is A b f a.0 ∙ (ap (λ (v : Verdict). entry_of 0 f v ∷ []) v ∙ sym (ap (own_of 0) c.2 ∙ own_entry_is A 0 f c.0)))
 
 -- the one place of a list of one
@@ -206,7 +206,7 @@ only : {A : Type 0} → (block x : Block A) (c : ℕ) → slice_get (block ∷ [
 only {A} block x zero e = (refl, same_Some block x e)
 only {A} block x (suc c) e = absurd (none-some x e)
 
-own_frame : {A : Type 0} → (blocks : List (Block A)) → AreApart blocks → (events : List Reading) (i b : ℕ) (block : Block A) (f : GooseFrame) (x y : Entry A) → slice_get blocks b ≡ Some block → IsFrameEntry blocks events i f x → IsFrameEntry (block ∷ []) events i f y → own_of b x ≡ own_of 0 y
+own_frame : {A : Type 0} → (blocks : List (Block A)) → AreApart blocks → (events : List EventRead) (i b : ℕ) (block : Block A) (f : GooseFrame) (x y : Entry A) → slice_get blocks b ≡ Some block → IsFrameEntry blocks events i f x → IsFrameEntry (block ∷ []) events i f y → own_of b x ≡ own_of 0 y
 own_frame {A} blocks apart events i b block f x y here (inl a) (inl c) = ap (own_of b) a.1 ∙ sym (ap (own_of 0) c.1)
 own_frame {A} blocks apart events i b block f x y here (inl a) (inr c) =
     let o = only block c.1 c.0 c.2 in
@@ -227,7 +227,7 @@ own_frame {A} blocks apart events i b block f x y here (inr a) (inr c) =
     (subst (λ (z : Block A). IsBlockEntry events i 0 z f (reason_at z events i f) y) (sym o.1)
     (subst (λ k. IsBlockEntry events i k c.1 f (reason_at c.1 events i f) y) o.0 c.4))
 
-own_content : {A : Type 0} → (blocks : List (Block A)) → AreApart blocks → (events : List Reading) (i b : ℕ) (block : Block A) (k : Content) (es fs : List (Entry A)) → slice_get blocks b ≡ Some block → AreOfContent blocks events i k es → AreOfContent (block ∷ []) events i k fs → own b es ≡ own 0 fs
+own_content : {A : Type 0} → (blocks : List (Block A)) → AreApart blocks → (events : List EventRead) (i b : ℕ) (block : Block A) (k : Content) (es fs : List (Entry A)) → slice_get blocks b ≡ Some block → AreOfContent blocks events i k es → AreOfContent (block ∷ []) events i k fs → own b es ≡ own 0 fs
 own_content {A} blocks apart events i b block (OfGoose f) es fs here a c =
     ap (own b) a.2 ∙ (ap (λ (x : List (Entry A)). x ++ []) (own_frame blocks apart events i b block f a.0 c.0 here a.1 c.1) ∙ sym (ap (own 0) c.2))
 own_content {A} blocks apart events i b block OfSampled es fs here a c = ap (own b) a ∙ sym (ap (own 0) c)
@@ -235,16 +235,16 @@ own_content {A} blocks apart events i b block (OfFault fault) es fs here a c = a
 own_content {A} blocks apart events i b block OfClock es fs here a c = ap (own b) a ∙ sym (ap (own 0) c)
 own_content {A} blocks apart events i b block (OfMode on) es fs here a c = ap (own b) a ∙ sym (ap (own 0) c)
 
-own_first : {A : Type 0} → (events : List Reading) (i : ℕ) (block : Block A) (xs ys : List (Entry A)) → Left events i block xs → AreExpired events i 0 (block ∷ []) ys → Left events i block (own 0 ys) → xs ≡ own 0 ys
+own_first : {A : Type 0} → (events : List EventRead) (i : ℕ) (block : Block A) (xs ys : List (Entry A)) → Left events i block xs → AreExpired events i 0 (block ∷ []) ys → Left events i block (own 0 ys) → xs ≡ own 0 ys
 own_first {A} events i block xs ys a (inl c) d = a.0 c.0 ∙ sym (d.0 c.0)
 own_first {A} events i block xs ys a (inr c) d = a.1 c.0 ∙ sym (d.1 c.0)
 
-pub read_blocks_are_alone : {A : Type 0} → (blocks : List (Block A)) (events : List Reading) (b : ℕ) (block : Block A) (i : ℕ) (es alone : List (Entry A)) → AreApart blocks → slice_get blocks b ≡ Some block → AreReadEntriesAt blocks events i es → AreReadEntriesAt (block ∷ []) events i alone → own b es ≡ own 0 alone
+pub read_blocks_are_alone : {A : Type 0} → (blocks : List (Block A)) (events : List EventRead) (b : ℕ) (block : Block A) (i : ℕ) (es alone : List (Entry A)) → AreApart blocks → slice_get blocks b ≡ Some block → AreReadEntriesAt blocks events i es → AreReadEntriesAt (block ∷ []) events i alone → own b es ≡ own 0 alone
 read_blocks_are_alone {A} blocks events b block i es alone apart here a c =
     let event : c.event ≡ a.event = same_Some c.event a.event (sym c.at ∙ a.at) in
     let said : own b a.said ≡ own 0 c.said =
     own_content blocks apart events i b block a.event.content a.said c.said here a.are_said
-    (subst (λ (e : Reading). AreOfContent (block ∷ []) events i e.content c.said) event c.are_said) in
+    (subst (λ (e : EventRead). AreOfContent (block ∷ []) events i e.content c.said) event c.are_said) in
     let expired : own b a.expired ≡ own 0 c.expired =
     own_first events i block (own b a.expired) c.expired
     (own_expired events i 0 b b blocks block a.expired (omega arith) here a.are_expired) c.are_expired

@@ -9,17 +9,17 @@ use Rattle.subscribe_core.specs.declared.names.Name.{Name}
 use Rattle.subscribe_core.specs.declared.registers.Held.{Held}
 use Rattle.subscribe_core.specs.declared.registers.Register.{Register}
 use Rattle.subscribe_core.specs.Deadlines.{AreDeadlinesOf, due_count, helds, pair_cmp}
-use Rattle.subscribe_core.specs.Indexed.{IsIndexed, cleared, cleared_one}
+use Rattle.subscribe_core.specs.Indexed.{IsIndexed, registers_after_clock, register_after_clock}
 use Rattle.subscribe_core.specs.Standing.{idle}
-use Rattle.subscribe_core.specs.Steps.{is_due, after_clock}
+use Rattle.subscribe_core.specs.Steps.{is_over, after_clock}
 
 -- what is due isn't held after
-pub due_clears : (o : Option Held) (now : ℕ) → is_due o now ≡ true → after_clock o now ≡ None
+pub due_clears : (o : Option Held) (now : ℕ) → is_over o now ≡ true → after_clock o now ≡ None
 due_clears None now e = refl
 due_clears (Some h) now e = cond-true _ None (Some h) e
 
 -- what isn't due stays
-pub not_due_stays : (o : Option Held) (now : ℕ) → is_due o now ≡ false → after_clock o now ≡ o
+pub not_due_stays : (o : Option Held) (now : ℕ) → is_over o now ≡ false → after_clock o now ≡ o
 not_due_stays None now e = refl
 not_due_stays (Some h) now e = cond-false _ None (Some h) e
 
@@ -27,23 +27,23 @@ not_due_stays (Some h) now e = cond-false _ None (Some h) e
 abbrev pub let_go : Register → Register
 let_go r = record { held = None; simulated = r.simulated }
 
-let_go_cleared : (r : Register) (now : ℕ) → is_due r.held now ≡ true → let_go r ≡ cleared_one now r
+let_go_cleared : (r : Register) (now : ℕ) → is_over r.held now ≡ true → let_go r ≡ register_after_clock now r
 let_go_cleared r now e = ap (λ (o : Option Held). record { held = o; simulated = r.simulated }) (sym (due_clears r.held now e))
 
 -- what is due is cleared, so to clear it first is the same
-pub cleared_set : (rs : List Register) (at now : ℕ) (r : Register) → slice_get rs at ≡ Some r → is_due r.held now ≡ true → cleared now (set rs at (let_go r)) ≡ cleared now rs
+pub cleared_set : (rs : List Register) (at now : ℕ) (r : Register) → slice_get rs at ≡ Some r → is_over r.held now ≡ true → registers_after_clock now (set rs at (let_go r)) ≡ registers_after_clock now rs
 cleared_set [] at now r is e = absurd (none-some r is)
 cleared_set (x ∷ xs) zero now r is e =
-    ap (λ (y : Register). y ∷ cleared now xs) (let_go_cleared r now e ∙ ap (cleared_one now) (sym (same_Some x r is)))
-cleared_set (x ∷ xs) (suc at) now r is e = ap (λ (ys : List Register). cleared_one now x ∷ ys) (cleared_set xs at now r is e)
+    ap (λ (y : Register). y ∷ registers_after_clock now xs) (let_go_cleared r now e ∙ ap (register_after_clock now) (sym (same_Some x r is)))
+cleared_set (x ∷ xs) (suc at) now r is e = ap (λ (ys : List Register). register_after_clock now x ∷ ys) (cleared_set xs at now r is e)
 
 -- and one block less is due
-pub count_set : (held : List (Option Held)) (at now : ℕ) → is_due (get_or held at None) now ≡ true → due_count now (set held at None) + 1 ≡ due_count now held
+pub count_set : (held : List (Option Held)) (at now : ℕ) → is_over (get_or held at None) now ≡ true → due_count now (set held at None) + 1 ≡ due_count now held
 count_set [] at now e = absurd (false≢true e)
 count_set (h ∷ hs) zero now e = sym (cond-true _ (due_count now hs + 1) (due_count now hs) e)
 count_set (h ∷ hs) (suc at) now e =
     let rest : due_count now (set hs at None) + 1 ≡ due_count now hs = count_set hs at now e in
-    elim (cases_Bool (is_due h now)) [
+    elim (cases_Bool (is_over h now)) [
       | inl d ↦
           let a : due_count now (h ∷ set hs at None) ≡ due_count now (set hs at None) + 1 = cond-true _ _ (due_count now (set hs at None)) d in
           let b : due_count now (h ∷ hs) ≡ due_count now hs + 1 = cond-true _ _ (due_count now hs) d in
@@ -67,11 +67,11 @@ pub register_of : (rs : List Register) (at : ℕ) → at < length rs → (r : Re
 register_of rs at lt = (get_or rs at idle, slice_get-get_or rs at idle lt)
 
 -- where none is due, nothing is cleared
-pub cleared_none : (rs : List Register) (now : ℕ) → ((at : ℕ) → is_due (get_or (helds rs) at None) now ≡ false) → cleared now rs ≡ rs
+pub cleared_none : (rs : List Register) (now : ℕ) → ((at : ℕ) → is_over (get_or (helds rs) at None) now ≡ false) → registers_after_clock now rs ≡ rs
 cleared_none [] now none = refl
 cleared_none (r ∷ rs) now none =
-    let first : cleared_one now r ≡ r = ap (λ (o : Option Held). record { held = o; simulated = r.simulated }) (not_due_stays r.held now (none 0)) in
-    let rest : cleared now rs ≡ rs = cleared_none rs now (λ at. none (suc at)) in
+    let first : register_after_clock now r ≡ r = ap (λ (o : Option Held). record { held = o; simulated = r.simulated }) (not_due_stays r.held now (none 0)) in
+    let rest : registers_after_clock now rs ≡ rs = cleared_none rs now (λ at. none (suc at)) in
     cc
 
 -- what is so at each turn: of what was held at first the last ones are left to let go
@@ -79,7 +79,7 @@ pub record IsClearing {A : Type 0} (now : ℕ) (first_blocks : List (Block A)) (
     (blocks : List (Block A)) (registers : List Register) (names : List (Name A)) (deadlines : BTreeSet (ℕ × ℕ)) (count : ℕ)
     (first_mode mode : Bool) (first_moment moment : ℕ) : Type 0 where
   pub indexed : IsIndexed blocks registers names deadlines
-  pub same : cleared now registers ≡ cleared now first
+  pub same : registers_after_clock now registers ≡ registers_after_clock now first
   pub counted : count + due_count now (helds registers) ≤ looks + due_count now (helds first)
   pub blocks_stay : blocks ≡ first_blocks
   pub mode_stays : mode ≡ first_mode
@@ -102,13 +102,13 @@ indexed_write {A} blocks blocks' registers registers' names at r deadlines deadl
       timed = subst (λ (hs : List (Option Held)). AreDeadlinesOf deadlines' hs) (sym (helds_set registers at r)) t;
     }))
 
-pub due_within : (rs : List Register) (at now : ℕ) → is_due (get_or (helds rs) at None) now ≡ true → at < length rs
+pub due_within : (rs : List Register) (at now : ℕ) → is_over (get_or (helds rs) at None) now ≡ true → at < length rs
 due_within rs at now e =
     elim (cases_lt at (length rs)) [
       | inl lt ↦ lt
       | inr past ↦
           let size : length (helds rs) ≡ length rs = length-map rs (λ (r : Register). r.held) in
-          absurd (false≢true (sym (ap (λ (h : Option Held). is_due h now) (get_or_past (helds rs) at None (omega arith))) ∙ e))
+          absurd (false≢true (sym (ap (λ (h : Option Held). is_over h now) (get_or_past (helds rs) at None (omega arith))) ∙ e))
     ]
 
 -- a set with the same keys

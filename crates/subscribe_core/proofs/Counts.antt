@@ -5,7 +5,7 @@ use Rattle.std.proofs.lemmas.List.{length-append, length_push}
 use Rattle.std.proofs.lemmas.Option.{none-some, same_Some}
 use Rattle.subscribe_core.specs.declared.watch.Seen.{Seen}
 use Rattle.subscribe_core.specs.declared.watch.Seen.TheVariants as seen
-use Rattle.subscribe_core.specs.Watch.{AreSeen, AnswersAreOne, GoesOn, IsLastCount, IsSeenLast, SkipsAddUp, Watching, WatchesAfter, advance, advances, by_way, greatest_index, last_by, moves, seen_after, seen_all, way}
+use Rattle.subscribe_core.specs.Watch.{AreSeen, SeenAreOne, GoesOn, IsLastCount, IsSeenLast, SkipsAddUp, Watching, WatchesAfter, advance, advances, by_way, greatest_index, last_by, moves, seen_after, seen_all, way}
 use Rattle.subscribe_core.proofs.Traces.{get_front, get_middle, get_pushed}
 use Rattle.std.proofs.Math.Nat.{add-mod_left, div-add-mod, mod-add-mod, mod-eq_of_lt, mod-lt, mul-add-mod_self_left}
 
@@ -179,7 +179,7 @@ seen_one period (c ∷ cs) before answers (r ∷ rest) last same is all =
 pub none_last : IsLastCount [] [] 0 None
 none_last = λ j s lt e. absurd (omega arith)
 
-pub answers_are_one : AnswersAreOne
+pub answers_are_one : SeenAreOne
 answers_are_one period counts = (
   seen_from period counts [] [] None (none_seen period) none_last,
   λ a b u v. seen_one period counts [] [] a None refl none_last u ∙ sym (seen_one period counts [] [] b None refl none_last v),

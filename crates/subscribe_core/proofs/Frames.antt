@@ -15,12 +15,12 @@ use Rattle.subscribe_core.specs.declared.registers.Register.{Register}
 use Rattle.subscribe_core.specs.declared.registers.Verdict.{Verdict}
 use Rattle.subscribe_core.specs.declared.registers.Verdict.TheVariants.{Acted, Renewed, Again, Stale}
 use Rattle.subscribe_core.specs.Deadlines.{due_count, helds}
-use Rattle.subscribe_core.specs.Indexed.{cleared, cleared_one, good_entries, good_held, good_register, good_renewal, switches}
+use Rattle.subscribe_core.specs.Indexed.{registers_after_clock, register_after_clock, good_entries, good_held, good_register, good_renewal, switches}
 use Rattle.subscribe_core.specs.Matching.{facts_of_frame, holds, is_clear, is_of, reason_of}
 use Rattle.subscribe_core.specs.Reading.{GooseFrame, OfGoose}
 use Rattle.subscribe_core.specs.Simulation.{is_against, is_plain_simulated}
 use Rattle.subscribe_core.specs.Standing.{AreApart}
-use Rattle.subscribe_core.specs.Steps.{after_clock, after_switch, block_entry, block_held, flag_by, is_due, register_by, registers_by, said_of, switch_by, switched_entries, taken, turned, verdict_on}
+use Rattle.subscribe_core.specs.Steps.{after_clock, after_switch, block_entry, block_held, flag_by, is_over, register_by, registers_by, said_of, switch_by, switched_entries, held_after_frame, turned, verdict_on}
 use Rattle.subscribe_core.proofs.Alike.{no_reason, refused}
 use Rattle.subscribe_core.proofs.BlockNames.{is_of_key}
 use Rattle.subscribe_core.proofs.Clearing.{not_due_stays}
@@ -114,7 +114,7 @@ pub quiet_other : {A : Type 0} (mode flag : Bool) (x : Block A) (f : GooseFrame)
 quiet_other mode flag x f no_of = quiet_from mode flag x f (and_left (is_plain_simulated x (OfGoose f)) mode (plain_other x f no_of))
 
 -- a register of another block
-register_other : {A : Type 0} (now : ℕ) (mode : Bool) (x : Block A) (r : Register) (f : GooseFrame) → is_of f x ≡ false → register_by now mode (OfGoose f) x r ≡ cleared_one now r
+register_other : {A : Type 0} (now : ℕ) (mode : Bool) (x : Block A) (r : Register) (f : GooseFrame) → is_of f x ≡ false → register_by now mode (OfGoose f) x r ≡ register_after_clock now r
 register_other now mode x r f no_of =
     let q = quiet_other mode r.simulated x f no_of in
     let held : turned now mode (OfGoose f) x r ≡ after_clock r.held now = ap (λ (y : Bool). after_switch y (after_clock r.held now)) q.switch_is in
@@ -134,7 +134,7 @@ switched_none {A} mode f b (x ∷ xs) (r ∷ rs) none =
     ∙ switched_none mode f (b + 1) xs rs (λ j. none (suc j))
 
 pub registers_none : {A : Type 0} (now : ℕ) (mode : Bool) (f : GooseFrame) (xs : List (Block A)) (rs : List Register) → length rs ≡ length xs
-    → ((j : ℕ) (y : Block A) → slice_get xs j ≡ Some y → is_of f y ≡ false) → registers_by now mode (OfGoose f) xs rs ≡ cleared now rs
+    → ((j : ℕ) (y : Block A) → slice_get xs j ≡ Some y → is_of f y ≡ false) → registers_by now mode (OfGoose f) xs rs ≡ registers_after_clock now rs
 registers_none now mode f [] [] same none = refl
 registers_none now mode f [] (r ∷ rs) same none = absurd (omega arith)
 registers_none now mode f (x ∷ xs) [] same none = refl
@@ -169,7 +169,7 @@ switched_one {A} mode f b (suc at) (z ∷ xs) (w ∷ rs) x r p q others =
 pub registers_one : {A : Type 0} (now : ℕ) (mode : Bool) (f : GooseFrame) (at : ℕ) (xs : List (Block A)) (rs : List Register) (x : Block A) (r : Register) → length rs ≡ length xs
     → slice_get xs at ≡ Some x → slice_get rs at ≡ Some r
     → ((j : ℕ) (y : Block A) → slice_get xs j ≡ Some y → (j ≡ at → ⊥) → is_of f y ≡ false)
-    → registers_by now mode (OfGoose f) xs rs ≡ set (cleared now rs) at (register_by now mode (OfGoose f) x r)
+    → registers_by now mode (OfGoose f) xs rs ≡ set (registers_after_clock now rs) at (register_by now mode (OfGoose f) x r)
 registers_one now mode f at [] rs x r same p q others = absurd (none-some x p)
 registers_one now mode f at (z ∷ xs) [] x r same p q others = absurd (none-some r q)
 registers_one {A} now mode f zero (z ∷ xs) (w ∷ rs) x r same p q others =
@@ -212,7 +212,7 @@ answer_none {A} now mode xs rs f e =
     let quiet : switched_entries mode (OfGoose f) 0 xs rs ≡ [] = switched_none mode f 0 xs rs (λ j y p. position_none (is_of f) xs e j y p) in
     rw (quiet, e) refl
 
-pub registers_kept : {A : Type 0} (now : ℕ) (mode : Bool) (xs : List (Block A)) (rs : List Register) (f : GooseFrame) → length rs ≡ length xs → position (is_of f) xs ≡ None → cleared now rs ≡ registers_by now mode (OfGoose f) xs rs
+pub registers_kept : {A : Type 0} (now : ℕ) (mode : Bool) (xs : List (Block A)) (rs : List Register) (f : GooseFrame) → length rs ≡ length xs → position (is_of f) xs ≡ None → registers_after_clock now rs ≡ registers_by now mode (OfGoose f) xs rs
 registers_kept now mode xs rs f same e = sym (registers_none now mode f xs rs same (λ j y p. position_none (is_of f) xs e j y p))
 
 pub answer_refused : {A : Type 0} (now : ℕ) (mode : Bool) (xs : List (Block A)) (rs : List Register) (f : GooseFrame) (at : ℕ) (x : Block A) (r : Register) (reason : Reason) → AreApart xs → position (is_of f) xs ≡ Some at → slice_get xs at ≡ Some x → slice_get rs at ≡ Some r
@@ -230,13 +230,13 @@ set_same [] at y e = refl
 set_same (z ∷ ys) zero y e = ap (λ (w : Register). w ∷ ys) (sym (same_Some z y e))
 set_same (z ∷ ys) (suc at) y e = ap (λ (ws : List Register). z ∷ ws) (set_same ys at y e)
 
-cleared_get : (now : ℕ) (rs : List Register) (at : ℕ) (r : Register) → slice_get rs at ≡ Some r → slice_get (cleared now rs) at ≡ Some (cleared_one now r)
+cleared_get : (now : ℕ) (rs : List Register) (at : ℕ) (r : Register) → slice_get rs at ≡ Some r → slice_get (registers_after_clock now rs) at ≡ Some (register_after_clock now r)
 cleared_get now [] at r e = absurd (none-some r e)
-cleared_get now (x ∷ rs) zero r e = ap (λ (y : Register). Some (cleared_one now y)) (same_Some x r e)
+cleared_get now (x ∷ rs) zero r e = ap (λ (y : Register). Some (register_after_clock now y)) (same_Some x r e)
 cleared_get now (x ∷ rs) (suc at) r e = cleared_get now rs at r e
 
 pub registers_refused : {A : Type 0} (now : ℕ) (mode : Bool) (xs : List (Block A)) (rs : List Register) (f : GooseFrame) (at : ℕ) (x : Block A) (r : Register) (reason : Reason) → length rs ≡ length xs → AreApart xs → position (is_of f) xs ≡ Some at → slice_get xs at ≡ Some x → slice_get rs at ≡ Some r
-    → reason_of (is_against f mode r.simulated) x f ≡ Some reason → cleared now rs ≡ registers_by now mode (OfGoose f) xs rs
+    → reason_of (is_against f mode r.simulated) x f ≡ Some reason → registers_after_clock now rs ≡ registers_by now mode (OfGoose f) xs rs
 registers_refused now mode xs rs f at x r reason same apart e p q told =
     let yes_of = found_is_of xs f at x e p in
     let quiet = quiet_refused mode r.simulated x f reason told in
@@ -244,10 +244,10 @@ registers_refused now mode xs rs f at x r reason same apart e p q told =
     let stays : (if is_of f x then block_held now f (reason_of (is_against f mode r.simulated) x f) (turned now mode (OfGoose f) x r) else turned now mode (OfGoose f) x r) ≡ turned now mode (OfGoose f) x r =
     ap (λ (y : Bool). if y then block_held now f (reason_of (is_against f mode r.simulated) x f) (turned now mode (OfGoose f) x r) else turned now mode (OfGoose f) x r) yes_of
     ∙ ap (λ (o : Option Reason). block_held now f o (turned now mode (OfGoose f) x r)) told in
-    let register : register_by now mode (OfGoose f) x r ≡ cleared_one now r =
+    let register : register_by now mode (OfGoose f) x r ≡ register_after_clock now r =
     ap₂ (λ (o : Option Held) (b : Bool). record { held = o; simulated = b }) (stays ∙ held) quiet.flag_is in
     sym (registers_one now mode f at xs rs x r same p q (is_of_others xs f at x apart p yes_of)
-    ∙ (ap (set (cleared now rs) at) register ∙ set_same (cleared now rs) at (cleared_one now r) (cleared_get now rs at r q)))
+    ∙ (ap (set (registers_after_clock now rs) at) register ∙ set_same (registers_after_clock now rs) at (register_after_clock now r) (cleared_get now rs at r q)))
 
 pub answer_good : {A : Type 0} (now : ℕ) (mode : Bool) (xs : List (Block A)) (rs : List Register) (f : GooseFrame) (at : ℕ) (x : Block A) (r : Register) → AreApart xs → position (is_of f) xs ≡ Some at → slice_get xs at ≡ Some x → slice_get rs at ≡ Some r
     → reason_of (is_against f mode r.simulated) x f ≡ None → Answers now mode xs rs f (good_entries at now r f)
@@ -264,7 +264,7 @@ answer_good {A} now mode xs rs f at x r apart e p q clear =
     sym (ap₂ (λ (a b : List (Entry A)). a ++ b) switched said)
 
 pub registers_good : {A : Type 0} (now : ℕ) (mode : Bool) (xs : List (Block A)) (rs : List Register) (f : GooseFrame) (at : ℕ) (x : Block A) (r : Register) → length rs ≡ length xs → AreApart xs → position (is_of f) xs ≡ Some at → slice_get xs at ≡ Some x → slice_get rs at ≡ Some r
-    → reason_of (is_against f mode r.simulated) x f ≡ None → set (cleared now rs) at (good_register now r f) ≡ registers_by now mode (OfGoose f) xs rs
+    → reason_of (is_against f mode r.simulated) x f ≡ None → set (registers_after_clock now rs) at (good_register now r f) ≡ registers_by now mode (OfGoose f) xs rs
 registers_good now mode xs rs f at x r same apart e p q clear =
     let yes_of = found_is_of xs f at x e p in
     let good = good_is mode r.simulated x f yes_of clear in
@@ -274,30 +274,30 @@ registers_good now mode xs rs f at x r same apart e p q clear =
     ∙ ap (λ (o : Option Reason). block_held now f o (turned now mode (OfGoose f) x r)) clear in
     let register : register_by now mode (OfGoose f) x r ≡ good_register now r f =
     ap₂ (λ (o : Option Held) (b : Bool). record { held = o; simulated = b }) (stays ∙ ap (block_held now f None) held) good.flag_is in
-    sym (registers_one now mode f at xs rs x r same p q (is_of_others xs f at x apart p yes_of) ∙ ap (set (cleared now rs) at) register)
+    sym (registers_one now mode f at xs rs x r same p q (is_of_others xs f at x apart p yes_of) ∙ ap (set (registers_after_clock now rs) at) register)
 
 -- what is written of a good frame
 
-taken_some : (v : Verdict) (held : Option Held) (now : ℕ) (f : Facts) (new : Held) → taken v None now f ≡ Some new → taken v held now f ≡ Some new
+taken_some : (v : Verdict) (held : Option Held) (now : ℕ) (f : Facts) (new : Held) → held_after_frame v None now f ≡ Some new → held_after_frame v held now f ≡ Some new
 taken_some Acted held now f new e = e
 taken_some Renewed held now f new e = e
 taken_some Again held now f new e = absurd (none-some new e)
 taken_some Stale held now f new e = absurd (none-some new e)
 
-taken_none : (v : Verdict) (held : Option Held) (now : ℕ) (f : Facts) → taken v None now f ≡ None → taken v held now f ≡ held
+taken_none : (v : Verdict) (held : Option Held) (now : ℕ) (f : Facts) → held_after_frame v None now f ≡ None → held_after_frame v held now f ≡ held
 taken_none Acted held now f e = absurd (none-some _ (sym e))
 taken_none Renewed held now f e = absurd (none-some _ (sym e))
 taken_none Again held now f e = refl
 taken_none Stale held now f e = refl
 
-taken_deadline : (v : Verdict) (now : ℕ) (f : Facts) (new : Held) → taken v None now f ≡ Some new → new.deadline ≡ now + f.lifetime
+taken_deadline : (v : Verdict) (now : ℕ) (f : Facts) (new : Held) → held_after_frame v None now f ≡ Some new → new.deadline ≡ now + f.lifetime
 taken_deadline Acted now f new e = sym (ap (λ (h : Held). h.deadline) (same_Some _ new e))
 taken_deadline Renewed now f new e = sym (ap (λ (h : Held). h.deadline) (same_Some _ new e))
 taken_deadline Again now f new e = absurd (none-some new e)
 taken_deadline Stale now f new e = absurd (none-some new e)
 
 -- an idle block takes any good frame
-taken_idle : (o : Option Held) (now : ℕ) (f : Facts) → o ≡ None → taken (verdict_on o f) None now f ≡ None → ⊥
+taken_idle : (o : Option Held) (now : ℕ) (f : Facts) → o ≡ None → held_after_frame (verdict_on o f) None now f ≡ None → ⊥
 taken_idle None now f is e = none-some _ (sym e)
 taken_idle (Some h) now f is e = none-some h (sym is)
 
@@ -310,19 +310,19 @@ lives b f against e =
           absurd (no_reason (holds against b f) (DatSet ∷ GoId ∷ ConfRev ∷ Commissioning ∷ Simulated ∷ Entries ∷ StateZero ∷ []) [] LiveZero (eq-eqb f.pdu.live 0 dead) e)
     ]
 
-pub new_lives : {A : Type 0} (now : ℕ) (b : Block A) (r : Register) (f : GooseFrame) (against : Bool) (new : Held) → reason_of against b f ≡ None → good_renewal now r f ≡ Some new → is_due (Some new) now ≡ false
+pub new_lives : {A : Type 0} (now : ℕ) (b : Block A) (r : Register) (f : GooseFrame) (against : Bool) (new : Held) → reason_of against b f ≡ None → good_renewal now r f ≡ Some new → is_over (Some new) now ≡ false
 new_lives now b r f against new clear e =
     let lt = lives b f against clear in
     let at = taken_deadline (verdict_on (good_held now r f) (facts_of_frame f)) now (facts_of_frame f) new e in
     lt-leb new.deadline now (omega arith)
 
-pub written_new : (now : ℕ) (rs : List Register) (at : ℕ) (r : Register) (f : GooseFrame) (new : Held) → is_due (Some new) now ≡ false → good_renewal now r f ≡ Some new
-    → cleared now (set rs at (record { held = Some new; simulated = r.simulated || f.pdu.simulation })) ≡ set (cleared now rs) at (good_register now r f)
+pub written_new : (now : ℕ) (rs : List Register) (at : ℕ) (r : Register) (f : GooseFrame) (new : Held) → is_over (Some new) now ≡ false → good_renewal now r f ≡ Some new
+    → registers_after_clock now (set rs at (record { held = Some new; simulated = r.simulated || f.pdu.simulation })) ≡ set (registers_after_clock now rs) at (good_register now r f)
 written_new now rs at r f new fresh e =
-    let here : cleared_one now (record { held = Some new; simulated = r.simulated || f.pdu.simulation }) ≡ good_register now r f =
+    let here : register_after_clock now (record { held = Some new; simulated = r.simulated || f.pdu.simulation }) ≡ good_register now r f =
     ap (λ (o : Option Held). record { held = o; simulated = r.simulated || f.pdu.simulation })
     (not_due_stays (Some new) now fresh ∙ sym (taken_some (verdict_on (good_held now r f) (facts_of_frame f)) (good_held now r f) now (facts_of_frame f) new e)) in
-    map-set (cleared_one now) rs at (record { held = Some new; simulated = r.simulated || f.pdu.simulation }) ∙ ap (set (cleared now rs) at) here
+    map-set (register_after_clock now) rs at (record { held = Some new; simulated = r.simulated || f.pdu.simulation }) ∙ ap (set (registers_after_clock now rs) at) here
 
 flag_kept : (flag s : Bool) → (s && not flag) ≡ false → (flag || s) ≡ flag
 flag_kept true s e = refl
@@ -330,29 +330,29 @@ flag_kept false true e = e
 flag_kept false false e = refl
 
 pub written_none : (now : ℕ) (rs : List Register) (at : ℕ) (r : Register) (f : GooseFrame) → slice_get rs at ≡ Some r → good_renewal now r f ≡ None
-    → cleared now rs ≡ set (cleared now rs) at (good_register now r f)
+    → registers_after_clock now rs ≡ set (registers_after_clock now rs) at (good_register now r f)
 written_none now rs at r f q e =
     elim (cases_Bool (switches r f)) [
       | inl t ↦ absurd (taken_idle (good_held now r f) now (facts_of_frame f) (ap (λ (y : Bool). after_switch y (after_clock r.held now)) t) e)
       | inr no_switch ↦
           let held : good_held now r f ≡ after_clock r.held now = ap (λ (y : Bool). after_switch y (after_clock r.held now)) no_switch in
-          let register : good_register now r f ≡ cleared_one now r =
+          let register : good_register now r f ≡ register_after_clock now r =
           ap₂ (λ (o : Option Held) (b : Bool). record { held = o; simulated = b })
           (taken_none (verdict_on (good_held now r f) (facts_of_frame f)) (good_held now r f) now (facts_of_frame f) e ∙ held)
           (flag_kept r.simulated f.pdu.simulation no_switch) in
-          sym (ap (set (cleared now rs) at) register ∙ set_same (cleared now rs) at (cleared_one now r) (cleared_get now rs at r q))
+          sym (ap (set (registers_after_clock now rs) at) register ∙ set_same (registers_after_clock now rs) at (register_after_clock now r) (cleared_get now rs at r q))
     ]
 
 -- one block more holds what isn't due
-due_fewer : (held : List (Option Held)) (at now : ℕ) (new : Option Held) → is_due new now ≡ false → due_count now (set held at new) ≤ due_count now held
+due_fewer : (held : List (Option Held)) (at now : ℕ) (new : Option Held) → is_over new now ≡ false → due_count now (set held at new) ≤ due_count now held
 due_fewer [] at now new e = omega arith
 due_fewer (h ∷ hs) zero now new e =
-    elim (cases_Bool (is_due h now)) [ inl d ↦ rw (e, d) (omega arith) | inr d ↦ rw (e, d) (omega arith) ]
+    elim (cases_Bool (is_over h now)) [ inl d ↦ rw (e, d) (omega arith) | inr d ↦ rw (e, d) (omega arith) ]
 due_fewer (h ∷ hs) (suc at) now new e =
     let rest : due_count now (set hs at new) ≤ due_count now hs = due_fewer hs at now new e in
-    elim (cases_Bool (is_due h now)) [ inl d ↦ rw d (omega arith) | inr d ↦ rw d rest ]
+    elim (cases_Bool (is_over h now)) [ inl d ↦ rw d (omega arith) | inr d ↦ rw d rest ]
 
-pub written_fewer : (now : ℕ) (rs : List Register) (at : ℕ) (r : Register) → is_due r.held now ≡ false → due_count now (helds (set rs at r)) ≤ due_count now (helds rs)
+pub written_fewer : (now : ℕ) (rs : List Register) (at : ℕ) (r : Register) → is_over r.held now ≡ false → due_count now (helds (set rs at r)) ≤ due_count now (helds rs)
 written_fewer now rs at r e =
     subst (λ (hs : List (Option Held)). due_count now hs ≤ due_count now (helds rs)) (sym (map-set (λ (x : Register). x.held) rs at r)) (due_fewer (helds rs) at now r.held e)
 

@@ -6,8 +6,8 @@ use Rattle.subscribe_core.specs.declared.registers.Facts.{Facts}
 use Rattle.subscribe_core.specs.declared.registers.Held.{Held}
 use Rattle.subscribe_core.specs.declared.registers.Verdict.{Verdict}
 use Rattle.subscribe_core.specs.declared.registers.Verdict.TheVariants.{Acted, Renewed, Again, Stale}
-use Rattle.subscribe_core.specs.Epoch.{Trace, IsBefore, IsBest, Dead, IsOver, Ends, IsFirstGood, IsStart, First, Next, IsExpiry, IsLastStart, Acts, IsIdleAfter, HoldsBest, HoldsAfter, Refreshes, Repeats, IsVerdict}
-use Rattle.subscribe_core.specs.Steps.{is_due, after_clock, after_switch, verdict_on, taken}
+use Rattle.subscribe_core.specs.Epoch.{Trace, IsBefore, IsBest, Dead, IsOver, Ends, IsFirstGood, IsStart, First, Next, IsExpiry, IsLastStart, Acts, IsIdleAfter, HoldsBest, BlockHolds, Refreshes, Repeats, IsVerdict}
+use Rattle.subscribe_core.specs.Steps.{is_over, after_clock, after_switch, verdict_on, held_after_frame}
 use Rattle.subscribe_core.proofs.Epochs.{IsBefore-irrefl, IsBefore-trans, IsBefore-between, best_unique, best_facts, over_after, ends_unique, good_not_none, MayStart, start_good, start_at, settled, later, first_good}
 
 -- an epoch starts at n, if that is a good position
@@ -374,7 +374,7 @@ HoldsAt t n None = Ready t n
 HoldsAt t n (Some h) = Going t n h
 
 -- the expiry at n, and then the switch, if there is one
-pub clock_step : (t : Trace) (n : ℕ) (held : Option Held) → HoldsAfter t n held → ((is_due held (t.now n) ≡ true) ↔ IsExpiry t n) × HoldsAt t n (after_switch (t.switched n) (after_clock held (t.now n)))
+pub clock_step : (t : Trace) (n : ℕ) (held : Option Held) → BlockHolds t n held → ((is_over held (t.now n) ≡ true) ↔ IsExpiry t n) × HoldsAt t n (after_switch (t.switched n) (after_clock held (t.now n)))
 clock_step t n None i = go (t.switched n)
   where
     idle : Idle t n
@@ -429,7 +429,7 @@ clock_step t n (Some h) b = go (nat_le h.deadline (t.now n)) refl (t.switched n)
           },
         )
 
-pub none_step : (t : Trace) (n : ℕ) (held : Option Held) → HoldsAt t n held → t.good n ≡ None → HoldsAfter t (n + 1) held
+pub none_step : (t : Trace) (n : ℕ) (held : Option Held) → HoldsAt t n held → t.good n ≡ None → BlockHolds t (n + 1) held
 none_step t n None r e = idle_out t (n + 1) (ready_none t n r e)
 none_step t n (Some h) g e =
     open_out t (n + 1) g.start g.best g.facts h
@@ -440,19 +440,19 @@ none_step t n (Some h) g e =
 abbrev pub held_of : Facts → ℕ → Held
 held_of f now = record { state = f.state; sequence = f.sequence; deadline = now + f.lifetime }
 
-new_held : (t : Trace) (n s p : ℕ) (f g : Facts) → Open t n s p f (n + 1) → t.good n ≡ Some g → IsBefore f g → HoldsAfter t (n + 1) (Some (held_of g (t.now n)))
+new_held : (t : Trace) (n s p : ℕ) (f g : Facts) → Open t n s p f (n + 1) → t.good n ≡ Some g → IsBefore f g → BlockHolds t (n + 1) (Some (held_of g (t.now n)))
 new_held t n s p f g o e before =
     open_out t (n + 1) s n g (held_of g (t.now n))
     (record { start = o.start; lives = o.lives; best = best_new t s n p f g o.best e before })
     refl refl refl
 
-kept_held : (t : Trace) (n : ℕ) (h : Held) (w : Going t n h) (g : Facts) → t.good n ≡ Some g → ¬ IsBefore w.facts g → HoldsAfter t (n + 1) (Some h)
+kept_held : (t : Trace) (n : ℕ) (h : Held) (w : Going t n h) (g : Facts) → t.good n ≡ Some g → ¬ IsBefore w.facts g → BlockHolds t (n + 1) (Some h)
 kept_held t n h w g e past =
     open_out t (n + 1) w.start w.best w.facts h
     (record { start = w.is_open.start; lives = w.is_open.lives; best = best_kept t w.start n w.best w.facts g w.is_open.best e past })
     w.state w.sequence w.deadline
 
-pub frame_step : (t : Trace) (n : ℕ) (held : Option Held) (g : Facts) → HoldsAt t n held → t.good n ≡ Some g → IsVerdict t n g (verdict_on held g) × HoldsAfter t (n + 1) (taken (verdict_on held g) held (t.now n) g)
+pub frame_step : (t : Trace) (n : ℕ) (held : Option Held) (g : Facts) → HoldsAt t n held → t.good n ≡ Some g → IsVerdict t n g (verdict_on held g) × BlockHolds t (n + 1) (held_after_frame (verdict_on held g) held (t.now n) g)
 frame_step t n None g r e =
     (ready_acts t n g r e, open_out t (n + 1) n n g (held_of g (t.now n)) (ready_open t n g r e) refl refl refl)
 frame_step t n (Some h) g w e =
@@ -467,7 +467,7 @@ frame_step t n (Some h) g w e =
     by : Bool → Bool → Bool → Bool → Verdict
     by a b c d = if a then Acted else if b && c then Renewed else if b && d then Again else Stale
 
-    stale : (g.state ≤ w.facts.state) → ¬ IsBefore w.facts g → (g.state ≡ w.facts.state → g.sequence ≡ w.facts.sequence → ⊥) → IsVerdict t n g Stale × HoldsAfter t (n + 1) (Some h)
+    stale : (g.state ≤ w.facts.state) → ¬ IsBefore w.facts g → (g.state ≡ w.facts.state → g.sequence ≡ w.facts.sequence → ⊥) → IsVerdict t n g Stale × BlockHolds t (n + 1) (Some h)
     stale le past differ = (
       (
         open_not_acts t n w.start w.best w.facts g o e le,
@@ -477,7 +477,7 @@ frame_step t n (Some h) g w e =
       kept_held t n h w g e past,
     )
 
-    go : (a : Bool) → nat_lt h.state g.state ≡ a → (b : Bool) → (h.state == g.state) ≡ b → (c : Bool) → nat_lt h.sequence g.sequence ≡ c → (d : Bool) → (h.sequence == g.sequence) ≡ d → IsVerdict t n g (by a b c d) × HoldsAfter t (n + 1) (taken (by a b c d) (Some h) (t.now n) g)
+    go : (a : Bool) → nat_lt h.state g.state ≡ a → (b : Bool) → (h.state == g.state) ≡ b → (c : Bool) → nat_lt h.sequence g.sequence ≡ c → (d : Bool) → (h.sequence == g.sequence) ≡ d → IsVerdict t n g (by a b c d) × BlockHolds t (n + 1) (held_after_frame (by a b c d) (Some h) (t.now n) g)
     go true ea b eb c ec d ed =
         let lt : w.facts.state < g.state = omega (arith, ltb-true h.state g.state ea, w.state) in
         (open_acts t n w.start w.best w.facts g o e lt, new_held t n w.start w.best w.facts g o e (inl lt))

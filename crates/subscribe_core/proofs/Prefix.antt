@@ -5,7 +5,7 @@ use Rattle.subscribe_core.specs.declared.registers.Held.{Held}
 use Rattle.subscribe_core.specs.declared.registers.Verdict.{Verdict}
 use Rattle.subscribe_core.specs.declared.registers.Verdict.TheVariants.{Acted, Renewed, Again, Stale}
 use Rattle.subscribe_core.proofs.Epochs.{over_after}
-use Rattle.subscribe_core.specs.Epoch.{Trace, IsBest, Dead, IsOver, Ends, IsFirstGood, IsStart, First, Next, IsExpiry, IsLastStart, Acts, Refreshes, Repeats, IsVerdict, HoldsAfter}
+use Rattle.subscribe_core.specs.Epoch.{Trace, IsBest, Dead, IsOver, Ends, IsFirstGood, IsStart, First, Next, IsExpiry, IsLastStart, Acts, Refreshes, Repeats, IsVerdict, BlockHolds}
 
 -- the two are the same at the first n positions
 pub record SameBelow (n : ℕ) (t u : Trace) : Type 0 where
@@ -115,7 +115,7 @@ verdict_same a i f Stale lt w = (
   (λ x. w.2 (repeats_same (same_sym a) i f lt x)),
 )
 
-pub holds_same : {n : ℕ} {t u : Trace} → SameBelow n t u → (held : Option Held) → HoldsAfter t n held → HoldsAfter u n held
+pub holds_same : {n : ℕ} {t u : Trace} → SameBelow n t u → (held : Option Held) → BlockHolds t n held → BlockHolds u n held
 holds_same a None (inl none) = inl (λ s lt w. none s lt (start_same (same_sym a) lt w))
 holds_same {n} {t} {u} a None (inr w) =
     let after : w.0 < w.1 = over_after t w.0 w.1 w.5.0 in

@@ -9,7 +9,7 @@ use Rattle.frame_core.specs.declared.event.Event.{Event}
 use Rattle.frame_core.specs.declared.event.EventKind.{EventKind}
 use Rattle.frame_core.specs.declared.event.EventKind.TheVariants as kinds
 use Rattle.frame_core.proofs.ReadingLaws.{frame_again, frame_read_found, frame_read_wrong, frame_wrong_again}
-use Rattle.subscribe_core.specs.Reading.{Content, OfGoose, OfSampled, OfFault, OfClock, OfMode, Reading, IsContent, IsRead, AreRead}
+use Rattle.subscribe_core.specs.Reading.{Content, OfGoose, OfSampled, OfFault, OfClock, OfMode, EventRead, IsContent, IsRead, AreRead}
 use Rattle.subscribe_core.specs.Content.{content_with, content_by, content_of, reading_of}
 
 -- the function reads what is there
@@ -57,24 +57,24 @@ content_one (kinds.Mode set) (OfFault e) w = absurd w
 content_one (kinds.Mode set) OfClock w = absurd w
 content_one (kinds.Mode set) (OfMode on) w = ap OfMode w
 
-pub read_one : {A : Type 0} (e : Event A) (r : Reading) → IsRead e r → r ≡ reading_of e
+pub read_one : {A : Type 0} (e : Event A) (r : EventRead) → IsRead e r → r ≡ reading_of e
 read_one e r w = ap₂ (λ (m : ℕ) (c : Content). record { moment = m; content = c }) w.moment (content_one e.kind r.content w.content)
 
-pub reads_one : {A : Type 0} (es : List (Event A)) (rs : List Reading) → AreRead es rs → rs ≡ map reading_of es
+pub reads_one : {A : Type 0} (es : List (Event A)) (rs : List EventRead) → AreRead es rs → rs ≡ map reading_of es
 reads_one [] [] w = refl
 reads_one [] (r ∷ rs) w = absurd w
 reads_one (e ∷ es) [] w = absurd w
-reads_one (e ∷ es) (r ∷ rs) w = ap₂ (λ (x : Reading) (xs : List Reading). x ∷ xs) (read_one e r w.0) (reads_one es rs w.1)
+reads_one (e ∷ es) (r ∷ rs) w = ap₂ (λ (x : EventRead) (xs : List EventRead). x ∷ xs) (read_one e r w.0) (reads_one es rs w.1)
 
 -- lists of readings
 
-pub read_append : {A : Type 0} (es more : List (Event A)) (rs others : List Reading) → AreRead es rs → AreRead more others → AreRead (es ++ more) (rs ++ others)
+pub read_append : {A : Type 0} (es more : List (Event A)) (rs others : List EventRead) → AreRead es rs → AreRead more others → AreRead (es ++ more) (rs ++ others)
 read_append [] more [] others a b = b
 read_append [] more (r ∷ rs) others a b = absurd a
 read_append (e ∷ es) more [] others a b = absurd a
 read_append (e ∷ es) more (r ∷ rs) others a b = (a.0, read_append es more rs others a.1 b)
 
-pub read_length : {A : Type 0} (es : List (Event A)) (rs : List Reading) → AreRead es rs → length rs ≡ length es
+pub read_length : {A : Type 0} (es : List (Event A)) (rs : List EventRead) → AreRead es rs → length rs ≡ length es
 read_length [] [] a = refl
 read_length [] (r ∷ rs) a = absurd a
 read_length (e ∷ es) [] a = absurd a

@@ -8,7 +8,7 @@ use Rattle.subscribe_core.specs.declared.entry.Entry.{Entry}
 use Rattle.subscribe_core.specs.declared.entry.Entry.TheVariants as says
 use Rattle.subscribe_core.specs.declared.names.Name.{Name}
 use Rattle.subscribe_core.specs.declared.registers.Register.{Register}
-use Rattle.subscribe_core.specs.Indexed.{IsIndexed, cleared, cleared_one, flagged_entries, switched_off, switched_off_one}
+use Rattle.subscribe_core.specs.Indexed.{IsIndexed, registers_after_clock, register_after_clock, flagged_entries, switched_off, switched_off_one}
 use Rattle.subscribe_core.specs.Reading.{Content, OfClock, OfFault, OfMode, OfSampled}
 use Rattle.subscribe_core.specs.Steps.{register_by, registers_by, said_of, switch_by, switched_entries}
 
@@ -23,7 +23,7 @@ switched_still mode k b (x ∷ xs) (r ∷ rs) still =
     ∙ switched_still mode k (b + 1) xs rs still
 
 pub registers_still : {A : Type 0} (now : ℕ) (mode : Bool) (k : Content) (xs : List (Block A)) (rs : List Register) → length rs ≡ length xs
-    → ((x : Block A) (r : Register) → register_by now mode k x r ≡ cleared_one now r) → registers_by now mode k xs rs ≡ cleared now rs
+    → ((x : Block A) (r : Register) → register_by now mode k x r ≡ register_after_clock now r) → registers_by now mode k xs rs ≡ registers_after_clock now rs
 registers_still now mode k [] [] same still = refl
 registers_still now mode k [] (r ∷ rs) same still = absurd (omega arith)
 registers_still now mode k (x ∷ xs) [] same still = refl
@@ -39,14 +39,14 @@ switched_off_entries mode b (x ∷ xs) [] same = refl
 switched_off_entries {A} mode b (x ∷ xs) (r ∷ rs) same =
     ap (λ (l : List (Entry A)). if r.simulated then says.Switched b ∷ l else l) (switched_off_entries mode (b + 1) xs rs (omega arith))
 
-off_one : {A : Type 0} (now : ℕ) (mode : Bool) (x : Block A) (r : Register) (flag : Bool) → r.simulated ≡ flag → register_by now mode (OfMode false) x r ≡ cleared_one now (switched_off_one r)
+off_one : {A : Type 0} (now : ℕ) (mode : Bool) (x : Block A) (r : Register) (flag : Bool) → r.simulated ≡ flag → register_by now mode (OfMode false) x r ≡ register_after_clock now (switched_off_one r)
 off_one now mode x r flag e = go flag e
   where
-    go : (y : Bool) → r.simulated ≡ y → register_by now mode (OfMode false) x r ≡ cleared_one now (switched_off_one r)
+    go : (y : Bool) → r.simulated ≡ y → register_by now mode (OfMode false) x r ≡ register_after_clock now (switched_off_one r)
     go true e = rw e refl
     go false e = rw e refl
 
-pub registers_off : {A : Type 0} (now : ℕ) (mode : Bool) (xs : List (Block A)) (rs : List Register) → length rs ≡ length xs → registers_by now mode (OfMode false) xs rs ≡ cleared now (switched_off rs)
+pub registers_off : {A : Type 0} (now : ℕ) (mode : Bool) (xs : List (Block A)) (rs : List Register) → length rs ≡ length xs → registers_by now mode (OfMode false) xs rs ≡ registers_after_clock now (switched_off rs)
 registers_off now mode [] [] same = refl
 registers_off now mode [] (r ∷ rs) same = absurd (omega arith)
 registers_off now mode (x ∷ xs) [] same = refl
@@ -146,16 +146,16 @@ pub answer_sampled : {A : Type 0} (now : ℕ) (mode : Bool) (xs : List (Block A)
     → says.Sampled ∷ [] ≡ switched_entries mode OfSampled 0 xs rs ++ said_of now mode xs rs OfSampled
 answer_sampled {A} now mode xs rs = sym (ap (λ (l : List (Entry A)). l ++ says.Sampled ∷ []) (switched_still mode OfSampled 0 xs rs (λ x flag. refl)))
 
-pub registers_fault : {A : Type 0} (now : ℕ) (mode : Bool) (xs : List (Block A)) (rs : List Register) (fault : Fault) → length rs ≡ length xs → cleared now rs ≡ registers_by now mode (OfFault fault) xs rs
+pub registers_fault : {A : Type 0} (now : ℕ) (mode : Bool) (xs : List (Block A)) (rs : List Register) (fault : Fault) → length rs ≡ length xs → registers_after_clock now rs ≡ registers_by now mode (OfFault fault) xs rs
 registers_fault now mode xs rs fault same = sym (registers_still now mode (OfFault fault) xs rs same (λ x r. refl))
 
-pub registers_sampled : {A : Type 0} (now : ℕ) (mode : Bool) (xs : List (Block A)) (rs : List Register) → length rs ≡ length xs → cleared now rs ≡ registers_by now mode OfSampled xs rs
+pub registers_sampled : {A : Type 0} (now : ℕ) (mode : Bool) (xs : List (Block A)) (rs : List Register) → length rs ≡ length xs → registers_after_clock now rs ≡ registers_by now mode OfSampled xs rs
 registers_sampled now mode xs rs same = sym (registers_still now mode OfSampled xs rs same (λ x r. refl))
 
-pub registers_clock : {A : Type 0} (now : ℕ) (mode : Bool) (xs : List (Block A)) (rs : List Register) → length rs ≡ length xs → cleared now rs ≡ registers_by now mode OfClock xs rs
+pub registers_clock : {A : Type 0} (now : ℕ) (mode : Bool) (xs : List (Block A)) (rs : List Register) → length rs ≡ length xs → registers_after_clock now rs ≡ registers_by now mode OfClock xs rs
 registers_clock now mode xs rs same = sym (registers_still now mode OfClock xs rs same (λ x r. refl))
 
-pub registers_on : {A : Type 0} (now : ℕ) (mode : Bool) (xs : List (Block A)) (rs : List Register) → length rs ≡ length xs → cleared now rs ≡ registers_by now mode (OfMode true) xs rs
+pub registers_on : {A : Type 0} (now : ℕ) (mode : Bool) (xs : List (Block A)) (rs : List Register) → length rs ≡ length xs → registers_after_clock now rs ≡ registers_by now mode (OfMode true) xs rs
 registers_on now mode xs rs same = sym (registers_still now mode (OfMode true) xs rs same (λ x r. refl))
 
 pub switched_clock : {A : Type 0} (mode : Bool) (xs : List (Block A)) (rs : List Register) → switched_entries mode OfClock 0 xs rs ≡ []

@@ -7,30 +7,30 @@ use Rattle.std.proofs.lemmas.List.Quantifiers.{position-Some}
 use Rattle.std.proofs.lemmas.Iterator.Adapters.{position_from-zero}
 use Rattle.std.specs.List.{position_from}
 use Rattle.subscribe_core.specs.declared.block.Block.{Block}
-use Rattle.subscribe_core.specs.Reading.{GooseFrame, Reading, Content, OfGoose, OfSampled, OfFault, OfClock, OfMode}
+use Rattle.subscribe_core.specs.Reading.{GooseFrame, EventRead, Content, OfGoose, OfSampled, OfFault, OfClock, OfMode}
 use Rattle.subscribe_core.specs.declared.registers.Held.{Held}
 use Rattle.subscribe_core.specs.declared.registers.Register.{Register}
 use Rattle.subscribe_core.specs.declared.entry.Reason.{Reason}
 use Rattle.subscribe_core.specs.declared.entry.Entry.{Entry}
 use Rattle.subscribe_core.specs.declared.entry.Entry.TheVariants as says
-use Rattle.subscribe_core.specs.Epoch.{IsExpiry, HoldsAfter}
-use Rattle.subscribe_core.specs.Steps.{is_due, after_clock, after_switch, verdict_on, taken, switch_by, flag_by, expired_entries, switched_entries, turned, block_entry, block_held, held_by, register_by, registers_by, found_entry, frame_entry, said_of, step_entries, step_state}
-use Rattle.subscribe_core.specs.Matching.{is_of, reason_of, facts_of_frame, unless_refused}
+use Rattle.subscribe_core.specs.Epoch.{IsExpiry, BlockHolds}
+use Rattle.subscribe_core.specs.Steps.{is_over, after_clock, after_switch, verdict_on, held_after_frame, switch_by, flag_by, expired_entries, switched_entries, turned, block_entry, block_held, held_by, register_by, registers_by, found_entry, frame_entry, said_of, step_entries, step_state}
+use Rattle.subscribe_core.specs.Matching.{is_of, reason_of, facts_of_frame, facts_unless_refused}
 use Rattle.subscribe_core.specs.Simulation.{is_against, mode_by, mode_at, takes_simulated, is_switched}
-use Rattle.subscribe_core.specs.Sight.{facts_of, greatest, trace}
+use Rattle.subscribe_core.specs.Sight.{facts_of, greatest_event_moment, trace_of_block}
 use Rattle.subscribe_core.specs.Standing.{State, StandsAfterRead}
 use Rattle.subscribe_core.specs.Entries.{AreExpired, AreReadEntriesAt, AreOfContent, IsFrameEntry, IsBlockEntry, switched_at}
 use Rattle.subscribe_core.proofs.OneBlock.{HoldsAt, clock_step, none_step, frame_step}
 use Rattle.subscribe_core.proofs.Prefix.{holds_same}
 use Rattle.subscribe_core.proofs.Traces.{get_pushed, front_same, switched_new, flag_new, mode_new, mode_kept, good_new, takes_front}
 
-pub greatest-push : (events : List Reading) (e : Reading) → greatest (events ++ e ∷ []) ≡ max (greatest events) e.moment
+pub greatest-push : (events : List EventRead) (e : EventRead) → greatest_event_moment (events ++ e ∷ []) ≡ max (greatest_event_moment events) e.moment
 greatest-push [] e = omega arith
 greatest-push (x ∷ xs) e = omega (arith, greatest-push xs e)
 
-trace_now : {A : Type 0} → (x : Block A) (events : List Reading) (e : Reading) → (trace x (events ++ e ∷ [])).now (length events) ≡ max (greatest events) e.moment
+trace_now : {A : Type 0} → (x : Block A) (events : List EventRead) (e : EventRead) → (trace_of_block x (events ++ e ∷ [])).now (length events) ≡ max (greatest_event_moment events) e.moment
 trace_now x events e =
-    ap greatest (take_all (length events + 1) (events ++ e ∷ []) (omega (arith, length_push events e))) ∙ greatest-push events e
+    ap greatest_event_moment (take_all (length events + 1) (events ++ e ∷ []) (omega (arith, length_push events e))) ∙ greatest-push events e
 
 position_from_none : {X : Type 0} (p : X → Bool) (i : ℕ) (xs : List X) (j : ℕ) (x : X) → position_from p i xs ≡ None → slice_get xs j ≡ Some x → p x ≡ false
 position_from_none p i [] j x e is = absurd (none-some x is)
@@ -45,23 +45,23 @@ pub position_none : {X : Type 0} (p : X → Bool) (xs : List X) → position p x
 position_none p xs e j x is = position_from_none p 0 xs j x (sym (position_from-zero p xs) ∙ e) is
 
 -- what holds of one block at the event: its registers say what the list says
-record Agrees {A : Type 0} (events : List Reading) (e : Reading) (now : ℕ) (mode : Bool) (x : Block A) (r : Register) : Type 0 where
-  now_is : now ≡ (trace x (events ++ e ∷ [])).now (length events)
-  switch_is : (trace x (events ++ e ∷ [])).switched (length events) ≡ switch_by x mode r.simulated e.content
-  good_is : (trace x (events ++ e ∷ [])).good (length events) ≡ facts_of x mode r.simulated e.content
+record Agrees {A : Type 0} (events : List EventRead) (e : EventRead) (now : ℕ) (mode : Bool) (x : Block A) (r : Register) : Type 0 where
+  now_is : now ≡ (trace_of_block x (events ++ e ∷ [])).now (length events)
+  switch_is : (trace_of_block x (events ++ e ∷ [])).switched (length events) ≡ switch_by x mode r.simulated e.content
+  good_is : (trace_of_block x (events ++ e ∷ [])).good (length events) ≡ facts_of x mode r.simulated e.content
   reason_is : (f : GooseFrame) → reason_of (is_against f (mode_at (events ++ e ∷ []) (length events)) (takes_simulated x (events ++ e ∷ []) (length events))) x f ≡ reason_of (is_against f mode r.simulated) x f
   flag_is : flag_by x mode r.simulated e.content ≡ takes_simulated x (events ++ e ∷ []) (length events + 1)
-  expiry : (is_due r.held now ≡ true) ↔ IsExpiry (trace x (events ++ e ∷ [])) (length events)
-  held : HoldsAt (trace x (events ++ e ∷ [])) (length events) (turned now mode e.content x r)
+  expiry : (is_over r.held now ≡ true) ↔ IsExpiry (trace_of_block x (events ++ e ∷ [])) (length events)
+  held : HoldsAt (trace_of_block x (events ++ e ∷ [])) (length events) (turned now mode e.content x r)
 
-agrees : {A : Type 0} → (events : List Reading) (e : Reading) (s : State A) → StandsAfterRead events s → (b : ℕ) (x : Block A) (r : Register) → slice_get s.blocks b ≡ Some x → slice_get s.registers b ≡ Some r → Agrees events e (max s.moment e.moment) s.mode x r
+agrees : {A : Type 0} → (events : List EventRead) (e : EventRead) (s : State A) → StandsAfterRead events s → (b : ℕ) (x : Block A) (r : Register) → slice_get s.blocks b ≡ Some x → slice_get s.registers b ≡ Some r → Agrees events e (max s.moment e.moment) s.mode x r
 agrees events e s w b x r p q =
     let flag : r.simulated ≡ takes_simulated x events (length events) = w.flags b x r p q in
-    let now : max s.moment e.moment ≡ (trace x (events ++ e ∷ [])).now (length events) =
+    let now : max s.moment e.moment ≡ (trace_of_block x (events ++ e ∷ [])).now (length events) =
     ap (λ m. max m e.moment) w.moment ∙ sym (trace_now x events e) in
-    let sw : (trace x (events ++ e ∷ [])).switched (length events) ≡ switch_by x s.mode r.simulated e.content =
+    let sw : (trace_of_block x (events ++ e ∷ [])).switched (length events) ≡ switch_by x s.mode r.simulated e.content =
     switched_new x events e ∙ (ap (λ m. switch_by x m (takes_simulated x events (length events)) e.content) (sym w.mode) ∙ ap (λ y. switch_by x s.mode y e.content) (sym flag)) in
-    let step = clock_step (trace x (events ++ e ∷ [])) (length events) r.held (holds_same (front_same x events (e ∷ [])) r.held (w.holds b x r p q)) in
+    let step = clock_step (trace_of_block x (events ++ e ∷ [])) (length events) r.held (holds_same (front_same x events (e ∷ [])) r.held (w.holds b x r p q)) in
     record {
       now_is = now;
       switch_is = sw;
@@ -70,42 +70,42 @@ agrees events e s w b x r p q =
           ap (λ m. reason_of (is_against f m (takes_simulated x (events ++ e ∷ []) (length events))) x f) (mode_new events e ∙ sym w.mode) ∙
           ap (λ y. reason_of (is_against f s.mode y) x f) (takes_front x events (e ∷ []) (length events) (omega arith) ∙ sym flag);
       flag_is = sym (flag_new x events e ∙ (ap (λ m. flag_by x m (takes_simulated x events (length events)) e.content) (sym w.mode) ∙ ap (λ y. flag_by x s.mode y e.content) (sym flag)));
-      expiry = subst (λ m. (is_due r.held m ≡ true) ↔ IsExpiry (trace x (events ++ e ∷ [])) (length events)) (sym now) step.0;
-      held = subst (λ m. HoldsAt (trace x (events ++ e ∷ [])) (length events) (after_switch (switch_by x s.mode r.simulated e.content) (after_clock r.held m))) (sym now)
-          (subst (λ y. HoldsAt (trace x (events ++ e ∷ [])) (length events) (after_switch y (after_clock r.held ((trace x (events ++ e ∷ [])).now (length events))))) sw step.1);
+      expiry = subst (λ m. (is_over r.held m ≡ true) ↔ IsExpiry (trace_of_block x (events ++ e ∷ [])) (length events)) (sym now) step.0;
+      held = subst (λ m. HoldsAt (trace_of_block x (events ++ e ∷ [])) (length events) (after_switch (switch_by x s.mode r.simulated e.content) (after_clock r.held m))) (sym now)
+          (subst (λ y. HoldsAt (trace_of_block x (events ++ e ∷ [])) (length events) (after_switch y (after_clock r.held ((trace_of_block x (events ++ e ∷ [])).now (length events))))) sw step.1);
     }
 
 -- what the block holds after the event, and the verdict on its frame
-of_facts : {A : Type 0} → (f : GooseFrame) (x : Block A) (mode flag : Bool) (o : Bool) (r : Option Reason) → is_of f x ≡ o → reason_of (is_against f mode flag) x f ≡ r → facts_of x mode flag (OfGoose f) ≡ (if o then unless_refused r (facts_of_frame f) else None)
+of_facts : {A : Type 0} → (f : GooseFrame) (x : Block A) (mode flag : Bool) (o : Bool) (r : Option Reason) → is_of f x ≡ o → reason_of (is_against f mode flag) x f ≡ r → facts_of x mode flag (OfGoose f) ≡ (if o then facts_unless_refused r (facts_of_frame f) else None)
 of_facts f x mode flag o r a b =
-    ap (λ (y : Bool). if y then unless_refused (reason_of (is_against f mode flag) x f) (facts_of_frame f) else None) a ∙
-    ap (λ (y : Option Reason). if o then unless_refused y (facts_of_frame f) else None) b
+    ap (λ (y : Bool). if y then facts_unless_refused (reason_of (is_against f mode flag) x f) (facts_of_frame f) else None) a ∙
+    ap (λ (y : Option Reason). if o then facts_unless_refused y (facts_of_frame f) else None) b
 
-block_ok : {A : Type 0} → (events : List Reading) (e : Reading) (now : ℕ) (mode : Bool) (x : Block A) (r : Register) (c : ℕ) (f : GooseFrame) → Agrees events e now mode x r → e.content ≡ OfGoose f → is_of f x ≡ true → (held : Option Held) → HoldsAt (trace x (events ++ e ∷ [])) (length events) held → (reason : Option Reason) → reason_of (is_against f mode r.simulated) x f ≡ reason → IsBlockEntry (events ++ e ∷ []) (length events) c x f reason (block_entry c f reason held) × HoldsAfter (trace x (events ++ e ∷ [])) (length events + 1) (block_held now f reason held)
+block_ok : {A : Type 0} → (events : List EventRead) (e : EventRead) (now : ℕ) (mode : Bool) (x : Block A) (r : Register) (c : ℕ) (f : GooseFrame) → Agrees events e now mode x r → e.content ≡ OfGoose f → is_of f x ≡ true → (held : Option Held) → HoldsAt (trace_of_block x (events ++ e ∷ [])) (length events) held → (reason : Option Reason) → reason_of (is_against f mode r.simulated) x f ≡ reason → IsBlockEntry (events ++ e ∷ []) (length events) c x f reason (block_entry c f reason held) × BlockHolds (trace_of_block x (events ++ e ∷ [])) (length events + 1) (block_held now f reason held)
 block_ok events e now mode x r c f a is yes_of held at (Some reason) ri =
-    (refl, none_step (trace x (events ++ e ∷ [])) (length events) held at (a.good_is ∙ (ap (facts_of x mode r.simulated) is ∙ of_facts f x mode r.simulated true (Some reason) yes_of ri)))
+    (refl, none_step (trace_of_block x (events ++ e ∷ [])) (length events) held at (a.good_is ∙ (ap (facts_of x mode r.simulated) is ∙ of_facts f x mode r.simulated true (Some reason) yes_of ri)))
 block_ok events e now mode x r c f a is yes_of held at None ri =
-    let step = frame_step (trace x (events ++ e ∷ [])) (length events) held (facts_of_frame f) at (a.good_is ∙ (ap (facts_of x mode r.simulated) is ∙ of_facts f x mode r.simulated true None yes_of ri)) in (
+    let step = frame_step (trace_of_block x (events ++ e ∷ [])) (length events) held (facts_of_frame f) at (a.good_is ∙ (ap (facts_of x mode r.simulated) is ∙ of_facts f x mode r.simulated true None yes_of ri)) in (
       (verdict_on held (facts_of_frame f), step.0, refl),
-      subst (λ m. HoldsAfter (trace x (events ++ e ∷ [])) (length events + 1) (taken (verdict_on held (facts_of_frame f)) held m (facts_of_frame f))) (sym a.now_is) step.1,
+      subst (λ m. BlockHolds (trace_of_block x (events ++ e ∷ [])) (length events + 1) (held_after_frame (verdict_on held (facts_of_frame f)) held m (facts_of_frame f))) (sym a.now_is) step.1,
     )
 
-held_ok : {A : Type 0} → (events : List Reading) (e : Reading) (now : ℕ) (mode : Bool) (x : Block A) (r : Register) → Agrees events e now mode x r → (held : Option Held) → HoldsAt (trace x (events ++ e ∷ [])) (length events) held → (k : Content) → e.content ≡ k → HoldsAfter (trace x (events ++ e ∷ [])) (length events + 1) (held_by now mode x r k held)
+held_ok : {A : Type 0} → (events : List EventRead) (e : EventRead) (now : ℕ) (mode : Bool) (x : Block A) (r : Register) → Agrees events e now mode x r → (held : Option Held) → HoldsAt (trace_of_block x (events ++ e ∷ [])) (length events) held → (k : Content) → e.content ≡ k → BlockHolds (trace_of_block x (events ++ e ∷ [])) (length events + 1) (held_by now mode x r k held)
 held_ok events e now mode x r a held at (OfGoose f) is = go (is_of f x) refl
   where
-    go : (o : Bool) → is_of f x ≡ o → HoldsAfter (trace x (events ++ e ∷ [])) (length events + 1) (if o then block_held now f (reason_of (is_against f mode r.simulated) x f) held else held)
+    go : (o : Bool) → is_of f x ≡ o → BlockHolds (trace_of_block x (events ++ e ∷ [])) (length events + 1) (if o then block_held now f (reason_of (is_against f mode r.simulated) x f) held else held)
     go true o = (block_ok events e now mode x r 0 f a is o held at (reason_of (is_against f mode r.simulated) x f) refl).1
     go false o =
-        none_step (trace x (events ++ e ∷ [])) (length events) held at
+        none_step (trace_of_block x (events ++ e ∷ [])) (length events) held at
         (a.good_is ∙ (ap (facts_of x mode r.simulated) is ∙ of_facts f x mode r.simulated false (reason_of (is_against f mode r.simulated) x f) o refl))
-held_ok events e now mode x r a held at OfSampled is = none_step (trace x (events ++ e ∷ [])) (length events) held at (a.good_is ∙ ap (facts_of x mode r.simulated) is)
-held_ok events e now mode x r a held at (OfFault z) is = none_step (trace x (events ++ e ∷ [])) (length events) held at (a.good_is ∙ ap (facts_of x mode r.simulated) is)
-held_ok events e now mode x r a held at OfClock is = none_step (trace x (events ++ e ∷ [])) (length events) held at (a.good_is ∙ ap (facts_of x mode r.simulated) is)
-held_ok events e now mode x r a held at (OfMode on) is = none_step (trace x (events ++ e ∷ [])) (length events) held at (a.good_is ∙ ap (facts_of x mode r.simulated) is)
+held_ok events e now mode x r a held at OfSampled is = none_step (trace_of_block x (events ++ e ∷ [])) (length events) held at (a.good_is ∙ ap (facts_of x mode r.simulated) is)
+held_ok events e now mode x r a held at (OfFault z) is = none_step (trace_of_block x (events ++ e ∷ [])) (length events) held at (a.good_is ∙ ap (facts_of x mode r.simulated) is)
+held_ok events e now mode x r a held at OfClock is = none_step (trace_of_block x (events ++ e ∷ [])) (length events) held at (a.good_is ∙ ap (facts_of x mode r.simulated) is)
+held_ok events e now mode x r a held at (OfMode on) is = none_step (trace_of_block x (events ++ e ∷ [])) (length events) held at (a.good_is ∙ ap (facts_of x mode r.simulated) is)
 
 -- lists of blocks and registers
 
-abbrev AllAgree : {A : Type 0} → List Reading → Reading → ℕ → Bool → List (Block A) → List Register → Type 0
+abbrev AllAgree : {A : Type 0} → List EventRead → EventRead → ℕ → Bool → List (Block A) → List Register → Type 0
 AllAgree {A} events e now mode xs rs =
     (b : ℕ) (x : Block A) (r : Register) → slice_get xs b ≡ Some x → slice_get rs b ≡ Some r → Agrees events e now mode x r
 
@@ -116,19 +116,19 @@ register_at {A} now mode k (z ∷ xs) (r ∷ rs) zero x y p q =
     (r, refl, ap (λ (w : Block A). register_by now mode k w r) (sym (same_Some z x p)) ∙ same_Some (register_by now mode k z r) y q)
 register_at now mode k (z ∷ xs) (r ∷ rs) (suc b) x y p q = register_at now mode k xs rs b x y p q
 
-expired_one : {A : Type 0} → (events : List Reading) (n now b : ℕ) (x : Block A) (xs : List (Block A)) (r : Register) (rs : List Register) (due : Bool) → is_due r.held now ≡ due → ((is_due r.held now ≡ true) ↔ IsExpiry (trace x events) n) → AreExpired events n (b + 1) xs (expired_entries now (b + 1) rs) → AreExpired events n b (x ∷ xs) (if due then says.Expired b ∷ expired_entries now (b + 1) rs else expired_entries now (b + 1) rs)
+expired_one : {A : Type 0} → (events : List EventRead) (n now b : ℕ) (x : Block A) (xs : List (Block A)) (r : Register) (rs : List Register) (due : Bool) → is_over r.held now ≡ due → ((is_over r.held now ≡ true) ↔ IsExpiry (trace_of_block x events) n) → AreExpired events n (b + 1) xs (expired_entries now (b + 1) rs) → AreExpired events n b (x ∷ xs) (if due then says.Expired b ∷ expired_entries now (b + 1) rs else expired_entries now (b + 1) rs)
 expired_one events n now b x xs r rs true is iff rest = inl (iff.0 is, (expired_entries now (b + 1) rs, refl, rest))
 expired_one events n now b x xs r rs false is iff rest = inr ((λ w. false≢true (sym is ∙ iff.1 w)), rest)
 
-expired_ok : {A : Type 0} → (events : List Reading) (e : Reading) (now : ℕ) (mode : Bool) (b : ℕ) (xs : List (Block A)) (rs : List Register) → length rs ≡ length xs → AllAgree events e now mode xs rs → AreExpired (events ++ e ∷ []) (length events) b xs (expired_entries now b rs)
+expired_ok : {A : Type 0} → (events : List EventRead) (e : EventRead) (now : ℕ) (mode : Bool) (b : ℕ) (xs : List (Block A)) (rs : List Register) → length rs ≡ length xs → AllAgree events e now mode xs rs → AreExpired (events ++ e ∷ []) (length events) b xs (expired_entries now b rs)
 expired_ok events e now mode b [] [] same all = refl
 expired_ok events e now mode b [] (r ∷ rs) same all = absurd (omega arith)
 expired_ok events e now mode b (x ∷ xs) [] same all = absurd (omega arith)
 expired_ok events e now mode b (x ∷ xs) (r ∷ rs) same all =
-    expired_one (events ++ e ∷ []) (length events) now b x xs r rs (is_due r.held now) refl (all 0 x r refl refl).expiry
+    expired_one (events ++ e ∷ []) (length events) now b x xs r rs (is_over r.held now) refl (all 0 x r refl refl).expiry
     (expired_ok events e now mode (b + 1) xs rs (omega arith) (λ j. all (suc j)))
 
-switched_ok : {A : Type 0} → (events : List Reading) (e : Reading) (now : ℕ) (mode : Bool) (b : ℕ) (xs : List (Block A)) (rs : List Register) → length rs ≡ length xs → AllAgree events e now mode xs rs → switched_entries mode e.content b xs rs ≡ switched_at (events ++ e ∷ []) (length events) b xs
+switched_ok : {A : Type 0} → (events : List EventRead) (e : EventRead) (now : ℕ) (mode : Bool) (b : ℕ) (xs : List (Block A)) (rs : List Register) → length rs ≡ length xs → AllAgree events e now mode xs rs → switched_entries mode e.content b xs rs ≡ switched_at (events ++ e ∷ []) (length events) b xs
 switched_ok events e now mode b [] rs same all = refl
 switched_ok events e now mode b (x ∷ xs) [] same all = absurd (omega arith)
 switched_ok {A} events e now mode b (x ∷ xs) (r ∷ rs) same all =
@@ -142,7 +142,7 @@ no_block = record { app_id = 0; gocb_ref = []; dat_set = []; go_id = None; conf_
 no_register : Register
 no_register = record { held = None; simulated = false }
 
-frame_ok : {A : Type 0} → (events : List Reading) (e : Reading) (now : ℕ) (mode : Bool) (xs : List (Block A)) (rs : List Register) → length rs ≡ length xs → AllAgree events e now mode xs rs → (f : GooseFrame) → e.content ≡ OfGoose f → (o : Option ℕ) → position (is_of f) xs ≡ o → IsFrameEntry xs (events ++ e ∷ []) (length events) f (frame_entry now mode xs rs f o)
+frame_ok : {A : Type 0} → (events : List EventRead) (e : EventRead) (now : ℕ) (mode : Bool) (xs : List (Block A)) (rs : List Register) → length rs ≡ length xs → AllAgree events e now mode xs rs → (f : GooseFrame) → e.content ≡ OfGoose f → (o : Option ℕ) → position (is_of f) xs ≡ o → IsFrameEntry xs (events ++ e ∷ []) (length events) f (frame_entry now mode xs rs f o)
 frame_ok events e now mode xs rs same all f is None o =
     inl ((λ b x p. position_none (is_of f) xs o b x p), refl)
 frame_ok {A} events e now mode xs rs same all f is (Some c) o =
@@ -152,15 +152,15 @@ frame_ok {A} events e now mode xs rs same all f is (Some c) o =
     at_block : (c : ℕ) (x : Block A) (r : Register) → slice_get xs c ≡ Some x → slice_get rs c ≡ Some r → is_of f x ≡ true → IsFrameEntry xs (events ++ e ∷ []) (length events) f (found_entry now mode f c (slice_get xs c) (slice_get rs c))
     at_block c x r p q yes_of =
         let a = all c x r p q in
-        let held : HoldsAt (trace x (events ++ e ∷ [])) (length events) (turned now mode (OfGoose f) x r) =
-        subst (λ (k : Content). HoldsAt (trace x (events ++ e ∷ [])) (length events) (turned now mode k x r)) is a.held in
+        let held : HoldsAt (trace_of_block x (events ++ e ∷ [])) (length events) (turned now mode (OfGoose f) x r) =
+        subst (λ (k : Content). HoldsAt (trace_of_block x (events ++ e ∷ [])) (length events) (turned now mode k x r)) is a.held in
         let entry = (block_ok events e now mode x r c f a is yes_of (turned now mode (OfGoose f) x r) held (reason_of (is_against f mode r.simulated) x f) refl).0 in
         let whole : IsFrameEntry xs (events ++ e ∷ []) (length events) f (found_entry now mode f c (Some x) (Some r)) =
         inr (c, x, p, yes_of, subst (λ (y : Option Reason). IsBlockEntry (events ++ e ∷ []) (length events) c x f y (found_entry now mode f c (Some x) (Some r))) (sym (a.reason_is f)) entry) in
         subst (λ (y : Option Register). IsFrameEntry xs (events ++ e ∷ []) (length events) f (found_entry now mode f c (slice_get xs c) y)) (sym q)
         (subst (λ (y : Option (Block A)). IsFrameEntry xs (events ++ e ∷ []) (length events) f (found_entry now mode f c y (Some r))) (sym p) whole)
 
-said_ok : {A : Type 0} → (events : List Reading) (e : Reading) (now : ℕ) (mode : Bool) (xs : List (Block A)) (rs : List Register) → length rs ≡ length xs → AllAgree events e now mode xs rs → (k : Content) → e.content ≡ k → AreOfContent xs (events ++ e ∷ []) (length events) k (said_of now mode xs rs k)
+said_ok : {A : Type 0} → (events : List EventRead) (e : EventRead) (now : ℕ) (mode : Bool) (xs : List (Block A)) (rs : List Register) → length rs ≡ length xs → AllAgree events e now mode xs rs → (k : Content) → e.content ≡ k → AreOfContent xs (events ++ e ∷ []) (length events) k (said_of now mode xs rs k)
 said_ok events e now mode xs rs same all (OfGoose f) is =
     (frame_entry now mode xs rs f (position (is_of f) xs), frame_ok events e now mode xs rs same all f is (position (is_of f) xs) refl, refl)
 said_ok events e now mode xs rs same all OfSampled is = refl
@@ -169,7 +169,7 @@ said_ok events e now mode xs rs same all OfClock is = refl
 said_ok events e now mode xs rs same all (OfMode on) is = refl
 
 -- the theorem for one event
-pub step_ok : {A : Type 0} → (events : List Reading) (e : Reading) (s : State A) → length s.registers ≡ length s.blocks → StandsAfterRead events s → AreReadEntriesAt s.blocks (events ++ e ∷ []) (length events) (step_entries s e) × StandsAfterRead (events ++ e ∷ []) (step_state s e)
+pub step_ok : {A : Type 0} → (events : List EventRead) (e : EventRead) (s : State A) → length s.registers ≡ length s.blocks → StandsAfterRead events s → AreReadEntriesAt s.blocks (events ++ e ∷ []) (length events) (step_entries s e) × StandsAfterRead (events ++ e ∷ []) (step_state s e)
 step_ok {A} events e s same w =
     let all : AllAgree events e (max s.moment e.moment) s.mode s.blocks s.registers = agrees events e s w in (
       record {
@@ -188,8 +188,8 @@ step_ok {A} events e s same w =
         holds = λ b x y p q.
             let r = register_at (max s.moment e.moment) s.mode e.content s.blocks s.registers b x y p q in
             let a = all b x r.0 p r.1 in
-            subst (λ n. HoldsAfter (trace x (events ++ e ∷ [])) n y.held) (sym (length_push events e))
-            (subst (λ (z : Register). HoldsAfter (trace x (events ++ e ∷ [])) (length events + 1) z.held) r.2
+            subst (λ n. BlockHolds (trace_of_block x (events ++ e ∷ [])) n y.held) (sym (length_push events e))
+            (subst (λ (z : Register). BlockHolds (trace_of_block x (events ++ e ∷ [])) (length events + 1) z.held) r.2
             (held_ok events e (max s.moment e.moment) s.mode x r.0 a (turned (max s.moment e.moment) s.mode e.content x r.0) a.held e.content refl));
         flags = λ b x y p q.
             let r = register_at (max s.moment e.moment) s.mode e.content s.blocks s.registers b x y p q in

@@ -8,9 +8,9 @@ use Rattle.frame_core.specs.declared.frame.Apdu.TheVariants as apdus
 use Rattle.frame_core.specs.declared.event.Event.{Event}
 use Rattle.frame_core.specs.declared.event.EventKind.{EventKind}
 use Rattle.frame_core.specs.declared.event.EventKind.TheVariants as kinds
-use Rattle.subscribe_core.specs.Reading.{Content, OfGoose, OfSampled, OfFault, OfClock, OfMode, Reading}
+use Rattle.subscribe_core.specs.Reading.{Content, OfGoose, OfSampled, OfFault, OfClock, OfMode, EventRead}
 
--- the content of a frame with this APPID and unit
+-- the content of a frame with this APPID and APDU
 abbrev pub content_with : ℕ → Apdu (Unit {0}) → Content
 content_with app_id (apdus.Goose p) = OfGoose (record { app_id = app_id; pdu = p })
 content_with app_id (apdus.Sampled p) = OfSampled
@@ -27,5 +27,5 @@ content_of kinds.Clock = OfClock
 content_of (kinds.Mode on) = OfMode on
 
 -- an event as it is read
-abbrev pub reading_of : {A : Type 0} → Event A → Reading
+abbrev pub reading_of : {A : Type 0} → Event A → EventRead
 reading_of e = record { moment = e.moment; content = content_of e.kind }

@@ -6,7 +6,7 @@ use Rattle.std.specs.BTreeSet.{BTreeSet, contains, keys_between}
 use Rattle.std.specs.declared.ops.Bound.TheVariants.{Unbounded, Included}
 use Rattle.subscribe_core.specs.declared.registers.Held.{Held}
 use Rattle.subscribe_core.specs.declared.registers.Register.{Register}
-use Rattle.subscribe_core.specs.Steps.{is_due}
+use Rattle.subscribe_core.specs.Steps.{is_over}
 
 -- deadlines in order, and at one deadline the positions
 abbrev pub pair_cmp : ℕ × ℕ → ℕ × ℕ → Ordering
@@ -32,10 +32,10 @@ due_pairs now set = keys_between pair_cmp Unbounded (Included (now, 2 ^ 64 - 1))
 -- how many of the blocks are due
 abbrev pub due_count : ℕ → List (Option Held) → ℕ
 due_count now [] = 0
-due_count now (held ∷ rest) = if is_due held now then due_count now rest + 1 else due_count now rest
+due_count now (held ∷ rest) = if is_over held now then due_count now rest + 1 else due_count now rest
 
 -- the positions of the blocks that are due, in their order; the first has position b
 abbrev pub due_positions : ℕ → ℕ → List (Option Held) → List ℕ
 due_positions now b [] = []
 due_positions now b (held ∷ rest) =
-    if is_due held now then b ∷ due_positions now (b + 1) rest else due_positions now (b + 1) rest
+    if is_over held now then b ∷ due_positions now (b + 1) rest else due_positions now (b + 1) rest

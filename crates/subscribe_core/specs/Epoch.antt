@@ -110,6 +110,6 @@ pub record HoldsBest (t : Trace) (n : ℕ) (h : Held) : Type 0 where
   pub deadline : h.deadline ≡ t.now best + facts.lifetime
 
 -- what a block holds after the first n positions
-abbrev pub HoldsAfter : Trace → ℕ → Option Held → Type 0
-HoldsAfter t n None = IsIdleAfter t n
-HoldsAfter t n (Some h) = HoldsBest t n h
+abbrev pub BlockHolds : Trace → ℕ → Option Held → Type 0
+BlockHolds t n None = IsIdleAfter t n
+BlockHolds t n (Some h) = HoldsBest t n h

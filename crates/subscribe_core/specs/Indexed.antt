@@ -13,7 +13,7 @@ use Rattle.subscribe_core.specs.Matching.{facts_of_frame}
 use Rattle.subscribe_core.specs.Names.{AreSorted, AreNamesOf}
 use Rattle.subscribe_core.specs.Reading.{GooseFrame}
 use Rattle.subscribe_core.specs.Standing.{AreApart, idle}
-use Rattle.subscribe_core.specs.Steps.{after_clock, after_switch, verdict_on, taken}
+use Rattle.subscribe_core.specs.Steps.{after_clock, after_switch, verdict_on, held_after_frame}
 
 -- what a subscriber's fields keep to
 pub record IsIndexed {A : Type 0} (blocks : List (Block A)) (registers : List Register) (names : List (Name A)) (deadlines : BTreeSet (ℕ × ℕ)) : Type 0 where
@@ -24,11 +24,11 @@ pub record IsIndexed {A : Type 0} (blocks : List (Block A)) (registers : List Re
   pub timed : AreDeadlinesOf deadlines (helds registers)
 
 -- a register once what is over at the moment is let go
-abbrev pub cleared_one : ℕ → Register → Register
-cleared_one now r = record { held = after_clock r.held now; simulated = r.simulated }
+abbrev pub register_after_clock : ℕ → Register → Register
+register_after_clock now r = record { held = after_clock r.held now; simulated = r.simulated }
 
-abbrev pub cleared : ℕ → List Register → List Register
-cleared now rs = map (cleared_one now) rs
+abbrev pub registers_after_clock : ℕ → List Register → List Register
+registers_after_clock now rs = map (register_after_clock now) rs
 
 -- a register once the simulation mode is set off
 abbrev pub switched_off_one : Register → Register
@@ -59,10 +59,10 @@ good_entries b now r f =
 abbrev pub good_register : ℕ → Register → GooseFrame → Register
 good_register now r f =
     record {
-      held = taken (verdict_on (good_held now r f) (facts_of_frame f)) (good_held now r f) now (facts_of_frame f);
+      held = held_after_frame (verdict_on (good_held now r f) (facts_of_frame f)) (good_held now r f) now (facts_of_frame f);
       simulated = r.simulated || f.pdu.simulation;
     }
 
 -- what a good frame gives its block to hold, if anything
 abbrev pub good_renewal : ℕ → Register → GooseFrame → Option Held
-good_renewal now r f = taken (verdict_on (good_held now r f) (facts_of_frame f)) None now (facts_of_frame f)
+good_renewal now r f = held_after_frame (verdict_on (good_held now r f) (facts_of_frame f)) None now (facts_of_frame f)

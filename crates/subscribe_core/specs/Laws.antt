@@ -10,11 +10,11 @@ use Rattle.mms_data.specs.declared.time.UtcTime.{UtcTime}
 use Rattle.subscribe_core.specs.declared.registers.Verdict.TheVariants.{Acted}
 use Rattle.subscribe_core.specs.Entries.{AreReadEntriesAt, AreEntriesAt, AreEntries, entry_of}
 use Rattle.subscribe_core.specs.Epoch.{Trace, IsLastStart, Acts}
-use Rattle.subscribe_core.specs.Reading.{GooseFrame, OfGoose, Reading}
-use Rattle.subscribe_core.specs.Sight.{trace}
+use Rattle.subscribe_core.specs.Reading.{GooseFrame, OfGoose, EventRead}
+use Rattle.subscribe_core.specs.Sight.{trace_of_block}
 use Rattle.subscribe_core.specs.Content.{reading_of}
-use Rattle.subscribe_core.specs.Standing.{AreApart, fresh}
-use Rattle.subscribe_core.specs.Steps.{run}
+use Rattle.subscribe_core.specs.Standing.{AreApart, fresh_state}
+use Rattle.subscribe_core.specs.Steps.{run_events}
 
 -- i is a good position of the epoch that starts at s, and f are its facts
 pub record IsIn (t : Trace) (s i : ℕ) (f : Facts) : Type 0 where
@@ -55,8 +55,8 @@ ActedWhereInTime t = (s number : ℕ) → IsActedOn t s number ↔ ComesInTime t
 -- the good frames of one epoch are all simulated or all real
 abbrev pub OneKind : Type 0 → Type 0
 OneKind A =
-    (block : Block A) (events : List Reading) (s i j : ℕ) (f g : Facts) (d e : Reading) (x y : GooseFrame) →
-    IsIn (trace block events) s i f → IsIn (trace block events) s j g →
+    (block : Block A) (events : List EventRead) (s i j : ℕ) (f g : Facts) (d e : EventRead) (x y : GooseFrame) →
+    IsIn (trace_of_block block events) s i f → IsIn (trace_of_block block events) s j g →
     slice_get events i ≡ Some d → d.content ≡ OfGoose x → slice_get events j ≡ Some e → e.content ≡ OfGoose y →
     x.pdu.simulation ≡ y.pdu.simulation
 
@@ -99,23 +99,23 @@ EntriesStay A =
 -- every list of events has entries, those of a run of steps
 abbrev pub EntriesExist : Type 0 → Type 0
 EntriesExist A =
-    (blocks : List (Block A)) (events : List (Event A)) → AreEntries blocks events (run (fresh blocks) (map reading_of events))
+    (blocks : List (Block A)) (events : List (Event A)) → AreEntries blocks events (run_events (fresh_state blocks) (map reading_of events))
 
 -- block b acts on event i, which is a frame of GOOSE, and this entry says so with the frame's own numbers, time and members
-pub record IsActOn {A : Type 0} (blocks : List (Block A)) (events : List Reading) (i b : ℕ) (entry : Entry A) : Type 0 where
+pub record IsActOn {A : Type 0} (blocks : List (Block A)) (events : List EventRead) (i b : ℕ) (entry : Entry A) : Type 0 where
   pub block : Block A
   pub at : slice_get blocks b ≡ Some block
-  pub event : Reading
+  pub event : EventRead
   pub read : slice_get events i ≡ Some event
   pub frame : GooseFrame
   pub goose : event.content ≡ OfGoose frame
-  pub acts : Acts (trace block events) i
+  pub acts : Acts (trace_of_block block events) i
   pub told : entry ≡ entry_of b frame Acted
 
 -- the actions among the entries of an event are exactly those of the blocks that act on it: of which its frame is a good one,
 -- with a status number above those of all good ones before it in their epoch
 abbrev pub ActsAreTold : Type 0 → Type 0
 ActsAreTold A =
-    (blocks : List (Block A)) (events : List Reading) (i : ℕ) (es : List (Entry A)) (b st sq : ℕ) (t : UtcTime) (members : List Data) →
+    (blocks : List (Block A)) (events : List EventRead) (i : ℕ) (es : List (Entry A)) (b st sq : ℕ) (t : UtcTime) (members : List Data) →
     AreApart blocks → AreReadEntriesAt blocks events i es →
     Contains es (says.Act b st sq t members) ↔ IsActOn blocks events i b (says.Act b st sq t members)

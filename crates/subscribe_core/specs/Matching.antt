@@ -51,6 +51,6 @@ abbrev pub facts_of_frame : GooseFrame → Facts
 facts_of_frame f = record { state = f.pdu.st_num; sequence = f.pdu.sq_num; lifetime = 1000 * f.pdu.live }
 
 -- the facts, unless there is a reason against the frame
-abbrev pub unless_refused : Option Reason → Facts → Option Facts
-unless_refused None facts = Some facts
-unless_refused (Some r) facts = None
+abbrev pub facts_unless_refused : Option Reason → Facts → Option Facts
+facts_unless_refused None facts = Some facts
+facts_unless_refused (Some r) facts = None

@@ -27,7 +27,7 @@ pub data Content : Type 0 where
   OfMode : Bool → Content
 
 -- an event as it is read: its moment in microseconds, and its content
-pub record Reading : Type 0 where
+pub record EventRead : Type 0 where
   pub moment : ℕ
   pub content : Content
 
@@ -52,12 +52,12 @@ IsContent (kinds.Mode set) OfClock = ⊥
 IsContent (kinds.Mode set) (OfMode on) = on ≡ set
 
 -- an event is read so
-pub record IsRead {A : Type 0} (e : Event A) (r : Reading) : Type 0 where
+pub record IsRead {A : Type 0} (e : Event A) (r : EventRead) : Type 0 where
   pub moment : r.moment ≡ e.moment
   pub content : IsContent e.kind r.content
 
 -- each event of a list is read as the reading in its place
-abbrev pub AreRead : {A : Type 0} → List (Event A) → List Reading → Type 0
+abbrev pub AreRead : {A : Type 0} → List (Event A) → List EventRead → Type 0
 AreRead [] [] = Unit {0}
 AreRead [] (r ∷ rs) = ⊥
 AreRead (e ∷ es) [] = ⊥

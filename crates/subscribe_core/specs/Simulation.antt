@@ -1,7 +1,7 @@
 -- The simulation mode, and which blocks take simulated frames (profile). All is said by positions in the list.
 use Rattle.std.specs.Prelude.{ℕ, zero, suc, Bool, false, not, ◌&&◌, ◌||◌, Option, Some, None, List, [], ◌∷◌, take, nat_lt, slice_get, if◌then◌else◌}
 use Rattle.subscribe_core.specs.declared.block.Block.{Block}
-use Rattle.subscribe_core.specs.Reading.{GooseFrame, Content, OfGoose, OfSampled, OfFault, OfClock, OfMode, Reading}
+use Rattle.subscribe_core.specs.Reading.{GooseFrame, Content, OfGoose, OfSampled, OfFault, OfClock, OfMode, EventRead}
 use Rattle.subscribe_core.specs.Matching.{is_of, reason_of, is_clear}
 
 -- the mode that an event leaves
@@ -13,12 +13,12 @@ mode_by OfClock mode = mode
 mode_by (OfMode on) mode = on
 
 -- what the last mode event says, or else the mode before
-abbrev pub last_mode : Bool → List Reading → Bool
+abbrev pub last_mode : Bool → List EventRead → Bool
 last_mode mode [] = mode
 last_mode mode (e ∷ es) = last_mode (mode_by e.content mode) es
 
 -- the mode at i: what the last mode event before i says, off if there is none
-abbrev pub mode_at : List Reading → ℕ → Bool
+abbrev pub mode_at : List EventRead → ℕ → Bool
 mode_at events i = last_mode false (take i events)
 
 -- an event that sets the mode off
@@ -38,7 +38,7 @@ is_plain_simulated b OfClock = false
 is_plain_simulated b (OfMode on) = false
 
 -- a test of what is read at a position, false past the end
-abbrev pub holds_at : (Content → Bool) → Option Reading → Bool
+abbrev pub holds_at : (Content → Bool) → Option EventRead → Bool
 holds_at p None = false
 holds_at p (Some e) = p e.content
 
@@ -48,20 +48,20 @@ some_below zero p = false
 some_below (suc n) p = p n || some_below n p
 
 -- at j such a frame comes with the mode on
-abbrev pub invites : {A : Type 0} → Block A → List Reading → ℕ → Bool
+abbrev pub invites : {A : Type 0} → Block A → List EventRead → ℕ → Bool
 invites b events j = holds_at (is_plain_simulated b) (slice_get events j) && mode_at events j
 
 -- the event at k sets the mode off
-abbrev pub sets_off : List Reading → ℕ → Bool
+abbrev pub sets_off : List EventRead → ℕ → Bool
 sets_off events k = holds_at is_off (slice_get events k)
 
 -- the block takes simulated frames at i: such a frame came before with the mode on, and no event between sets the mode off
-abbrev pub takes_simulated : {A : Type 0} → Block A → List Reading → ℕ → Bool
+abbrev pub takes_simulated : {A : Type 0} → Block A → List EventRead → ℕ → Bool
 takes_simulated b events i =
     some_below i (λ j. invites b events j && not (some_below i (λ k. nat_lt j k && sets_off events k)))
 
 -- the block goes over to simulated frames at i, or back to real ones
-abbrev pub is_switched : {A : Type 0} → Block A → List Reading → ℕ → Bool
+abbrev pub is_switched : {A : Type 0} → Block A → List EventRead → ℕ → Bool
 is_switched b events i =
     (invites b events i && not (takes_simulated b events i)) || (sets_off events i && takes_simulated b events i)
 

@@ -3,9 +3,9 @@ use Rattle.std.specs.Prelude.{◌≡◌, ℕ, ◌<◌, Bool, false, Some, None, 
 use Rattle.subscribe_core.specs.declared.block.Block.{Block}
 use Rattle.subscribe_core.specs.declared.registers.Register.{Register}
 use Rattle.frame_core.specs.declared.event.Event.{Event}
-use Rattle.subscribe_core.specs.Epoch.{HoldsAfter}
-use Rattle.subscribe_core.specs.Reading.{Reading, AreRead}
-use Rattle.subscribe_core.specs.Sight.{greatest, trace}
+use Rattle.subscribe_core.specs.Epoch.{BlockHolds}
+use Rattle.subscribe_core.specs.Reading.{EventRead, AreRead}
+use Rattle.subscribe_core.specs.Sight.{greatest_event_moment, trace_of_block}
 use Rattle.subscribe_core.specs.Simulation.{last_mode, takes_simulated}
 
 -- what a subscriber keeps: its blocks, a register for each, the simulation mode, and the greatest moment so far
@@ -21,23 +21,23 @@ pub record Standing (A : Type 0) : Type 0 where
   pub looks : ℕ
 
 -- it keeps what the events say, as they are read
-pub record StandsAfterRead {A : Type 0} (events : List Reading) (s : State A) : Type 0 where
-  pub moment : s.moment ≡ greatest events
+pub record StandsAfterRead {A : Type 0} (events : List EventRead) (s : State A) : Type 0 where
+  pub moment : s.moment ≡ greatest_event_moment events
   pub mode : s.mode ≡ last_mode false events
-  pub holds : (b : ℕ) (block : Block A) (r : Register) → slice_get s.blocks b ≡ Some block → slice_get s.registers b ≡ Some r → HoldsAfter (trace block events) (length events) r.held
+  pub holds : (b : ℕ) (block : Block A) (r : Register) → slice_get s.blocks b ≡ Some block → slice_get s.registers b ≡ Some r → BlockHolds (trace_of_block block events) (length events) r.held
   pub flags : (b : ℕ) (block : Block A) (r : Register) → slice_get s.blocks b ≡ Some block → slice_get s.registers b ≡ Some r → r.simulated ≡ takes_simulated block events (length events)
 
 -- it keeps what a list of frame octets, clock moments and mode events says
 abbrev pub StandsAfter : {A : Type 0} → List (Event A) → State A → Type 0
-StandsAfter events s = (readings : List Reading) × AreRead events readings × StandsAfterRead readings s
+StandsAfter events s = (readings : List EventRead) × AreRead events readings × StandsAfterRead readings s
 
 -- a block's register before any event
 abbrev pub idle : Register
 idle = record { held = None; simulated = false }
 
 -- what a subscriber keeps before any event
-abbrev pub fresh : {A : Type 0} → List (Block A) → State A
-fresh blocks = record { blocks = blocks; registers = replicate (length blocks) idle; mode = false; moment = 0 }
+abbrev pub fresh_state : {A : Type 0} → List (Block A) → State A
+fresh_state blocks = record { blocks = blocks; registers = replicate (length blocks) idle; mode = false; moment = 0 }
 
 -- two blocks have one name
 abbrev pub HasNameOf : {A : Type 0} → Block A → Block A → Type 0

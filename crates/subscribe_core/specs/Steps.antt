@@ -11,14 +11,14 @@ use Rattle.subscribe_core.specs.declared.registers.Verdict.{Verdict}
 use Rattle.subscribe_core.specs.declared.registers.Verdict.TheVariants.{Acted, Renewed, Again, Stale}
 use Rattle.subscribe_core.specs.Entries.{entry_of}
 use Rattle.subscribe_core.specs.Matching.{is_of, reason_of, facts_of_frame}
-use Rattle.subscribe_core.specs.Reading.{GooseFrame, Content, OfGoose, OfSampled, OfFault, OfClock, OfMode, Reading}
+use Rattle.subscribe_core.specs.Reading.{GooseFrame, Content, OfGoose, OfSampled, OfFault, OfClock, OfMode, EventRead}
 use Rattle.subscribe_core.specs.Simulation.{is_against, is_plain_simulated, is_off, mode_by}
 use Rattle.subscribe_core.specs.Standing.{State}
 
 -- the lifetime of what is held is over at the moment
-abbrev pub is_due : Option Held → ℕ → Bool
-is_due None now = false
-is_due (Some h) now = nat_le h.deadline now
+abbrev pub is_over : Option Held → ℕ → Bool
+is_over None now = false
+is_over (Some h) now = nat_le h.deadline now
 
 -- what is still held at the moment
 abbrev pub after_clock : Option Held → ℕ → Option Held
@@ -40,11 +40,11 @@ verdict_on (Some h) f =
     else Stale
 
 -- what is held after a good frame: an action and a renewal take its pair and its lifetime
-abbrev pub taken : Verdict → Option Held → ℕ → Facts → Option Held
-taken Acted held now f = Some (record { state = f.state; sequence = f.sequence; deadline = now + f.lifetime })
-taken Renewed held now f = Some (record { state = f.state; sequence = f.sequence; deadline = now + f.lifetime })
-taken Again held now f = held
-taken Stale held now f = held
+abbrev pub held_after_frame : Verdict → Option Held → ℕ → Facts → Option Held
+held_after_frame Acted held now f = Some (record { state = f.state; sequence = f.sequence; deadline = now + f.lifetime })
+held_after_frame Renewed held now f = Some (record { state = f.state; sequence = f.sequence; deadline = now + f.lifetime })
+held_after_frame Again held now f = held
+held_after_frame Stale held now f = held
 
 -- whether the block is switched at an event, by the mode, its flag and what is read
 abbrev pub switch_by : {A : Type 0} → Block A → Bool → Bool → Content → Bool
@@ -58,7 +58,7 @@ flag_by b mode flag k = not (is_off k) && ((is_plain_simulated b k && mode) || f
 abbrev pub expired_entries : {A : Type 0} → ℕ → ℕ → List Register → List (Entry A)
 expired_entries now b [] = []
 expired_entries now b (r ∷ rest) =
-    if is_due r.held now then says.Expired b ∷ expired_entries now (b + 1) rest else expired_entries now (b + 1) rest
+    if is_over r.held now then says.Expired b ∷ expired_entries now (b + 1) rest else expired_entries now (b + 1) rest
 
 -- a Switched entry for each block that is switched, in block order; the first has position b
 abbrev pub switched_entries : {A : Type 0} → Bool → Content → ℕ → List (Block A) → List Register → List (Entry A)
@@ -80,7 +80,7 @@ block_entry b f None held = entry_of b f (verdict_on held (facts_of_frame f))
 -- and what the block holds afterwards
 abbrev pub block_held : ℕ → GooseFrame → Option Reason → Option Held → Option Held
 block_held now f (Some reason) held = held
-block_held now f None held = taken (verdict_on held (facts_of_frame f)) held now (facts_of_frame f)
+block_held now f None held = held_after_frame (verdict_on held (facts_of_frame f)) held now (facts_of_frame f)
 
 -- what a block holds after an event
 abbrev pub held_by : {A : Type 0} → ℕ → Bool → Block A → Register → Content → Option Held → Option Held
@@ -122,14 +122,14 @@ said_of now mode xs rs OfClock = []
 said_of now mode xs rs (OfMode on) = []
 
 -- the entries of an event
-abbrev pub step_entries : {A : Type 0} → State A → Reading → List (Entry A)
+abbrev pub step_entries : {A : Type 0} → State A → EventRead → List (Entry A)
 step_entries s e =
     let now = max s.moment e.moment in
     expired_entries now 0 s.registers ++ (switched_entries s.mode e.content 0 s.blocks s.registers ++
     said_of now s.mode s.blocks s.registers e.content)
 
 -- what is kept after it
-abbrev pub step_state : {A : Type 0} → State A → Reading → State A
+abbrev pub step_state : {A : Type 0} → State A → EventRead → State A
 step_state s e =
     let now = max s.moment e.moment in
     record {
@@ -140,11 +140,11 @@ step_state s e =
     }
 
 -- the entries of events, one after another
-abbrev pub run : {A : Type 0} → State A → List Reading → List (List (Entry A))
-run s [] = []
-run s (e ∷ es) = step_entries s e ∷ run (step_state s e) es
+abbrev pub run_events : {A : Type 0} → State A → List EventRead → List (List (Entry A))
+run_events s [] = []
+run_events s (e ∷ es) = step_entries s e ∷ run_events (step_state s e) es
 
 -- what is kept after events
-abbrev pub state_after : {A : Type 0} → State A → List Reading → State A
+abbrev pub state_after : {A : Type 0} → State A → List EventRead → State A
 state_after s [] = s
 state_after s (e ∷ es) = state_after (step_state s e) es

@@ -112,8 +112,8 @@ SkipsAddUp =
     AreSeen period (map (λ k. k % period) (first ∷ rest)) answers → first + advances answers ≡ greatest_index first rest
 
 -- every list of counts has answers, those of the function, and they are one
-abbrev pub AnswersAreOne : Type 0
-AnswersAreOne =
+abbrev pub SeenAreOne : Type 0
+SeenAreOne =
     (period : ℕ) (counts : List ℕ) →
     AreSeen period counts (seen_all period None counts) ×
     ((a b : List Seen) → AreSeen period counts a → AreSeen period counts b → a ≡ b)

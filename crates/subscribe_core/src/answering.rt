@@ -2,10 +2,9 @@
 
 ghost use Rattle.std.specs.Prelude.{◌≡◌, ◌++◌, Some, None, IfOk, OnOk};
 ghost use Rattle.subscribe_core.specs.Entries.{entry_of};
-ghost use Rattle.subscribe_core.specs.Indexed.{good_entries, good_held, good_renewal};
-ghost use Rattle.subscribe_core.specs.Matching.{facts_of_frame};
-ghost use Rattle.subscribe_core.specs.Received.{frame_of};
-ghost use Rattle.subscribe_core.specs.Steps.{taken};
+ghost use Rattle.subscribe_core.specs.Indexed.{good_entries, good_renewal};
+ghost use Rattle.subscribe_core.specs.Received.{received_frame};
+ghost use Rattle.subscribe_core.specs.Steps.{held_after_frame};
 
 use crate::entry::Entry;
 use crate::matching::{Received, facts_in};
@@ -20,7 +19,7 @@ fn verdict_entry<A: Allocator + Copy>(
     frame: &Received<'_>,
     verdict: Verdict,
 ) -> Result<Entry<A>, AllocError>
-    ensures { IfOk result (λ e. e ≡ entry_of block (frame_of frame.now) verdict) }
+    ensures { IfOk result (λ e. e ≡ entry_of block (received_frame frame.now) verdict) }
 {
     let (state, sequence) = (frame.goose.st_num, frame.goose.sq_num);
     match verdict {
@@ -51,7 +50,7 @@ fn verdict_entry<A: Allocator + Copy>(
 
 // What an action and a renewal give the block to hold.
 fn renewal(verdict: Verdict, now: u64, facts: &Facts) -> Option<Held>
-    ensures { result ≡ taken verdict None now facts.now }
+    ensures { result ≡ held_after_frame verdict None now facts.now }
 {
     match verdict {
         Verdict::Acted | Verdict::Renewed => Some(Held {
@@ -73,8 +72,8 @@ pub(crate) fn push_good<A: Allocator + Copy>(
     frame: &Received<'_>,
     entries: &mut Vec<Entry<A>, A>,
 ) -> Result<Option<Held>, AllocError>
-    ensures entries { OnOk result (entries.new.items ≡ entries.old.items ++ good_entries block now old.now (frame_of frame.now)) }
-    ensures held { IfOk result (λ held. held ≡ good_renewal now old.now (frame_of frame.now)) }
+    ensures entries { OnOk result (entries.new.items ≡ entries.old.items ++ good_entries block now old.now (received_frame frame.now)) }
+    ensures held { IfOk result (λ held. held ≡ good_renewal now old.now (received_frame frame.now)) }
 {
     let mut held = held_at(&old.held, now);
     if frame.goose.simulation && !old.simulated {

@@ -5,7 +5,7 @@ ghost use Rattle.std.specs.List.Sorted.{IsPermutation, IsSorted};
 ghost use Rattle.std.specs.Ordering.{nat_cmp};
 ghost use Rattle.std.specs.BTreeSet.{btree_set_len, IsOrdered};
 ghost use Rattle.subscribe_core.specs.declared.registers.Held.{Held as Holding};
-ghost use Rattle.subscribe_core.specs.Steps.{is_due};
+ghost use Rattle.subscribe_core.specs.Steps.{is_over};
 ghost use Rattle.subscribe_core.specs.Deadlines.{AreDeadlinesOf, due_pairs, pair_cmp};
 
 use crate::registers::Held;
@@ -87,9 +87,9 @@ pub(crate) fn take_due<A: Allocator + Copy>(
     deadlines: &mut BTreeSet<(u128, usize), A>,
     now: u64,
 ) -> Option<usize>
-    ensures due { IfSome result (λ at. (held : List (Option Holding)) → AreDeadlinesOf deadlines.old held → IsTrue (is_due (slice_index_or held at None) now)) }
+    ensures due { IfSome result (λ at. (held : List (Option Holding)) → AreDeadlinesOf deadlines.old held → IsTrue (is_over (slice_index_or held at None) now)) }
     ensures taken { IfSome result (λ at. (held : List (Option Holding)) → AreDeadlinesOf deadlines.old held → AreDeadlinesOf deadlines.new (slice_set held at None)) }
-    ensures none { IfNone result ((held : List (Option Holding)) (at : ℕ) → AreDeadlinesOf deadlines.old held → is_due (slice_index_or held at None) now ≡ false) }
+    ensures none { IfNone result ((held : List (Option Holding)) (at : ℕ) → AreDeadlinesOf deadlines.old held → is_over (slice_index_or held at None) now ≡ false) }
     ensures len { btree_set_len deadlines.new + (if is_some result then 1 else 0) ≡ btree_set_len deadlines.old }
     ensures unchanged { IfNone result (deadlines.new.keys ≡ deadlines.old.keys) }
 {

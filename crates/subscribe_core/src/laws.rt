@@ -2,9 +2,9 @@
 
 ghost use Rattle.std.specs.Prelude.{List};
 ghost use Rattle.subscribe_core.specs.Laws.{ActedWhereInTime, ActsAreTold, BlocksAreAlone, EntriesAreOne, EntriesExist, EntriesStay, NumbersAreBelow, NumbersRise, OneKind};
-ghost use Rattle.subscribe_core.specs.Reading.{Reading};
-ghost use Rattle.subscribe_core.specs.Sight.{trace};
-ghost use Rattle.subscribe_core.specs.Watch.{AnswersAreOne, SkipsAddUp};
+ghost use Rattle.subscribe_core.specs.Reading.{EventRead};
+ghost use Rattle.subscribe_core.specs.Sight.{trace_of_block};
+ghost use Rattle.subscribe_core.specs.Watch.{SeenAreOne, SkipsAddUp};
 ghost use Rattle.subscribe_core.specs.declared.block.Block.{Block};
 
 use std::alloc::Allocator;
@@ -13,9 +13,9 @@ use std::alloc::Allocator;
 /// number is at most the newest one acted on. A number is acted on exactly where a good frame of it comes before any good
 /// frame of a greater one.
 pub fn acted_numbers_rise<A: Allocator>()
-    ensures rise { (block : Block A) (events : List Reading) → NumbersRise (trace block events) }
-    ensures below { (block : Block A) (events : List Reading) → NumbersAreBelow (trace block events) }
-    ensures in_time { (block : Block A) (events : List Reading) → ActedWhereInTime (trace block events) }
+    ensures rise { (block : Block A) (events : List EventRead) → NumbersRise (trace_of_block block events) }
+    ensures below { (block : Block A) (events : List EventRead) → NumbersAreBelow (trace_of_block block events) }
+    ensures in_time { (block : Block A) (events : List EventRead) → ActedWhereInTime (trace_of_block block events) }
 {}
 
 /// The actions among the entries of an event are exactly those of the blocks of which its frame is a good one with a status
@@ -44,7 +44,7 @@ pub fn entries_are_one<A: Allocator>()
 
 /// Every list of counts has answers, and they are one.
 pub fn counts_are_seen_once()
-    ensures { AnswersAreOne }
+    ensures { SeenAreOne }
 {}
 
 /// Over indexes that go on in small steps, each one above the greatest before it or less than half a period away from it, the

@@ -2,7 +2,8 @@
 
 ghost use Rattle.std.specs.Prelude.{◌≡◌};
 ghost use Rattle.subscribe_core.specs.Matching.{facts_of_frame, has_other_id, reason_of};
-ghost use Rattle.subscribe_core.specs.Received.{frame_of, octets_if};
+ghost use Rattle.pdu_core.specs.Views.{octets_if};
+ghost use Rattle.subscribe_core.specs.Received.{received_frame};
 ghost use Rattle.subscribe_core.specs.Simulation.{is_against as holds_against};
 
 use crate::block::Block;
@@ -32,7 +33,7 @@ fn is_other_id<A: Allocator>(awaited: &Option<Octets<A>>, id: Option<&[u8]>) -> 
 
 // Whether the frame's simulation is against it, by the mode and by what its block takes.
 pub(crate) fn is_against(frame: &Received<'_>, mode: bool, simulated: bool) -> bool
-    ensures { result ≡ holds_against (frame_of frame.now) mode simulated }
+    ensures { result ≡ holds_against (received_frame frame.now) mode simulated }
 {
     if frame.goose.simulation {
         !mode
@@ -47,7 +48,7 @@ pub(crate) fn first_reason<A: Allocator>(
     frame: &Received<'_>,
     is_against: bool,
 ) -> Option<Reason>
-    ensures { result ≡ reason_of is_against block.now (frame_of frame.now) }
+    ensures { result ≡ reason_of is_against block.now (received_frame frame.now) }
 {
     let goose = &frame.goose;
     if block.dat_set.as_slice() != goose.dat_set {
@@ -73,7 +74,7 @@ pub(crate) fn first_reason<A: Allocator>(
 
 // The facts of a frame.
 pub(crate) fn facts_in(frame: &Received<'_>) -> Facts
-    ensures { result ≡ facts_of_frame (frame_of frame.now) }
+    ensures { result ≡ facts_of_frame (received_frame frame.now) }
 {
     Facts {
         state: frame.goose.st_num,

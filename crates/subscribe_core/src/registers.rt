@@ -1,7 +1,7 @@
 // What a subscriber keeps of a block, and how one frame changes it.
 
 ghost use Rattle.std.specs.Prelude.{◌≡◌};
-ghost use Rattle.subscribe_core.specs.Steps.{after_clock, taken, verdict_on};
+ghost use Rattle.subscribe_core.specs.Steps.{after_clock, verdict_on};
 
 /// What a block reads off a good frame.
 #[derive(Clone, Copy, Debug, PartialEq, Eq)]

@@ -1,16 +1,16 @@
 // The subscriber: one event at a time, over blocks that are found by name and by deadline.
 
-ghost use Rattle.std.specs.Prelude.{◌≡◌, ◌<◌, ◌≤◌, ◌+◌, ◌∷◌, ◌++◌, [], ℕ, List, Ok, Err, false, not, ◌&&◌, ◌⊎◌, None, Some, IfOk, OnOk, OnErr, IfErr, IsOk, length, map, max, position, replicate, slice_get, slice_set, if◌then◌else◌};
+ghost use Rattle.std.specs.Prelude.{◌≡◌, ◌<◌, ◌≤◌, ◌+◌, ◌∷◌, ◌++◌, [], ℕ, List, Ok, Err, false, ◌⊎◌, None, Some, IfOk, OnOk, OnErr, IfErr, IsOk, length, max, position, replicate, slice_get, slice_set};
 ghost use Rattle.subscribe_core.specs.Content.{content_by, content_of, reading_of};
 ghost use Rattle.subscribe_core.specs.Deadlines.{due_count, helds};
-ghost use Rattle.subscribe_core.specs.Entries.{AreEntriesAt, entry_of, expired_count};
+ghost use Rattle.subscribe_core.specs.Entries.{AreEntriesAt, expired_count};
 ghost use Rattle.subscribe_core.specs.Faults.{IsFaultOf};
-ghost use Rattle.subscribe_core.specs.Indexed.{cleared, good_entries, good_register, flagged_entries, switched_off, switches};
-ghost use Rattle.subscribe_core.specs.Matching.{is_of, reason_of};
-ghost use Rattle.subscribe_core.specs.Reading.{IsFrame, IsMode, OfGoose, OfMode, Reading};
-ghost use Rattle.subscribe_core.specs.Received.{frame_of};
+ghost use Rattle.subscribe_core.specs.Indexed.{registers_after_clock, flagged_entries, switched_off};
+ghost use Rattle.subscribe_core.specs.Matching.{is_of};
+ghost use Rattle.subscribe_core.specs.Reading.{IsFrame, IsMode, OfGoose, OfMode};
+ghost use Rattle.subscribe_core.specs.Received.{received_frame};
 ghost use Rattle.subscribe_core.specs.Simulation.{mode_by};
-ghost use Rattle.subscribe_core.specs.Standing.{AreApart, IsFirstTwice, StandsAfter, State, fresh, idle};
+ghost use Rattle.subscribe_core.specs.Standing.{AreApart, StandsAfter, fresh_state, idle};
 ghost use Rattle.subscribe_core.specs.Steps.{expired_entries, said_of, step_entries, step_state, switched_entries, registers_by};
 ghost use Rattle.frame_core.specs.FrameReading.{frame_at};
 ghost use Rattle.frame_core.specs.declared.event.Event.{Event as Happening};
@@ -78,7 +78,7 @@ impl<A: Allocator + Copy> Subscriber<A> {
     /// where memory is refused.
     pub fn new(alloc: A, blocks: Vec<Block<A>, A>) -> Result<Subscriber<A>, SubscribeFault>
         // Every block is idle and takes real frames; the mode is off.
-        ensures fresh { IfOk result (λ s. s.state ≡ fresh blocks.items) }
+        ensures fresh { IfOk result (λ s. s.state ≡ fresh_state blocks.items) }
         ensures stands { IfOk result (λ s. StandsAfter [] s.state) }
         ensures looks { IfOk result (λ s. s.looks ≡ 0) }
 
@@ -124,7 +124,7 @@ impl<A: Allocator + Copy> Subscriber<A> {
 
     // The position of the frame's block.
     fn find(&self, frame: &Received<'_>) -> Option<usize>
-        ensures found { result ≡ position (is_of (frame_of frame.now)) self.now.state.blocks }
+        ensures found { result ≡ position (is_of (received_frame frame.now)) self.now.state.blocks }
         ensures sizes { length self.now.state.registers ≡ length self.now.state.blocks }
         ensures apart { AreApart self.now.state.blocks }
     {
@@ -156,7 +156,7 @@ impl<A: Allocator + Copy> Subscriber<A> {
 
     // Lets go of what is over at the moment.
     fn expire(&mut self, now: u64, looks: &mut u64)
-        ensures registers { self.new.state.registers ≡ cleared now self.old.state.registers }
+        ensures registers { self.new.state.registers ≡ registers_after_clock now self.old.state.registers }
         ensures blocks { self.new.state.blocks ≡ self.old.state.blocks }
         ensures mode { self.new.state.mode ≡ self.old.state.mode }
         ensures moment { self.new.state.moment ≡ self.old.state.moment }
@@ -213,8 +213,8 @@ impl<A: Allocator + Copy> Subscriber<A> {
         entries: &mut Vec<Entry<A>, A>,
         looks: &mut u64,
     ) -> Result<(), AllocError>
-        ensures entries { OnOk result (entries.new.items ≡ entries.old.items ++ (switched_entries self.old.state.mode (OfGoose (frame_of frame.now)) 0 self.old.state.blocks self.old.state.registers ++ said_of now self.old.state.mode self.old.state.blocks self.old.state.registers (OfGoose (frame_of frame.now)))) }
-        ensures registers { OnOk result (cleared now self.new.state.registers ≡ registers_by now self.old.state.mode (OfGoose (frame_of frame.now)) self.old.state.blocks self.old.state.registers) }
+        ensures entries { OnOk result (entries.new.items ≡ entries.old.items ++ (switched_entries self.old.state.mode (OfGoose (received_frame frame.now)) 0 self.old.state.blocks self.old.state.registers ++ said_of now self.old.state.mode self.old.state.blocks self.old.state.registers (OfGoose (received_frame frame.now)))) }
+        ensures registers { OnOk result (registers_after_clock now self.new.state.registers ≡ registers_by now self.old.state.mode (OfGoose (received_frame frame.now)) self.old.state.blocks self.old.state.registers) }
         ensures blocks { OnOk result (self.new.state.blocks ≡ self.old.state.blocks) }
         ensures mode { OnOk result (self.new.state.mode ≡ self.old.state.mode) }
         ensures moment { OnOk result (self.new.state.moment ≡ self.old.state.moment) }
@@ -251,7 +251,7 @@ impl<A: Allocator + Copy> Subscriber<A> {
         looks: &mut u64,
     ) -> Result<(), AllocError>
         ensures entries { OnOk result (entries.new.items ≡ entries.old.items ++ (switched_entries self.old.state.mode (content_by (frame_at octets.now)) 0 self.old.state.blocks self.old.state.registers ++ said_of now self.old.state.mode self.old.state.blocks self.old.state.registers (content_by (frame_at octets.now)))) }
-        ensures registers { OnOk result (cleared now self.new.state.registers ≡ registers_by now self.old.state.mode (content_by (frame_at octets.now)) self.old.state.blocks self.old.state.registers) }
+        ensures registers { OnOk result (registers_after_clock now self.new.state.registers ≡ registers_by now self.old.state.mode (content_by (frame_at octets.now)) self.old.state.blocks self.old.state.registers) }
         ensures blocks { OnOk result (self.new.state.blocks ≡ self.old.state.blocks) }
         ensures mode { OnOk result (self.new.state.mode ≡ mode_by (content_by (frame_at octets.now)) self.old.state.mode) }
         ensures moment { OnOk result (self.new.state.moment ≡ self.old.state.moment) }
@@ -338,7 +338,7 @@ impl<A: Allocator + Copy> Subscriber<A> {
         looks: &mut u64,
     ) -> Result<(), AllocError>
         ensures entries { OnOk result (entries.new.items ≡ entries.old.items ++ switched_entries self.old.state.mode (OfMode on) 0 self.old.state.blocks self.old.state.registers) }
-        ensures registers { OnOk result ((now : ℕ) → cleared now self.new.state.registers ≡ registers_by now self.old.state.mode (OfMode on) self.old.state.blocks self.old.state.registers) }
+        ensures registers { OnOk result ((now : ℕ) → registers_after_clock now self.new.state.registers ≡ registers_by now self.old.state.mode (OfMode on) self.old.state.blocks self.old.state.registers) }
         ensures blocks { OnOk result (self.new.state.blocks ≡ self.old.state.blocks) }
         ensures mode { OnOk result (self.new.state.mode ≡ on) }
         ensures moment { OnOk result (self.new.state.moment ≡ self.old.state.moment) }
@@ -364,7 +364,7 @@ impl<A: Allocator + Copy> Subscriber<A> {
         looks: &mut u64,
     ) -> Result<(), AllocError>
         ensures entries { OnOk result (entries.new.items ≡ entries.old.items ++ (switched_entries self.old.state.mode (content_of kind.now) 0 self.old.state.blocks self.old.state.registers ++ said_of now self.old.state.mode self.old.state.blocks self.old.state.registers (content_of kind.now))) }
-        ensures registers { OnOk result (cleared now self.new.state.registers ≡ registers_by now self.old.state.mode (content_of kind.now) self.old.state.blocks self.old.state.registers) }
+        ensures registers { OnOk result (registers_after_clock now self.new.state.registers ≡ registers_by now self.old.state.mode (content_of kind.now) self.old.state.blocks self.old.state.registers) }
         ensures blocks { OnOk result (self.new.state.blocks ≡ self.old.state.blocks) }
         ensures mode { OnOk result (self.new.state.mode ≡ mode_by (content_of kind.now) self.old.state.mode) }
         ensures moment { OnOk result (self.new.state.moment ≡ self.old.state.moment) }

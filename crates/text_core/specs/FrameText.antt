@@ -17,12 +17,12 @@ abbrev pub tag_text : Option VlanTag → List ℕ
 tag_text None = codes "-"
 tag_text (Some tag) = four_digits tag.control
 
--- the octets behind the unit, or a dash
+-- the octets behind the APDU, or a dash
 abbrev pub trailer_text : List ℕ → List ℕ
 trailer_text [] = codes "-"
 trailer_text (x ∷ xs) = encode_lower (x ∷ xs)
 
--- what stands before the unit: the addresses, the tag, the APPID, both reserved fields
+-- what stands before the APDU: the addresses, the tag, the APPID, both reserved fields
 abbrev pub envelope_parts : {A : Type 0} → Frame A → List (List ℕ)
 envelope_parts f =
     encode_lower f.destination
@@ -37,7 +37,7 @@ envelope_parts f =
 abbrev pub envelope_text : {A : Type 0} → Frame A → List ℕ
 envelope_text f = concat (envelope_parts f)
 
--- the fields of a GOOSE unit, in their order in the standard
+-- the fields of a GOOSE APDU, in their order in the standard
 abbrev pub goose_parts : {A : Type 0} → GoosePdu A → List (List ℕ)
 goose_parts p =
     (codes " ref=" ++ quoted p.gocb_ref)
@@ -58,7 +58,7 @@ goose_parts p =
 abbrev pub goose_text : {A : Type 0} → GoosePdu A → List ℕ
 goose_text p = concat (goose_parts p)
 
--- the word for the kind of unit
+-- the word for the kind of APDU
 abbrev pub apdu_word : {A : Type 0} → Apdu A → List ℕ
 apdu_word (apdu.Goose p) = codes " goose "
 apdu_word (apdu.Sampled p) = codes " sv "
@@ -67,7 +67,7 @@ abbrev pub apdu_text : {A : Type 0} → Apdu A → List ℕ
 apdu_text (apdu.Goose p) = goose_text p
 apdu_text (apdu.Sampled p) = sv_text p
 
--- the number of the line, the kind of unit, the envelope, the unit, the trailer
+-- the number of the line, the kind of APDU, the envelope, the APDU, the trailer
 abbrev pub line_parts : {A : Type 0} → ℕ → Frame A → List (List ℕ)
 line_parts n f =
     decimal n

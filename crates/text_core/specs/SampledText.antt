@@ -1,4 +1,4 @@
--- The text of a unit of Sampled Values.
+-- The text of an APDU of Sampled Values.
 use Rattle.std.specs.Prelude.{ℕ, List, [], ◌∷◌, ◌++◌, Option, Some, None, codes}
 use Rattle.std.specs.List.{concat}
 use Rattle.std.specs.Fmt.{decimal}

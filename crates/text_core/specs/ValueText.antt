@@ -4,12 +4,13 @@ use Rattle.std.specs.List.{join_with_byte}
 use Rattle.std.specs.Fmt.{decimal, signed_decimal}
 use Rattle.hex.specs.Hex.{encode_lower}
 use Rattle.mms_data.specs.Data.{Simple, boolean, bits, integer, unsigned, floating, octets, visible, binary_time, mms_text, utc, Data, simple, array, structure, Items, no_items, item}
+use Rattle.mms_data.specs.Written.{written_time}
 use Rattle.mms_data.specs.declared.time.UtcTime.{UtcTime}
-use Rattle.text_core.specs.Pieces.{bits_text, quoted, boolean_text, spaced, utc_text}
+use Rattle.text_core.specs.Pieces.{bits_text, quoted, boolean_text, spaced}
 
 -- a moment in UTC as its eight octets
 abbrev pub time_text : UtcTime → List ℕ
-time_text t = utc_text t.seconds t.fraction t.quality
+time_text t = encode_lower (written_time t)
 
 -- the kind and the contents, where the contents do not show the kind
 abbrev pub simple_text : Simple → List ℕ

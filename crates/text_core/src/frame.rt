@@ -22,7 +22,7 @@ fn put_tag<A: Allocator>(out: &mut Vec<u8, A>, tag: Option<VlanTag>) -> Result<(
     }
 }
 
-// Appends the octets behind the unit.
+// Appends the octets behind the APDU.
 fn put_trailer<A: Allocator>(out: &mut Vec<u8, A>, trailer: &[u8]) -> Result<(), AllocError>
     ensures { OnOk result (out.new.items ≡ out.old.items ++ (codes " trailer=" ++ trailer_text trailer.now)) }
 {
@@ -33,7 +33,7 @@ fn put_trailer<A: Allocator>(out: &mut Vec<u8, A>, trailer: &[u8]) -> Result<(),
     }
 }
 
-// Appends what stands before the unit.
+// Appends what stands before the APDU.
 fn put_envelope<A: Allocator>(out: &mut Vec<u8, A>, frame: &FrameView<'_>) -> Result<(), AllocError>
     ensures { OnOk result (out.new.items ≡ out.old.items ++ envelope_text (frame_of {A = Unit {0}} frame.now)) }
 {
@@ -47,7 +47,7 @@ fn put_envelope<A: Allocator>(out: &mut Vec<u8, A>, frame: &FrameView<'_>) -> Re
     Ok(())
 }
 
-// Appends the fields of a GOOSE unit.
+// Appends the fields of a GOOSE APDU.
 fn put_goose<A: Allocator>(out: &mut Vec<u8, A>, goose: &GooseView<'_>) -> Result<(), AllocError>
     ensures { OnOk result (out.new.items ≡ out.old.items ++ goose_text (pdu_of {A = Unit {0}} goose.now)) }
 {
@@ -67,7 +67,7 @@ fn put_goose<A: Allocator>(out: &mut Vec<u8, A>, goose: &GooseView<'_>) -> Resul
     Ok(())
 }
 
-// The word for the kind of unit.
+// The word for the kind of APDU.
 fn unit_word(apdu: &ApduView<'_>) -> &'static [u8]
     ensures { result.now ≡ apdu_word (apdu_of {A = Unit {0}} apdu.now) }
 {
@@ -77,7 +77,7 @@ fn unit_word(apdu: &ApduView<'_>) -> &'static [u8]
     }
 }
 
-// Appends the unit.
+// Appends the APDU.
 fn put_unit<A: Allocator>(out: &mut Vec<u8, A>, apdu: &ApduView<'_>) -> Result<(), AllocError>
     ensures { OnOk result (out.new.items ≡ out.old.items ++ apdu_text (apdu_of {A = Unit {0}} apdu.now)) }
 {

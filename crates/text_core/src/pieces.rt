@@ -2,7 +2,7 @@
 ghost use Rattle.std.specs.Prelude.{◌≡◌, ◌<◌, ◌*◌, ◌++◌, OnOk, slice_index, true};
 ghost use Rattle.std.specs.Fmt.{decimal, signed_decimal};
 ghost use Rattle.hex.specs.Hex.{encode_lower, lower_digits};
-ghost use Rattle.text_core.specs.Pieces.{octet_bits, bits_text, quoted, boolean_text, four_digits, utc_text};
+ghost use Rattle.text_core.specs.Pieces.{octet_bits, bits_text, quoted, boolean_text, four_digits};
 
 use std::alloc::{AllocError, Allocator};
 
@@ -125,20 +125,6 @@ pub fn put_quoted<A: Allocator>(out: &mut Vec<u8, A>, text: &[u8]) -> Result<(),
     }
     out.push(b'"')?;
     Ok(())
-}
-
-/// Appends a moment in UTC as its eight octets.
-pub fn put_time<A: Allocator>(
-    out: &mut Vec<u8, A>,
-    seconds: u32,
-    fraction: u32,
-    quality: u8,
-) -> Result<(), AllocError>
-    ensures { OnOk result (out.new.items ≡ out.old.items ++ utc_text seconds fraction quality) }
-{
-    let [a, b, c, d] = seconds.to_be_bytes();
-    let [_, e, f, g] = fraction.to_be_bytes();
-    put_hexadecimal(out, &[a, b, c, d, e, f, g, quality])
 }
 
 /// A truth value in words.

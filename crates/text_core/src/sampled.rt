@@ -1,4 +1,4 @@
-//! The text of a unit of Sampled Values, from the octets in which it stands.
+//! The text of an APDU of Sampled Values, from the octets in which it stands.
 ghost use Rattle.std.specs.Prelude.{◌≡◌, ◌++◌, OnOk};
 ghost use Rattle.std.specs.List.{flat_map};
 ghost use Rattle.pdu_core.specs.SampledViews.{asdu_of, asdus_left, sv_of};
@@ -52,7 +52,7 @@ fn put_others<A: Allocator>(out: &mut Vec<u8, A>, others: Asdus<'_>) -> Result<(
     Ok(())
 }
 
-/// Appends the ASDUs of a unit.
+/// Appends the ASDUs of an APDU.
 pub fn put_sampled<A: Allocator>(
     out: &mut Vec<u8, A>,
     sampled: &SvView<'_>,

@@ -1,7 +1,6 @@
 //! The last line of a publisher's list, where its script has a fault.
 ghost use Rattle.std.specs.Prelude.{◌≡◌, ◌++◌, OnOk, codes};
 ghost use Rattle.std.specs.Fmt.{decimal};
-ghost use Rattle.text_core.specs.Names.{name_of_script_cause};
 ghost use Rattle.text_core.specs.ScriptLine.{cause_detail, script_line};
 
 use crate::names::{cause_name, list_cause_name, script_cause_name};

@@ -241,12 +241,12 @@ abbrev pub AnswersBadBlock : ℕ → Result Task WordsError → Type 0
 AnswersBadBlock i answer = MatchResult answer (λ t. ⊥) (IsBlockError i)
 
 -- what is asked for is answered, refused memory aside
-abbrev pub Answers : Meaning → Result Task WordsError → Type 0
-Answers (Ok asked) answer = AnswersTask asked answer
-Answers (Err i) answer = AnswersBadBlock i answer
+abbrev pub AnswersWords : Meaning → Result Task WordsError → Type 0
+AnswersWords (Ok asked) answer = AnswersTask asked answer
+AnswersWords (Err i) answer = AnswersBadBlock i answer
 
 -- the same, where something is asked for
 abbrev pub MayAnswer : Option Meaning → Option (Result Task WordsError) → Type 0
 MayAnswer None None = Unit {0}
-MayAnswer (Some meaning) (Some answer) = Answers meaning answer
+MayAnswer (Some meaning) (Some answer) = AnswersWords meaning answer
 MayAnswer _ _ = ⊥

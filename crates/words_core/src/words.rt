@@ -3,7 +3,7 @@ ghost use Rattle.std.specs.Prelude.{◌≡◌, ◌≢◌, ℕ, true, false, code
 ghost use Rattle.clap.specs.Words.{all_of, app_of, found_of, kind_of, new_app, rows_of, rule_of, subcommand_rows_of, takes, with_subcommand};
 ghost use Rattle.clap.specs.Walk.{texts};
 ghost use Rattle.clap.specs.declared.error.kind.ErrorKind.TheVariants.{OutOfMemory};
-ghost use Rattle.words_core.specs.CommandLine.{Answers, AnswersBadBlock, AnswersTask, Asked, Asks, HasPeriod, IsNoMistake, MayAnswer, MayRefuse, bare_program, block_rule, command_line, faults, id_rule, is_plain, period_rule, replay_of, replay_shape, said, task_asked, task_of_words, watch, watch_asked, watch_shape};
+ghost use Rattle.words_core.specs.CommandLine.{AnswersWords, AnswersBadBlock, AnswersTask, Asked, Asks, HasPeriod, IsNoMistake, MayAnswer, MayRefuse, bare_program, block_rule, command_line, faults, id_rule, is_plain, period_rule, replay_of, replay_shape, said, task_asked, task_of_words, watch, watch_asked, watch_shape};
 
 use clap::error::ErrorKind;
 use clap::{Arg, ArgMatches, Command, value_parser};
@@ -197,7 +197,7 @@ fn command<'a>(alloc: Global) -> Result<Command<'a>, AllocError>
 
 // The task of a replay of the control blocks that texts say.
 fn replay_task(alloc: Global, words: &[&str]) -> Result<Task, WordsError>
-    ensures { Answers (replay_of (texts words.now)) result }
+    ensures { AnswersWords (replay_of (texts words.now)) result }
 {
     let mut blocks = Vec::new(alloc);
     for (position, text) in words.iter().enumerate() {
@@ -226,7 +226,7 @@ fn replay_met(alloc: Global, matches: &ArgMatches<'_>) -> Option<Result<Task, Wo
 
 // The task of a watch over the stream with this svID.
 fn watch_task(alloc: Global, period: u32, id: &str) -> Result<Task, WordsError>
-    ensures { Answers (Ok (watch period id.now)) result }
+    ensures { AnswersWords (Ok (watch period id.now)) result }
 {
     let mut octets = Vec::new(alloc);
     match octets.extend_from_slice(id.as_bytes()) {

@@ -34,7 +34,7 @@ fn letters<A: Allocator>(alloc: A, count: u8) -> Result<Vec<u8, A>, AllocError> 
 
 // ---- GOOSE
 
-// A PDU in its written form, with a member of each kind: the simple ones, an array of them, an empty structure.
+// An APDU in its written form, with a member of each kind: the simple ones, an array of them, an empty structure.
 const EACH_KIND: [u8; 122] = [
     0x61, 0x78, 0x80, 0x01, 0x47, 0x81, 0x02, 0x07, 0xd0, 0x82, 0x01, 0x44, 0x84, 0x08, 0x00, 0x00,
     0x00, 0x00, 0x00, 0x00, 0x00, 0x00, 0x85, 0x01, 0x01, 0x86, 0x01, 0x00, 0x87, 0x01, 0x00, 0x88,
@@ -46,19 +46,19 @@ const EACH_KIND: [u8; 122] = [
     0x00, 0x01, 0x00, 0x02, 0x90, 0x00, 0xa1, 0x00, 0xa2, 0x00,
 ];
 
-// Whether the PDU is written as these octets.
+// Whether the APDU is written as these octets.
 fn is_written<A: Allocator>(pdu: &GoosePdu<A>, octets: &[u8]) -> bool {
     let mut out = ArrayVec::<u8, 256>::new();
     put_goose(&mut out, pdu).is_ok() && out.as_slice() == octets
 }
 
-// Whether the PDU is made from its view.
+// Whether the APDU is made from its view.
 fn is_made<A: Allocator + Copy>(alloc: A, octets: &[u8]) -> Result<bool, Fail> {
     let pdu = view_goose(octets, 0, octets.len())?.to_pdu(alloc)?;
     Ok(is_written(&pdu, octets))
 }
 
-// Whether the PDU is read.
+// Whether the APDU is read.
 fn is_read<A: Allocator + Copy>(alloc: A, octets: &[u8]) -> Result<bool, Fail> {
     let pdu = read_goose(alloc, octets, 0, octets.len())?;
     Ok(is_written(&pdu, octets))
@@ -71,7 +71,7 @@ fn members_of_each_kind_are_owned(rt: HostRuntime) -> Result<(), Fail> {
     Ok(())
 }
 
-// A PDU of three texts of so many octets, of which the last may be absent, and so many members.
+// An APDU of three texts of so many octets, of which the last may be absent, and so many members.
 fn goose<A: Allocator + Copy>(
     alloc: A,
     text: u8,
@@ -101,7 +101,7 @@ fn goose<A: Allocator + Copy>(
     Ok(octets)
 }
 
-// Whether the PDU is that.
+// Whether the APDU is that.
 fn is_goose<A: Allocator>(pdu: &GoosePdu<A>, letters: &[u8], has_id: bool, members: u8) -> bool {
     let has_its_id = match &pdu.go_id {
         Some(id) => has_id && id.as_slice() == letters,
@@ -115,7 +115,7 @@ fn is_goose<A: Allocator>(pdu: &GoosePdu<A>, letters: &[u8], has_id: bool, membe
         && pdu.members.as_slice().len() == members as usize
 }
 
-// Whether the PDU of such octets is owned.
+// Whether the APDU of such octets is owned.
 fn is_goose_owned<A: Allocator + Copy>(
     alloc: A,
     text: u8,
@@ -180,7 +180,7 @@ fn is_at<A: Allocator>(asdu: &Asdu<A>, place: usize) -> bool {
         && asdu.field_89.is_none()
 }
 
-// Whether the PDU has so many ASDUs, which count from 0.
+// Whether the APDU has so many ASDUs, which count from 0.
 fn are_asdus<A: Allocator>(pdu: &SvPdu<A>, count: u16) -> bool {
     let asdus = pdu.asdus.as_slice();
     for (place, asdu) in asdus.iter().enumerate() {
@@ -191,7 +191,7 @@ fn are_asdus<A: Allocator>(pdu: &SvPdu<A>, count: u16) -> bool {
     asdus.len() == count as usize
 }
 
-// Whether the PDU of so many ASDUs is owned.
+// Whether the APDU of so many ASDUs is owned.
 fn are_asdus_owned<A: Allocator + Copy>(alloc: A, count: u16) -> Result<bool, Fail>
     requires { count ≤ 1000 }
 {

@@ -1,4 +1,4 @@
-// A recorded PDU: its value, with an identifier, with another count, and where only its front is there.
+// A recorded APDU: its value, with an identifier, with another count, and where only its front is there.
 
 use crate::pdu::{FRAME, NO_TIME, SHORT, changed, fault};
 use arrayvec::ArrayVec;
@@ -34,7 +34,7 @@ fn recorded_pdu_fits_in_45_octets(rt: HostRuntime) -> Result<(), Fail> {
     Ok(())
 }
 
-// The recorded PDU with an identifier.
+// The recorded APDU with an identifier.
 const NAMED: [u8; 48] = [
     0x61, 0x2e, 0x80, 0x01, 0x47, 0x81, 0x02, 0x07, 0xd0, 0x82, 0x01, 0x44, 0x83, 0x01, 0x49, 0x84,
     0x08, 0x00, 0x00, 0x00, 0x00, 0x00, 0x00, 0x00, 0x00, 0x85, 0x01, 0x01, 0x86, 0x01, 0x00, 0x87,
@@ -99,7 +99,7 @@ fn each_cut_is_at_fault(rt: HostRuntime) {
     }
 }
 
-// The fault of so many octets of the PDU's contents under a length that fits them.
+// The fault of so many octets of the APDU's contents under a length that fits them.
 fn fault_of_front(size: u8) -> Option<Fault> {
     let end = (24 + size as usize).min(67);
     view_goose(&changed(23, size), 22, end).err()

@@ -8,7 +8,7 @@ use std::alloc::{Allocator, Global};
 use std::process::Abort;
 use std::test::Fail;
 
-// A PDU with an identifier and two members: a structure of an array of a text and of a text, and a boolean.
+// An APDU with an identifier and two members: a structure of an array of a text and of a text, and a boolean.
 const NESTED: [u8; 58] = [
     0x61, 0x38, 0x80, 0x01, 0x41, 0x81, 0x01, 0x01, 0x82, 0x00, 0x83, 0x01, 0x49, 0x84, 0x08, 0x00,
     0x00, 0x00, 0x01, 0xff, 0xff, 0xff, 0x02, 0x85, 0x02, 0x00, 0x80, 0x86, 0x01, 0x00, 0x87, 0x01,
@@ -16,13 +16,13 @@ const NESTED: [u8; 58] = [
     0x8a, 0x02, 0x41, 0x42, 0x90, 0x01, 0x43, 0x83, 0x01, 0x00,
 ];
 
-// Whether the nested PDU is written from this one.
+// Whether the nested APDU is written from this one.
 fn is_nested<A: Allocator>(pdu: &GoosePdu<A>) -> bool {
     let mut out = ArrayVec::<u8, 64>::new();
     put_goose(&mut out, pdu).is_ok() && out.as_slice() == NESTED.as_slice()
 }
 
-// Whether the PDU is read at once; else it is once memory is granted.
+// Whether the APDU is read at once; else it is once memory is granted.
 fn is_read_at_once<H: Abort>(rt: &H, alloc: &RefusingAlloc<Global>) -> Result<bool, Fail> {
     match read_goose(alloc, &NESTED, 0, 58) {
         Ok(pdu) => {
@@ -53,7 +53,7 @@ fn read_goose_where_each_growth_is_refused(rt: HostRuntime) -> Result<(), Fail> 
     Err(Fail::from("each call was refused memory"))
 }
 
-// Whether the view's PDU is made at once; else it is once memory is granted.
+// Whether the view's APDU is made at once; else it is once memory is granted.
 fn is_made_at_once<H: Abort>(
     rt: &H,
     alloc: &RefusingAlloc<Global>,

@@ -8,7 +8,7 @@ use mms_data::{ReadFault, UtcTime};
 use pdu_core::{AsduView, read_sv, view_sv};
 use std::test::Fail;
 
-/// A frame. Its PDU stands at 22, its ASDU at 29.
+/// A frame. Its APDU stands at 22, its ASDU at 29.
 pub const FRAME: [u8; 54] = [
     0x01, 0x0c, 0xcd, 0x04, 0x00, 0x01, 0x02, 0x00, 0x00, 0x00, 0x00, 0x01, 0x88, 0xba, 0x40, 0x00,
     0x00, 0x28, 0x00, 0x00, 0x00, 0x00, 0x60, 0x1e, 0x80, 0x01, 0x01, 0xa2, 0x19, 0x30, 0x17, 0x80,
@@ -16,7 +16,7 @@ pub const FRAME: [u8; 54] = [
     0x02, 0x00, 0x2a, 0x88, 0x01, 0x00,
 ];
 
-/// A PDU of one ASDU with each field.
+/// An APDU of one ASDU with each field.
 pub const FULL: [u8; 54] = [
     0x60, 0x34, 0x80, 0x01, 0x01, 0xa2, 0x2f, 0x30, 0x2d, 0x80, 0x01, 0x53, 0x81, 0x01, 0x44, 0x82,
     0x02, 0x00, 0x07, 0x83, 0x04, 0x00, 0x00, 0x00, 0x02, 0x84, 0x08, 0x00, 0x00, 0x00, 0x01, 0x00,
@@ -24,7 +24,7 @@ pub const FULL: [u8; 54] = [
     0x02, 0x00, 0x05, 0x89, 0x01, 0x07,
 ];
 
-// A PDU of one ASDU with no field that may be absent, of which the texts and the sample have no octets. Its
+// An APDU of one ASDU with no field that may be absent, of which the texts and the sample have no octets. Its
 // count is spelled in two octets.
 const LEAST: [u8; 27] = [
     0x60, 0x19, 0x80, 0x02, 0x00, 0x01, 0xa2, 0x13, 0x30, 0x11, 0x80, 0x00, 0x82, 0x02, 0x00, 0x00,
@@ -37,7 +37,7 @@ const TIME: UtcTime = UtcTime {
     quality: 3,
 };
 
-// The one ASDU of the PDU from `at` to `end`.
+// The one ASDU of the APDU from `at` to `end`.
 fn one_asdu<'a>(octets: &'a [u8], at: usize, end: usize) -> Result<Option<AsduView<'a>>, Fault>
     requires ordered { at ≤ end }
     requires inside { end ≤ length octets.now }
@@ -132,7 +132,7 @@ fn wrong_count_is_told(rt: HostRuntime) {
     assert_eq!(rt; view_sv(&frame, 22, 54).err(), fault);
 }
 
-// A PDU of eight ASDUs, the recorded one with the counts 0 to 7.
+// An APDU of eight ASDUs, the recorded one with the counts 0 to 7.
 fn eight() -> ArrayVec<u8, 209> {
     let mut pdu = ArrayVec::<u8, 209>::new();
     let _ = pdu.try_extend_from_slice(&[0x60, 0x81, 0xce, 0x80, 0x01, 0x08, 0xa2, 0x81, 0xc8]);

@@ -7,7 +7,7 @@ use arrayvec::ArrayVec;
 use ber_core::{Cause, Fault};
 use pdu_core::view_sv;
 
-// The fault of the PDU with each field, with this octet at this place.
+// The fault of the APDU with each field, with this octet at this place.
 fn fault(place: usize, octet: u8) -> Option<Fault>
     requires { place < 54 }
 {
@@ -120,7 +120,7 @@ fn each_cut_is_at_fault(rt: HostRuntime) {
     }
 }
 
-// The recorded PDU with so many octets behind the sample, as smpMod or as the field 89.
+// The recorded APDU with so many octets behind the sample, as smpMod or as the field 89.
 fn with_few(identifier: u8, count: u8) -> ArrayVec<u8, 64>
     requires { count ≤ 17 }
 {

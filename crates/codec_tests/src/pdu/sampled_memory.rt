@@ -31,7 +31,7 @@ pub(super) fn is_owned<A: Allocator>(asdu: &Asdu<A>, view: &AsduView<'_>) -> boo
         && are_owned(&asdu.field_89, view.field_89)
 }
 
-// Whether the PDU is what the view of one ASDU stands for.
+// Whether the APDU is what the view of one ASDU stands for.
 fn is_full<A: Allocator>(pdu: &SvPdu<A>, view: &SvView<'_>) -> bool {
     let mut asdus = view.asdus;
     match (pdu.asdus.as_slice(), asdus.next()) {
@@ -40,7 +40,7 @@ fn is_full<A: Allocator>(pdu: &SvPdu<A>, view: &SvView<'_>) -> bool {
     }
 }
 
-// Whether the PDU is read at once; else it is once memory is granted.
+// Whether the APDU is read at once; else it is once memory is granted.
 fn is_read_at_once<H: Abort>(
     rt: &H,
     alloc: &RefusingAlloc<Global>,
@@ -77,7 +77,7 @@ fn read_sv_where_each_growth_is_refused(rt: HostRuntime) -> Result<(), Fail> {
     Err(Fail::from("each call was refused memory"))
 }
 
-// Whether the view's PDU is made at once; else it is once memory is granted.
+// Whether the view's APDU is made at once; else it is once memory is granted.
 fn is_made_at_once<H: Abort>(
     rt: &H,
     alloc: &RefusingAlloc<Global>,

@@ -35,7 +35,7 @@ fn asdu<A: Allocator + Copy>(alloc: A) -> Result<Asdu<A>, AllocError> {
     })
 }
 
-// A PDU of one ASDU.
+// An APDU of one ASDU.
 fn alone<A: Allocator>(alloc: A, asdu: Asdu<A>) -> Result<SvPdu<A>, AllocError> {
     let mut asdus = Vec::new(alloc);
     asdus.push(asdu)?;
@@ -83,7 +83,7 @@ fn lengths_take_their_long_form(rt: HostRuntime) -> Result<(), Fail> {
     Ok(())
 }
 
-// Whether the PDU is refused for what it is, where no octet fits either.
+// Whether the APDU is refused for what it is, where no octet fits either.
 fn is_refused<A: Allocator>(pdu: &SvPdu<A>) -> bool {
     let mut none = ArrayVec::<u8, 0>::new();
     let answer = put_sv(&mut none, pdu);

@@ -1,16 +1,13 @@
 //! `check`: a line for each note on a frame.
-ghost use Rattle.std.specs.Prelude.{◌≡◌, ◌++◌, ℕ, List, true, false, ⊤, OnOk, MatchResult, Ok};
+ghost use Rattle.std.specs.Prelude.{◌≡◌, ◌++◌, ℕ, List, false, ⊤, OnOk, MatchResult, Ok};
 ghost use Rattle.frame_core.specs.declared.device.InputEnd.{InputEnd};
 ghost use Rattle.frame_core.specs.declared.event_lines.EventLines.TheVariants.{First};
-ghost use Rattle.frame_core.specs.Device.{Gives};
+ghost use Rattle.frame_core.specs.Device.{GivesOctets};
 ghost use Rattle.frame_core.specs.EventLine.{event_rules};
 ghost use Rattle.frame_core.specs.Frame.{frame_of};
-ghost use Rattle.frame_core.specs.FrameReading.{frame_at};
-ghost use Rattle.frame_core.specs.ListReader.{list_fault_of};
 ghost use Rattle.frame_core.specs.Written.{ApduIsSpellable};
 ghost use Rattle.engine_core.specs.CheckText.{check_text, goes_where_recommended, has_text, is_form, note_unless, notes, octets_notes};
 ghost use Rattle.engine_core.specs.EngineText.{Writes, is_write_fault};
-ghost use Rattle.text_core.specs.LineText.{list_line};
 ghost use Rattle.engine_core.specs.WrittenForm.{fitting_form};
 
 use crate::ending::Ending;
@@ -172,7 +169,7 @@ pub fn check<A: Allocator + Copy, R: Source, W: Sink>(
 ) -> (Ending, R)
     requires open { R.ending reader ≡ InputEnd.Open }
     requires works { W.failed writer.old ≡ false }
-    ensures text { (given : List ℕ) × Gives (R.left reader) (R.left result.1) given
+    ensures text { (given : List ℕ) × GivesOctets (R.left reader) (R.left result.1) given
         × Writes event_rules First (check_text {A = A}) result.0 (R.ending result.1) given (W.contents writer.old) (W.contents writer.new) }
     ensures read_fault { result.0 ≡ Ending.ReadFault → R.ending result.1 ≡ InputEnd.Failed }
     ensures fault { W.failed writer.new ≡ is_write_fault result.0 }

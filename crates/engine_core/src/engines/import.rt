@@ -1,7 +1,7 @@
 //! `import`: a capture as a list.
 ghost use Rattle.std.specs.Prelude.{◌≡◌, ◌≤◌, ℕ, List, Option, Result, [], false};
 ghost use Rattle.frame_core.specs.declared.device.InputEnd.{InputEnd};
-ghost use Rattle.frame_core.specs.Device.{Gives};
+ghost use Rattle.frame_core.specs.Device.{GivesOctets};
 ghost use Rattle.capture_core.specs.Capture.{CaptureRecord};
 ghost use Rattle.capture_core.specs.Reading.{ReadsRecord};
 ghost use Rattle.capture_core.specs.declared.capture_fault.CaptureFault as fault;
@@ -120,7 +120,7 @@ fn answer_record<R: Source, W: Sink>(
 // Writes the first line, then each record of the capture in its turn.
 fn import_all<R: Source, W: Sink>(reader: &mut R, writer: &mut W) -> Ending
     requires { W.failed writer.old ≡ false }
-    ensures text { (given : List ℕ) × Gives (R.left reader.old) (R.left reader.new) given
+    ensures text { (given : List ℕ) × GivesOctets (R.left reader.old) (R.left reader.new) given
         × Imports result (R.ending reader.new) given (W.contents writer.old) (W.contents writer.new) }
     ensures read_fault { result ≡ Ending.ReadFault → R.ending reader.new ≡ InputEnd.Failed }
     ensures fault { W.failed writer.new ≡ is_write_fault result }
@@ -161,7 +161,7 @@ pub fn import<A: Allocator + Copy, R: Source, W: Sink>(
     writer: &mut W,
 ) -> (Ending, R)
     requires { W.failed writer.old ≡ false }
-    ensures text { (given : List ℕ) × Gives (R.left reader) (R.left result.1) given
+    ensures text { (given : List ℕ) × GivesOctets (R.left reader) (R.left result.1) given
         × Imports result.0 (R.ending result.1) given (W.contents writer.old) (W.contents writer.new) }
     ensures read_fault { result.0 ≡ Ending.ReadFault → R.ending result.1 ≡ InputEnd.Failed }
     ensures fault { W.failed writer.new ≡ is_write_fault result.0 }

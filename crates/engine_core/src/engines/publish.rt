@@ -1,15 +1,15 @@
 //! `publish`: the list of what a publisher sends that a script sets up and calls.
 ghost use Rattle.std.specs.Prelude.{◌≡◌, [], ℕ, List, IfErr, IfOk, OnOk, Some, false};
 ghost use Rattle.frame_core.specs.declared.device.InputEnd.{InputEnd};
-ghost use Rattle.frame_core.specs.Device.{Gives};
+ghost use Rattle.frame_core.specs.Device.{GivesOctets};
 ghost use Rattle.publish_core.specs.Frames.{Setup, change, setup};
 ghost use Rattle.publish_core.specs.Run.{Call, Changed, Polled, call};
-ghost use Rattle.publish_core.specs.Standing.{StandsAfter};
+ghost use Rattle.publish_core.specs.Standing.{PublisherStandsAfter};
 ghost use Rattle.script_core.specs.declared.script.ScriptCause.{ScriptCause as SpecCause};
 ghost use Rattle.script_core.specs.declared.script.ScriptItem.{ScriptItem as SpecItem};
 ghost use Rattle.script_core.specs.declared.script.ScriptLines.TheVariants.{First};
 ghost use Rattle.engine_core.specs.EngineText.{Text, Writes, is_write_fault};
-ghost use Rattle.engine_core.specs.PublishText.{IsPublishText, IsSound, script_cause};
+ghost use Rattle.engine_core.specs.PublishText.{IsPublishText, IsScriptSound, script_cause};
 ghost use Rattle.engine_core.specs.PublishStep.{Holds, Progress, Runs, TakesCall, TakesItem, progress_after, publish_text, setup_cause};
 ghost use Rattle.script_core.specs.Script.{script_rules};
 
@@ -56,8 +56,8 @@ fn set_up<A: Allocator>(
     first: u32,
     steps: &[Step],
 ) -> Result<Publisher<A>, ScriptCause>
-    ensures stands { IfOk result (λ s. StandsAfter (setup control steps.now first) [] s) }
-    ensures sound { OnOk result (IsSound (setup control steps.now first)) }
+    ensures stands { IfOk result (λ s. PublisherStandsAfter (setup control steps.now first) [] s) }
+    ensures sound { OnOk result (IsScriptSound (setup control steps.now first)) }
     ensures cause { IfErr result (λ why. setup_cause (setup control steps.now first) ≡ Some why) }
 {
     let table = match Table::new(steps) {
@@ -89,7 +89,7 @@ fn put_change<A: Allocator>(
     t: UtcTime,
     values: ValueList<A>,
 ) -> Result<(), LineError<ScriptCause>>
-    ensures { (p : Setup A) (calls : List Call) → IsSound p → StandsAfter p calls publisher.old →
+    ensures { (p : Setup A) (calls : List Call) → IsScriptSound p → PublisherStandsAfter p calls publisher.old →
         TakesCall p calls (call moment (Changed (change t values))) result line.old.items line.new.items publisher.new }
 {
     let first = match publisher.change(moment, t, values) {
@@ -108,7 +108,7 @@ fn put_poll<A: Allocator>(
     line: &mut Vec<u8, A>,
     moment: u64,
 ) -> Result<(), LineError<ScriptCause>>
-    ensures { (p : Setup A) (calls : List Call) → IsSound p → StandsAfter p calls publisher.old →
+    ensures { (p : Setup A) (calls : List Call) → IsScriptSound p → PublisherStandsAfter p calls publisher.old →
         TakesCall p calls (call moment Polled) result line.old.items line.new.items publisher.new }
 {
     let Some(next) = publisher.poll(moment) else {
@@ -214,7 +214,7 @@ pub fn publish<A: Allocator + Copy, R: Source, W: Sink>(
 ) -> (Ending, R)
     requires open { R.ending reader ≡ InputEnd.Open }
     requires works { W.failed writer.old ≡ false }
-    ensures text { (given : List ℕ) × Gives (R.left reader) (R.left result.1) given
+    ensures text { (given : List ℕ) × GivesOctets (R.left reader) (R.left result.1) given
         × ((t : Text (SpecItem A) SpecCause) × IsPublishText t × Writes script_rules First t result.0 (R.ending result.1) given (W.contents writer.old) (W.contents writer.new)) }
     ensures read_fault { result.0 ≡ Ending.ReadFault → R.ending result.1 ≡ InputEnd.Failed }
     ensures fault { W.failed writer.new ≡ is_write_fault result.0 }

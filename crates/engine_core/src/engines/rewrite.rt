@@ -3,12 +3,10 @@ ghost use Rattle.std.specs.Prelude.{◌≡◌, ◌++◌, ℕ, List, true, false,
 ghost use Rattle.std.specs.Fmt.{decimal};
 ghost use Rattle.hex.specs.Hex.{encode_lower};
 ghost use Rattle.frame_core.specs.declared.device.InputEnd.{InputEnd};
-ghost use Rattle.frame_core.specs.Device.{Gives};
+ghost use Rattle.frame_core.specs.Device.{GivesOctets};
 ghost use Rattle.frame_core.specs.EventLine.{event_rules, kind_text, mode_text};
 ghost use Rattle.frame_core.specs.declared.event_lines.EventLines.TheVariants.{First};
 ghost use Rattle.engine_core.specs.EngineText.{Writes, is_write_fault};
-ghost use Rattle.frame_core.specs.ListReader.{list_fault_of};
-ghost use Rattle.text_core.specs.LineText.{list_line};
 ghost use Rattle.engine_core.specs.RewriteText.{form_or, is_kept, rewritten, rewrite_text};
 ghost use Rattle.engine_core.specs.WrittenForm.{written_form};
 
@@ -151,7 +149,7 @@ pub fn rewrite<A: Allocator + Copy, R: Source, W: Sink>(
 ) -> (Ending, R)
     requires open { R.ending reader ≡ InputEnd.Open }
     requires works { W.failed writer.old ≡ false }
-    ensures text { (given : List ℕ) × Gives (R.left reader) (R.left result.1) given
+    ensures text { (given : List ℕ) × GivesOctets (R.left reader) (R.left result.1) given
         × Writes event_rules First (rewrite_text {A = A}) result.0 (R.ending result.1) given (W.contents writer.old) (W.contents writer.new) }
     ensures read_fault { result.0 ≡ Ending.ReadFault → R.ending result.1 ≡ InputEnd.Failed }
     ensures fault { W.failed writer.new ≡ is_write_fault result.0 }

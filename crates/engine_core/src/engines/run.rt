@@ -1,10 +1,10 @@
 //! The run of an engine over a list: a line is asked for once the text of the line before stands
 //! written.
-ghost use Rattle.std.specs.Prelude.{◌≡◌, ◌++◌, ℕ, List, [], Bool, Some, None, Ok, false, true, OnOk, MatchResult, if◌then◌else◌};
+ghost use Rattle.std.specs.Prelude.{◌≡◌, ◌++◌, ℕ, List, [], Some, None, Ok, false, OnOk, if◌then◌else◌};
 ghost use Rattle.frame_core.specs.declared.device.InputEnd.{InputEnd};
-ghost use Rattle.frame_core.specs.Device.{Gives};
+ghost use Rattle.frame_core.specs.Device.{GivesOctets};
 ghost use Rattle.frame_core.specs.ItemReader.{Answer, AnswersItem, item_place};
-ghost use Rattle.engine_core.specs.EngineText.{Refuses, Text, Writes, ending_of, ending_at, is_write_fault};
+ghost use Rattle.engine_core.specs.EngineText.{LeavesRefused, Text, Writes, ending_of, ending_at, is_write_fault};
 ghost use Rattle.engine_core.specs.EngineStep.{StepWrites, Stops, Takes, stops_by};
 
 use crate::ending::Ending;
@@ -180,7 +180,7 @@ pub fn run<
     requires works { W.failed writer.old ≡ false }
     requires first { first.now ≡ (E.text engine).first }
     requires fresh { E.stands engine [] }
-    ensures text { (given : List ℕ) × Gives (R.left reader) (R.left result.1) given
+    ensures text { (given : List ℕ) × GivesOctets (R.left reader) (R.left result.1) given
         × Writes G.rules rules (E.text engine) result.0 (R.ending result.1) given (W.contents writer.old) (W.contents writer.new) }
     ensures read_fault { result.0 ≡ Ending.ReadFault → R.ending result.1 ≡ InputEnd.Failed }
     ensures fault { W.failed writer.new ≡ is_write_fault result.0 }
@@ -204,7 +204,7 @@ pub fn run<
 /// Writes one text alone and reads nothing, where a run is refused.
 pub fn refuse<R, W: Sink>(text: &[u8], reader: R, writer: &mut W) -> (Ending, R)
     requires { W.failed writer.old ≡ false }
-    ensures text { Refuses text.now result.0 (W.contents writer.old) (W.contents writer.new) }
+    ensures text { LeavesRefused text.now result.0 (W.contents writer.old) (W.contents writer.new) }
     ensures reader { result.1 ≡ reader }
     ensures fault { W.failed writer.new ≡ is_write_fault result.0 }
 {

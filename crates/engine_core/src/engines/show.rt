@@ -1,13 +1,11 @@
 //! `show`: one line an event.
-ghost use Rattle.std.specs.Prelude.{◌≡◌, ◌++◌, ℕ, List, true, false, ⊤, OnOk, codes};
+ghost use Rattle.std.specs.Prelude.{◌≡◌, ◌++◌, ℕ, List, false, ⊤, OnOk, codes};
 ghost use Rattle.std.specs.Fmt.{decimal};
 ghost use Rattle.frame_core.specs.EventLine.{event_rules, mode_text};
 ghost use Rattle.frame_core.specs.declared.event_lines.EventLines.TheVariants.{First};
 ghost use Rattle.frame_core.specs.declared.device.InputEnd.{InputEnd};
-ghost use Rattle.frame_core.specs.Device.{Gives};
+ghost use Rattle.frame_core.specs.Device.{GivesOctets};
 ghost use Rattle.engine_core.specs.EngineText.{Writes, is_write_fault};
-ghost use Rattle.frame_core.specs.ListReader.{list_fault_of};
-ghost use Rattle.text_core.specs.LineText.{list_line};
 ghost use Rattle.engine_core.specs.ShowText.{octets_line, show_text};
 
 use crate::ending::Ending;
@@ -105,7 +103,7 @@ pub fn show<A: Allocator + Copy, R: Source, W: Sink>(
 ) -> (Ending, R)
     requires open { R.ending reader ≡ InputEnd.Open }
     requires works { W.failed writer.old ≡ false }
-    ensures text { (given : List ℕ) × Gives (R.left reader) (R.left result.1) given
+    ensures text { (given : List ℕ) × GivesOctets (R.left reader) (R.left result.1) given
         × Writes event_rules First (show_text {A = A}) result.0 (R.ending result.1) given (W.contents writer.old) (W.contents writer.new) }
     ensures read_fault { result.0 ≡ Ending.ReadFault → R.ending result.1 ≡ InputEnd.Failed }
     ensures fault { W.failed writer.new ≡ is_write_fault result.0 }

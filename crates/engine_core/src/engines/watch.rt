@@ -4,7 +4,7 @@ ghost use Rattle.frame_core.specs.declared.device.InputEnd.{InputEnd};
 ghost use Rattle.frame_core.specs.declared.event.Event.{Event as SpecEvent};
 ghost use Rattle.frame_core.specs.declared.event_lines.EventLines.TheVariants.{First};
 ghost use Rattle.frame_core.specs.declared.list_fault.ListCause.{ListCause as SpecCause};
-ghost use Rattle.frame_core.specs.Device.{Gives};
+ghost use Rattle.frame_core.specs.Device.{GivesOctets};
 ghost use Rattle.frame_core.specs.EventLine.{event_rules};
 ghost use Rattle.pdu_core.specs.SampledViews.{asdu_of, asdus_left};
 ghost use Rattle.subscribe_core.specs.Watch.{IsPeriod, seen_all};
@@ -169,7 +169,7 @@ pub fn watch<A: Allocator + Copy, R: Source, W: Sink>(
     requires open { R.ending reader ≡ InputEnd.Open }
     requires works { W.failed writer.old ≡ false }
     requires period { IsPeriod period }
-    ensures text { (given : List ℕ) × Gives (R.left reader) (R.left result.1) given
+    ensures text { (given : List ℕ) × GivesOctets (R.left reader) (R.left result.1) given
         × ((t : Text (SpecEvent A) SpecCause) × IsWatchText period id.now t × Writes event_rules First t result.0 (R.ending result.1) given (W.contents writer.old) (W.contents writer.new)) }
     ensures read_fault { result.0 ≡ Ending.ReadFault → R.ending result.1 ≡ InputEnd.Failed }
     ensures fault { W.failed writer.new ≡ is_write_fault result.0 }

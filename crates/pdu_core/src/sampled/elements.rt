@@ -1,9 +1,8 @@
-// Appending the elements of a savPdu: one ASDU, and the unit that holds ASDUs.
+// Appending the elements of a savPdu: one ASDU, and the savPdu that holds ASDUs.
 
 ghost use Rattle.std.specs.Prelude.{◌≡◌, ◌≤◌, ◌<◌, ◌+◌, ◌^◌, ◌↔◌, ◌++◌, drop, length, pos, IsOk, OnOk, OnErr};
 ghost use Rattle.arrayvec.specs.ArrayVec.{array_vec_len};
-ghost use Rattle.ber_core.specs.Written.{short_integer};
-ghost use Rattle.mms_data.specs.Written.{element};
+ghost use Rattle.ber_core.specs.Written.{short_integer, written_element};
 ghost use Rattle.pdu_core.specs.Asdu.{asdu_fields, asdu_items};
 ghost use Rattle.pdu_core.specs.SampledViews.{asdu_of};
 ghost use Rattle.pdu_core.specs.SampledWritten.{asdu_contents, written_asdu};
@@ -60,22 +59,22 @@ fn put_contents<const N: usize>(
     count: usize,
     asdus: &[u8],
 ) -> Result<(), Full>
-    ensures enough { length (element 0x80 (short_integer (pos count)) ++ element 0xa2 asdus.now) < 2 ^ 32 → array_vec_len out.old + length (element 0x80 (short_integer (pos count)) ++ element 0xa2 asdus.now) ≤ N → IsOk result }
-    ensures written { OnOk result (out.new.items ≡ out.old.items ++ (element 0x80 (short_integer (pos count)) ++ element 0xa2 asdus.now)) }
+    ensures enough { length (written_element 0x80 (short_integer (pos count)) ++ written_element 0xa2 asdus.now) < 2 ^ 32 → array_vec_len out.old + length (written_element 0x80 (short_integer (pos count)) ++ written_element 0xa2 asdus.now) ≤ N → IsOk result }
+    ensures written { OnOk result (out.new.items ≡ out.old.items ++ (written_element 0x80 (short_integer (pos count)) ++ written_element 0xa2 asdus.now)) }
 {
     put_number(out, 0x80, count as u64)?;
     put_octets(out, 0xa2, asdus)
 }
 
-// Appends the unit of so many ASDUs, which stand in their written form, where it fits; else `out` is unchanged.
+// Appends the savPdu of so many ASDUs, which stand in their written form, where it fits; else `out` is unchanged.
 #[tactic(auto, using(mms_data::proofs::Sizes::element_size))]
 pub fn put_unit<const N: usize>(
     out: &mut ArrayVec<u8, N>,
     count: usize,
     asdus: &[u8],
 ) -> Result<(), Full>
-    ensures fits { IsOk result ↔ ((length (element 0x80 (short_integer (pos count)) ++ element 0xa2 asdus.now) < 2 ^ 32) × (array_vec_len out.old + length (element 0x60 (element 0x80 (short_integer (pos count)) ++ element 0xa2 asdus.now)) ≤ N)) }
-    ensures written { OnOk result (out.new.items ≡ out.old.items ++ element 0x60 (element 0x80 (short_integer (pos count)) ++ element 0xa2 asdus.now)) }
+    ensures fits { IsOk result ↔ ((length (written_element 0x80 (short_integer (pos count)) ++ written_element 0xa2 asdus.now) < 2 ^ 32) × (array_vec_len out.old + length (written_element 0x60 (written_element 0x80 (short_integer (pos count)) ++ written_element 0xa2 asdus.now)) ≤ N)) }
+    ensures written { OnOk result (out.new.items ≡ out.old.items ++ written_element 0x60 (written_element 0x80 (short_integer (pos count)) ++ written_element 0xa2 asdus.now)) }
     ensures unchanged { OnErr result (out.new ≡ out.old) }
 {
     let mut contents = ArrayVec::<u8, N>::new();

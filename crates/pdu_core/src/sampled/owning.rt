@@ -4,9 +4,10 @@ ghost use Rattle.std.specs.Prelude.{◌≡◌, [], IfOk, IsOk};
 ghost use Rattle.pdu_core.specs.Memory.{AsduNeedsNoMemory};
 ghost use Rattle.pdu_core.specs.SampledViews.{asdu_of, asdus_left, sv_of};
 
-use crate::owning::{own, own_if};
+use crate::owning::own_if;
 use crate::sampled::asdu::{Asdu, AsduList, SvPdu};
 use crate::sampled::view::{AsduView, SvView};
+use mms_data::Octets;
 use std::alloc::{AllocError, Allocator};
 
 impl<'a> AsduView<'a> {
@@ -22,14 +23,14 @@ impl<'a> AsduView<'a> {
         ensures none { AsduNeedsNoMemory (asdu_of {A = A} self.now) → IsOk result }
     {
         Ok(Asdu {
-            sv_id: own(alloc, self.sv_id)?,
+            sv_id: Octets::try_from_slice(alloc, self.sv_id)?,
             dat_set: own_if(alloc, self.dat_set)?,
             smp_cnt: self.smp_cnt,
             conf_rev: self.conf_rev,
             refr_tm: self.refr_tm,
             smp_synch: self.smp_synch,
             smp_rate: self.smp_rate,
-            sample: own(alloc, self.sample)?,
+            sample: Octets::try_from_slice(alloc, self.sample)?,
             smp_mod: own_if(alloc, self.smp_mod)?,
             field_89: own_if(alloc, self.field_89)?,
         })
@@ -37,7 +38,7 @@ impl<'a> AsduView<'a> {
 }
 
 impl<'a> SvView<'a> {
-    /// The PDU that the view stands for, in memory of its own; that of the list is taken once.
+    /// The APDU that the view stands for, in memory of its own; that of the list is taken once.
     ///
     /// # Errors
     ///

@@ -11,7 +11,7 @@ use crate::sampled::viewing::view_sv;
 use mms_data::ReadFault;
 use std::alloc::Allocator;
 
-/// The PDU whose one element fills the octets from `at` to `end` (IEC 61850-9-2, savPdu), in memory of its
+/// The APDU whose one element fills the octets from `at` to `end` (IEC 61850-9-2, savPdu), in memory of its
 /// own.
 ///
 /// # Errors

@@ -1,7 +1,7 @@
-// Whether a PDU of Sampled Values has a spelling.
+// Whether an APDU of Sampled Values has a spelling.
 
 ghost use Rattle.std.specs.Prelude.{◌↔◌, IfSome, IsTrue};
-ghost use Rattle.pdu_core.specs.SampledSpellable.{AreFew, IsFixed, SpellableAsdu, SpellableSv};
+ghost use Rattle.pdu_core.specs.SampledSpellable.{AreFew, IsFixed, IsSpellableAsdu, IsSpellableSv};
 ghost use Rattle.mms_data.specs.Spellable.{IsTime};
 
 use crate::sampled::asdu::{Asdu, SvPdu};
@@ -41,7 +41,7 @@ fn know_ranges(smp_cnt: u16, conf_rev: u32, smp_synch: u8, smp_rate: Option<u16>
 
 // Whether each field of the ASDU has a spelling.
 fn is_spellable_asdu<A: Allocator>(asdu: &Asdu<A>) -> bool
-    ensures { IsTrue result ↔ SpellableAsdu asdu.now }
+    ensures { IsTrue result ↔ IsSpellableAsdu asdu.now }
 {
     know_ranges(asdu.smp_cnt, asdu.conf_rev, asdu.smp_synch, asdu.smp_rate);
     is_visible(asdu.sv_id.as_slice())
@@ -51,10 +51,10 @@ fn is_spellable_asdu<A: Allocator>(asdu: &Asdu<A>) -> bool
         && are_few_if(&asdu.field_89)
 }
 
-/// Whether each field of the PDU has a spelling: there are 1 to 65535 ASDUs, and in each of them texts are
+/// Whether each field of the APDU has a spelling: there are 1 to 65535 ASDUs, and in each of them texts are
 /// visible, the fraction of the time is below 2^24, smpMod and the field 89 have one to sixteen octets.
 pub fn is_spellable_sv<A: Allocator>(pdu: &SvPdu<A>) -> bool
-    ensures { IsTrue result ↔ SpellableSv pdu.now }
+    ensures { IsTrue result ↔ IsSpellableSv pdu.now }
 {
     let asdus = pdu.asdus.as_slice();
     if !matches!(asdus.len(), 1..=0xffff) {

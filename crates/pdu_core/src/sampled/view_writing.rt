@@ -1,9 +1,9 @@
-// Appending a PDU of Sampled Values in its written form from where it stands.
+// Appending an APDU of Sampled Values in its written form from where it stands.
 
 ghost use Rattle.std.specs.Prelude.{◌≡◌, ◌≤◌, ◌<◌, ◌+◌, ◌^◌, ◌↔◌, ◌++◌, length, IsOk, OnOk, OnErr};
 ghost use Rattle.arrayvec.specs.ArrayVec.{array_vec_len};
 ghost use Rattle.pdu_core.specs.Sampled.{SpellsSv};
-ghost use Rattle.pdu_core.specs.SampledSpellable.{SpellableSv};
+ghost use Rattle.pdu_core.specs.SampledSpellable.{IsSpellableSv};
 ghost use Rattle.pdu_core.specs.SampledViews.{asdus_left, sv_of};
 ghost use Rattle.pdu_core.specs.SampledWritten.{HasWrittenSv, written_asdus, written_sv};
 ghost use Rattle.pdu_core.specs.Written.{Appends};
@@ -24,7 +24,7 @@ fn put_each<const N: usize>(out: &mut ArrayVec<u8, N>, asdus: Asdus<'_>) -> Resu
     Ok(())
 }
 
-/// Appends the written form of the PDU that the view stands for, each length and noASDU in the fewest octets, where it
+/// Appends the written form of the APDU that the view stands for, each length and noASDU in the fewest octets, where it
 /// fits; else `out` is unchanged. Whether each field has a spelling is not judged: those of a view that `view_sv` answers
 /// do, and of a changed view, as of one with no ASDUs left, what is written may spell nothing.
 ///
@@ -36,8 +36,8 @@ pub fn put_sv_view<const N: usize>(out: &mut ArrayVec<u8, N>, view: &SvView<'_>)
     ensures written { OnOk result (out.new.items ≡ out.old.items ++ written_sv (sv_of {A = Unit {0}} view.now)) }
     ensures unchanged { OnErr result (out.new ≡ out.old) }
 
-    // What is appended spells the PDU, where there are 1 to 65535 ASDUs and each of their fields has a spelling.
-    ensures spelled { SpellableSv (sv_of {A = Unit {0}} view.now) → OnOk result (Appends (SpellsSv (sv_of {A = Unit {0}} view.now)) out.old.items out.new.items) }
+    // What is appended spells the APDU, where there are 1 to 65535 ASDUs and each of their fields has a spelling.
+    ensures spelled { IsSpellableSv (sv_of {A = Unit {0}} view.now) → OnOk result (Appends (SpellsSv (sv_of {A = Unit {0}} view.now)) out.old.items out.new.items) }
 {
     put_written(out, view)
 }

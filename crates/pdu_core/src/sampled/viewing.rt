@@ -93,7 +93,7 @@ fn check_count(place: usize, count: u16, asdus: &CountedAsdus<'_>) -> Result<(),
     }
 }
 
-// The PDU that fills the octets from `at` to `end`, as reading from left to right gives it.
+// The APDU that fills the octets from `at` to `end`, as reading from left to right gives it.
 #[tactic(auto, unfolding(crate::specs::SampledReading::sv_at))]
 fn sv<'a>(octets: &'a [u8], at: usize, end: usize) -> Result<SvView<'a>, Fault>
     requires ordered { at ≤ end }
@@ -115,7 +115,7 @@ fn sv<'a>(octets: &'a [u8], at: usize, end: usize) -> Result<SvView<'a>, Fault>
     })
 }
 
-/// The PDU whose one element fills the octets from `at` to `end` (IEC 61850-9-2, savPdu).
+/// The APDU whose one element fills the octets from `at` to `end` (IEC 61850-9-2, savPdu).
 ///
 /// # Errors
 ///

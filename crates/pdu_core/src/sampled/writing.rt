@@ -1,8 +1,8 @@
-// Appending a PDU of Sampled Values in its written form.
+// Appending an APDU of Sampled Values in its written form.
 
 ghost use Rattle.std.specs.Prelude.{◌≡◌, ◌≤◌, ◌<◌, ◌+◌, ◌^◌, ◌↔◌, ◌++◌, length, IsOk, OnOk, OnErr, Err};
 ghost use Rattle.arrayvec.specs.ArrayVec.{array_vec_len};
-ghost use Rattle.pdu_core.specs.SampledSpellable.{SpellableSv};
+ghost use Rattle.pdu_core.specs.SampledSpellable.{IsSpellableSv};
 ghost use Rattle.pdu_core.specs.SampledWritten.{HasWrittenSv, written_asdus, written_sv};
 
 use crate::sampled::asdu::{AsduList, SvPdu};
@@ -28,7 +28,7 @@ fn put_asdus<A: Allocator, const N: usize>(
     Ok(())
 }
 
-// Appends the unit of the ASDUs, where it fits; else `out` is unchanged.
+// Appends the savPdu of the ASDUs, where it fits; else `out` is unchanged.
 #[tactic(auto, using(crate::proofs::UnitSizes::asdus_within, crate::proofs::UnitSizes::asdus_fit))]
 fn put_pdu<A: Allocator, const N: usize>(
     out: &mut ArrayVec<u8, N>,
@@ -44,7 +44,7 @@ fn put_pdu<A: Allocator, const N: usize>(
     put_unit(out, asdus.len(), contents.as_slice())
 }
 
-/// Appends the written form of the PDU, each length and noASDU in the fewest octets, where it is spellable and fits;
+/// Appends the written form of the APDU, each length and noASDU in the fewest octets, where it is spellable and fits;
 /// else `out` is unchanged.
 ///
 /// # Errors
@@ -57,8 +57,8 @@ pub fn put_sv<A: Allocator, const N: usize>(
     out: &mut ArrayVec<u8, N>,
     pdu: &SvPdu<A>,
 ) -> Result<(), PutFault>
-    ensures not_spellable { (result ≡ Err PutFault.NotSpellable) ↔ (¬ SpellableSv pdu.now) }
-    ensures fits { IsOk result ↔ (SpellableSv pdu.now × HasWrittenSv pdu.now × (array_vec_len out.old + length (written_sv pdu.now) ≤ N)) }
+    ensures not_spellable { (result ≡ Err PutFault.NotSpellable) ↔ (¬ IsSpellableSv pdu.now) }
+    ensures fits { IsOk result ↔ (IsSpellableSv pdu.now × HasWrittenSv pdu.now × (array_vec_len out.old + length (written_sv pdu.now) ≤ N)) }
     ensures written { OnOk result (out.new.items ≡ out.old.items ++ written_sv pdu.now) }
     ensures unchanged { OnErr result (out.new ≡ out.old) }
 {

@@ -1,7 +1,7 @@
 use Rattle.std.proofs.Common.{Ok, Err, Some, ◌≡◌, ◌++◌, length, take, refl, sym, ◌∙◌, arith}
 use Rattle.std.proofs.lemmas.List.{length-append, length-take, take_at}
 use borrow.Rule.Slice.PartMut.{post_of}
-use Rattle.capture_core.specs.Capture.{moment_of}
+use Rattle.capture_core.specs.Capture.{moment_in_head}
 use Rattle.capture_core.proofs.Records.{answered_cut, answered_long, answered_whole}
 use Rattle.capture_core.proofs.record.read_octets.Goals as goal
 
@@ -12,8 +12,8 @@ returns-then-size-gt-LONGEST_RECORD-clause-record g c =
 pub returns-then-pass-clause-record : goal.returns-then-pass-clause-record
 returns-then-pass-clause-record g c =
     let passed = c.if-pass.ensures in (
-      Ok (Some (record { moment = moment_of c.args.form c.args.head.now; octets = passed.0 })),
-      (record { moment = moment_of c.args.form c.args.head.now; octets = passed.0 }, refl, passed.1, λ p. omega (arith, p.0, p.1, c.then-size-eq0.either)),
+      Ok (Some (record { moment = moment_in_head c.args.form c.args.head.now; octets = passed.0 })),
+      (record { moment = moment_in_head c.args.form c.args.head.now; octets = passed.0 }, refl, passed.1, λ p. omega (arith, p.0, p.1, c.then-size-eq0.either)),
       answered_whole c.args.form c.args.head.now passed.0 _ _ _ _ c.args.before c.requires.few c.requires.head (omega arith) (passed.1 ∙ c.long_at-size.ensures) passed.2 passed.3,
     )
 
@@ -28,7 +28,7 @@ returns-in-Whole-clause-record g c =
     let octets = c.fill.new.into in
     let count : length octets ≡ size = omega (arith, simp length-take at c.fill.auto.into) in
     let front : take size (octets ++ post_of 0 size c.args.frame.now) ≡ octets = take_at octets _ size count in (
-      Ok (Some (record { moment = moment_of c.args.form c.args.head.now; octets = octets })),
+      Ok (Some (record { moment = moment_in_head c.args.form c.args.head.now; octets = octets })),
       ((omega arith, omega arith), simp length-append (omega (arith, count)), c.moment_in.ensures.short, rw (front, c.moment_in.ensures.value) refl),
       answered_whole c.args.form c.args.head.now octets _ _ _ _ c.args.before c.requires.few c.requires.head (omega arith) (count ∙ c.long_at-size.ensures) c.in-Whole.ensures.0 c.in-Whole.ensures.1,
     )

@@ -1,6 +1,6 @@
 use Rattle.std.proofs.Common.{◌≡◌, refl, sym, subst, rules, true, Ok, Err}
 use Rattle.std.specs.Result.{is_ok}
-use Rattle.words_core.specs.CommandLine.{Answers, Meaning}
+use Rattle.words_core.specs.CommandLine.{AnswersWords, Meaning}
 use Rattle.words_core.proofs.BlockWords.{said_all, said_more, said_none}
 use Rattle.words_core.specs.declared.words.Task.TheVariants.{Replay}
 use Rattle.words_core.specs.declared.words.WordsError.TheVariants as refused
@@ -13,11 +13,11 @@ loop-position-preserved c =
 
 pub returns-in-Err-BlockForm : goal.returns-in-Err-BlockForm
 returns-in-Err-BlockForm c =
-    subst (λ (m : Meaning). Answers m (Err (refused.Block c.loop-position.position)))
+    subst (λ (m : Meaning). AnswersWords m (Err (refused.Block c.loop-position.position)))
     (sym (said_none c.args.words.now c.loop-position.position _ c.loop-position.blocks.items c.loop-position-test.true c.loop-position.invariant (rw c.in-Err-BlockForm.field-0-is at c.in-Err-BlockForm.ensures)))
     refl
 
 pub returns : goal.returns
 returns c =
-    subst (λ (m : Meaning). Answers m (Ok (Replay c.loop-position.blocks)))
+    subst (λ (m : Meaning). AnswersWords m (Ok (Replay c.loop-position.blocks)))
     (sym (said_all c.args.words.now c.loop-position.position c.loop-position.blocks.items c.loop-position-test.false c.loop-position.invariant)) refl

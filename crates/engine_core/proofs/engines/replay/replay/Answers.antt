@@ -4,7 +4,7 @@ use Rattle.frame_core.specs.declared.event_lines.EventLines.TheVariants.{First}
 use Rattle.frame_core.proofs.Devices.{Consumes-none, Gives-from_Consumes}
 use Rattle.subscribe_core.specs.declared.block.Block.{Block}
 use Rattle.subscribe_core.specs.Standing.{State}
-use Rattle.engine_core.specs.EngineText.{Refuses, Writes}
+use Rattle.engine_core.specs.EngineText.{LeavesRefused, Writes}
 use Rattle.engine_core.specs.ReplayText.{twice_line}
 use Rattle.engine_core.specs.ReplayStep.{replay_text}
 use Rattle.engine_core.proofs.ReplayLemmas.{memory_first, replay_is}
@@ -36,7 +36,7 @@ returns-in-Ok-put_position-clause-text g c =
         c.in-Err-SameBlockTwice.position,
         twice,
         refl,
-        inl (subst (λ (l : List ℕ). Refuses l c.refuse.result.0 (g.W.Sink.contents c.args.writer.now) (g.W.Sink.contents c.refuse.new.writer)) line c.refuse.ensures.text),
+        inl (subst (λ (l : List ℕ). LeavesRefused l c.refuse.result.0 (g.W.Sink.contents c.args.writer.now) (g.W.Sink.contents c.refuse.new.writer)) line c.refuse.ensures.text),
       ),
     )
 

@@ -2,7 +2,7 @@ use Rattle.std.proofs.Common.{◌++◌, ◌∷◌, [], sym, subst}
 use Rattle.std.proofs.lemmas.Result.{IfErr-weaker, IfOk-weaker, on_ok_weaker}
 use Rattle.publish_core.specs.Frames.{change}
 use Rattle.publish_core.specs.Run.{Changed, call}
-use Rattle.publish_core.specs.Standing.{StandsAfter}
+use Rattle.publish_core.specs.Standing.{PublisherStandsAfter}
 use Rattle.publish_core.specs.Step.{change_frame}
 use Rattle.publish_core.proofs.Whole.{accepts_behind, change_ok, refuses_behind}
 use Rattle.publish_core.proofs.publisher.Publisher.change.Goals as goal
@@ -24,5 +24,5 @@ pub returns-clause-stands : goal.returns-clause-stands
 returns-clause-stands g c = λ p calls w.
     let x = change_ok p calls c.args.self.now (change c.args.t c.args.values) c.args.now w in
     on_ok_weaker c.take_change.result
-    (λ e. subst (λ s. StandsAfter p (calls ++ call c.args.now (Changed (change c.args.t c.args.values)) ∷ []) s) (sym e) x.1)
+    (λ e. subst (λ s. PublisherStandsAfter p (calls ++ call c.args.now (Changed (change c.args.t c.args.values)) ∷ []) s) (sym e) x.1)
     c.take_change.ensures.state

@@ -1,6 +1,6 @@
 use Rattle.std.proofs.Common.{◌++◌, ◌∷◌, [], sym, subst}
 use Rattle.publish_core.specs.Run.{Polled, call}
-use Rattle.publish_core.specs.Standing.{StandsAfter}
+use Rattle.publish_core.specs.Standing.{PublisherStandsAfter}
 use Rattle.publish_core.proofs.PollLaws.{poll_given}
 use Rattle.publish_core.proofs.Whole.{poll_ok}
 use Rattle.publish_core.proofs.publisher.Publisher.poll.Goals as goal
@@ -13,4 +13,4 @@ returns-clause-published g c = λ p calls w.
 pub returns-clause-stands : goal.returns-clause-stands
 returns-clause-stands g c = λ p calls w.
     let x = poll_ok p calls c.args.self.now c.args.now w in
-    subst (λ s. StandsAfter p (calls ++ call c.args.now Polled ∷ []) s) (sym c.take_poll.ensures.state) x.1
+    subst (λ s. PublisherStandsAfter p (calls ++ call c.args.now Polled ∷ []) s) (sym c.take_poll.ensures.state) x.1

@@ -1,7 +1,7 @@
 use Rattle.std.proofs.Common.{List, ap, sym, ◌∙◌, arith}
 use Rattle.subscribe_core.specs.declared.registers.Register.{Register}
 use Rattle.subscribe_core.specs.Deadlines.{due_count, helds}
-use Rattle.subscribe_core.specs.Indexed.{cleared}
+use Rattle.subscribe_core.specs.Indexed.{registers_after_clock}
 use Rattle.subscribe_core.specs.Standing.{Standing}
 use Rattle.subscribe_core.proofs.Clearing.{cleared_set, count_set, cleared_none, due_within, helds_set, held_of, indexed_write, let_go, register_of}
 use Rattle.subscribe_core.proofs.subscriber.Subscriber.expire.Goals as goal
@@ -24,7 +24,7 @@ loop-at-preserved g c =
     record {
       indexed = indexed_write _ _ registers _ _ at (let_go here.0) _ _ (ap (λ b. b.items) c.let_go.ensures.blocks) is c.loop-at.invariant.indexed
           (c.in-Some.ensures.taken (helds registers) c.loop-at.invariant.indexed.timed);
-      same = ap (cleared c.args.now) is ∙ (cleared_set registers at c.args.now here.0 here.1 over ∙ c.loop-at.invariant.same);
+      same = ap (registers_after_clock c.args.now) is ∙ (cleared_set registers at c.args.now here.0 here.1 over ∙ c.loop-at.invariant.same);
       counted = omega (arith, c.loop-at.invariant.counted);
       blocks_stay = ap (λ b. b.items) c.let_go.ensures.blocks ∙ c.loop-at.invariant.blocks_stay;
       mode_stays = c.loop-at.invariant.mode_stays;
@@ -35,4 +35,4 @@ pub returns-clause-registers : goal.returns-clause-registers
 returns-clause-registers g c =
     let registers = c.loop-at.self-inside.rows.registers.items in
     let none = cleared_none registers c.args.now (λ at. c.in_default.ensures.none (helds registers) at c.loop-at.invariant.indexed.timed) in
-    sym none ∙ (c.loop-at.invariant.same ∙ ap (λ (s : Standing _). cleared c.args.now s.state.registers) c.self.view_is)
+    sym none ∙ (c.loop-at.invariant.same ∙ ap (λ (s : Standing _). registers_after_clock c.args.now s.state.registers) c.self.view_is)

@@ -4,8 +4,8 @@ use Rattle.std.specs.Prelude.{Result, Ok, Err, OnOk}
 use Rattle.subscribe_core.specs.declared.entry.Entry.{Entry}
 use Rattle.subscribe_core.specs.declared.registers.Register.{Register}
 use Rattle.subscribe_core.specs.Deadlines.{due_count, helds}
-use Rattle.subscribe_core.specs.Indexed.{cleared}
-use Rattle.subscribe_core.specs.Received.{frame_of}
+use Rattle.subscribe_core.specs.Indexed.{registers_after_clock}
+use Rattle.subscribe_core.specs.Received.{received_frame}
 use Rattle.subscribe_core.proofs.Frames.{answer_good, answer_none, answer_refused, new_lives, reason_told, registers_good, registers_kept, registers_refused, written_fewer, written_new, written_none}
 use Rattle.subscribe_core.proofs.subscriber.Subscriber.take_goose.Goals.{then-old, else-old}
 use Rattle.subscribe_core.proofs.subscriber.Subscriber.take_goose.Goals as goal
@@ -18,17 +18,17 @@ pub returns-in_default-clause-entries : goal.returns-in_default-clause-entries
 returns-in_default-clause-entries g c =
     let s = c.args.self.now.state in
     c.in_ok-push.ensures.items
-    ∙ ap (λ (es : List (Entry _)). c.args.entries.now.items ++ es) (answer_none c.args.now s.mode s.blocks s.registers (frame_of c.args.frame.now) (sym c.in_default.ensures.found))
+    ∙ ap (λ (es : List (Entry _)). c.args.entries.now.items ++ es) (answer_none c.args.now s.mode s.blocks s.registers (received_frame c.args.frame.now) (sym c.in_default.ensures.found))
 
 pub returns-in_default-clause-registers : goal.returns-in_default-clause-registers
 returns-in_default-clause-registers g c =
     let s = c.args.self.now.state in
-    registers_kept c.args.now s.mode s.blocks s.registers (frame_of c.args.frame.now) c.find.ensures.sizes (sym c.in_default.ensures.found)
+    registers_kept c.args.now s.mode s.blocks s.registers (received_frame c.args.frame.now) c.find.ensures.sizes (sym c.in_default.ensures.found)
 
 pub returns-in-Some-first_reason-clause-entries : goal.returns-in-Some-first_reason-clause-entries
 returns-in-Some-first_reason-clause-entries g c =
     let s = c.args.self.now.state in
-    let f = frame_of c.args.frame.now in
+    let f = received_frame c.args.frame.now in
     let x = c.look.result.0.now in
     let r = c.look.result.1 in
     let told = reason_told x f c.is_against-is_against.result s.mode c.is_simulating-mode.result r.simulated (Some c.in-Some-first_reason.reason) c.is_against-is_against.ensures c.is_simulating-mode.ensures c.in-Some-first_reason.ensures in
@@ -39,7 +39,7 @@ returns-in-Some-first_reason-clause-entries g c =
 pub returns-in-Some-first_reason-clause-registers : goal.returns-in-Some-first_reason-clause-registers
 returns-in-Some-first_reason-clause-registers g c =
     let s = c.args.self.now.state in
-    let f = frame_of c.args.frame.now in
+    let f = received_frame c.args.frame.now in
     let x = c.look.result.0.now in
     let r = c.look.result.1 in
     let told = reason_told x f c.is_against-is_against.result s.mode c.is_simulating-mode.result r.simulated (Some c.in-Some-first_reason.reason) c.is_against-is_against.ensures c.is_simulating-mode.ensures c.in-Some-first_reason.ensures in
@@ -48,7 +48,7 @@ returns-in-Some-first_reason-clause-registers g c =
 pub returns-in-None-clause-entries : goal.returns-in-None-clause-entries
 returns-in-None-clause-entries g c =
     let s = c.args.self.now.state in
-    let f = frame_of c.args.frame.now in
+    let f = received_frame c.args.frame.now in
     let x = c.look.result.0.now in
     let r = c.look.result.1 in
     let told = reason_told x f c.is_against-is_against.result s.mode c.is_simulating-mode.result r.simulated None c.is_against-is_against.ensures c.is_simulating-mode.ensures c.in_default-first_reason.ensures in
@@ -59,7 +59,7 @@ returns-in-None-clause-entries g c =
 pub returns-in-None-clause-registers : goal.returns-in-None-clause-registers
 returns-in-None-clause-registers g c =
     let s = c.args.self.now.state in
-    let f = frame_of c.args.frame.now in
+    let f = received_frame c.args.frame.now in
     let x = c.look.result.0.now in
     let r = c.look.result.1 in
     let told = reason_told x f c.is_against-is_against.result s.mode c.is_simulating-mode.result r.simulated None c.is_against-is_against.ensures c.is_simulating-mode.ensures c.in_default-first_reason.ensures in
@@ -70,7 +70,7 @@ returns-in-None-clause-registers g c =
 pub returns-after-old-clause-entries : goal.returns-after-old-clause-entries
 returns-after-old-clause-entries g c =
     let s = c.args.self.now.state in
-    let f = frame_of c.args.frame.now in
+    let f = received_frame c.args.frame.now in
     let x = c.look.result.0.now in
     let r = c.look.result.1 in
     let told = reason_told x f c.is_against-is_against.result s.mode c.is_simulating-mode.result r.simulated None c.is_against-is_against.ensures c.is_simulating-mode.ensures c.in_default-first_reason.ensures in
@@ -83,7 +83,7 @@ returns-after-old-clause-entries g c =
 pub returns-after-old-clause-registers : goal.returns-after-old-clause-registers
 returns-after-old-clause-registers g c =
     let s = c.args.self.now.state in
-    let f = frame_of c.args.frame.now in
+    let f = received_frame c.args.frame.now in
     let x = c.look.result.0.now in
     let r = c.look.result.1 in
     let new = c.in-Some-2.held in
@@ -96,15 +96,15 @@ returns-after-old-clause-registers g c =
     ] in
     let fresh = new_lives c.args.now x r f _ new told renewal in
     let after =
-    ap (λ (b : Bool). cleared c.args.now (set s.registers c.in-Some.at (record { held = Some new; simulated = b }))) flag
+    ap (λ (b : Bool). registers_after_clock c.args.now (set s.registers c.in-Some.at (record { held = Some new; simulated = b }))) flag
     ∙ (written_new c.args.now s.registers c.in-Some.at r f new fresh renewal
     ∙ registers_good c.args.now s.mode s.blocks s.registers f c.in-Some.at x r c.find.ensures.sizes c.find.ensures.apart (sym c.in-Some.ensures.found) c.look.ensures.block c.look.ensures.register told) in
-    on_ok_weaker c.hold.result (λ e. ap (cleared c.args.now) e ∙ after) c.hold.ensures.registers
+    on_ok_weaker c.hold.result (λ e. ap (registers_after_clock c.args.now) e ∙ after) c.hold.ensures.registers
 
 pub returns-after-old-clause-count : goal.returns-after-old-clause-count
 returns-after-old-clause-count g c =
     let s = c.args.self.now.state in
-    let f = frame_of c.args.frame.now in
+    let f = received_frame c.args.frame.now in
     let x = c.look.result.0.now in
     let r = c.look.result.1 in
     let new = c.in-Some-2.held in

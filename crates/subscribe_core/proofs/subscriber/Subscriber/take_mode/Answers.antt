@@ -1,7 +1,7 @@
 use Rattle.std.proofs.Common.{◌++◌, Bool, List, length, ap, sym, ◌∙◌, append-nil}
 use Rattle.std.proofs.lemmas.Bool.{false≢true}
 use Rattle.subscribe_core.specs.declared.entry.Entry.{Entry}
-use Rattle.subscribe_core.specs.Indexed.{cleared}
+use Rattle.subscribe_core.specs.Indexed.{registers_after_clock}
 use Rattle.subscribe_core.specs.Reading.{OfMode}
 use Rattle.subscribe_core.specs.Steps.{registers_by, switched_entries}
 use Rattle.subscribe_core.proofs.Switching.{registers_off, registers_on, switched_off_entries, switched_on}
@@ -17,7 +17,7 @@ pub returns-then-on-clause-registers : goal.returns-then-on-clause-registers
 returns-then-on-clause-registers g c = λ now.
     let s = c.args.self.now.state in
     let same = ap length (sym c.set_mode.ensures.registers) ∙ (c.set_mode.ensures.sizes ∙ ap length c.set_mode.ensures.blocks) in
-    ap (cleared now) c.set_mode.ensures.registers
+    ap (registers_after_clock now) c.set_mode.ensures.registers
     ∙ (registers_on now s.mode s.blocks s.registers same
     ∙ ap (λ (on : Bool). registers_by now s.mode (OfMode on) s.blocks s.registers) (sym c.if-on.true))
 
@@ -38,6 +38,6 @@ returns-clause-entries g c =
 pub returns-clause-registers : goal.returns-clause-registers
 returns-clause-registers g c = λ now.
     let s = c.args.self.now.state in
-    ap (cleared now) (c.set_mode-2.ensures.registers ∙ c.switch_off.ensures.registers)
+    ap (registers_after_clock now) (c.set_mode-2.ensures.registers ∙ c.switch_off.ensures.registers)
     ∙ sym (ap (λ (on : Bool). registers_by now s.mode (OfMode on) s.blocks s.registers) c.if-on.false
     ∙ registers_off now s.mode s.blocks s.registers c.list_switched.ensures.sizes)
