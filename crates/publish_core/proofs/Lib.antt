@@ -9,3 +9,4 @@ pub mod Whole
 pub mod PollLaws
 pub mod Runs
 pub mod Judged
+pub mod WorkedExamples

@@ -1,3 +1,4 @@
 pub mod CommaLemmas
 pub mod ScriptLemmas
 pub mod ControlLemmas
+pub mod WorkedExamples

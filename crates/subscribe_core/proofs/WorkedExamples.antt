@@ -6,11 +6,11 @@ use Rattle.subscribe_core.specs.declared.block.Block.{Block}
 use Rattle.subscribe_core.specs.declared.entry.Entry.{Entry}
 use Rattle.subscribe_core.specs.declared.entry.Entry.TheVariants as says
 use Rattle.subscribe_core.specs.declared.entry.Reason.TheVariants.{ConfRev, Simulated}
-use Rattle.subscribe_core.specs.Reading.{OfGoose, OfClock, OfMode, Reading}
-use Rattle.subscribe_core.specs.Standing.{fresh}
-use Rattle.subscribe_core.specs.Steps.{run}
+use Rattle.subscribe_core.specs.Reading.{OfGoose, OfClock, OfMode, EventRead}
+use Rattle.subscribe_core.specs.Standing.{fresh_state}
+use Rattle.subscribe_core.specs.Steps.{run_events}
 
--- the unit of control block G with data set D and one boolean
+-- the APDU of control block G with data set D and one boolean
 abbrev unit : Bool → ℕ → ℕ → ℕ → GoosePdu (Unit {0})
 unit simulation state sequence live = record {
   gocb_ref = 71 ∷ [];
@@ -30,26 +30,26 @@ abbrev block : ℕ → ℕ → Block (Unit {0})
 block app_id conf_rev = record { app_id = app_id; gocb_ref = 71 ∷ []; dat_set = 68 ∷ []; go_id = None; conf_rev = conf_rev; entries = 1 }
 
 -- moments in milliseconds
-abbrev frame_of : ℕ → Bool → ℕ → ℕ → ℕ → ℕ → Reading
+abbrev frame_of : ℕ → Bool → ℕ → ℕ → ℕ → ℕ → EventRead
 frame_of app_id simulation at state sequence live = record { moment = 1000 * at; content = OfGoose (record { app_id = app_id; pdu = unit simulation state sequence live }) }
 
-abbrev real : ℕ → ℕ → ℕ → ℕ → Reading
+abbrev real : ℕ → ℕ → ℕ → ℕ → EventRead
 real at state sequence live = frame_of 1 false at state sequence live
 
-abbrev test : ℕ → ℕ → ℕ → ℕ → Reading
+abbrev test : ℕ → ℕ → ℕ → ℕ → EventRead
 test at state sequence live = frame_of 1 true at state sequence live
 
-abbrev clock : ℕ → Reading
+abbrev clock : ℕ → EventRead
 clock at = record { moment = 1000 * at; content = OfClock }
 
-abbrev mode : ℕ → Bool → Reading
+abbrev mode : ℕ → Bool → EventRead
 mode at on = record { moment = 1000 * at; content = OfMode on }
 
 abbrev act : ℕ → ℕ → ℕ → Entry (Unit {0})
 act b state sequence = says.Act b state sequence (record { seconds = 0; fraction = 0; quality = 0 }) (simple (boolean true) ∷ [])
 
-abbrev entries : List (Block (Unit {0})) → List Reading → List (List (Entry (Unit {0})))
-entries blocks events = run (fresh blocks) events
+abbrev entries : List (Block (Unit {0})) → List EventRead → List (List (Entry (Unit {0})))
+entries blocks events = run_events (fresh_state blocks) events
 
 numbers : entries (block 1 1 ∷ []) (real 0 1 0 2000 ∷ real 1 1 0 2000 ∷ real 2 3 0 2000 ∷ real 3 2 4 2000 ∷ real 4 3 1 2000 ∷ real 5 3 0 2000 ∷ [])
     ≡ (act 0 1 0 ∷ []) ∷ (says.Repeated 0 1 0 ∷ []) ∷ (act 0 3 0 ∷ []) ∷ (says.Older 0 2 4 ∷ []) ∷ (says.Refreshed 0 3 1 ∷ []) ∷ (says.Older 0 3 0 ∷ []) ∷ []

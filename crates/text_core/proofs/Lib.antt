@@ -3,3 +3,4 @@ pub mod ValueLemmas
 pub mod BitLemmas
 pub mod Spaced
 pub mod OwnedTexts
+pub mod WorkedExamples

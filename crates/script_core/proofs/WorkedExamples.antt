@@ -1,0 +1,61 @@
+-- What a few fields, blocks and lines of scripts say, computed.
+use Rattle.std.proofs.Common.{◌≡◌, false, true, None, Some, List, [], ◌∷◌, Ok, Err, refl}
+use Rattle.std.specs.Prelude.{codes}
+use Rattle.hex.specs.Hex.{decode_pairs}
+use Rattle.mms_data.specs.Data.{simple, boolean}
+use Rattle.frame_core.specs.declared.event_lines.MomentUnit.TheVariants.{Milliseconds, Microseconds}
+use Rattle.script_core.specs.BlockText.{block_in}
+use Rattle.script_core.specs.Commas.{number_by, text_in, word_in}
+use Rattle.script_core.specs.Script.{flag_in, line_said, script_said, tag_in}
+use Rattle.script_core.specs.declared.script.ScriptCause.TheVariants as cause
+use Rattle.script_core.specs.declared.script.ScriptItem.TheVariants as item
+use Rattle.script_core.specs.declared.script.ScriptLines.TheVariants.{First, After}
+use Rattle.script_core.specs.declared.script.ScriptPart.TheVariants as part
+
+pub record AreFields : Type 0 where
+  pub most : number_by (codes "4294967295") ≡ Some 4294967295
+  pub too_much : number_by (codes "4294967296") ≡ None
+  pub zeros : number_by (codes "0000000007") ≡ Some 7
+  pub too_long : number_by (codes "00000000007") ≡ None
+  pub no_digit : number_by [] ≡ None
+  pub word : word_in (codes "00fF") ≡ Some 255
+  pub short_word : word_in (codes "0ff") ≡ None
+  pub tag : tag_in (codes "8064") ≡ Some (Some (record { control = 0x8064 }))
+  pub no_tag : tag_in [] ≡ Some None
+  pub off : flag_in (codes "0") ≡ Some false
+  pub on : flag_in (codes "1") ≡ Some true
+  pub no_flag : flag_in (codes "2") ≡ None
+  pub empty_text : text_in [] ≡ Some []
+  pub no_text : text_in (9 ∷ []) ≡ None
+
+fields : AreFields
+unfolding decode_pairs
+fields = record { most = refl; too_much = refl; zeros = refl; too_long = refl; no_digit = refl; word = refl; short_word = refl; tag = refl; no_tag = refl; off = refl; on = refl; no_flag = refl; empty_text = refl; no_text = refl }
+
+-- a goID that is empty is not looked at; a field more is no block
+pub record AreBlocks : Type 0 where
+  pub block : block_in {A = Unit {0}} (codes "0001,G,D,,1,4") ≡ Some (record { app_id = 1; gocb_ref = 71 ∷ []; dat_set = 68 ∷ []; go_id = None; conf_rev = 1; entries = 4 })
+  pub named : block_in {A = Unit {0}} (codes "0001,G,D,I,1,4") ≡ Some (record { app_id = 1; gocb_ref = 71 ∷ []; dat_set = 68 ∷ []; go_id = Some (73 ∷ []); conf_rev = 1; entries = 4 })
+  pub field_more : block_in {A = Unit {0}} (codes "0001,G,D,,1,4,") ≡ None
+
+blocks : AreBlocks
+unfolding decode_pairs
+blocks = record { block = refl; named = refl; field_more = refl }
+
+pub record AreLines : Type 0 where
+  pub comment : line_said {A = Unit {0}} Milliseconds part.Control (codes "# a bay") ≡ Ok (None, part.Control)
+  pub step : line_said {A = Unit {0}} Milliseconds (part.Steps 0) (codes "step,10,2000") ≡ Ok (Some (item.Step (record { wait_ms = 10; live_ms = 2000 })), part.Steps 1)
+  pub no_wait : line_said {A = Unit {0}} Milliseconds (part.Steps 0) (codes "step,0,2000") ≡ Err cause.StepTimes
+  pub short_life : line_said {A = Unit {0}} Milliseconds (part.Steps 0) (codes "step,10,10") ≡ Err cause.StepTimes
+  pub step_17 : line_said {A = Unit {0}} Milliseconds (part.Steps 16) (codes "step,10,2000") ≡ Err cause.StepCount
+  pub late_step : line_said {A = Unit {0}} Milliseconds part.Calls (codes "step,10,2000") ≡ Err cause.ScriptForm
+  pub poll : line_said {A = Unit {0}} Milliseconds (part.Steps 1) (codes "poll,10") ≡ Ok (Some (item.Poll 10000), part.Calls)
+  pub fine_poll : line_said {A = Unit {0}} Microseconds part.Calls (codes "poll,10") ≡ Ok (Some (item.Poll 10), part.Calls)
+  pub early_poll : line_said {A = Unit {0}} Milliseconds (part.Steps 0) (codes "poll,10") ≡ Err cause.StepCount
+  pub no_moment : line_said {A = Unit {0}} Milliseconds part.Calls (codes "poll,") ≡ Err cause.Moment
+  pub odd : line_said {A = Unit {0}} Milliseconds part.Calls (codes "change,1500,0000000000000000,83010") ≡ Err cause.Hex
+  pub version : script_said {A = Unit {0}} First (codes "V2") ≡ Ok (None, After Microseconds part.Control)
+
+lines : AreLines
+unfolding decode_pairs
+lines = record { comment = refl; step = refl; no_wait = refl; short_life = refl; step_17 = refl; late_step = refl; poll = refl; fine_poll = refl; early_poll = refl; no_moment = refl; odd = refl; version = refl }
