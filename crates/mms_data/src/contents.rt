@@ -16,7 +16,9 @@ use crate::view::{BitView, View};
 use ber_core::contents::{boolean_of, check_visible, integer_of};
 use ber_core::{Cause, Fault};
 
-// The view of the contents of a kind.
+// The view of the contents of a kind. Inlined, so that a member is told apart by its identifier once, and no answer that
+// may be a fault is put together where members are known to be good.
+#[inline(always)]
 #[tactic(auto, unfolding(crate::specs::ContentsReading::simple_at))]
 pub(crate) fn simple<'a>(
     kind: SimpleKind,

@@ -116,13 +116,13 @@ impl<'a> Members<'a> {
         ensures rest { IsPart (source_of result.1) (source_of self.entry) }
     {
         let (octets, levels) = (self.octets, self.levels);
-        let Ok(kind) = member_kind(octets, 0) else {
-            unreachable!()
-        };
         let Ok(header) = header(octets, 0, octets.len()) else {
             unreachable!()
         };
         let contents = &octets[header.contents_from..header.contents_to];
+        let Ok(kind) = member_kind(octets, 0) else {
+            unreachable!()
+        };
         let view = Members::view(contents, &header, kind, levels - 1);
         let octets = &octets[header.contents_to..];
         (view, Members { octets, levels })
