@@ -1,8 +1,9 @@
 //! The small texts of which lines are made. Each call appends to `out`.
-ghost use Rattle.std.specs.Prelude.{◌≡◌, ◌<◌, ◌*◌, ◌++◌, OnOk, slice_index, true};
+ghost use Rattle.std.specs.Prelude.{◌≡◌, ◌<◌, ◌*◌, ◌++◌, OnOk, slice_index, true, IsTrue};
+ghost use Rattle.std.specs.List.{flat_map};
 ghost use Rattle.std.specs.Fmt.{decimal, signed_decimal};
 ghost use Rattle.hex.specs.Hex.{encode_lower, lower_digits};
-ghost use Rattle.text_core.specs.Pieces.{octet_bits, bits_text, quoted, boolean_text, four_digits};
+ghost use Rattle.text_core.specs.Pieces.{octet_bits, bits_text, escaped, quoted, boolean_text, four_digits};
 
 use std::alloc::{AllocError, Allocator};
 
@@ -112,16 +113,41 @@ pub fn put_bits<A: Allocator>(
     Ok(())
 }
 
-/// Appends a text between quotation marks.
-pub fn put_quoted<A: Allocator>(out: &mut Vec<u8, A>, text: &[u8]) -> Result<(), AllocError>
-    ensures { OnOk result (out.new.items ≡ out.old.items ++ quoted text.now) }
+// Whether no octet of a text is written after a backslash.
+fn is_plain(text: &[u8]) -> bool
+    ensures { IsTrue result → flat_map escaped text.now ≡ text.now }
 {
-    out.push(b'"')?;
+    for octet in text {
+        if *octet == b'"' || *octet == b'\\' {
+            return false;
+        }
+    }
+    true
+}
+
+// Appends the octets of a text, a quotation mark and a backslash after a backslash.
+fn put_escaped<A: Allocator>(out: &mut Vec<u8, A>, text: &[u8]) -> Result<(), AllocError>
+    ensures { OnOk result (out.new.items ≡ out.old.items ++ flat_map escaped text.now) }
+{
     for octet in text {
         match *octet {
             b'"' | b'\\' => out.extend_from_slice(&[b'\\', *octet])?,
             _ => out.push(*octet)?,
         }
+    }
+    Ok(())
+}
+
+/// Appends a text between quotation marks.
+pub fn put_quoted<A: Allocator>(out: &mut Vec<u8, A>, text: &[u8]) -> Result<(), AllocError>
+    ensures { OnOk result (out.new.items ≡ out.old.items ++ quoted text.now) }
+{
+    out.push(b'"')?;
+    // Nearly every text is plain, and is appended as a whole.
+    if is_plain(text) {
+        out.extend_from_slice(text)?;
+    } else {
+        put_escaped(out, text)?;
     }
     out.push(b'"')?;
     Ok(())

@@ -1,7 +1,7 @@
 use Rattle.std.proofs.Common.{◌≡◌, ◌++◌, take}
 use Rattle.std.specs.List.{flat_map}
 use Rattle.text_core.specs.Pieces.{escaped}
-use Rattle.text_core.proofs.pieces.put_quoted.Given as goal
+use Rattle.text_core.proofs.pieces.put_escaped.Given as goal
 
 abbrev pub invariant-loop-octet : goal.invariant-loop-octet
 invariant-loop-octet g l = l.out.items ≡ l.initial.out.items ++ flat_map escaped (take l.octet-index l.text)
