@@ -1,10 +1,10 @@
 -- A few numbers, and what short lists of calls give, computed.
-use Rattle.std.proofs.Common.{◌≡◌, ℕ, false, Option, None, Some, List, [], ◌∷◌, map, option_map, refl}
-use Rattle.mms_data.specs.Data.{Data, simple, unsigned}
+use Rattle.std.proofs.Common.{◌≡◌, ℕ, false, Option, None, Some, List, [], ◌∷◌, refl}
+use Rattle.mms_data.specs.Data.{simple, unsigned}
 use Rattle.frame_core.specs.declared.frame.Frame.{Frame}
 use Rattle.publish_core.specs.declared.control.Control.{Control}
 use Rattle.publish_core.specs.declared.table.Step.{Step}
-use Rattle.publish_core.specs.Frames.{Setup, change, frame_with, setup}
+use Rattle.publish_core.specs.Frames.{change, frame_with, setup}
 use Rattle.publish_core.specs.Numbers.{number_behind, sequence_number, state_number}
 use Rattle.publish_core.specs.Run.{Call, Changed, Polled, call}
 use Rattle.publish_core.specs.Step.{fresh_publisher, run_calls}

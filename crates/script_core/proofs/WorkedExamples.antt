@@ -1,8 +1,7 @@
 -- What a few fields, blocks and lines of scripts say, computed.
-use Rattle.std.proofs.Common.{◌≡◌, false, true, None, Some, List, [], ◌∷◌, Ok, Err, refl}
+use Rattle.std.proofs.Common.{◌≡◌, false, true, None, Some, [], ◌∷◌, Ok, Err, refl}
 use Rattle.std.specs.Prelude.{codes}
 use Rattle.hex.specs.Hex.{decode_pairs}
-use Rattle.mms_data.specs.Data.{simple, boolean}
 use Rattle.frame_core.specs.declared.event_lines.MomentUnit.TheVariants.{Milliseconds, Microseconds}
 use Rattle.script_core.specs.BlockText.{block_in}
 use Rattle.script_core.specs.Commas.{number_by, text_in, word_in}
