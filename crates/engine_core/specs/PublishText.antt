@@ -4,7 +4,6 @@ use Rattle.frame_core.specs.declared.device.InputEnd.{InputEnd}
 use Rattle.frame_core.specs.declared.event.EventKind.TheVariants.{Frame}
 use Rattle.frame_core.specs.declared.frame.Frame.{Frame as SentFrame}
 use Rattle.frame_core.specs.declared.line_rules.ItemFault.{ItemFault}
-use Rattle.frame_core.specs.declared.line_rules.ItemFault.TheVariants as fault
 use Rattle.frame_core.specs.EventLine.{event_text}
 use Rattle.frame_core.specs.Items.{listing}
 use Rattle.frame_core.specs.Written.{written_frame}
