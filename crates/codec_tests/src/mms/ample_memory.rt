@@ -6,7 +6,7 @@ ghost use Rattle.std.specs.Prelude.{◌≤◌};
 use crate::mms::DEEP;
 use crate::mms::member_writing::WRITTEN;
 use arrayvec::ArrayVec;
-use mms_data::{ValueList, check_members, members, put_value, put_values, read_members};
+use mms_data::{Octets, ValueList, check_members, members, put_value, put_values, read_members};
 use std::alloc::{AllocError, Allocator};
 use std::test::Fail;
 
@@ -93,6 +93,15 @@ fn octets_of_each_count_are_owned(rt: HostRuntime) -> Result<(), Fail> {
         let octets = element(rt.alloc(), 0x87, count)?;
         assert!(rt; are_owned(rt.alloc(), octets.as_slice())?);
     }
+    Ok(())
+}
+
+#[test]
+fn octets_are_taken_from_a_slice(rt: HostRuntime) -> Result<(), Fail> {
+    let none = Octets::try_from_slice(rt.alloc(), b"")?;
+    assert!(rt; none.as_slice().is_empty());
+    let some = Octets::try_from_slice(rt.alloc(), b"state 93")?;
+    assert!(rt; some.as_slice() == b"state 93".as_slice());
     Ok(())
 }
 
