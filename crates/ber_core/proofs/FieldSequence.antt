@@ -9,7 +9,7 @@ use Rattle.ber_core.specs.Reading.{◌>>=◌}
 use Rattle.ber_core.specs.Element.{Elem}
 use Rattle.ber_core.specs.Faults.{fault_of}
 use Rattle.ber_core.proofs.Steps.{chosen, bind_ok, bind_err, err_is}
-use Rattle.ber_core.specs.Fields.{Field, Grammar, BeginsWith, SpellsField, SpellsFields, FieldsFault, later, absent, missing, high, unexpected, in_length, in_contents, extra}
+use Rattle.ber_core.specs.Fields.{Field, Grammar, BeginsWith, SpellsField, SpellsFields, FieldsFault, later, absent, missing, high, unexpected, in_length, in_contents, extra, filled, left_out}
 use Rattle.ber_core.specs.FieldReading.{Read, field_at, fields_at, ends_at, is_stranger, are_apart}
 use Rattle.ber_core.proofs.Regions.{behind_front, region-length}
 use Rattle.ber_core.proofs.FieldSound.{IsSound, Took, took, skipped, field_took, field_wrong, field_again, field_skipped, field_wrong_again, field_length_again, field_absent, absence_means, may_be_absent}
@@ -37,11 +37,11 @@ stranger_front : {K I : Type 0} (G : Grammar K I) (id : ℕ) (gs : List (Field K
 stranger_front G id [] [] a b n s out = rw s out
 stranger_front G id [] (u ∷ us) a b n s out = absurd s
 stranger_front G id (g ∷ gs) [] a b n s out = absurd s
-stranger_front G id (g ∷ gs) (u ∷ us) a b n (first, rest, inl (x, c, is, elem, spelled), more, parts) out =
+stranger_front G id (g ∷ gs) (u ∷ us) a b n (first, rest, filled x c is elem spelled, more, parts) out =
     let t = both (not (eqb id g.identifier)) (is_stranger id gs) n in
     let e : a ++ b ≡ first ++ (rest ++ b) = ap (λ (s : List ℕ). s ++ b) parts ∙ append_assoc first rest b in
     rw e (elem_front id g.identifier c first (rest ++ b) (eqb-false id g.identifier (is_not (eqb id g.identifier) t.0)) elem)
-stranger_front G id (g ∷ gs) (u ∷ us) a b n (first, rest, inr (means, none), more, parts) out =
+stranger_front G id (g ∷ gs) (u ∷ us) a b n (first, rest, left_out means none, more, parts) out =
     let t = both (not (eqb id g.identifier)) (is_stranger id gs) n in
     let e : a ≡ rest = parts ∙ ap (λ (s : List ℕ). s ++ rest) none in
     rw e (stranger_front G id gs us rest b t.1 more out)
@@ -82,14 +82,14 @@ piece G g low p o v q (took x size c rest parts len spelled is next) = record {
   front = g.identifier ∷ size ++ c;
   back = rest;
   parts = parts ∙ cut g.identifier size c rest;
-  spelled = inl (x, c, is, record { identifier = eqb-false (g.identifier % 32) 31 low; size = size; sized = len; parts = refl }, spelled);
+  spelled = filled x c is (record { identifier = eqb-false (g.identifier % 32) 31 low; size = size; sized = len; parts = refl }) spelled;
   next = omega (arith, next, length-append size c);
 }
 piece G g low p o v q (skipped n means next) = record {
   front = [];
   back = o;
   parts = refl;
-  spelled = inr (means, refl);
+  spelled = left_out means refl;
   next = omega (arith, next);
 }
 
@@ -186,7 +186,7 @@ module _ {K I : Type 0} (G : Grammar K I) (read : Read K I) (sound : IsSound G r
       rw (size, append-nil vs) refl
   fields_again [] vs (u ∷ us) p a b apart order out s parts = absurd s
   fields_again (g ∷ gs) vs [] p a b apart order out s parts = absurd s
-  fields_again (g ∷ gs) vs (u ∷ us) p a b apart order out (first, rest, inl (x, c, is, elem, spelled), more, front) parts =
+  fields_again (g ∷ gs) vs (u ∷ us) p a b apart order out (first, rest, filled x c is elem spelled, more, front) parts =
       let t = both (not (eqb (g.identifier % 32) 31)) _ apart in
       let d = both (is_stranger g.identifier gs) _ t.1 in
       let o = outside_front G g gs b out in
@@ -196,7 +196,7 @@ module _ {K I : Type 0} (G : Grammar K I) (read : Read K I) (sound : IsSound G r
       let others = fields_again gs (vs ++ u ∷ []) us (p + length first) rest b d.1 (omega (arith, on.1)) o.1 more on.0 in
       let size : p + length first + length rest ≡ p + length a = omega (arith, ap length front, length-append first rest) in
       ap (λ r. r >>= λ x. fields_at read gs (vs ++ x.0 ∷ []) octets x.1 e) one ∙ others ∙ ap₂ (λ x y. Ok (x, y)) (one_more vs us u) size
-  fields_again (g ∷ gs) vs (u ∷ us) p a b apart order out (first, rest, inr (means, none), more, front) parts =
+  fields_again (g ∷ gs) vs (u ∷ us) p a b apart order out (first, rest, left_out means none, more, front) parts =
       let t = both (not (eqb (g.identifier % 32) 31)) _ apart in
       let d = both (is_stranger g.identifier gs) _ t.1 in
       let o = outside_front G g gs b out in

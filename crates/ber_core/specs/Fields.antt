@@ -60,9 +60,11 @@ RequiredFault id f p (b ∷ bs) =
     ⊎ (((b ≢ id) × (b % 32 ≢ 31) × (f ≡ fault_of p causes.UnexpectedTag))
     ⊎ PresentFault id f p (b ∷ bs))
 
--- o is the field's element with this value, or it is nothing, and the value is what absence means
-abbrev pub SpellsField : {K I : Type 0} → Grammar K I → Field K I → Option I → List ℕ → Type 0
-SpellsField {I = I} G g v o = ((x : I) × (c : List ℕ) × (v ≡ Some x) × Elem g.identifier c o × G.spells g.kind x c) ⊎ (AbsenceMeans g.presence v × (o ≡ []))
+-- o is one field: it is filled, by an element of its identifier whose contents spell the value; or it is left out,
+-- where o is nothing and the value is what absence means
+pub data SpellsField {K I : Type 0} (G : Grammar K I) (g : Field K I) (v : Option I) (o : List ℕ) : Type 0 where
+  filled : (x : I) (c : List ℕ) → v ≡ Some x → Elem g.identifier c o → G.spells g.kind x c → SpellsField G g v o
+  left_out : AbsenceMeans g.presence v → o ≡ [] → SpellsField G g v o
 
 -- o is the spelling of one field after the other, each with its value
 abbrev pub SpellsFields : {K I : Type 0} → Grammar K I → List (Field K I) → List (Option I) → List ℕ → Type 0

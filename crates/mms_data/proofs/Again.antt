@@ -28,23 +28,23 @@ pub header_low : (p id : ℕ) (more : List ℕ) (size c rest : List ℕ) → eqb
 unfolding header_at
 header_low p id more size c rest low parts len = rw (low, parts) (length_again p id size c rest len)
 
-module _ (levels p : ℕ) (k : Kind) (size c rest : List ℕ) (len : Len (length c) size) where
+module _ (depth p : ℕ) (k : Kind) (size c rest : List ℕ) (len : Len (length c) size) where
   -- the member of a kind is what its contents are
-  pub member_is : member_at (suc levels) p (identifier_of k ∷ size ++ (c ++ rest))
-      ≡ (contents_at (members_at levels) k (header_for p (identifier_of k) (length size) (length c)) c >>= λ d. Ok (d, p + 1 + length size + length c))
+  pub member_is : member_at (suc depth) p (identifier_of k ∷ size ++ (c ++ rest))
+      ≡ (contents_at (members_at depth) k (header_for p (identifier_of k) (length size) (length c)) c >>= λ d. Ok (d, p + 1 + length size + length c))
   unfolding member_at member_with members_at
   member_is = rw (here_again p (identifier_of k) k refl, header_low p (identifier_of k) (size ++ (c ++ rest)) size c rest (low_tag k) refl len, contents_again p (identifier_of k) size c rest) refl
 
 some_levels : (k : ℕ) → 0 < k → k ≡ suc (k - 1)
 some_levels k h = omega arith
 
-elem_at : (levels p : ℕ) (k : Kind) (c first rest : List ℕ) → 0 < levels → (e : Elem (identifier_of k) c first)
-    → member_at levels p (first ++ rest) ≡ (contents_at (members_at (levels - 1)) k (header_for p (identifier_of k) (length e.size) (length c)) c >>= λ d. Ok (d, p + length first))
-elem_at levels p k c first rest some e =
+elem_at : (depth p : ℕ) (k : Kind) (c first rest : List ℕ) → 0 < depth → (e : Elem (identifier_of k) c first)
+    → member_at depth p (first ++ rest) ≡ (contents_at (members_at (depth - 1)) k (header_for p (identifier_of k) (length e.size) (length c)) c >>= λ d. Ok (d, p + length first))
+elem_at depth p k c first rest some e =
     let whole : first ++ rest ≡ identifier_of k ∷ e.size ++ (c ++ rest) = ap (λ x. x ++ rest) e.parts ∙ ap (λ (x : List ℕ). identifier_of k ∷ x) (append_assoc e.size c rest) in
     let next : p + 1 + length e.size + length c ≡ p + length first = omega (arith, ap length e.parts, length-append e.size c) in
-    ap₂ (λ m x. member_at m p x) (some_levels levels some) whole ∙ member_is (levels - 1) p k e.size c rest e.sized
-    ∙ ap (λ x. contents_at (members_at (levels - 1)) k (header_for p (identifier_of k) (length e.size) (length c)) c >>= λ d. Ok (d, x)) next
+    ap₂ (λ m x. member_at m p x) (some_levels depth some) whole ∙ member_is (depth - 1) p k e.size c rest e.sized
+    ∙ ap (λ x. contents_at (members_at (depth - 1)) k (header_for p (identifier_of k) (length e.size) (length c)) c >>= λ d. Ok (d, x)) next
 
 elem_some : (id : ℕ) (c o : List ℕ) → Elem id c o → 0 < length o
 elem_some id c o e = omega (arith, ap length e.parts)
@@ -69,26 +69,26 @@ nested k q ds c make x e = rw (e, items_of-list_of ds) refl
 
 mutual
   pub data_again : (d : Data) (L k p : ℕ) (first rest : List ℕ) → L + k ≡ 17 → Spells d L first → member_at k p (first ++ rest) ≡ Ok (d, p + length first)
-  data_again (simple v) L k p first rest levels s =
+  data_again (simple v) L k p first rest depth s =
       elem_at k p (of_kind (simple_kind v)) s.1 first rest (omega (arith, s.0)) s.2 ∙ rw (simple_again v p (p + 1 + length s.2.size) s.1 s.3) refl
-  data_again (array ds) L k p first rest levels s =
+  data_again (array ds) L k p first rest depth s =
       let inner = items_again ds (L + 1) (k - 1) (length s.1) (p + 1 + length s.2.size) s.1 (omega (arith, s.0)) s.3 (omega arith) in
       elem_at k p Array s.1 first rest (omega (arith, s.0)) s.2 ∙ nested (k - 1) (p + 1 + length s.2.size) ds s.1 array (p + length first) inner
-  data_again (structure ds) L k p first rest levels s =
+  data_again (structure ds) L k p first rest depth s =
       let inner = items_again ds (L + 1) (k - 1) (length s.1) (p + 1 + length s.2.size) s.1 (omega (arith, s.0)) s.3 (omega arith) in
       elem_at k p Structure s.1 first rest (omega (arith, s.0)) s.2 ∙ nested (k - 1) (p + 1 + length s.2.size) ds s.1 structure (p + length first) inner
 
   pub items_again : (ds : Items) (L k n p : ℕ) (o : List ℕ) → L + k ≡ 17 → SpellsItems ds L o → length o ≤ n → members_with (member_at k) n p o ≡ Ok (list_of ds)
-  items_again no_items L k n p o levels s enough = none_left (member_at k) n p o (ap length s)
-  items_again (item d ds) L k n p o levels s enough =
+  items_again no_items L k n p o depth s enough = none_left (member_at k) n p o (ap length s)
+  items_again (item d ds) L k n p o depth s enough =
       let first = s.0 in
       let rest = s.1 in
       let size : length o ≡ length first + length rest = ap length s.4 ∙ length-append first rest in
       let some : 0 < length first = spelled_some d L first s.2 in
       let n-is : n ≡ suc (n - 1) = omega arith in
-      let one : member_at k p o ≡ Ok (d, p + length first) = ap (member_at k p) s.4 ∙ data_again d L k p first rest levels s.2 in
+      let one : member_at k p o ≡ Ok (d, p + length first) = ap (member_at k p) s.4 ∙ data_again d L k p first rest depth s.2 in
       let left : drop ((p + length first) - p) o ≡ rest = left_over o first rest p (p + length first) s.4 refl in
-      let others : members_with (member_at k) (n - 1) (p + length first) rest ≡ Ok (list_of ds) = items_again ds L k (n - 1) (p + length first) rest levels s.3 (omega arith) in
+      let others : members_with (member_at k) (n - 1) (p + length first) rest ≡ Ok (list_of ds) = items_again ds L k (n - 1) (p + length first) rest depth s.3 (omega arith) in
       ap (λ m. members_with (member_at k) m p o) n-is ∙ one_more (member_at k) (n - 1) p o d (p + length first) (omega arith) one
       ∙ ap (λ x. members_with (member_at k) (n - 1) (p + length first) x >>= λ es. Ok (d ∷ es)) left ∙ ap (λ r. r >>= λ es. Ok (d ∷ es)) others
 
@@ -98,4 +98,4 @@ members_at-is k p o = refl
 
 -- Members that are spelled are read.
 pub all_again : (k L : ℕ) → L + k ≡ 17 → (p : ℕ) (o : List ℕ) (ds : List Data) → SpellsAll ds L o → members_at k p o ≡ Ok ds
-all_again k L levels p o ds s = members_at-is k p o ∙ items_again (items_of ds) L k (length o) p o levels s (omega arith) ∙ ap (λ (xs : List Data). Ok xs) (list_of-items_of ds)
+all_again k L depth p o ds s = members_at-is k p o ∙ items_again (items_of ds) L k (length o) p o depth s (omega arith) ∙ ap (λ (xs : List Data). Ok xs) (list_of-items_of ds)

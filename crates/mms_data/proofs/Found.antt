@@ -44,7 +44,7 @@ module _ (member : ℕ → List ℕ → Result (Data × ℕ) Fault) (L : ℕ) (l
 low_number : (k : Kind) → eqb (identifier_of k % 32) 31 ≡ false → identifier_of k % 32 ≡ 31 → ⊥
 low_number k e = eqb-false (identifier_of k % 32) 31 e
 
-module _ (k L p : ℕ) (size c : List ℕ) (levels : L + suc k ≡ 17) (len : Len (length c) size) (inner : (q : ℕ) (ds : List Data) → members_at k q c ≡ Ok ds → SpellsAll ds (L + 1) c) where
+module _ (k L p : ℕ) (size c : List ℕ) (depth : L + suc k ≡ 17) (len : Len (length c) size) (inner : (q : ℕ) (ds : List Data) → members_at k q c ≡ Ok ds → SpellsAll ds (L + 1) c) where
   data_found : (kind : Kind) (d : Data) → contents_at (members_at k) kind (header_for p (identifier_of kind) (length size) (length c)) c ≡ Ok d → Spells d L (identifier_of kind ∷ size ++ c)
   data_found Array d e =
       let x = bind_ok (members_at k (p + 1 + length size) c) _ d e in
@@ -68,7 +68,7 @@ members_at_found k L law q c ds e = members_found (member_at k) L law (length c)
 taken_of : (k L p id : ℕ) (o : List ℕ) (kind : Kind) (h : Header) (d : Data) (next : ℕ) → L + suc k ≡ 17 → id ≡ identifier_of kind → (t : Parts p id o h)
     → ((q : ℕ) (c : List ℕ) (ds : List Data) → members_at k q c ≡ Ok ds → SpellsAll ds (L + 1) c)
     → contents_at (members_at k) kind h (contents_within h (id ∷ o)) ≡ Ok d → next ≡ h.contents_to → Taken L p (id ∷ o) d next
-taken_of k L p id o kind h d next levels known t inner e to =
+taken_of k L p id o kind h d next depth known t inner e to =
     let c-is : contents_within h (id ∷ o) ≡ t.contents = ap₂ (λ x y. contents_within x (id ∷ y)) t.header t.parts ∙ contents_again p id t.size t.contents t.rest in
     let header : h ≡ header_for p (identifier_of kind) (length t.size) (length t.contents) = t.header ∙ ap (λ x. header_for p x (length t.size) (length t.contents)) known in
     let e' : contents_at (members_at k) kind (header_for p (identifier_of kind) (length t.size) (length t.contents)) t.contents ≡ Ok d = sym (ap₂ (contents_at (members_at k) kind) header c-is) ∙ e in
@@ -77,7 +77,7 @@ taken_of k L p id o kind h d next levels known t inner e to =
       first = id ∷ t.size ++ t.contents;
       rest = t.rest;
       parts = ap (λ (x : List ℕ). id ∷ x) (t.parts ∙ sym (append_assoc t.size t.contents t.rest));
-      spelled = subst (λ x. Spells d L (x ∷ t.size ++ t.contents)) (sym known) (data_found k L p t.size t.contents levels t.sized (λ q ds. inner q t.contents ds) kind d e');
+      spelled = subst (λ x. Spells d L (x ∷ t.size ++ t.contents)) (sym known) (data_found k L p t.size t.contents depth t.sized (λ q ds. inner q t.contents ds) kind d e');
       after = omega (arith, to, end, length-append t.size t.contents);
     }
 
@@ -92,20 +92,20 @@ no_levels p o x e = cc
 member_inv : (k L p : ℕ) (o : List ℕ) (d : Data) (next : ℕ) → L + suc k ≡ 17 → ((q : ℕ) (c : List ℕ) (ds : List Data) → members_at k q c ≡ Ok ds → SpellsAll ds (L + 1) c)
     → member_with (members_at k) p o ≡ Ok (d, next) → Taken L p o d next
 unfolding member_with
-member_inv k L p [] d next levels inner e = absurd (cc)
-member_inv k L p (id ∷ o) d next levels inner e =
+member_inv k L p [] d next depth inner e = absurd (cc)
+member_inv k L p (id ∷ o) d next depth inner e =
     let x = bind_ok (known_at p (id ∷ o)) _ (d, next) e in
     let kn = here_found p id x.0 x.1 in
     let y = bind_ok (header_at p (id ∷ o)) _ (d, next) x.2 in
     let t = low_found p id o y.0 kn.1 y.1 in
     let z = bind_ok (contents_at (members_at k) x.0 y.0 (contents_within y.0 (id ∷ o))) _ (d, next) y.2 in
     let same = pair_is z.0 d y.0.contents_to next z.2 in
-    taken_of k L p id o x.0 y.0 d next levels kn.0 t inner (z.1 ∙ ap (λ v. Ok v) (sym same.0)) same.1
+    taken_of k L p id o x.0 y.0 d next depth kn.0 t inner (z.1 ∙ ap (λ v. Ok v) (sym same.0)) same.1
 
 pub member_found : (k L : ℕ) → L + k ≡ 17 → (p : ℕ) (o : List ℕ) (d : Data) (next : ℕ) → member_at k p o ≡ Ok (d, next) → Taken L p o d next
-member_found zero L levels p o d next e = absurd (no_levels p o (d, next) e)
-member_found (suc k) L levels p o d next e = member_inv k L p o d next levels (members_at_found k (L + 1) (member_found k (L + 1) (omega arith))) (sym (member_step k p o) ∙ e)
+member_found zero L depth p o d next e = absurd (no_levels p o (d, next) e)
+member_found (suc k) L depth p o d next e = member_inv k L p o d next depth (members_at_found k (L + 1) (member_found k (L + 1) (omega arith))) (sym (member_step k p o) ∙ e)
 
 -- Members that are read are spelled so.
 pub all_found : (k L : ℕ) → L + k ≡ 17 → (p : ℕ) (o : List ℕ) (ds : List Data) → members_at k p o ≡ Ok ds → SpellsAll ds L o
-all_found k L levels p o ds e = members_at_found k L (member_found k L levels) p o ds e
+all_found k L depth p o ds e = members_at_found k L (member_found k L depth) p o ds e

@@ -33,7 +33,7 @@ members_else_fault L p o last = either L p o last (members_at (17 - L) p o) refl
 pub seen_is_spelled : SeenIsSpelled
 seen_is_spelled m =
     let few = m.bounded in
-    all_found m.levels (level_of m) (omega arith) 0 (source_of m).now (left m) (read_in m.levels (source_of m).now m.spelled)
+    all_found m.depth (level_of m) (omega arith) 0 (source_of m).now (left m) (read_in m.depth (source_of m).now m.spelled)
 
 pub seen_is_one : SeenIsOne
 seen_is_one m ds s = one_value (level_of m) (omega arith) (source_of m).now (left m) ds (seen_is_spelled m) s

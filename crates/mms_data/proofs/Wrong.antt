@@ -28,7 +28,7 @@ header_wrong : (L p id : ℕ) (o : List ℕ) (f : Fault) → L ≤ 16 → IsKnow
 unfolding header_at
 header_wrong L p id o f le known low e = in_length le known (length_wrong p id o f (sym (rw low refl) ∙ e))
 
-module _ (k L p : ℕ) (o size c rest : List ℕ) (f : Fault) (levels : L + suc k ≡ 17) (len : Len (length c) size)
+module _ (k L p : ℕ) (o size c rest : List ℕ) (f : Fault) (depth : L + suc k ≡ 17) (len : Len (length c) size)
     (inner : (q : ℕ) → members_at k q c ≡ Err f → FaultIn f (L + 1) q c) where
   contents_wrong : (kind : Kind) → o ≡ identifier_of kind ∷ size ++ (c ++ rest) → contents_at (members_at k) kind (header_for p (identifier_of kind) (length size) (length c)) c ≡ Err f → FaultIn f L p o
   contents_wrong Array parts e = let le : L ≤ 16 = omega arith in elim (bind_err (members_at k (p + 1 + length size) c) _ f e) [
@@ -47,7 +47,7 @@ module _ (k L p : ℕ) (o size c rest : List ℕ) (f : Fault) (levels : L + suc 
 member_wrong_at : (k L p id : ℕ) (o : List ℕ) (f : Fault) → L + suc k ≡ 17 → ((q : ℕ) (c : List ℕ) → members_at k q c ≡ Err f → FaultIn f (L + 1) q c)
     → member_with (members_at k) p (id ∷ o) ≡ Err f → FaultIn f L p (id ∷ o)
 unfolding member_with
-member_wrong_at k L p id o f levels inner e =
+member_wrong_at k L p id o f depth inner e =
     let le : L ≤ 16 = omega arith in
     elim (bind_err (known_at p (id ∷ o)) _ f e) [
       | inl h ↦ known_wrong L p id o f le h
@@ -61,14 +61,14 @@ member_wrong_at k L p id o f levels inner e =
                   | inl h ↦
                       let c-is : contents_within y.0 (id ∷ o) ≡ t.contents = ap₂ (λ a b. contents_within a (id ∷ b)) t.header t.parts ∙ contents_again p id t.size t.contents t.rest in
                       let header : y.0 ≡ header_for p (identifier_of x.0) (length t.size) (length t.contents) = t.header ∙ ap (λ j. header_for p j (length t.size) (length t.contents)) kn.0 in
-                      contents_wrong k L p (id ∷ o) t.size t.contents t.rest f levels t.sized (λ q. inner q t.contents) x.0 (ap₂ (λ (a : ℕ) (b : List ℕ). a ∷ b) kn.0 t.parts)
+                      contents_wrong k L p (id ∷ o) t.size t.contents t.rest f depth t.sized (λ q. inner q t.contents) x.0 (ap₂ (λ (a : ℕ) (b : List ℕ). a ∷ b) kn.0 t.parts)
                       (sym (ap₂ (contents_at (members_at k) x.0) header c-is) ∙ h)
                   | inr z ↦ absurd (let wrong = z.2 in cc)
                 ]
           ]
     ]
 
-module _ (k L : ℕ) (f : Fault) (levels : L + k ≡ 17) (law : (p b : ℕ) (bs : List ℕ) → member_at k p (b ∷ bs) ≡ Err f → FaultIn f L p (b ∷ bs)) where
+module _ (k L : ℕ) (f : Fault) (depth : L + k ≡ 17) (law : (p b : ℕ) (bs : List ℕ) → member_at k p (b ∷ bs) ≡ Err f → FaultIn f L p (b ∷ bs)) where
   members_wrong : (n p : ℕ) (o : List ℕ) → length o ≤ n → members_with (member_at k) n p o ≡ Err f → FaultIn f L p o
   unfolding members_with
   members_wrong n p [] enough e = absurd (cc)
@@ -76,7 +76,7 @@ module _ (k L : ℕ) (f : Fault) (levels : L + k ≡ 17) (law : (p b : ℕ) (bs 
   members_wrong (suc n) p (b ∷ bs) enough e = elim (bind_err (member_at k p (b ∷ bs)) _ f e) [
     | inl h ↦ law p b bs h
     | inr x ↦
-        let t = member_found k L levels p (b ∷ bs) x.0.0 x.0.1 x.1 in
+        let t = member_found k L depth p (b ∷ bs) x.0.0 x.0.1 x.1 in
         let left : drop (x.0.1 - p) (b ∷ bs) ≡ t.rest = left_over (b ∷ bs) t.first t.rest p x.0.1 t.parts t.after in
         let some : 0 < length t.first = spelled_some x.0.0 L t.first t.spelled in
         let count : length (b ∷ bs) ≡ length t.first + length t.rest = ap length t.parts ∙ length-append t.first t.rest in
@@ -90,16 +90,16 @@ module _ (k L : ℕ) (f : Fault) (levels : L + k ≡ 17) (law : (p b : ℕ) (bs 
 
 members_at_wrong : (k L : ℕ) (f : Fault) → L + k ≡ 17 → ((p b : ℕ) (bs : List ℕ) → member_at k p (b ∷ bs) ≡ Err f → FaultIn f L p (b ∷ bs)) → (q : ℕ) (c : List ℕ) → members_at k q c ≡ Err f → FaultIn f L q c
 unfolding members_at
-members_at_wrong k L f levels law q c e = members_wrong k L f levels law (length c) q c (omega arith) e
+members_at_wrong k L f depth law q c e = members_wrong k L f depth law (length c) q c (omega arith) e
 
 no_level : (L p b : ℕ) (bs : List ℕ) (f : Fault) → 16 < L → member_at zero p (b ∷ bs) ≡ Err f → FaultIn f L p (b ∷ bs)
 unfolding member_at
 no_level L p b bs f more e = too_deep more (fault_is {A = Data × ℕ} _ _ f e)
 
 member_wrong : (k L : ℕ) (f : Fault) → L + k ≡ 17 → (p b : ℕ) (bs : List ℕ) → member_at k p (b ∷ bs) ≡ Err f → FaultIn f L p (b ∷ bs)
-member_wrong zero L f levels p b bs e = no_level L p b bs f (omega arith) e
-member_wrong (suc k) L f levels p b bs e = member_wrong_at k L p b bs f levels (members_at_wrong k (L + 1) f (omega arith) (member_wrong k (L + 1) f (omega arith))) (sym (member_step k p (b ∷ bs)) ∙ e)
+member_wrong zero L f depth p b bs e = no_level L p b bs f (omega arith) e
+member_wrong (suc k) L f depth p b bs e = member_wrong_at k L p b bs f depth (members_at_wrong k (L + 1) f (omega arith) (member_wrong k (L + 1) f (omega arith))) (sym (member_step k p (b ∷ bs)) ∙ e)
 
 -- Where reading members stops there is that fault.
 pub all_wrong : (k L : ℕ) (f : Fault) → L + k ≡ 17 → (p : ℕ) (o : List ℕ) → members_at k p o ≡ Err f → FaultIn f L p o
-all_wrong k L f levels p o e = members_at_wrong k L f levels (member_wrong k L f levels) p o e
+all_wrong k L f depth p o e = members_at_wrong k L f depth (member_wrong k L f depth) p o e

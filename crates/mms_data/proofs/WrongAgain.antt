@@ -56,28 +56,28 @@ here k n p o f some enough more e =
     ap₂ (λ m l. members_with (member_at l) m p o) n-is k-is ∙ fails_here (member_at (suc (k - 1))) (n - 1) p o f some e
 
 fault_again : (f : Fault) {L p : ℕ} {o : List ℕ} → FaultIn f L p o → (k n : ℕ) → L + k ≡ 17 → length o ≤ n → members_with (member_at k) n p o ≡ Err f
-fault_again f {L} {p} {o} (later d first rest s parts h) k n levels enough =
+fault_again f {L} {p} {o} (later d first rest s parts h) k n depth enough =
     let size : length o ≡ length first + length rest = ap length parts ∙ length-append first rest in
     let some : 0 < length first = spelled_some d L first s in
     let n-is : n ≡ suc (n - 1) = omega arith in
-    let one : member_at k p o ≡ Ok (d, p + length first) = ap (member_at k p) parts ∙ data_again d L k p first rest levels s in
+    let one : member_at k p o ≡ Ok (d, p + length first) = ap (member_at k p) parts ∙ data_again d L k p first rest depth s in
     let left : drop ((p + length first) - p) o ≡ rest = left_over o first rest p (p + length first) parts refl in
-    let others = fault_again f h k (n - 1) levels (omega arith) in
+    let others = fault_again f h k (n - 1) depth (omega arith) in
     ap (λ m. members_with (member_at k) m p o) n-is ∙ one_more (member_at k) (n - 1) p o d (p + length first) (omega arith) one
     ∙ ap (λ x. members_with (member_at k) (n - 1) (p + length first) x >>= λ es. Ok (d ∷ es)) left ∙ ap (λ r. r >>= λ es. Ok (d ∷ es)) others
-fault_again f {L} {p} (too_deep {id = b} {more = bs} deep is) k n levels enough =
+fault_again f {L} {p} (too_deep {id = b} {more = bs} deep is) k n depth enough =
     let n-is : n ≡ suc (n - 1) = omega arith in
     let k-is : k ≡ 0 = omega arith in
     ap₂ (λ m l. members_with (member_at l) m p (b ∷ bs)) n-is k-is ∙ fails_here (member_at 0) (n - 1) p (b ∷ bs) f (omega arith) (no_level_again p b bs f is)
-fault_again f {L} {p} (high {id = b} {more = bs} le tag is) k n levels enough = here k n p (b ∷ bs) f (omega arith) enough (omega arith) (high_again (k - 1) p b bs f tag is)
-fault_again f {L} {p} (unexpected {id = b} {more = bs} le low never is) k n levels enough = here k n p (b ∷ bs) f (omega arith) enough (omega arith) (unexpected_again (k - 1) p b bs f low never is)
-fault_again f {L} {p} (in_length {id = b} {more = bs} le known h) k n levels enough = here k n p (b ∷ bs) f (omega arith) enough (omega arith) (in_length_again (k - 1) p b bs f known h)
-fault_again f {L} {p} {o} (in_contents kind c size rest le parts len h) k n levels enough =
+fault_again f {L} {p} (high {id = b} {more = bs} le tag is) k n depth enough = here k n p (b ∷ bs) f (omega arith) enough (omega arith) (high_again (k - 1) p b bs f tag is)
+fault_again f {L} {p} (unexpected {id = b} {more = bs} le low never is) k n depth enough = here k n p (b ∷ bs) f (omega arith) enough (omega arith) (unexpected_again (k - 1) p b bs f low never is)
+fault_again f {L} {p} (in_length {id = b} {more = bs} le known h) k n depth enough = here k n p (b ∷ bs) f (omega arith) enough (omega arith) (in_length_again (k - 1) p b bs f known h)
+fault_again f {L} {p} {o} (in_contents kind c size rest le parts len h) k n depth enough =
     here k n p o f (omega (arith, ap length parts)) enough (omega arith) (in_contents_again (k - 1) p kind o c size rest f parts len h)
-fault_again f {L} {p} {o} (within id c size rest le kind parts len h) k n levels enough =
+fault_again f {L} {p} {o} (within id c size rest le kind parts len h) k n depth enough =
     let inner = members_at-is (k - 1) (p + 1 + length size) c ∙ fault_again f h (k - 1) (length c) (omega arith) (omega arith) in
     here k n p o f (omega (arith, ap length parts)) enough (omega arith) (within_again (k - 1) p id o c size rest f kind parts len inner)
 
 -- Where members have a fault reading stops with it.
 pub all_wrong_again : (k L : ℕ) (f : Fault) → L + k ≡ 17 → (p : ℕ) (o : List ℕ) → FaultIn f L p o → members_at k p o ≡ Err f
-all_wrong_again k L f levels p o h = members_at-is k p o ∙ fault_again f h k (length o) levels (omega arith)
+all_wrong_again k L f depth p o h = members_at-is k p o ∙ fault_again f h k (length o) depth (omega arith)

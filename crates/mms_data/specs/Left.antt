@@ -17,10 +17,10 @@ abbrev pub was_read : Result (List Data) Fault → Bool
 was_read (Ok ds) = true
 was_read (Err f) = false
 
--- the members that stand in these octets, where levels is how many levels may stand from here on
+-- the members that stand in these octets, where depth is how many levels may stand from here on
 unfoldable pub data_in : ℕ → List ℕ → List Data
-data_in levels o = data_or_none (members_at levels 0 o)
+data_in depth o = data_or_none (members_at depth 0 o)
 
 -- the octets spell members
 abbrev pub AreMembers : ℕ → List ℕ → Type 0
-AreMembers levels o = was_read (members_at levels 0 o) ≡ true
+AreMembers depth o = was_read (members_at depth 0 o) ≡ true

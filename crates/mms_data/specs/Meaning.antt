@@ -9,7 +9,7 @@ use Rattle.mms_data.specs.declared.view.View.TheVariants as variants
 
 -- the members still to come
 abbrev pub left : Members → List Data
-left m = data_in m.levels m.octets.now
+left m = data_in m.depth m.octets.now
 
 -- what a view stands for
 abbrev pub meaning : View → Data

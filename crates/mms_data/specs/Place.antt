@@ -23,7 +23,7 @@ source_of m = m.octets
 
 -- the level at which the members stand
 abbrev pub level_of : Members → ℕ
-level_of m = 17 - m.levels
+level_of m = 17 - m.depth
 
 -- whatever octets the view hands out are a part of the source
 abbrev pub ViewIsPart : View → Bor (List ℕ) → Type 0

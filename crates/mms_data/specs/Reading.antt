@@ -52,11 +52,11 @@ members_with member (suc n) p (id ∷ more) = do
   ds ← members_with member n x.1 (drop (x.1 - p) (id ∷ more))
   Ok (x.0 ∷ ds)
 
--- the member at the front, where levels is how many levels may stand from here on
+-- the member at the front, where depth is how many levels may stand from here on
 unfoldable pub member_at : ℕ → ℕ → List ℕ → Result (Data × ℕ) Fault
 member_at zero p o = refused p causes.TooDeep
-member_at (suc levels) p o = member_with (λ q c. members_with (member_at levels) (length c) q c) p o
+member_at (suc depth) p o = member_with (λ q c. members_with (member_at depth) (length c) q c) p o
 
 -- the members that the octets spell
 unfoldable pub members_at : ℕ → ℕ → List ℕ → Result (List Data) Fault
-members_at levels p o = members_with (member_at levels) (length o) p o
+members_at depth p o = members_with (member_at depth) (length o) p o

@@ -37,17 +37,17 @@ pub fn check_members(octets: &[u8], at: usize, end: usize, level: u8) -> Result<
     count_members(octets, at, end, 17 - level)
 }
 
-// The count of the members, of which `levels` levels may stand inside one another.
+// The count of the members, of which `depth` levels may stand inside one another.
 #[cycle(checking)]
-fn count_members(octets: &[u8], at: usize, end: usize, levels: u8) -> Result<usize, Fault>
+fn count_members(octets: &[u8], at: usize, end: usize, depth: u8) -> Result<usize, Fault>
     requires order { at ≤ end }
     requires inside { end ≤ length octets.now }
-    ensures { result ≡ less length (members_at levels at (slice_range octets.now at end)) }
+    ensures { result ≡ less length (members_at depth at (slice_range octets.now at end)) }
 {
     let mut count = 0;
     let mut place = at;
     'members: while place < end {
-        place = pass_member(octets, place, end, levels)?;
+        place = pass_member(octets, place, end, depth)?;
         count += 1;
     }
     Ok(count)
@@ -56,33 +56,33 @@ fn count_members(octets: &[u8], at: usize, end: usize, levels: u8) -> Result<usi
 // The place after the member at `at`.
 #[cycle(checking)]
 #[tactic(auto, unfolding(crate::specs::Reading::member_with, crate::specs::Reading::member_at))]
-fn pass_member(octets: &[u8], at: usize, end: usize, levels: u8) -> Result<usize, Fault>
+fn pass_member(octets: &[u8], at: usize, end: usize, depth: u8) -> Result<usize, Fault>
     requires order { at < end }
     requires inside { end ≤ length octets.now }
-    ensures exact { result ≡ less (λ x. x.1) (member_at levels at (slice_range octets.now at end)) }
+    ensures exact { result ≡ less (λ x. x.1) (member_at depth at (slice_range octets.now at end)) }
     ensures next { IfOk result (λ x. (at < x) × (x ≤ end)) }
 {
-    if levels == 0 {
+    if depth == 0 {
         return Err(Cause::TooDeep.at(at));
     }
     let kind = member_kind(&octets[at..end], at)?;
     let header = header(octets, at, end)?;
-    check_contents(octets, &header, kind, levels - 1)?;
+    check_contents(octets, &header, kind, depth - 1)?;
     Ok(header.contents_to)
 }
 
 // Whether the contents behind the header are those of a value of the kind.
 #[cycle(checking)]
-fn check_contents(octets: &[u8], header: &Header, kind: Kind, levels: u8) -> Result<(), Fault>
+fn check_contents(octets: &[u8], header: &Header, kind: Kind, depth: u8) -> Result<(), Fault>
     requires begins { header.now.at < header.now.contents_from }
     requires order { header.now.contents_from ≤ header.now.contents_to }
     requires inside { header.now.contents_to ≤ length octets.now }
-    ensures { result ≡ less (λ _. tt) (contents_at (members_at levels) kind header.now (slice_range octets.now header.now.contents_from header.now.contents_to)) }
+    ensures { result ≡ less (λ _. tt) (contents_at (members_at depth) kind header.now (slice_range octets.now header.now.contents_from header.now.contents_to)) }
 {
     let (from, to) = (header.contents_from, header.contents_to);
     match kind {
         Kind::Array | Kind::Structure => {
-            let _count = count_members(octets, from, to, levels)?;
+            let _count = count_members(octets, from, to, depth)?;
         }
         Kind::Simple(kind) => {
             let _view = simple(kind, &octets[from..to], header.at, from)?;

@@ -16,16 +16,16 @@ use crate::measuring::header_length;
 use ber_core::contents::integer_of;
 use ber_core::{header, signed_count};
 
-// Whether the octets of members, of which `levels` levels may stand inside one another, are their written form.
+// Whether the octets of members, of which `depth` levels may stand inside one another, are their written form.
 #[cycle(standing)]
-pub(crate) fn are_written(octets: &[u8], levels: u8) -> bool
-    requires few { levels ≤ 16 }
-    requires spelled { AreMembers levels octets.now }
-    ensures { (result ≡ true) ↔ (octets.now ≡ written_all (data_in levels octets.now)) }
+pub(crate) fn are_written(octets: &[u8], depth: u8) -> bool
+    requires few { depth ≤ 16 }
+    requires spelled { AreMembers depth octets.now }
+    ensures { (result ≡ true) ↔ (octets.now ≡ written_all (data_in depth octets.now)) }
 {
     let mut others = octets;
     'members: while !others.is_empty() {
-        let Some(next) = behind_written(others, levels) else {
+        let Some(next) = behind_written(others, depth) else {
             return false;
         };
         others = next;
@@ -35,13 +35,13 @@ pub(crate) fn are_written(octets: &[u8], levels: u8) -> bool
 
 // What stands behind the first of the members, where that stands in its written form.
 #[cycle(standing)]
-fn behind_written(octets: &[u8], levels: u8) -> Option<&[u8]>
+fn behind_written(octets: &[u8], depth: u8) -> Option<&[u8]>
     requires some { 0 < length octets.now }
-    requires few { levels ≤ 16 }
-    requires spelled { AreMembers levels octets.now }
-    ensures none { result ≡ None → ¬ (octets.now ≡ written_all (data_in levels octets.now)) }
-    ensures behind { IfSome result (λ next. (d : Data) × (octets.now ≡ written d ++ next.now) × (data_in levels octets.now ≡ d ∷ data_in levels next.now)) }
-    ensures spelled { IfSome result (λ next. AreMembers levels next.now) }
+    requires few { depth ≤ 16 }
+    requires spelled { AreMembers depth octets.now }
+    ensures none { result ≡ None → ¬ (octets.now ≡ written_all (data_in depth octets.now)) }
+    ensures behind { IfSome result (λ next. (d : Data) × (octets.now ≡ written d ++ next.now) × (data_in depth octets.now ≡ d ∷ data_in depth next.now)) }
+    ensures spelled { IfSome result (λ next. AreMembers depth next.now) }
     ensures fewer { IfSome result (λ next. length next.now < length octets.now) }
 {
     let Ok(kind) = member_kind(octets, 0) else {
@@ -54,7 +54,7 @@ fn behind_written(octets: &[u8], levels: u8) -> Option<&[u8]>
     if header.contents_from != header_length(contents.len()) {
         return None;
     }
-    if !are_contents_written(kind, contents, levels - 1) {
+    if !are_contents_written(kind, contents, depth - 1) {
         return None;
     }
     Some(&octets[header.contents_to..])
@@ -62,13 +62,13 @@ fn behind_written(octets: &[u8], levels: u8) -> Option<&[u8]>
 
 // Whether the contents of a value of the kind are those of its written form.
 #[cycle(standing)]
-fn are_contents_written(kind: Kind, contents: &[u8], levels: u8) -> bool
-    requires few { levels ≤ 16 }
-    requires good { (h : Header) × (d : Data) × (contents_at (members_at levels) kind h contents.now ≡ Ok d) }
-    ensures { (h : Header) (d : Data) → contents_at (members_at levels) kind h contents.now ≡ Ok d → (result ≡ true) ↔ (contents.now ≡ written_contents d) }
+fn are_contents_written(kind: Kind, contents: &[u8], depth: u8) -> bool
+    requires few { depth ≤ 16 }
+    requires good { (h : Header) × (d : Data) × (contents_at (members_at depth) kind h contents.now ≡ Ok d) }
+    ensures { (h : Header) (d : Data) → contents_at (members_at depth) kind h contents.now ≡ Ok d → (result ≡ true) ↔ (contents.now ≡ written_contents d) }
 {
     match kind {
-        Kind::Array | Kind::Structure => are_written(contents, levels),
+        Kind::Array | Kind::Structure => are_written(contents, depth),
         Kind::Simple(kind) => is_simple_written(kind, contents),
     }
 }

@@ -39,9 +39,9 @@ pub enum View<'a> {
 #[derive(Clone, Copy)]
 pub struct Members<'a> {
     octets: &'a [u8],
-    levels: u8,
-    pub ghost bounded: { levels ≤ 16 },
-    pub ghost spelled: { AreMembers levels octets.now },
+    depth: u8,
+    pub ghost bounded: { depth ≤ 16 },
+    pub ghost spelled: { AreMembers depth octets.now },
 }
 
 impl<'a> Members<'a> {
@@ -58,7 +58,7 @@ impl<'a> Members<'a> {
         ensures exactly { IsSome result ↔ ((source_of self.entry).now ≡ written_all (left self.entry)) }
         ensures octets { IfSome result (λ o. o.now ≡ written_all (left self.entry)) }
     {
-        if are_written(self.octets, self.levels) {
+        if are_written(self.octets, self.depth) {
             Some(self.octets)
         } else {
             None
@@ -77,27 +77,27 @@ impl<'a> Members<'a> {
     {
         Members {
             octets: &octets[at..end],
-            levels: 17 - level,
+            depth: 17 - level,
         }
     }
 
     // What the contents behind this header are.
-    fn view(contents: &'a [u8], header: &Header, kind: Kind, levels: u8) -> View<'a>
-        requires few { levels ≤ 16 }
+    fn view(contents: &'a [u8], header: &Header, kind: Kind, depth: u8) -> View<'a>
+        requires few { depth ≤ 16 }
         requires begins { header.now.at < header.now.contents_from }
         requires fits { header.now.contents_from + length contents.now < 2 ^ 64 }
-        requires good { (d : Data) × (contents_at (members_at levels) kind header.now contents.now ≡ Ok d) }
-        ensures means { contents_at (members_at levels) kind header.now contents.now ≡ Ok (meaning result) }
+        requires good { (d : Data) × (contents_at (members_at depth) kind header.now contents.now ≡ Ok d) }
+        ensures means { contents_at (members_at depth) kind header.now contents.now ≡ Ok (meaning result) }
         ensures part { ViewIsPart result contents.entry }
     {
         match kind {
             Kind::Array => View::Array(Members {
                 octets: contents,
-                levels,
+                depth,
             }),
             Kind::Structure => View::Structure(Members {
                 octets: contents,
-                levels,
+                depth,
             }),
             Kind::Simple(kind) => {
                 let Ok(view) = simple(kind, contents, header.at, header.contents_from) else {
@@ -115,7 +115,7 @@ impl<'a> Members<'a> {
         ensures part { ViewIsPart result.0 (source_of self.entry) }
         ensures rest { IsPart (source_of result.1) (source_of self.entry) }
     {
-        let (octets, levels) = (self.octets, self.levels);
+        let (octets, depth) = (self.octets, self.depth);
         let Ok(header) = header(octets, 0, octets.len()) else {
             unreachable!()
         };
@@ -123,9 +123,9 @@ impl<'a> Members<'a> {
         let Ok(kind) = member_kind(octets, 0) else {
             unreachable!()
         };
-        let view = Members::view(contents, &header, kind, levels - 1);
+        let view = Members::view(contents, &header, kind, depth - 1);
         let octets = &octets[header.contents_to..];
-        (view, Members { octets, levels })
+        (view, Members { octets, depth })
     }
 }
 

@@ -15,7 +15,7 @@ use Rattle.ber_core.specs.Faults.{fault_of}
 use Rattle.ber_core.proofs.Headers.{header_for}
 use Rattle.ber_core.proofs.Steps.{chosen, bind_ok, bind_err}
 use Rattle.pdu_core.specs.declared.goose.GoosePdu.{GoosePdu}
-use Rattle.ber_core.specs.Fields.{SpellsFields}
+use Rattle.ber_core.specs.Fields.{SpellsFields, filled, left_out}
 use Rattle.pdu_core.specs.Contents.{Item, a_text, a_number, a_flag, a_time, some_members, a_fixed, some_octets, contents_grammar}
 use Rattle.pdu_core.specs.Goose.{goose_front, goose_end, goose_fields, goose_items, text_if, SpellsGoose, apdu_grammar, apdu_fields, CountFault, GooseFault}
 use Rattle.ber_core.specs.FieldReading.{Read, required_at, there_at, if_there, fields_at, ends_at}
@@ -93,21 +93,21 @@ end_form : (vs : List (Option Item)) (o : List ℕ) → SpellsFields contents_gr
 end_form [] o s = absurd s
 end_form (u ∷ []) o (a, b, first, more, parts) = absurd more
 end_form (u ∷ v ∷ w ∷ vs) o (a, b, first, (c, d, second, more, parts'), parts) = absurd more
-end_form (u ∷ v ∷ []) o (a, b, inr (means, none), more, parts) = absurd means
-end_form (u ∷ v ∷ []) o (a, b, first, (c, d, inr (means, none), more, parts'), parts) = absurd means
-end_form (u ∷ v ∷ []) o (a, b, inl (a_number n, c1, is1, elem1, spelled1), (c, d, inl (some_members ds, c2, is2, elem2, spelled2), more, parts'), parts) = (n, ds, rw (is1, is2) refl)
-end_form (u ∷ v ∷ []) o (a, b, inl (x, c1, is1, elem1, spelled1), (c, d, inl (a_text t, c2, is2, elem2, spelled2), more, parts'), parts) = absurd spelled2
-end_form (u ∷ v ∷ []) o (a, b, inl (x, c1, is1, elem1, spelled1), (c, d, inl (a_number n, c2, is2, elem2, spelled2), more, parts'), parts) = absurd spelled2
-end_form (u ∷ v ∷ []) o (a, b, inl (x, c1, is1, elem1, spelled1), (c, d, inl (a_flag t, c2, is2, elem2, spelled2), more, parts'), parts) = absurd spelled2
-end_form (u ∷ v ∷ []) o (a, b, inl (x, c1, is1, elem1, spelled1), (c, d, inl (a_time t, c2, is2, elem2, spelled2), more, parts'), parts) = absurd spelled2
-end_form (u ∷ v ∷ []) o (a, b, inl (x, c1, is1, elem1, spelled1), (c, d, inl (a_fixed z t, c2, is2, elem2, spelled2), more, parts'), parts) = absurd spelled2
-end_form (u ∷ v ∷ []) o (a, b, inl (x, c1, is1, elem1, spelled1), (c, d, inl (some_octets t, c2, is2, elem2, spelled2), more, parts'), parts) = absurd spelled2
-end_form (u ∷ v ∷ []) o (a, b, inl (a_text t, c1, is1, elem1, spelled1), (c, d, inl (x, c2, is2, elem2, spelled2), more, parts'), parts) = absurd spelled1
-end_form (u ∷ v ∷ []) o (a, b, inl (a_flag t, c1, is1, elem1, spelled1), (c, d, inl (x, c2, is2, elem2, spelled2), more, parts'), parts) = absurd spelled1
-end_form (u ∷ v ∷ []) o (a, b, inl (a_time t, c1, is1, elem1, spelled1), (c, d, inl (x, c2, is2, elem2, spelled2), more, parts'), parts) = absurd spelled1
-end_form (u ∷ v ∷ []) o (a, b, inl (some_members t, c1, is1, elem1, spelled1), (c, d, inl (x, c2, is2, elem2, spelled2), more, parts'), parts) = absurd spelled1
-end_form (u ∷ v ∷ []) o (a, b, inl (a_fixed z t, c1, is1, elem1, spelled1), (c, d, inl (x, c2, is2, elem2, spelled2), more, parts'), parts) = absurd spelled1
-end_form (u ∷ v ∷ []) o (a, b, inl (some_octets t, c1, is1, elem1, spelled1), (c, d, inl (x, c2, is2, elem2, spelled2), more, parts'), parts) = absurd spelled1
+end_form (u ∷ v ∷ []) o (a, b, left_out means none, more, parts) = absurd means
+end_form (u ∷ v ∷ []) o (a, b, first, (c, d, left_out means none, more, parts'), parts) = absurd means
+end_form (u ∷ v ∷ []) o (a, b, filled (a_number n) c1 is1 elem1 spelled1, (c, d, filled (some_members ds) c2 is2 elem2 spelled2, more, parts'), parts) = (n, ds, rw (is1, is2) refl)
+end_form (u ∷ v ∷ []) o (a, b, filled x c1 is1 elem1 spelled1, (c, d, filled (a_text t) c2 is2 elem2 spelled2, more, parts'), parts) = absurd spelled2
+end_form (u ∷ v ∷ []) o (a, b, filled x c1 is1 elem1 spelled1, (c, d, filled (a_number n) c2 is2 elem2 spelled2, more, parts'), parts) = absurd spelled2
+end_form (u ∷ v ∷ []) o (a, b, filled x c1 is1 elem1 spelled1, (c, d, filled (a_flag t) c2 is2 elem2 spelled2, more, parts'), parts) = absurd spelled2
+end_form (u ∷ v ∷ []) o (a, b, filled x c1 is1 elem1 spelled1, (c, d, filled (a_time t) c2 is2 elem2 spelled2, more, parts'), parts) = absurd spelled2
+end_form (u ∷ v ∷ []) o (a, b, filled x c1 is1 elem1 spelled1, (c, d, filled (a_fixed z t) c2 is2 elem2 spelled2, more, parts'), parts) = absurd spelled2
+end_form (u ∷ v ∷ []) o (a, b, filled x c1 is1 elem1 spelled1, (c, d, filled (some_octets t) c2 is2 elem2 spelled2, more, parts'), parts) = absurd spelled2
+end_form (u ∷ v ∷ []) o (a, b, filled (a_text t) c1 is1 elem1 spelled1, (c, d, filled x c2 is2 elem2 spelled2, more, parts'), parts) = absurd spelled1
+end_form (u ∷ v ∷ []) o (a, b, filled (a_flag t) c1 is1 elem1 spelled1, (c, d, filled x c2 is2 elem2 spelled2, more, parts'), parts) = absurd spelled1
+end_form (u ∷ v ∷ []) o (a, b, filled (a_time t) c1 is1 elem1 spelled1, (c, d, filled x c2 is2 elem2 spelled2, more, parts'), parts) = absurd spelled1
+end_form (u ∷ v ∷ []) o (a, b, filled (some_members t) c1 is1 elem1 spelled1, (c, d, filled x c2 is2 elem2 spelled2, more, parts'), parts) = absurd spelled1
+end_form (u ∷ v ∷ []) o (a, b, filled (a_fixed z t) c1 is1 elem1 spelled1, (c, d, filled x c2 is2 elem2 spelled2, more, parts'), parts) = absurd spelled1
+end_form (u ∷ v ∷ []) o (a, b, filled (some_octets t) c1 is1 elem1 spelled1, (c, d, filled x c2 is2 elem2 spelled2, more, parts'), parts) = absurd spelled1
 
 -- what the count says, where the values are those of the front and these
 counted_is : (place n : ℕ) (xs : List (Option Item)) (ds : List Data) → length xs ≡ 10 → counted place (xs ++ (Some (a_number n) ∷ Some (some_members ds) ∷ [])) ≡ (count_at place n ds >>= λ _. Ok (xs ++ (Some (a_number n) ∷ Some (some_members ds) ∷ [])))
@@ -131,14 +131,14 @@ not_both r f a b = let wrong : ◌≡◌ {A = Result (Unit {0}) Fault} (Err f) (
 -- ---- the element 61
 
 outer_form : (vs : List (Option Item)) (o : List ℕ) → SpellsFields apdu_grammar apdu_fields (Some vs ∷ []) o → (c : List ℕ) × Elem 0x61 c o × SpellsFields contents_grammar goose_fields vs c
-outer_form vs o (a, b, inl (x, c, is, elem, spelled), none, parts) =
+outer_form vs o (a, b, filled x c is elem spelled, none, parts) =
     let o-is : o ≡ a = parts ∙ ap (λ (s : List ℕ). a ++ s) none ∙ append-nil a in
     let same : x ≡ vs = cc in
     (c, subst (λ (s : List ℕ). Elem 0x61 c s) (sym o-is) elem, subst (λ (y : List (Option Item)). SpellsFields contents_grammar goose_fields y c) same spelled)
-outer_form vs o (a, b, inr (means, none), more, parts) = absurd means
+outer_form vs o (a, b, left_out means none, more, parts) = absurd means
 
 form_outer : (vs : List (Option Item)) (o c : List ℕ) → Elem 0x61 c o → SpellsFields contents_grammar goose_fields vs c → SpellsFields apdu_grammar apdu_fields (Some vs ∷ []) o
-form_outer vs o c elem s = (o, [], inl (vs, c, refl, elem, s), refl, sym (append-nil o))
+form_outer vs o c elem s = (o, [], filled vs c refl elem s, refl, sym (append-nil o))
 
 -- the octets of an APDU that was read but for its count
 record Split (octets : List ℕ) (p e : ℕ) (values all : List (Option Item)) (place : ℕ) : Type 0 where
@@ -267,8 +267,8 @@ goose_at_is octets p e h x y r1 r2 r3 r4 r5 = rw (r1, r2, r3, r4, r5) refl
 
 end_begins : (vs : List (Option Item)) (o : List ℕ) → SpellsFields contents_grammar goose_end vs o → Outside goose_front o
 end_begins [] o s = absurd s
-end_begins (v ∷ vs) o (a, b, inl (x, c, is, elem, spelled), more, parts) = rw (parts ∙ ap (λ (s : List ℕ). s ++ b) elem.parts) refl
-end_begins (v ∷ vs) o (a, b, inr (means, none), more, parts) = absurd means
+end_begins (v ∷ vs) o (a, b, filled x c is elem spelled, more, parts) = rw (parts ∙ ap (λ (s : List ℕ). s ++ b) elem.parts) refl
+end_begins (v ∷ vs) o (a, b, left_out means none, more, parts) = absurd means
 
 pub ends_here : (q e : ℕ) → e ≤ q → ends_at q e ≡ Ok tt
 ends_here q e h = rw (le-ltb q e h) refl

@@ -4,7 +4,7 @@ use Rattle.std.proofs.Common.{◌≡◌, ℕ, ◌≤◌, eqb, List, [], ◌∷�
 use Rattle.std.proofs.lemmas.Bool.{eqb-true}
 use Rattle.std.specs.Prelude.{slice_range}
 use Rattle.ber_core.specs.FieldReading.{ends_at, fields_at, required_at}
-use Rattle.ber_core.specs.Fields.{AbsenceMeans, Field, Presence, SpellsField, SpellsFields, always, default, optional}
+use Rattle.ber_core.specs.Fields.{AbsenceMeans, Field, Presence, SpellsField, SpellsFields, always, default, optional, filled, left_out}
 use Rattle.ber_core.specs.Repeated.{SpellsEach}
 use Rattle.ber_core.specs.declared.fault.Fault.{Fault}
 use Rattle.ber_core.proofs.FieldNested.{ok_is}
@@ -99,8 +99,8 @@ absence_kept optional k v means = rw means (absent_kept_if k)
 absence_kept (default d) k v means = λ keeps. rw means keeps
 
 field_kept : (g : Field Kind Item) (v : Option Item) (o : List ℕ) → SpellsField contents_grammar g v o → IsKept g.presence g.kind v
-field_kept g v o (inl (x, c, is, element, spelled)) = rw is (value_kept g.presence g.kind x c spelled)
-field_kept g v o (inr (means, none)) = absence_kept g.presence g.kind v means
+field_kept g v o (filled x c is element spelled) = rw is (value_kept g.presence g.kind x c spelled)
+field_kept g v o (left_out means none) = absence_kept g.presence g.kind v means
 
 -- ---- all fields
 
@@ -194,11 +194,11 @@ each_kept A [] o s = refl
 each_kept A (vs ∷ vss) o (c, a, b, element, spelled, more, parts) = cons_is (asdu_kept A vs (fields_kept asdu_fields vs c spelled)) (each_kept A vss b more)
 
 sv_kept : (A : Type 0) (vss : List (List (Option Item))) (o : List ℕ) → SpellsFields sv_grammar sv_fields (both_items (length vss) vss) o → items_of_each (asdus_of_items {A = A} vss) ≡ vss
-sv_kept A vss o (a, b, first, (a', b', inl (some_asdus wss, c, is, element, spelled), more, parts'), parts) =
+sv_kept A vss o (a, b, first, (a', b', filled (some_asdus wss) c is element spelled, more, parts'), parts) =
     let same : wss ≡ vss = cc in
     ap (λ (xs : List (List (Option Item))). items_of_each (asdus_of_items {A = A} xs)) (sym same) ∙ each_kept A wss c spelled ∙ same
-sv_kept A vss o (a, b, first, (a', b', inl (a_count n, c, is, element, spelled), more, parts'), parts) = absurd spelled
-sv_kept A vss o (a, b, first, (a', b', inr (means, none), more, parts'), parts) = absurd means
+sv_kept A vss o (a, b, first, (a', b', filled (a_count n) c is element spelled, more, parts'), parts) = absurd spelled
+sv_kept A vss o (a, b, first, (a', b', left_out means none, more, parts'), parts) = absurd means
 
 -- ---- APDUs
 

@@ -1,9 +1,9 @@
 -- An APDU of Sampled Values that octets spell has a spelling in the sense of its fields.
-use Rattle.std.proofs.Common.{◌≡◌, ℕ, List, [], ◌∷◌, ◌++◌, length, Option, Some, None, subst, arith, inl, inr}
+use Rattle.std.proofs.Common.{◌≡◌, ℕ, List, [], ◌∷◌, ◌++◌, length, Option, Some, None, subst, arith}
 use Rattle.std.proofs.lemmas.Int.{ints}
 use Rattle.std.specs.List.{AllByRecursion}
 use Rattle.std.specs.Prelude.{IfSome}
-use Rattle.ber_core.specs.Fields.{SpellsField, SpellsFields, always}
+use Rattle.ber_core.specs.Fields.{SpellsField, SpellsFields, always, filled, left_out}
 use Rattle.ber_core.specs.Length.{AreOctets}
 use Rattle.ber_core.specs.Repeated.{SpellsEach}
 use Rattle.mms_data.proofs.SpelledSpellable.{back_octets, contents_octets, front_octets}
@@ -61,8 +61,8 @@ asdus_spellable (a ∷ more) o h (c, first, rest, elem, spelled, others, parts) 
 
 -- the contents of a field that is always there
 field_contents : (id : ℕ) (k : SvKind) (x : SvItem) (o : List ℕ) → AreOctets o → SpellsField sv_grammar (record { identifier = id; kind = k; presence = always }) (Some x) o → (c : List ℕ) × AreOctets c × SpellsSvContents k x c
-field_contents id k x o h (inl (y, c, is, elem, spelled)) = let same : y ≡ x = cc in (c, contents_octets id c o h elem, subst (λ (z : SvItem). SpellsSvContents k z c) same spelled)
-field_contents id k x o h (inr (means, none)) = absurd means
+field_contents id k x o h (filled y c is elem spelled) = let same : y ≡ x = cc in (c, contents_octets id c o h elem, subst (λ (z : SvItem). SpellsSvContents k z c) same spelled)
+field_contents id k x o h (left_out means none) = absurd means
 
 pub sv_spellable : {A : Type 0} → SpelledSvIsSpellable A
 sv_spellable p o h (c, elem, (front, back, count, (each, end, those, ends, rest), parts)) =

@@ -1,9 +1,10 @@
 -- What is written of Sampled Values is spelled.
-use Rattle.std.proofs.Common.{◌≡◌, ℕ, pos, ◌+◌, ◌^◌, ◌<◌, List, [], ◌∷◌, length, drop, Option, Some, None, refl, sym, arith, inl}
+use Rattle.std.proofs.Common.{◌≡◌, ℕ, pos, ◌+◌, ◌^◌, ◌<◌, List, [], ◌∷◌, length, drop, Option, Some, None, refl, sym, arith}
 use Rattle.std.proofs.lemmas.Int.{ints}
 use Rattle.std.proofs.lemmas.List.{append-nil, length-append}
 use Rattle.std.specs.List.{AllByRecursion}
 use Rattle.std.specs.Prelude.{IfSome}
+use Rattle.ber_core.specs.Fields.{filled}
 use Rattle.ber_core.specs.Contents.{SpellsInteger, AreVisible}
 use Rattle.ber_core.specs.Repeated.{SpellsEach}
 use Rattle.ber_core.specs.Written.{short_integer, written_element}
@@ -90,11 +91,11 @@ written_sv_is_spelled p s small =
       (
         written_element 0x80 count,
         written_element 0xa2 each,
-        inl (a_count (length p.asdus), count, refl, element_written 0x80 count (one_octet 0x80 refl) few_count, count_written (length p.asdus) s.count),
+        filled (a_count (length p.asdus)) count refl (element_written 0x80 count (one_octet 0x80 refl) few_count) (count_written (length p.asdus) s.count),
         (
           written_element 0xa2 each,
           [],
-          inl (some_asdus (items_of_each p.asdus), each, refl, element_written 0xa2 each (one_octet 0xa2 refl) few_each, asdus_written p.asdus s.each few_each),
+          filled (some_asdus (items_of_each p.asdus)) each refl (element_written 0xa2 each (one_octet 0xa2 refl) few_each) (asdus_written p.asdus s.each few_each),
           refl,
           sym (append-nil (written_element 0xa2 each)),
         ),

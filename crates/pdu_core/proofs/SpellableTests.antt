@@ -8,7 +8,8 @@ use Rattle.ber_core.specs.Contents.{AreVisible}
 use Rattle.mms_data.specs.SpellableTest.{is_text, is_text_read}
 use Rattle.mms_data.specs.Data.{items_of}
 use Rattle.mms_data.proofs.SpellableLaws.{all_is, all_true, moment_is, moment_true}
-use Rattle.pdu_core.specs.Spellable.{IsSpellableGoose, are_numbers, are_texts, is_goose_spellable, is_text_if}
+use Rattle.pdu_core.specs.Spellable.{IsSpellableGoose}
+use Rattle.pdu_core.specs.SpellableTest.{are_numbers, are_texts, is_goose_spellable, is_text_if}
 use Rattle.pdu_core.specs.declared.goose.GoosePdu.{GoosePdu}
 use Rattle.pdu_core.proofs.Texts.{text_is, text_is_not}
 

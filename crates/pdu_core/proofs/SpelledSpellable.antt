@@ -1,8 +1,8 @@
 -- An APDU that octets spell has a spelling in the sense of the test: nothing is read that could not be written.
-use Rattle.std.proofs.Common.{ℕ, ◌<◌, ◌^◌, List, [], ◌∷◌, ◌++◌, Option, Some, None, sym, subst, arith, inl, inr}
+use Rattle.std.proofs.Common.{ℕ, ◌<◌, ◌^◌, List, [], ◌∷◌, ◌++◌, Option, Some, None, sym, subst, arith}
 use Rattle.std.proofs.lemmas.Int.{ints}
 use Rattle.std.specs.Prelude.{IfSome}
-use Rattle.ber_core.specs.Fields.{AbsenceMeans, Field, Presence, SpellsField, SpellsFields, always, default, optional}
+use Rattle.ber_core.specs.Fields.{AbsenceMeans, Field, Presence, SpellsField, SpellsFields, always, default, optional, filled, left_out}
 use Rattle.ber_core.specs.Length.{AreOctets, number as octets_number}
 use Rattle.ber_core.specs.Contents.{AreVisible}
 use Rattle.mms_data.proofs.SpelledSpellable.{back_octets, contents_octets, front_octets, items_spellable, simple_spellable}
@@ -58,8 +58,8 @@ absent_spellable k optional v d means = subst (There k) (sym means) tt
 absent_spellable k (default x) v d means = subst (There k) (sym means) d
 
 field_spellable : (g : Field Kind Item) (v : Option Item) (o : List ℕ) → Default g.kind g.presence → AreOctets o → SpellsField contents_grammar g v o → There g.kind v
-field_spellable g v o d h (inl (x, c, is, elem, spelled)) = subst (There g.kind) (sym is) (item_spellable g.kind x c (contents_octets g.identifier c o h elem) spelled)
-field_spellable g v o d h (inr (means, none)) = absent_spellable g.kind g.presence v d means
+field_spellable g v o d h (filled x c is elem spelled) = subst (There g.kind) (sym is) (item_spellable g.kind x c (contents_octets g.identifier c o h elem) spelled)
+field_spellable g v o d h (left_out means none) = absent_spellable g.kind g.presence v d means
 
 pub fields_spellable : (gs : List (Field Kind Item)) (vs : List (Option Item)) (o : List ℕ) → Defaults gs → AreOctets o → SpellsFields contents_grammar gs vs o → AllThere gs vs
 fields_spellable [] [] o d h s = tt

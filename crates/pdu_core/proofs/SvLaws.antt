@@ -9,7 +9,7 @@ use Rattle.ber_core.specs.declared.fault.Cause.TheVariants as causes
 use Rattle.ber_core.specs.Element.{Elem, contents_of}
 use Rattle.ber_core.specs.Faults.{fault_of}
 use Rattle.ber_core.specs.FieldReading.{Read, required_at, fields_at, ends_at}
-use Rattle.ber_core.specs.Fields.{SpellsFields}
+use Rattle.ber_core.specs.Fields.{SpellsFields, filled, left_out}
 use Rattle.ber_core.specs.Reading.{◌>>=◌}
 use Rattle.ber_core.proofs.FieldNested.{nothing, nested_read, nested_sound, fills_found, fills_again, result_cases, ok_is}
 use Rattle.ber_core.proofs.FieldRegions.{contents_are, rest_is, if_there_again, if_there_found}
@@ -88,11 +88,11 @@ sv_form : (vs : List (Option SvItem)) (o : List ℕ) → SpellsFields sv_grammar
 sv_form [] o s = absurd s
 sv_form (u ∷ []) o (a, b, first, more, parts) = absurd more
 sv_form (u ∷ v ∷ w ∷ vs) o (a, b, first, (c, d, second, more, parts'), parts) = absurd more
-sv_form (u ∷ v ∷ []) o (a, b, inr (means, none), more, parts) = absurd means
-sv_form (u ∷ v ∷ []) o (a, b, first, (c, d, inr (means, none), more, parts'), parts) = absurd means
-sv_form (u ∷ v ∷ []) o (a, b, inl (a_count n, c1, is1, elem1, spelled1), (c, d, inl (some_asdus vss, c2, is2, elem2, spelled2), more, parts'), parts) = (n, vss, rw (is1, is2) refl)
-sv_form (u ∷ v ∷ []) o (a, b, inl (x, c1, is1, elem1, spelled1), (c, d, inl (a_count n, c2, is2, elem2, spelled2), more, parts'), parts) = absurd spelled2
-sv_form (u ∷ v ∷ []) o (a, b, inl (some_asdus t, c1, is1, elem1, spelled1), (c, d, inl (x, c2, is2, elem2, spelled2), more, parts'), parts) = absurd spelled1
+sv_form (u ∷ v ∷ []) o (a, b, left_out means none, more, parts) = absurd means
+sv_form (u ∷ v ∷ []) o (a, b, first, (c, d, left_out means none, more, parts'), parts) = absurd means
+sv_form (u ∷ v ∷ []) o (a, b, filled (a_count n) c1 is1 elem1 spelled1, (c, d, filled (some_asdus vss) c2 is2 elem2 spelled2, more, parts'), parts) = (n, vss, rw (is1, is2) refl)
+sv_form (u ∷ v ∷ []) o (a, b, filled x c1 is1 elem1 spelled1, (c, d, filled (a_count n) c2 is2 elem2 spelled2, more, parts'), parts) = absurd spelled2
+sv_form (u ∷ v ∷ []) o (a, b, filled (some_asdus t) c1 is1 elem1 spelled1, (c, d, filled x c2 is2 elem2 spelled2, more, parts'), parts) = absurd spelled1
 
 count_differs : (place n : ℕ) (vss : List (List (Option Item))) (f : Fault) → (asdu_count_at place n vss >>= λ _. Ok vss) ≡ Err f → (n ≢ length vss) × (f ≡ fault_of place causes.AsduCount)
 count_differs place n vss f is = elim (bind_err (asdu_count_at place n vss) _ f is) [
@@ -117,14 +117,14 @@ count_is_wrong place n vss h = rw (ne_eqb n (length vss) h) refl
 -- ---- the element 60
 
 outer_form : (vs : List (Option SvItem)) (o : List ℕ) → SpellsFields sv_apdu_grammar sv_apdu_fields (Some vs ∷ []) o → (c : List ℕ) × Elem 0x60 c o × SpellsFields sv_grammar sv_fields vs c
-outer_form vs o (a, b, inl (x, c, is, elem, spelled), none, parts) =
+outer_form vs o (a, b, filled x c is elem spelled, none, parts) =
     let o-is : o ≡ a = parts ∙ ap (λ (s : List ℕ). a ++ s) none ∙ append-nil a in
     let same : x ≡ vs = cc in
     (c, subst (λ (s : List ℕ). Elem 0x60 c s) (sym o-is) elem, subst (λ (y : List (Option SvItem)). SpellsFields sv_grammar sv_fields y c) same spelled)
-outer_form vs o (a, b, inr (means, none), more, parts) = absurd means
+outer_form vs o (a, b, left_out means none, more, parts) = absurd means
 
 form_outer : (vs : List (Option SvItem)) (o c : List ℕ) → Elem 0x60 c o → SpellsFields sv_grammar sv_fields vs c → SpellsFields sv_apdu_grammar sv_apdu_fields (Some vs ∷ []) o
-form_outer vs o c elem s = (o, [], inl (vs, c, refl, elem, s), refl, sym (append-nil o))
+form_outer vs o c elem s = (o, [], filled vs c refl elem s, refl, sym (append-nil o))
 
 sv_at_is : (octets : List ℕ) (p e : ℕ) (h : Header) (x : List (Option SvItem) × ℕ) → required_at 0x60 octets p e ≡ Ok h → fields_at sv_item_at sv_fields [] octets h.contents_from h.contents_to ≡ Ok x
     → ends_at x.1 h.contents_to ≡ Ok tt → ends_at h.contents_to e ≡ Ok tt → sv_at octets p e ≡ counted_asdus h.contents_from x.0

@@ -1,5 +1,5 @@
 -- What is written is spelled.
-use Rattle.std.proofs.Common.{◌≡◌, ℕ, pos, ◌+◌, ◌%◌, ◌^◌, ◌<◌, Bool, true, false, eqb, List, [], ◌∷◌, length, drop, Option, Some, None, refl, sym, ap, subst, ◌∙◌, arith, inl, inr}
+use Rattle.std.proofs.Common.{◌≡◌, ℕ, pos, ◌+◌, ◌%◌, ◌^◌, ◌<◌, Bool, true, false, eqb, List, [], ◌∷◌, length, drop, Option, Some, None, refl, sym, ap, subst, ◌∙◌, arith}
 use Rattle.std.proofs.lemmas.Bool.{eqb-false}
 use Rattle.std.proofs.lemmas.Int.{ints}
 use Rattle.std.proofs.lemmas.List.{length-append, append-nil}
@@ -7,7 +7,7 @@ use Rattle.std.specs.Prelude.{IfSome}
 use Rattle.byteorder.specs.Endian.{big_bytes, big_number}
 use Rattle.byteorder.specs.Numbers.{length-bytes_high_first, big_number-reads_back}
 use Rattle.ber_core.specs.Element.{Elem, IsIdentifier}
-use Rattle.ber_core.specs.Fields.{Field, AbsenceMeans, SpellsFields}
+use Rattle.ber_core.specs.Fields.{Field, AbsenceMeans, SpellsFields, filled, left_out}
 use Rattle.ber_core.specs.Length.{number}
 use Rattle.ber_core.specs.Written.{short_integer, short_length, written_element}
 use Rattle.ber_core.proofs.Shortest.{integer_shortest, length_shortest}
@@ -88,13 +88,13 @@ pub fields_written : (gs : List (Field Kind Item)) (vs : List (Option Item)) →
 fields_written [] [] suit small = refl
 fields_written [] (v ∷ vs) suit small = absurd suit
 fields_written (g ∷ gs) [] suit small = absurd suit
-fields_written (g ∷ gs) (None ∷ vs) (means, suit) small = ([], written_fields gs vs, inr (means, refl), fields_written gs vs suit small, refl)
+fields_written (g ∷ gs) (None ∷ vs) (means, suit) small = ([], written_fields gs vs, left_out means refl, fields_written gs vs suit small, refl)
 fields_written (g ∷ gs) (Some x ∷ vs) (identifier, spellable, suit) small =
     let first = written_element g.identifier (written_item x) in
     let size : length (written_fields (g ∷ gs) (Some x ∷ vs)) ≡ length first + length (written_fields gs vs) = length-append first (written_fields gs vs) in
     let holds = element_size g.identifier (written_item x) in
     let few : length (written_item x) < 2 ^ 32 = omega (arith, size, holds, small) in
-    (first, written_fields gs vs, inl (x, written_item x, refl, element_written g.identifier (written_item x) identifier few, item_written g.kind x spellable few), fields_written gs vs suit (omega (arith, size, small)), refl)
+    (first, written_fields gs vs, filled x (written_item x) refl (element_written g.identifier (written_item x) identifier few) (item_written g.kind x spellable few), fields_written gs vs suit (omega (arith, size, small)), refl)
 
 -- ---- the APDU
 

@@ -6,6 +6,7 @@ pub mod Views
 pub mod Parts
 pub mod Laws
 pub mod Spellable
+pub mod SpellableTest
 pub mod Written
 pub mod GooseValue
 pub mod Asdu
@@ -14,6 +15,7 @@ pub mod SampledReading
 pub mod SampledValue
 pub mod SampledViews
 pub mod SampledSpellable
+pub mod SampledSpellableTest
 pub mod SampledWritten
 pub mod SampledLaws
 pub mod Memory

@@ -5,7 +5,7 @@ use Rattle.std.proofs.lemmas.Bool.{and_parts, and_cases, both_ways, cases_Bool, 
 use Rattle.mms_data.specs.Data.{items_of}
 use Rattle.mms_data.specs.SpellableTest.{is_text, is_time}
 use Rattle.mms_data.proofs.SpellableLaws.{all_is, all_true, moment_is, moment_true}
-use Rattle.pdu_core.specs.Spellable.{are_texts}
+use Rattle.pdu_core.specs.SpellableTest.{are_texts}
 use Rattle.pdu_core.proofs.SpellableTests.{test_text, test_text_if, text_if_test, text_test}
 use Rattle.frame_core.specs.declared.frame.Frame.{Frame}
 use Rattle.frame_core.specs.Written.{IsTooLong, written_apdu, written_frame}

@@ -3,7 +3,7 @@ use Rattle.std.specs.Prelude.{◌≡◌, ℕ, zero, suc, ◌+◌, ◌==◌, ◌&
 use Rattle.frame_core.specs.declared.frame.Frame.{Frame}
 use Rattle.frame_core.specs.Written.{written_apdu, written_frame}
 use Rattle.mms_data.specs.SpellableTest.{all_are_spellable, is_time}
-use Rattle.pdu_core.specs.Spellable.{are_texts}
+use Rattle.pdu_core.specs.SpellableTest.{are_texts}
 use Rattle.publish_core.specs.declared.control.Control.{Control}
 use Rattle.publish_core.specs.declared.fault.PublishFault.{PublishFault}
 use Rattle.publish_core.specs.declared.fault.PublishFault.TheVariants as faults

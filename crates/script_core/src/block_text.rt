@@ -77,10 +77,10 @@ fn view_block(text: &[u8]) -> Option<BlockView<'_>>
 fn owned<A: Allocator + Copy>(alloc: A, view: BlockView<'_>) -> Result<Block<A>, AllocError>
     ensures { IfOk result (λ block. block ≡ block_seen view.entry) }
 {
-    let gocb_ref = Octets::from(Vec::from_slice(alloc, view.gocb_ref)?);
-    let dat_set = Octets::from(Vec::from_slice(alloc, view.dat_set)?);
+    let gocb_ref = Octets::try_from_slice(alloc, view.gocb_ref)?;
+    let dat_set = Octets::try_from_slice(alloc, view.dat_set)?;
     let go_id = match view.go_id {
-        Some(go_id) => Some(Octets::from(Vec::from_slice(alloc, go_id)?)),
+        Some(go_id) => Some(Octets::try_from_slice(alloc, go_id)?),
         None => None,
     };
     Ok(Block {

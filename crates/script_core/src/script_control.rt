@@ -134,10 +134,10 @@ fn view_fields<'a>(
 fn owned<A: Allocator + Copy>(alloc: A, view: ControlView<'_>) -> Result<Control<A>, AllocError>
     ensures { IfOk result (λ control. control ≡ block_of_line (control_seen view.entry)) }
 {
-    let gocb_ref = Octets::from(Vec::from_slice(alloc, view.gocb_ref)?);
-    let dat_set = Octets::from(Vec::from_slice(alloc, view.dat_set)?);
+    let gocb_ref = Octets::try_from_slice(alloc, view.gocb_ref)?;
+    let dat_set = Octets::try_from_slice(alloc, view.dat_set)?;
     let go_id = match view.go_id {
-        Some(go_id) => Some(Octets::from(Vec::from_slice(alloc, go_id)?)),
+        Some(go_id) => Some(Octets::try_from_slice(alloc, go_id)?),
         None => None,
     };
     Ok(Control {

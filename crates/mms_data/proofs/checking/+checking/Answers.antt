@@ -9,26 +9,26 @@ pass_member-returns-in_err-check_contents-clause-exact t c =
     let p = err_from_is_err_and c.from_residual-in_err-check_contents.result c.from_residual-in_err-check_contents.ensures.1 in
     let h = c.in_ok-header.header in
     let places = c.in_ok-header.ensures.places in
-    let is = member_there c.args.levels c.args.at c.args.octets.now c.args.end (omega arith) c.in_ok-kind.kind h places.at places.begins places.order places.within (sym c.in_ok-kind.ensures) (sym c.in_ok-header.ensures.exact) in
+    let is = member_there c.args.depth c.args.at c.args.octets.now c.args.end (omega arith) c.in_ok-kind.kind h places.at places.begins places.order places.within (sym c.in_ok-kind.ensures) (sym c.in_ok-header.ensures.exact) in
     rw (p.1, p.2, is) (member_wrong _ _ h.contents_to c.in_err-check_contents.ensures)
 
 pub pass_member-returns-clause-exact : goal.pass_member-returns-clause-exact
 pass_member-returns-clause-exact t c =
     let h = c.in_ok-header.header in
     let places = c.in_ok-header.ensures.places in
-    let is = member_there c.args.levels c.args.at c.args.octets.now c.args.end (omega arith) c.in_ok-kind.kind h places.at places.begins places.order places.within (sym c.in_ok-kind.ensures) (sym c.in_ok-header.ensures.exact) in
+    let is = member_there c.args.depth c.args.at c.args.octets.now c.args.end (omega arith) c.in_ok-kind.kind h places.at places.begins places.order places.within (sym c.in_ok-kind.ensures) (sym c.in_ok-header.ensures.exact) in
     rw is (member_good _ _ h.contents_to c.in_ok-check_contents.ensures)
 
 pub count_members-members-init : goal.count_members-members-init
-count_members-members-init t c = counts_none c.args.levels c.args.at c.args.octets.now c.args.end c.requires.inside c.requires.order
+count_members-members-init t c = counts_none c.args.depth c.args.at c.args.octets.now c.args.end c.requires.inside c.requires.order
 
 pub count_members-returns-in_err-place : goal.count_members-returns-in_err-place
 count_members-returns-in_err-place t c =
     let p = err_from_is_err_and c.from_residual.result c.from_residual.ensures.1 in
-    rw (p.1, p.2) (counts_wrong c.args.levels c.args.at c.args.octets.now c.args.end c.requires.inside _ c.members.place c.members.count c.members-test.true c.in_err-place.ensures.exact c.members.invariant)
+    rw (p.1, p.2) (counts_wrong c.args.depth c.args.at c.args.octets.now c.args.end c.requires.inside _ c.members.place c.members.count c.members-test.true c.in_err-place.ensures.exact c.members.invariant)
 
 pub count_members-members-preserved : goal.count_members-members-preserved
-count_members-members-preserved t c = counts_on c.args.levels c.args.at c.args.octets.now c.args.end c.requires.inside c.members.place c.in_ok-place.place c.members.count c.members-test.true c.in_ok-place.ensures.next.0 c.in_ok-place.ensures.next.1 c.in_ok-place.ensures.exact c.members.invariant
+count_members-members-preserved t c = counts_on c.args.depth c.args.at c.args.octets.now c.args.end c.requires.inside c.members.place c.in_ok-place.place c.members.count c.members-test.true c.in_ok-place.ensures.next.0 c.in_ok-place.ensures.next.1 c.in_ok-place.ensures.exact c.members.invariant
 
 pub count_members-returns : goal.count_members-returns
-count_members-returns t c = counts_all c.args.levels c.args.at c.args.octets.now c.args.end c.requires.inside c.members.place c.members.count c.members-test.false c.members.invariant
+count_members-returns t c = counts_all c.args.depth c.args.at c.args.octets.now c.args.end c.requires.inside c.members.place c.members.count c.members-test.false c.members.invariant

@@ -11,22 +11,22 @@ use Rattle.mms_data.proofs.standing.+standing.Goals as goal
 
 pub are_contents_written-are_written-requires : goal.are_contents_written-are_written-requires
 are_contents_written-are_written-requires t c =
-    let x = nested_iff c.args.levels c.args.kind c.requires.good.0 c.args.contents.now c.requires.good.1 c.requires.few c.in-Array.is c.requires.good.2 in
+    let x = nested_iff c.args.depth c.args.kind c.requires.good.0 c.args.contents.now c.requires.good.1 c.requires.few c.in-Array.is c.requires.good.2 in
     (search rules, (c.requires.few, x.0))
 
 pub are_contents_written-returns-in-Array : goal.are_contents_written-returns-in-Array
 are_contents_written-returns-in-Array t c = λ h d e.
-    let x = nested_iff c.args.levels c.args.kind h c.args.contents.now d c.requires.few c.in-Array.is e in
+    let x = nested_iff c.args.depth c.args.kind h c.args.contents.now d c.requires.few c.in-Array.is e in
     rw x.1 c.are_written.ensures
 
 pub are_contents_written-returns-in-Simple : goal.are_contents_written-returns-in-Simple
 are_contents_written-returns-in-Simple t c = λ h d e.
-    let read = ap (λ x. contents_at (members_at c.args.levels) x h c.args.contents.now) (sym c.in-Simple.is) ∙ e in
-    simple_iff (λ x. (c.is_simple_written.result ≡ true) ↔ (c.args.contents.now ≡ x)) c.args.levels c.in-Simple.kind h c.args.contents.now d c.is_simple_written.ensures read
+    let read = ap (λ x. contents_at (members_at c.args.depth) x h c.args.contents.now) (sym c.in-Simple.is) ∙ e in
+    simple_iff (λ x. (c.is_simple_written.result ≡ true) ↔ (c.args.contents.now ≡ x)) c.args.depth c.in-Simple.kind h c.args.contents.now d c.is_simple_written.ensures read
 
 pub are_written-members-preserved : goal.are_written-members-preserved
 are_written-members-preserved t c =
-    let k = c.args.levels in
+    let k = c.args.depth in
     let next = c.in-Some.next.now in
     let here = c.in-Some.ensures.behind in
     let all : written_all (data_in k c.members.others.now) ≡ written here.0 ++ written_all (data_in k next) = ap written_all here.2 in
@@ -39,13 +39,13 @@ are_written-members-preserved t c =
 pub are_written-returns : goal.are_written-returns
 are_written-returns t c =
     let none : length c.members.others.now ≡ 0 = search rules in
-    (λ _. c.members.invariant.kept (none_stand c.args.levels c.members.others.now none), λ _. refl)
+    (λ _. c.members.invariant.kept (none_stand c.args.depth c.members.others.now none), λ _. refl)
 
 pub behind_written-unreachable-requires : goal.behind_written-unreachable-requires
-behind_written-unreachable-requires t c = front_known c.args.levels c.args.octets.now c.requires.few c.requires.some c.requires.spelled c.in_default.field-0 (sym c.in_default.is ∙ c.member_kind.ensures)
+behind_written-unreachable-requires t c = front_known c.args.depth c.args.octets.now c.requires.few c.requires.some c.requires.spelled c.in_default.field-0 (sym c.in_default.is ∙ c.member_kind.ensures)
 
 pub behind_written-unreachable-requires-in_default-header : goal.behind_written-unreachable-requires-in_default-header
-behind_written-unreachable-requires-in_default-header t c = front_reads c.args.levels c.args.octets.now c.requires.few c.requires.some c.requires.spelled c.in_default-header.field-0 (sym c.in_default-header.is ∙ c.header.ensures.exact)
+behind_written-unreachable-requires-in_default-header t c = front_reads c.args.depth c.args.octets.now c.requires.few c.requires.some c.requires.spelled c.in_default-header.field-0 (sym c.in_default-header.is ∙ c.header.ensures.exact)
 
 pub behind_written-header_length-requires : goal.behind_written-header_length-requires
 behind_written-header_length-requires t c =
@@ -57,7 +57,7 @@ behind_written-header_length-requires t c =
 pub behind_written-returns-then-header-header_length-clause-none : goal.behind_written-returns-then-header-header_length-clause-none
 behind_written-returns-then-header-header_length-clause-none t c = λ _ e.
     let o = c.args.octets.now in
-    let k = c.args.levels in
+    let k = c.args.depth in
     let kind = c.in-Ok.kind in
     let h = c.in-Ok-header.header in
     let small : AreOctets o = λ i. search rules in
@@ -66,20 +66,20 @@ behind_written-returns-then-header-header_length-clause-none t c = λ _ e.
     let short = (whole_again k o kind h c.requires.few small s f e).0 in
     c.if-header-header_length.true (short ∙ sym c.header_length.ensures.exact)
 
-pub behind_written-overflow_sub-levels : goal.behind_written-overflow_sub-levels
-behind_written-overflow_sub-levels t c = front_some c.args.levels c.args.octets.now c.requires.few c.requires.some c.requires.spelled
+pub behind_written-overflow_sub-depth : goal.behind_written-overflow_sub-depth
+behind_written-overflow_sub-depth t c = front_some c.args.depth c.args.octets.now c.requires.few c.requires.some c.requires.spelled
 
 pub behind_written-are_contents_written-requires : goal.behind_written-are_contents_written-requires
 behind_written-are_contents_written-requires t c =
     let h = c.in-Ok-header.header in
-    let f = front c.args.levels c.args.octets.now c.requires.few c.requires.some c.requires.spelled c.in-Ok.kind h c.in-Ok.ensures c.in-Ok-header.ensures.exact in
+    let f = front c.args.depth c.args.octets.now c.requires.few c.requires.some c.requires.spelled c.in-Ok.kind h c.in-Ok.ensures c.in-Ok-header.ensures.exact in
     let low = f.some_levels in
     (search rules, (omega (arith, c.requires.few), (h, f.value, f.contents)))
 
 pub behind_written-returns-then-not-are_contents_written-clause-none : goal.behind_written-returns-then-not-are_contents_written-clause-none
 behind_written-returns-then-not-are_contents_written-clause-none t c = λ _ e.
     let o = c.args.octets.now in
-    let k = c.args.levels in
+    let k = c.args.depth in
     let kind = c.in-Ok.kind in
     let h = c.in-Ok-header.header in
     let small : AreOctets o = λ i. search rules in
@@ -93,7 +93,7 @@ behind_written-returns-then-not-are_contents_written-clause-none t c = λ _ e.
 pub behind_written-returns-clause-behind : goal.behind_written-returns-clause-behind
 behind_written-returns-clause-behind t c =
     let o = c.args.octets.now in
-    let k = c.args.levels in
+    let k = c.args.depth in
     let kind = c.in-Ok.kind in
     let h = c.in-Ok-header.header in
     let small : AreOctets o = λ i. search rules in
@@ -106,5 +106,5 @@ behind_written-returns-clause-behind t c =
 
 pub behind_written-returns-clause-spelled : goal.behind_written-returns-clause-spelled
 behind_written-returns-clause-spelled t c =
-    let f = front c.args.levels c.args.octets.now c.requires.few c.requires.some c.requires.spelled c.in-Ok.kind c.in-Ok-header.header c.in-Ok.ensures c.in-Ok-header.ensures.exact in
+    let f = front c.args.depth c.args.octets.now c.requires.few c.requires.some c.requires.spelled c.in-Ok.kind c.in-Ok-header.header c.in-Ok.ensures c.in-Ok-header.ensures.exact in
     f.others

@@ -16,7 +16,7 @@ Members::to_values-to_value-requires g t c κs within =
 pub Members::to_values-count-requires-clause-fits : goal.Members::to_values-count-requires-clause-fits
 Members::to_values-count-requires-clause-fits g t c =
     let s = c.args.self in
-    let few : length (data_in s.levels s.octets.now) ≤ length s.octets.now = few_members s.levels s.octets.now s.bounded s.spelled in
+    let few : length (data_in s.depth s.octets.now) ≤ length s.octets.now = few_members s.depth s.octets.now s.bounded s.spelled in
     let fits = c.ranges.self in
     inl (omega (arith, few, fits))
 

@@ -7,24 +7,24 @@ use Rattle.mms_data.proofs.Front.{front, front_some, front_known, front_reads}
 use Rattle.mms_data.proofs.view.Members.split.Goals as goal
 
 pub unreachable-requires : goal.unreachable-requires
-unreachable-requires c = let s = c.args.self in front_reads s.levels s.octets.now s.bounded c.requires s.spelled c.in_default.field-0 (sym c.in_default.is ∙ c.header.ensures.exact)
+unreachable-requires c = let s = c.args.self in front_reads s.depth s.octets.now s.bounded c.requires s.spelled c.in_default.field-0 (sym c.in_default.is ∙ c.header.ensures.exact)
 
 pub unreachable-requires-in_default-member_kind : goal.unreachable-requires-in_default-member_kind
-unreachable-requires-in_default-member_kind c = let s = c.args.self in front_known s.levels s.octets.now s.bounded c.requires s.spelled c.in_default-member_kind.field-0 (sym c.in_default-member_kind.is ∙ c.member_kind.ensures)
+unreachable-requires-in_default-member_kind c = let s = c.args.self in front_known s.depth s.octets.now s.bounded c.requires s.spelled c.in_default-member_kind.field-0 (sym c.in_default-member_kind.is ∙ c.member_kind.ensures)
 
-pub overflow_sub-levels : goal.overflow_sub-levels
-overflow_sub-levels c = let s = c.args.self in front_some s.levels s.octets.now s.bounded c.requires s.spelled
+pub overflow_sub-depth : goal.overflow_sub-depth
+overflow_sub-depth c = let s = c.args.self in front_some s.depth s.octets.now s.bounded c.requires s.spelled
 
 pub view-view-requires-clause-good : goal.view-view-requires-clause-good
-view-view-requires-clause-good c = let s = c.args.self in let f = front s.levels s.octets.now s.bounded c.requires s.spelled c.in-Ok-member_kind.kind c.in-Ok.header c.in-Ok-member_kind.ensures c.in-Ok.ensures.exact in (f.value, f.contents)
+view-view-requires-clause-good c = let s = c.args.self in let f = front s.depth s.octets.now s.bounded c.requires s.spelled c.in-Ok-member_kind.kind c.in-Ok.header c.in-Ok-member_kind.ensures c.in-Ok.ensures.exact in (f.value, f.contents)
 
 pub invariant_of-result : goal.invariant_of-result
-invariant_of-result c = let s = c.args.self in let f = front s.levels s.octets.now s.bounded c.requires s.spelled c.in-Ok-member_kind.kind c.in-Ok.header c.in-Ok-member_kind.ensures c.in-Ok.ensures.exact in record { bounded = s.bounded; spelled = f.others }
+invariant_of-result c = let s = c.args.self in let f = front s.depth s.octets.now s.bounded c.requires s.spelled c.in-Ok-member_kind.kind c.in-Ok.header c.in-Ok-member_kind.ensures c.in-Ok.ensures.exact in record { bounded = s.bounded; spelled = f.others }
 
 pub returns-clause-first : goal.returns-clause-first
-returns-clause-first c = let s = c.args.self in let f = front s.levels s.octets.now s.bounded c.requires s.spelled c.in-Ok-member_kind.kind c.in-Ok.header c.in-Ok-member_kind.ensures c.in-Ok.ensures.exact in
+returns-clause-first c = let s = c.args.self in let f = front s.depth s.octets.now s.bounded c.requires s.spelled c.in-Ok-member_kind.kind c.in-Ok.header c.in-Ok-member_kind.ensures c.in-Ok.ensures.exact in
     let same : f.value ≡ meaning c.view-view.result = (let both = sym f.contents ∙ c.view-view.ensures.means in cc) in
-    f.is ∙ ap (λ d. d ∷ data_in s.levels (slice_range s.octets.now c.in-Ok.header.contents_to (length s.octets.now))) same
+    f.is ∙ ap (λ d. d ∷ data_in s.depth (slice_range s.octets.now c.in-Ok.header.contents_to (length s.octets.now))) same
 
 pub returns-clause-part : goal.returns-clause-part
 returns-clause-part c =
