@@ -40,7 +40,7 @@ mod vlan_tag;
 mod whole_write;
 
 pub use crate::cutting::cut_first;
-pub use crate::decimal::{decimal_digits, decimal_in};
+pub use crate::decimal::decimal_in;
 pub use crate::decoding::decode;
 pub use crate::device::{DeviceFault, InputEnd, Sink, Source};
 pub use crate::encoding::{EncodeFault, encode};

@@ -7,11 +7,11 @@ ghost use Rattle.frame_core.specs.EventLine.{event_text, kind_text, IsListable};
 ghost use Rattle.frame_core.specs.WriteAnswer.{WritesListable, write_failed};
 ghost use Rattle.frame_core.specs.declared.event.EventKind.TheVariants.{Frame, Clock, Mode};
 
-use crate::decimal::decimal_digits;
 use crate::device::Sink;
 use crate::event::{Event, EventKind};
 use crate::whole_write::{WriteFault, put_all};
 use arrayvec::ArrayVec;
+use itoa::Buffer;
 use std::alloc::Allocator;
 
 /// The most octets of a written line: its letter, two spaces, 18 digits, 4,000 digits and LF.
@@ -48,7 +48,7 @@ fn listed_frame(moment: u64, frame: &[u8]) -> ArrayVec<u8, LONGEST>
     let mut line = ArrayVec::new();
     line.push(b'F');
     line.push(b' ');
-    line.try_extend_from_slice(decimal_digits(moment).as_slice())
+    line.try_extend_from_slice(Buffer::new().format(moment).as_bytes())
         .unwrap();
     line.push(b' ');
     push_hex(&mut line, frame);
@@ -65,7 +65,7 @@ fn listed_clock(moment: u64) -> ArrayVec<u8, LONGEST>
     let mut line = ArrayVec::new();
     line.push(b'C');
     line.push(b' ');
-    line.try_extend_from_slice(decimal_digits(moment).as_slice())
+    line.try_extend_from_slice(Buffer::new().format(moment).as_bytes())
         .unwrap();
     line.push(b'\n');
     line
@@ -80,7 +80,7 @@ fn listed_mode(moment: u64, on: bool) -> ArrayVec<u8, LONGEST>
     let mut line = ArrayVec::new();
     line.push(b'M');
     line.push(b' ');
-    line.try_extend_from_slice(decimal_digits(moment).as_slice())
+    line.try_extend_from_slice(Buffer::new().format(moment).as_bytes())
         .unwrap();
     line.push(b' ');
     line.push(b'o');

@@ -5,31 +5,21 @@ ghost use Rattle.std.specs.Fmt.{decimal, signed_decimal};
 ghost use Rattle.hex.specs.Hex.{encode_lower, lower_digits};
 ghost use Rattle.text_core.specs.Pieces.{octet_bits, bits_text, escaped, quoted, boolean_text, four_digits};
 
+use itoa::Buffer;
 use std::alloc::{AllocError, Allocator};
 
 /// Appends a number in decimal.
-#[tactic(auto, using(crate::proofs::PieceLemmas::numerals))]
 pub fn put_decimal<A: Allocator>(out: &mut Vec<u8, A>, number: u64) -> Result<(), AllocError>
     ensures { OnOk result (out.new.items ≡ out.old.items ++ decimal number) }
 {
-    if number < 10 {
-        out.push(b'0' + number as u8)?;
-        Ok(())
-    } else {
-        put_decimal(out, number / 10)?;
-        out.push(b'0' + (number % 10) as u8)?;
-        Ok(())
-    }
+    out.extend_from_slice(Buffer::new().format(number).as_bytes())
 }
 
-/// Appends a number in decimal, a negative one after a minus sign.
-pub fn put_signed<A: Allocator>(out: &mut Vec<u8, A>, number: i64) -> Result<(), AllocError>
-    ensures { OnOk result (out.new.items ≡ out.old.items ++ signed_decimal number) }
+/// Appends an integer in decimal, a negative one after a minus sign.
+pub fn put_signed<A: Allocator>(out: &mut Vec<u8, A>, integer: i64) -> Result<(), AllocError>
+    ensures { OnOk result (out.new.items ≡ out.old.items ++ signed_decimal integer) }
 {
-    if number < 0 {
-        out.push(b'-')?;
-    }
-    put_decimal(out, number.unsigned_abs())
+    out.extend_from_slice(Buffer::new().format(integer).as_bytes())
 }
 
 // The hexadecimal digit of a number below 16.

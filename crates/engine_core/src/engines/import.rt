@@ -16,7 +16,8 @@ use arrayvec::ArrayVec;
 use capture_core::{
     CaptureCause, CaptureFault, CaptureForm, Captured, LONGEST_FRAME, read_header, read_record,
 };
-use frame_core::{Sink, Source, decimal_digits, put_all, write_frame};
+use frame_core::{Sink, Source, put_all, write_frame};
+use itoa::Buffer;
 use std::alloc::Allocator;
 use text_core::names::capture_cause_name;
 
@@ -31,11 +32,11 @@ fn left_out_comment(number: u64, size: u64) -> ArrayVec<u8, LONGEST_COMMENT>
     let mut comment = ArrayVec::new();
     comment.try_extend_from_slice(b"# record ").unwrap();
     comment
-        .try_extend_from_slice(decimal_digits(number).as_slice())
+        .try_extend_from_slice(Buffer::new().format(number).as_bytes())
         .unwrap();
     comment.try_extend_from_slice(b" of ").unwrap();
     comment
-        .try_extend_from_slice(decimal_digits(size).as_slice())
+        .try_extend_from_slice(Buffer::new().format(size).as_bytes())
         .unwrap();
     comment
         .try_extend_from_slice(b" octets left out\n")
@@ -51,7 +52,7 @@ fn fault_comment(fault: CaptureFault) -> ArrayVec<u8, LONGEST_COMMENT>
     let mut comment = ArrayVec::new();
     comment.try_extend_from_slice(b"# ").unwrap();
     comment
-        .try_extend_from_slice(decimal_digits(fault.number).as_slice())
+        .try_extend_from_slice(Buffer::new().format(fault.number).as_bytes())
         .unwrap();
     comment.try_extend_from_slice(b" capture ").unwrap();
     comment
