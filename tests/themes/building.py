@@ -156,15 +156,27 @@ def no_program(tree):
     yield "the message", f"goose was not built: rt run left no program at {tree.program()}".rstrip("\n"), first_line(said)
 
 
-# Crates, one of which the program does not stand on.
-CRATES = "low: std\nother: low\nhigh: low other\napart: low\ngoose: high\n"
+# Crates, two of which stand on the same one, and one of which the program does not stand on.
+CRATES = "low: std\nother: low\nbeside: low std\nhigh: low other beside\napart: low\ngoose: high\n"
+
+# A crate of those two that waits for the other one to begin, and is not proved where that does not begin for some seconds.
+WAITS = """case "$PWD" in
+*/other | */beside)
+    touch "$RUNS.${PWD##*/}"
+    for turn in 1 2 3 4 5 6 7 8 9 10; do
+        if [ -e "$RUNS.other" ] && [ -e "$RUNS.beside" ]; then exit 0; fi
+        sleep 1
+    done
+    exit 1
+    ;;
+esac"""
 
 
 def with_crates(tree):
-    """The tree, with four crates below the program or beside it."""
+    """The tree, with five crates below the program or beside it."""
     tree.put("crates.txt", CRATES)
     os.utime(tree.top / "crates.txt", (0, 0))
-    for name in ("low", "other", "high", "apart"):
+    for name in ("low", "other", "beside", "high", "apart"):
         tree.put(f"crates/{name}/src/lib.rt", "")
         os.utime(tree.top / f"crates/{name}/src/lib.rt", (0, 0))
     return tree
@@ -174,9 +186,16 @@ def lowest_first(tree):
     """The crates that the program stands on are proved before it, each behind those that it stands on."""
     wrote, said, status = with_crates(tree).build()
     yield "output", (tree.program(), "", 0), (wrote, said, status)
-    wanted = [f"{tree.top / 'crates' / name} lib " for name in ("low", "other", "high")] + [f"{tree.top / 'crates' / 'goose'} run -- show given"]
-    yield "the runs", wanted, tree.runs.read_text().splitlines()
+    runs = [line.removeprefix(f"{tree.top / 'crates'}/") for line in tree.runs.read_text().splitlines()]
+    yield "the runs, alone", ["low lib ", "high lib ", "goose run -- show given"], runs[:1] + runs[3:]
+    yield "the runs, side by side", ["beside lib", "other lib"], sorted(run.partition(" --jobs ")[0] for run in runs[1:3])
     yield "files left behind", ["build.lock", "build.log"], sorted(it.name for it in (tree.top / "out").iterdir())
+
+
+def side_by_side(tree):
+    """Crates that do not stand on one another are proved at the same time."""
+    wrote, said, status = with_crates(tree).build()
+    yield "output", (tree.program(), "", 0), (wrote, said, status)
 
 
 def unproved_crate(tree):
@@ -208,5 +227,6 @@ def cases():
     yield Builds("a stored run that writes something else", other_output, wrote="another line\n")
     yield Builds("a build that leaves no program", no_program, early=f"printf '{STORED.rstrip()}\\n'; exit 0")
     yield Builds("the crates below are proved lowest first", lowest_first)
+    yield Builds("crates that do not stand on one another", side_by_side, early=WAITS)
     yield Builds("a crate that is not proved", unproved_crate, early='case "$PWD" in */other) echo "no proof" >&2; exit 1 ;; esac')
     yield Builds("what is handed on", handed_on)
