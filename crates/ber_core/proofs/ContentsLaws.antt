@@ -8,7 +8,7 @@ use lib.Signed.{le_z}
 use Rattle.byteorder.specs.Endian.{twos_complement}
 use Rattle.ber_core.specs.Length.{number}
 use Rattle.ber_core.specs.Integer.{Int}
-use Rattle.ber_core.specs.Contents.{SpellsBoolean, BooleanFault, SpellsInteger, IntegerFault, IsVisible, SpellsVisible, VisibleFault, SpellsCounted, CountedFault}
+use Rattle.ber_core.specs.Contents.{SpellsBoolean, BooleanFault, SpellsInteger, IntegerFault, no_octet, over_nine, outside, IsVisible, SpellsVisible, VisibleFault, SpellsCounted, CountedFault}
 use Rattle.ber_core.specs.ContentsReading.{all_visible_at, any_integer_at, boolean_at, counted_at, in_range, integer_at, is_visible, natural, visible_at}
 use Rattle.ber_core.specs.Faults.{fault_of}
 use Rattle.ber_core.specs.declared.fault.Fault.{Fault}
@@ -163,14 +163,17 @@ module _ (low high : ℤ) (at from : ℕ) (c : List ℕ) where
   pub integer_wrong : (f : Fault) → integer_at low high at from c ≡ Err f → IntegerFault f low high at from c
   unfolding integer_at
   integer_wrong f e = elim (bind_err (any_integer_at at c) (in_range low high from) f e) [
-    | inl h ↦ let w = any_integer_wrong at c f h in inl (w.1, w.0)
-    | inr x ↦ let r = range_wrong f low high from x.0 x.2 in inr (x.0, any_integer_found at c x.0 x.1, r.0, r.1)
+    | inl h ↦
+        let w = any_integer_wrong at c f h in
+        elim w.1 [ inl none ↦ no_octet none w.0 | inr many ↦ over_nine many w.0 ]
+    | inr x ↦ let r = range_wrong f low high from x.0 x.2 in outside x.0 (any_integer_found at c x.0 x.1) r.0 r.1
   ]
 
   pub integer_wrong_again : (f : Fault) → IntegerFault f low high at from c → integer_at low high at from c ≡ Err f
   unfolding integer_at
-  integer_wrong_again f (inl (size, is)) = rw (any_integer_wrong_again at c f is size) refl
-  integer_wrong_again f (inr (z, spelled, out, fault)) = rw (any_integer_again at c z spelled) (range_wrong_again f low high from z out fault)
+  integer_wrong_again f (no_octet none is) = rw (any_integer_wrong_again at c f is (inl none)) refl
+  integer_wrong_again f (over_nine many is) = rw (any_integer_wrong_again at c f is (inr many)) refl
+  integer_wrong_again f (outside z spelled out fault) = rw (any_integer_again at c z spelled) (range_wrong_again f low high from z out fault)
 
 pub natural_is : (n : ℤ) → pos 0 ≤ℤ n → n ≡ pos (natural n)
 natural_is (pos n) h = refl

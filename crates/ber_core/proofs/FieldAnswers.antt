@@ -6,7 +6,7 @@ use Rattle.ber_core.specs.declared.element.Header.{Header}
 use Rattle.ber_core.specs.declared.fault.Fault.{Fault}
 use Rattle.ber_core.specs.declared.fault.Cause.TheVariants as causes
 use Rattle.ber_core.specs.Faults.{HeaderFault, fault_of}
-use Rattle.ber_core.specs.Fields.{BeginsWith, IsField, PresentFault, RequiredFault}
+use Rattle.ber_core.specs.Fields.{BeginsWith, IsField, PresentFault, RequiredFault, nothing_there, high_there, another_there, wrong_there}
 use Rattle.ber_core.specs.FieldReading.{absence, if_there, or_absence, required_at, there_at}
 use Rattle.ber_core.specs.Reading.{◌>>=◌, header_at}
 use Rattle.ber_core.proofs.FieldRegions.{if_there_absent, if_there_none}
@@ -58,15 +58,14 @@ begins_with id p o h e is =
 
 -- what is there and refused is a fault of an element that must stand there
 present_is : (id : ℕ) (f : Fault) (p : ℕ) (o : List ℕ) → PresentFault id f p o → RequiredFault id f p o
-present_is id f p [] w = absurd w.0
-present_is id f p (b ∷ bs) w = inr (inr w)
+present_is id f p o w = wrong_there w
 
 -- and so is what is not there
 absent_is : (id : ℕ) (f : Fault) (p : ℕ) (o : List ℕ) → ¬ BeginsWith id o → f ≡ absence p o → RequiredFault id f p o
-absent_is id f p [] n is = is
+absent_is id f p [] n is = nothing_there is
 absent_is id f p (b ∷ bs) n is = elim (chosen (eqb (b % 32) 31) (fault_of p causes.HighTag) (fault_of p causes.UnexpectedTag) f (sym is)) [
-  | inl t ↦ inl (n, eqb-true _ _ t.0, sym t.1)
-  | inr t ↦ inr (inl (n, eqb-false _ _ t.0, sym t.1))
+  | inl t ↦ high_there n (eqb-true _ _ t.0) (sym t.1)
+  | inr t ↦ another_there n (eqb-false _ _ t.0) (sym t.1)
 ]
 
 -- ---- in a region
@@ -113,10 +112,11 @@ module _ (id : ℕ) (octets : List ℕ) (at end : ℕ) (order : at ≤ end) (wit
   -- ---- a field that is always there
 
   wrong_at : (f : Fault) (p : ℕ) (o : List ℕ) → RequiredFault id f p o → (if_there id p o >>= or_absence p o) ≡ Err f
-  wrong_at f p [] is = rw is refl
-  wrong_at f p (b ∷ bs) (inl (other, tag, is)) = rw (ne_eqb b id other, eq-eqb (b % 32) 31 tag, is) refl
-  wrong_at f p (b ∷ bs) (inr (inl (other, tag, is))) = rw (ne_eqb b id other, ne_eqb (b % 32) 31 tag, is) refl
-  wrong_at f p (b ∷ bs) (inr (inr (begins, wrong))) = rw (eq-eqb b id begins, header_wrong_again f p (b ∷ bs) wrong) refl
+  wrong_at f p [] (nothing_there is) = rw is refl
+  wrong_at f p (b ∷ bs) (high_there other tag is) = rw (ne_eqb b id other, eq-eqb (b % 32) 31 tag, is) refl
+  wrong_at f p (b ∷ bs) (another_there other tag is) = rw (ne_eqb b id other, ne_eqb (b % 32) 31 tag, is) refl
+  wrong_at f p [] (wrong_there (begins, wrong)) = absurd begins
+  wrong_at f p (b ∷ bs) (wrong_there (begins, wrong)) = rw (eq-eqb b id begins, header_wrong_again f p (b ∷ bs) wrong) refl
 
   pub required_is : (r : Result Header Fault) → r ≡ required_at id octets at end → IfOk r (IsField id octets at end)
   required_is (Ok h) is = stands h (required_found id at end octets h (sym is))

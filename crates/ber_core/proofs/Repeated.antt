@@ -1,6 +1,6 @@
 -- Reading of repeated elements: what is read is spelled so, what is spelled so is read, and the same of faults; and
 -- turns that are enough are as good as any others.
-use Rattle.std.proofs.Common.{◌≡◌, ◌≢◌, ℕ, zero, suc, ◌-◌, ◌+◌, ◌%◌, ◌≤◌, ◌<◌, Bool, true, false, eqb, ltb, List, [], ◌∷◌, ◌++◌, length, Result, Ok, Err, Some, refl, sym, ap, subst, ◌∙◌, append_assoc, arith, inl, inr}
+use Rattle.std.proofs.Common.{◌≡◌, ◌≢◌, ℕ, zero, suc, ◌-◌, ◌+◌, ◌%◌, ◌≤◌, ◌<◌, Bool, true, false, eqb, ltb, List, [], ◌∷◌, ◌++◌, length, Result, Ok, Err, Some, refl, sym, ap, subst, ◌∙◌, arith, inl, inr}
 use Rattle.std.proofs.lemmas.List.{length-append}
 use Rattle.std.proofs.lemmas.Bool.{eqb-false, ltb-true, ltb-false, lt-ltb, le-ltb, ne_eqb}
 use Rattle.std.specs.Prelude.{slice_range, ◌⊎◌}
@@ -11,7 +11,7 @@ use Rattle.ber_core.specs.Reading.{refused, ◌>>=◌, IsWithin}
 use Rattle.ber_core.specs.Element.{Elem}
 use Rattle.ber_core.specs.Fields.{Field, Grammar, always, FieldsFault, later, absent, missing, high, unexpected, in_length, in_contents}
 use Rattle.ber_core.specs.FieldReading.{Read, required_at, field_at}
-use Rattle.ber_core.specs.Repeated.{SpellsEach, FrontFault, EachFault, high as front_high, unexpected as front_unexpected, in_length as front_length, in_contents as front_contents}
+use Rattle.ber_core.specs.Repeated.{SpellsEach, FrontFault, EachFault, here, behind, high as front_high, unexpected as front_unexpected, in_length as front_length, in_contents as front_contents}
 use Rattle.ber_core.specs.RepeatedReading.{each_within, each_at}
 use Rattle.ber_core.proofs.Steps.{bind_ok, bind_err}
 use Rattle.ber_core.proofs.Regions.{region-length}
@@ -189,26 +189,14 @@ module _ {K I : Type 0} (G : Grammar K I) (read : Read K I) (sound : IsSound G r
   front_wrong_again f p o order at (front_contents c size rest parts len wrong) =
       (front_octet p o at (omega (arith, ap length parts)), field_wrong_again G read sound octets e within (element_field id k) p order low f size c rest (at ∙ parts) len wrong)
 
-  -- what is at fault behind one good element
-  fault_behind : (f : Fault) (p : ℕ) (o : List ℕ) (x : I) (q : ℕ) (t : Front G id k p o x q) → EachFault G id k f (p + length t.front) t.back → EachFault G id k f p o
-  fault_behind f p o x q t (n, a, b, parts, same, wrong) =
-      let all : o ≡ (t.front ++ a) ++ b = t.parts ∙ ap (λ (y : List ℕ). t.front ++ y) same ∙ sym (append_assoc t.front a b) in
-      let place : p + length t.front + length a ≡ p + length (t.front ++ a) = omega (arith, length-append t.front a) in
-      (suc n, t.front ++ a, b, (t.front, a, (x, t.contents, t.elem, t.spelled), parts, refl), all, subst (λ (y : ℕ). FrontFault G id k f y b) place wrong)
-
-  fault_here : (f : Fault) (p : ℕ) (o : List ℕ) → FrontFault G id k f p o → EachFault G id k f p o
-  fault_here f p o wrong =
-      let place : p ≡ p + 0 = omega arith in
-      (zero, [], o, refl, refl, subst (λ (y : ℕ). FrontFault G id k f y o) place wrong)
-
   -- what stops is at fault so
   pub each_wrong : (turns p : ℕ) (f : Fault) → p ≤ e → e ≤ p + turns → each_within read id k turns octets p e ≡ Err f → EachFault G id k f p (slice_range octets p e)
   each_wrong zero p f order enough is = absurd (let wrong = sym (within_done read id k octets p e zero (omega (arith, enough))) ∙ is in cc)
   each_wrong (suc turns) p f order enough is = elim (ahead p e) [
     | inl more ↦ elim (bind_err (required_at id octets p e) (onward read id k turns octets e) f (sym (within_more read id k octets p e turns more) ∙ is)) [
-      | inl w ↦ fault_here f p (slice_range octets p e) (front_wrong f p more (rw w refl))
+      | inl w ↦ here (front_wrong f p more (rw w refl))
       | inr x ↦ elim (bind_err (read k octets x.0) _ f x.2) [
-        | inl w ↦ fault_here f p (slice_range octets p e) (front_wrong f p more (rw (x.1, w) refl))
+        | inl w ↦ here (front_wrong f p more (rw (x.1, w) refl))
         | inr y ↦ elim (bind_err (each_within read id k turns octets x.0.contents_to e) _ f y.2) [
           | inl w ↦
               let t = front_found p x.0 y.0 order x.1 y.1 in
@@ -217,7 +205,7 @@ module _ {K I : Type 0} (G : Grammar K I) (read : Read K I) (sound : IsSound G r
               let some = some_octet id t.contents t.front t.elem in
               let there = each_wrong turns x.0.contents_to f (omega (arith, next, on.1)) (omega (arith, next, some, enough)) w in
               let moved = subst (λ (z : ℕ). EachFault G id k f z (slice_range octets z e)) t.next there in
-              fault_behind f p (slice_range octets p e) y.0 x.0.contents_to t (subst (EachFault G id k f (p + length t.front)) on.0 moved)
+              behind t.front t.back (y.0, t.contents, t.elem, t.spelled) t.parts (subst (EachFault G id k f (p + length t.front)) on.0 moved)
           | inr z ↦ absurd (let wrong = z.2 in cc)
         ]
       ]
@@ -227,26 +215,19 @@ module _ {K I : Type 0} (G : Grammar K I) (read : Read K I) (sound : IsSound G r
 
   -- a fault that is there stops reading
   pub each_wrong_again : (turns p : ℕ) (f : Fault) → p ≤ e → e ≤ p + turns → EachFault G id k f p (slice_range octets p e) → each_within read id k turns octets p e ≡ Err f
-  each_wrong_again zero p f order enough (zero, a, b, none, same, wrong) =
-      let here : slice_range octets p e ≡ b = same ∙ ap (λ (y : List ℕ). y ++ b) none in
-      let place : p + length a ≡ p = omega (arith, ap length none) in
-      let t = front_wrong_again f p b order here (subst (λ (y : ℕ). FrontFault G id k f y b) place wrong) in
+  each_wrong_again zero p f order enough (here wrong) =
+      let t = front_wrong_again f p (slice_range octets p e) order refl wrong in
       absurd (omega (arith, t.0, enough))
-  each_wrong_again (suc turns) p f order enough (zero, a, b, none, same, wrong) =
-      let here : slice_range octets p e ≡ b = same ∙ ap (λ (y : List ℕ). y ++ b) none in
-      let place : p + length a ≡ p = omega (arith, ap length none) in
-      let t = front_wrong_again f p b order here (subst (λ (y : ℕ). FrontFault G id k f y b) place wrong) in
+  each_wrong_again (suc turns) p f order enough (here wrong) =
+      let t = front_wrong_again f p (slice_range octets p e) order refl wrong in
       turn_wrong_again read id k octets p e turns f t.0 t.1
-  each_wrong_again zero p f order enough (suc n, a, b, (front, back, (x, c, elem, spelled), parts, both), same, wrong) =
-      let whole : slice_range octets p e ≡ front ++ (back ++ b) = same ∙ ap (λ (y : List ℕ). y ++ b) both ∙ append_assoc front back b in
-      let on = front_again p x c front (back ++ b) order elem spelled whole in
+  each_wrong_again zero p f order enough (behind a b (x, c, elem, spelled) parts wrong) =
+      let on = front_again p x c a b order elem spelled parts in
       absurd (omega (arith, on.2, on.3, enough))
-  each_wrong_again (suc turns) p f order enough (suc n, a, b, (front, back, (x, c, elem, spelled), parts, both), same, wrong) =
-      let whole : slice_range octets p e ≡ front ++ (back ++ b) = same ∙ ap (λ (y : List ℕ). y ++ b) both ∙ append_assoc front back b in
-      let on = front_again p x c front (back ++ b) order elem spelled whole in
-      let place : p + length a ≡ p + length front + length back = omega (arith, ap length both, length-append front back) in
-      let others = each_wrong_again turns (p + length front) f on.3 (omega (arith, on.2, enough)) (n, back, b, parts, on.1, subst (λ (y : ℕ). FrontFault G id k f y b) place wrong) in
-      turn_again read id k octets p e turns x (p + length front) (Err f) (omega (arith, on.2, on.3)) on.0 (rw others refl)
+  each_wrong_again (suc turns) p f order enough (behind a b (x, c, elem, spelled) parts wrong) =
+      let on = front_again p x c a b order elem spelled parts in
+      let others = each_wrong_again turns (p + length a) f on.3 (omega (arith, on.2, enough)) (subst (EachFault G id k f (p + length a)) (sym on.1) wrong) in
+      turn_again read id k octets p e turns x (p + length a) (Err f) (omega (arith, on.2, on.3)) on.0 (rw others refl)
 
   -- ---- turns
 

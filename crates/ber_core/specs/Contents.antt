@@ -1,6 +1,6 @@
 -- What the contents of one element spell, kind by kind, and their fault where they spell nothing. In each fault
 -- the element stands at the place at, and its contents c at the place from.
-use Rattle.std.specs.Prelude.{◌≡◌, ◌≢◌, ◌≤◌, ◌<◌, ◌≤ℤ◌, ◌+◌, ◌⊎◌, ◌==◌, ℕ, ℤ, Bool, not, List, [], ◌∷◌, ◌++◌, length}
+use Rattle.std.specs.Prelude.{◌≡◌, ◌≢◌, ◌≤◌, ◌<◌, ◌≤ℤ◌, ◌+◌, ◌==◌, ℕ, ℤ, Bool, not, List, [], ◌∷◌, ◌++◌, length}
 use Rattle.std.specs.Borrow.{Bor}
 use Rattle.std.specs.List.{AllByRecursion}
 use Rattle.ber_core.specs.Integer.{Int}
@@ -23,10 +23,10 @@ abbrev pub SpellsInteger : ℤ → ℤ → ℤ → List ℕ → Type 0
 SpellsInteger low high n c = (low ≤ℤ n) × (n ≤ℤ high) × Int n c
 
 -- contents of no octet, or of more than nine, spell no integer; and an integer may lie outside its range
-abbrev pub IntegerFault : Fault → ℤ → ℤ → ℕ → ℕ → List ℕ → Type 0
-IntegerFault f low high at from c =
-    (((length c ≡ 0) ⊎ (9 < length c)) × (f ≡ fault_of (at + 1) causes.IntegerLength))
-    ⊎ ((n : ℤ) × Int n c × ¬ ((low ≤ℤ n) × (n ≤ℤ high)) × (f ≡ fault_of from causes.IntegerRange))
+pub data IntegerFault (f : Fault) (low high : ℤ) (at from : ℕ) (c : List ℕ) : Type 0 where
+  no_octet : length c ≡ 0 → f ≡ fault_of (at + 1) causes.IntegerLength → IntegerFault f low high at from c
+  over_nine : 9 < length c → f ≡ fault_of (at + 1) causes.IntegerLength → IntegerFault f low high at from c
+  outside : (n : ℤ) → Int n c → ¬ ((low ≤ℤ n) × (n ≤ℤ high)) → f ≡ fault_of from causes.IntegerRange → IntegerFault f low high at from c
 
 -- a visible octet is one from the space to the tilde
 abbrev pub IsVisible : ℕ → Type 0

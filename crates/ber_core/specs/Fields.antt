@@ -1,6 +1,6 @@
 -- A sequence of fields, as an APDU has them: what spells it, and its one fault where nothing is spelled. What
 -- contents spell is told apart by kinds, in a grammar that each sequence brings along.
-use Rattle.std.specs.Prelude.{◌≡◌, ◌≢◌, ℕ, ◌+◌, ◌%◌, ◌⊎◌, List, [], ◌∷◌, ◌++◌, length, Option, Some, None}
+use Rattle.std.specs.Prelude.{◌≡◌, ◌≢◌, ℕ, ◌+◌, ◌%◌, List, [], ◌∷◌, ◌++◌, length, Option, Some, None}
 use Rattle.ber_core.specs.Length.{Len}
 use Rattle.ber_core.specs.Element.{Elem, IsHeader}
 use Rattle.ber_core.specs.Faults.{HeaderFault, LengthFault, fault_of}
@@ -51,14 +51,13 @@ IsField id octets at end h = IsHeader octets at end h × (h.identifier ≡ id)
 abbrev pub PresentFault : ℕ → Fault → ℕ → List ℕ → Type 0
 PresentFault id f p o = BeginsWith id o × HeaderFault f p o
 
--- The fault where the element of an identifier must stand at the place p: nothing is there, another identifier is,
--- of more than one octet or of one, or the front of the element is at fault.
-abbrev pub RequiredFault : ℕ → Fault → ℕ → List ℕ → Type 0
-RequiredFault id f p [] = f ≡ fault_of p causes.ElementMissing
-RequiredFault id f p (b ∷ bs) =
-    ((b ≢ id) × (b % 32 ≡ 31) × (f ≡ fault_of p causes.HighTag))
-    ⊎ (((b ≢ id) × (b % 32 ≢ 31) × (f ≡ fault_of p causes.UnexpectedTag))
-    ⊎ PresentFault id f p (b ∷ bs))
+-- The fault where the element of an identifier must stand at the place p: nothing is there; another identifier is,
+-- of more than one octet or of one; or the front of the element is at fault.
+pub data RequiredFault (id : ℕ) (f : Fault) (p : ℕ) : List ℕ → Type 0 where
+  nothing_there : f ≡ fault_of p causes.ElementMissing → RequiredFault id f p []
+  high_there : {b : ℕ} {bs : List ℕ} → b ≢ id → b % 32 ≡ 31 → f ≡ fault_of p causes.HighTag → RequiredFault id f p (b ∷ bs)
+  another_there : {b : ℕ} {bs : List ℕ} → b ≢ id → b % 32 ≢ 31 → f ≡ fault_of p causes.UnexpectedTag → RequiredFault id f p (b ∷ bs)
+  wrong_there : {o : List ℕ} → PresentFault id f p o → RequiredFault id f p o
 
 -- o is one field: it is filled, by an element of its identifier whose contents spell the value; or it is left out,
 -- where o is nothing and the value is what absence means

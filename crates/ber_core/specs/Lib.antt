@@ -9,6 +9,5 @@ pub mod Contents
 pub mod ContentsReading
 pub mod Fields
 pub mod FieldReading
-pub mod Sequences
 pub mod Repeated
 pub mod RepeatedReading

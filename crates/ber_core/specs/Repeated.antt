@@ -5,7 +5,6 @@ use Rattle.ber_core.specs.Length.{Len}
 use Rattle.ber_core.specs.Element.{Elem}
 use Rattle.ber_core.specs.Faults.{LengthFault, fault_of}
 use Rattle.ber_core.specs.Fields.{Grammar}
-use Rattle.ber_core.specs.Sequences.{FaultBehind}
 use Rattle.ber_core.specs.declared.fault.Fault.{Fault}
 use Rattle.ber_core.specs.declared.fault.Cause.TheVariants as causes
 
@@ -26,6 +25,8 @@ pub data FrontFault {K I : Type 0} (G : Grammar K I) (id : ℕ) (k : K) (f : Fau
   in_length : {p b : ℕ} {bs : List ℕ} → b ≡ id → LengthFault f p bs → FrontFault G id k f p (b ∷ bs)
   in_contents : {p : ℕ} {o : List ℕ} (c size rest : List ℕ) → o ≡ id ∷ size ++ (c ++ rest) → Len (length c) size → G.fault f k p (p + 1 + length size) c → FrontFault G id k f p o
 
--- behind some such elements of o, which stands at the place p, stands what is at fault
-abbrev pub EachFault : {K I : Type 0} → Grammar K I → ℕ → K → Fault → ℕ → List ℕ → Type 0
-EachFault G id k f p o = FaultBehind (IsElement G id k) (FrontFault G id k f) p o
+-- The first fault of such elements, whose octets stand at the place p: the front is at fault; or one such element
+-- stands in front, and the rest is at fault.
+pub data EachFault {K I : Type 0} (G : Grammar K I) (id : ℕ) (k : K) (f : Fault) : ℕ → List ℕ → Type 0 where
+  here : {p : ℕ} {o : List ℕ} → FrontFault G id k f p o → EachFault G id k f p o
+  behind : {p : ℕ} {o : List ℕ} (a b : List ℕ) → IsElement G id k a → o ≡ a ++ b → EachFault G id k f (p + length a) b → EachFault G id k f p o
