@@ -82,8 +82,8 @@ pub(crate) fn put<A: Allocator, const N: usize>(out: &mut ArrayVec<u8, N>, value
     ensures { out.new.items ≡ out.old.items ++ written (data_of value.now) }
 {
     match value {
-        Value::Array(values) => put_members(out, 0xA1, values),
-        Value::Structure(values) => put_members(out, 0xA2, values),
+        Value::Array(values) => put_nested_values(out, 0xA1, values),
+        Value::Structure(values) => put_nested_values(out, 0xA2, values),
         Value::Boolean(b) => put_octets(out, 0x83, &[if *b { 0xff } else { 0 }]),
         Value::Bits(bits) => put_bits(out, bits.unused, bits.octets.as_slice()),
         Value::Integer(number) => put_number(out, 0x85, *number as i128),
@@ -100,7 +100,7 @@ pub(crate) fn put<A: Allocator, const N: usize>(out: &mut ArrayVec<u8, N>, value
 // The element of these members.
 #[cycle(putting)]
 #[tactic(auto, unfolding(ber_core::specs::Written::written_element))]
-fn put_members<A: Allocator, const N: usize>(
+fn put_nested_values<A: Allocator, const N: usize>(
     out: &mut ArrayVec<u8, N>,
     identifier: u8,
     values: &ValueList<A>,

@@ -17,7 +17,7 @@ use Rattle.ber_core.proofs.Steps.{chosen, bind_ok, bind_err}
 use Rattle.pdu_core.specs.declared.goose.GoosePdu.{GoosePdu}
 use Rattle.ber_core.specs.Fields.{SpellsFields, filled, left_out}
 use Rattle.pdu_core.specs.Contents.{Item, a_text, a_number, a_flag, a_time, some_members, a_fixed, some_octets, contents_grammar}
-use Rattle.pdu_core.specs.Goose.{goose_front, goose_end, goose_fields, goose_items, text_if, SpellsGoose, apdu_grammar, apdu_fields, CountFault, GooseFault}
+use Rattle.pdu_core.specs.Goose.{goose_front, goose_end, goose_fields, goose_items, text_if, SpellsGoose, apdu_grammar, apdu_fields, CountFault, GooseFault, in_fields, in_entry_count}
 use Rattle.ber_core.specs.FieldReading.{Read, required_at, there_at, if_there, fields_at, ends_at}
 use Rattle.pdu_core.specs.ContentsReading.{item_at}
 use Rattle.pdu_core.specs.GooseReading.{count_at, counted_end, counted, goose_at}
@@ -236,11 +236,11 @@ module _ (octets : List ℕ) (p e : ℕ) (order : p ≤ e) (within : e ≤ lengt
   goose_wrong f is = elim (goose_steps octets p e) [
     | inl (g, w, o) ↦
         let same : g ≡ f = err_is {A = List (Option Item)} f g (sym is ∙ w) in
-        inl (fields_wrong apdu_grammar inner inner_sound octets e within f apdu_fields [] p refl order (o ∙ ap (λ (x : Fault). Err x) same))
+        in_fields (fields_wrong apdu_grammar inner inner_sound octets e within f apdu_fields [] p refl order (o ∙ ap (λ (x : Fault). Err x) same))
     | inr t ↦
         let s = split_of t in
         let d = count_differs t.front.1 s.count s.entries t.all.0 f (sym (counts_are t s) ∙ is) in
-        inr (record {
+        in_entry_count (record {
           size = s.size;
           front = s.front;
           end = s.end;
@@ -301,13 +301,13 @@ module _ (octets : List ℕ) (p e : ℕ) (order : p ≤ e) (within : e ≤ lengt
 
   -- a fault that is there is answered
   pub goose_wrong_again : (f : Fault) → GooseFault f p (slice_range octets p e) → goose_at octets p e ≡ Err f
-  goose_wrong_again f (inl h) =
+  goose_wrong_again f (in_fields h) =
       let w = fields_wrong_again apdu_grammar inner inner_sound octets e within f apdu_fields [] p (slice_range octets p e) refl order refl h in
       elim (goose_steps octets p e) [
         | inl (g, is, o) ↦ let same : f ≡ g = err_is {A = Unit {0}} g f (sym o ∙ w) in is ∙ ap (λ (x : Fault). Err x) (sym same)
         | inr t ↦ absurd (not_both ((outer octets p e) >>= λ x. ends_at x.1 e) f w (ap (λ r. r >>= λ x. ends_at x.1 e) t.read ∙ t.fills))
       ]
-  goose_wrong_again f (inr k) = count_again f k
+  goose_wrong_again f (in_entry_count k) = count_again f k
 
 -- ---- one APDU
 

@@ -17,7 +17,7 @@ pub mod SampledSpelledSpellable
 pub mod SampledSpellableTests
 pub mod WrittenSpelled
 pub mod Texts
-pub mod UnitSizes
+pub mod ApduSizes
 pub mod ValueLaws
 pub mod KeptValues
 pub mod SpellableTests

@@ -18,7 +18,7 @@ use Rattle.ber_core.proofs.FieldSound.{IsSound, err_is, pair_is, required_found}
 use Rattle.ber_core.proofs.Headers.{header_for}
 use Rattle.ber_core.proofs.Steps.{chosen, bind_ok, bind_err}
 use Rattle.pdu_core.specs.Contents.{Item}
-use Rattle.pdu_core.specs.Sampled.{SvItem, a_count, some_asdus, sv_grammar, sv_fields, items_of_each, sv_items, SpellsSv, sv_apdu_grammar, sv_apdu_fields, AsduCountFault, SvFault}
+use Rattle.pdu_core.specs.Sampled.{SvItem, a_count, some_asdus, sv_grammar, sv_fields, items_of_each, sv_items, SpellsSv, sv_apdu_grammar, sv_apdu_fields, AsduCountFault, SvFault, in_sv_fields, in_asdu_count}
 use Rattle.pdu_core.specs.SampledReading.{sv_item_at, asdu_count_at, counted_asdus, sv_at}
 use Rattle.pdu_core.specs.declared.sampled.asdu.Asdu.{Asdu}
 use Rattle.pdu_core.specs.declared.sampled.asdu.SvPdu.{SvPdu}
@@ -197,8 +197,8 @@ module _ (octets : List ℕ) (p e : ℕ) (order : p ≤ e) (within : e ≤ lengt
   sv_wrong f is = elim (sv_steps octets p e) [
     | inl (g, w, o) ↦
         let same : g ≡ f = err_is {A = List (List (Option Item))} f g (sym is ∙ w) in
-        inl (fields_wrong sv_apdu_grammar inner inner_sound octets e within f sv_apdu_fields [] p refl order (o ∙ ap (λ (x : Fault). Err x) same))
-    | inr t ↦ inr (wrong_count t f is)
+        in_sv_fields (fields_wrong sv_apdu_grammar inner inner_sound octets e within f sv_apdu_fields [] p refl order (o ∙ ap (λ (x : Fault). Err x) same))
+    | inr t ↦ in_asdu_count (wrong_count t f is)
   ]
 
   count_wrong_again : (f : Fault) → AsduCountFault f p (slice_range octets p e) → sv_at octets p e ≡ Err f
@@ -220,10 +220,10 @@ module _ (octets : List ℕ) (p e : ℕ) (order : p ≤ e) (within : e ≤ lengt
 
   -- a fault that is there is answered
   pub sv_wrong_again : (f : Fault) → SvFault f p (slice_range octets p e) → sv_at octets p e ≡ Err f
-  sv_wrong_again f (inl h) =
+  sv_wrong_again f (in_sv_fields h) =
       let w = fields_wrong_again sv_apdu_grammar inner inner_sound octets e within f sv_apdu_fields [] p (slice_range octets p e) refl order refl h in
       elim (sv_steps octets p e) [
         | inl (g, is, o) ↦ let same : f ≡ g = err_is {A = Unit {0}} g f (sym o ∙ w) in is ∙ ap (λ (x : Fault). Err x) (sym same)
         | inr t ↦ absurd (not_both ((outer octets p e) >>= λ x. ends_at x.1 e) f w (ap (λ r. r >>= λ x. ends_at x.1 e) t.read ∙ t.fills))
       ]
-  sv_wrong_again f (inr k) = count_wrong_again f k
+  sv_wrong_again f (in_asdu_count k) = count_wrong_again f k

@@ -1,5 +1,5 @@
 -- IECGoosePdu (IEC 61850-8-1, annex A): its fields, its spellings, its faults.
-use Rattle.std.specs.Prelude.{◌≡◌, ◌≢◌, ℕ, ◌+◌, ◌⊎◌, false, List, [], ◌∷◌, ◌++◌, length, Option, Some, None}
+use Rattle.std.specs.Prelude.{◌≡◌, ◌≢◌, ℕ, ◌+◌, false, List, [], ◌∷◌, ◌++◌, length, Option, Some, None}
 use Rattle.ber_core.specs.Length.{Len}
 use Rattle.ber_core.specs.Element.{Elem}
 use Rattle.ber_core.specs.Faults.{fault_of}
@@ -85,6 +85,8 @@ pub record CountFault (f : Fault) (p : ℕ) (o : List ℕ) : Type 0 where
   pub differs : count ≢ length entries
   pub fault : f ≡ fault_of (p + 1 + length size + length front) causes.EntryCount
 
--- the fault of octets that stand at the place p and spell no APDU: the first of the fields, and after them the count
-abbrev pub GooseFault : Fault → ℕ → List ℕ → Type 0
-GooseFault f p o = FieldsFault apdu_grammar f apdu_fields p o ⊎ CountFault f p o
+-- The fault of octets that stand at the place p and spell no APDU: the first fault of the fields; or, where the fields
+-- have none, that of the count of entries.
+pub data GooseFault (f : Fault) (p : ℕ) (o : List ℕ) : Type 0 where
+  in_fields : FieldsFault apdu_grammar f apdu_fields p o → GooseFault f p o
+  in_entry_count : CountFault f p o → GooseFault f p o

@@ -1,5 +1,5 @@
 -- savPdu (IEC 61850-9-2, 8.5): its fields, its spellings, its faults.
-use Rattle.std.specs.Prelude.{◌≡◌, ◌≢◌, ℕ, pos, ◌+◌, ◌⊎◌, List, [], ◌∷◌, ◌++◌, length, Option, Some}
+use Rattle.std.specs.Prelude.{◌≡◌, ◌≢◌, ℕ, pos, ◌+◌, List, [], ◌∷◌, ◌++◌, length, Option, Some}
 use Rattle.ber_core.specs.Contents.{SpellsInteger, IntegerFault}
 use Rattle.ber_core.specs.Element.{Elem}
 use Rattle.ber_core.specs.Faults.{fault_of}
@@ -81,6 +81,8 @@ pub record AsduCountFault (f : Fault) (p : ℕ) (o : List ℕ) : Type 0 where
   pub differs : count ≢ length values
   pub fault : f ≡ fault_of (p + 1 + length size) causes.AsduCount
 
--- the fault of octets that stand at the place p and spell no APDU: the first of the fields, and after them the count
-abbrev pub SvFault : Fault → ℕ → List ℕ → Type 0
-SvFault f p o = FieldsFault sv_apdu_grammar f sv_apdu_fields p o ⊎ AsduCountFault f p o
+-- The fault of octets that stand at the place p and spell no APDU: the first fault of the fields; or, where the fields
+-- have none, that of the count of ASDUs.
+pub data SvFault (f : Fault) (p : ℕ) (o : List ℕ) : Type 0 where
+  in_sv_fields : FieldsFault sv_apdu_grammar f sv_apdu_fields p o → SvFault f p o
+  in_asdu_count : AsduCountFault f p o → SvFault f p o

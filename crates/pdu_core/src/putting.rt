@@ -92,7 +92,7 @@ pub fn put_time<const N: usize>(
 
 // Appends the field of members.
 #[tactic(auto, using(mms_data::proofs::Sizes::element_size))]
-pub fn put_members<A: Allocator, const N: usize>(
+pub fn put_members_field<A: Allocator, const N: usize>(
     out: &mut ArrayVec<u8, N>,
     identifier: u8,
     members: &ValueList<A>,

@@ -9,7 +9,7 @@ ghost use Rattle.pdu_core.specs.Written.{HasWrittenGoose, goose_contents, writte
 
 use crate::goose::GoosePdu;
 use crate::parts::GooseParts;
-use crate::putting::{put_flag, put_members, put_number, put_text, put_text_there, put_time};
+use crate::putting::{put_flag, put_members_field, put_number, put_text, put_text_there, put_time};
 use crate::spellable::are_spellable_parts;
 use arrayvec::ArrayVec;
 use ber_core::Full;
@@ -61,7 +61,7 @@ fn put_entries<A: Allocator, const N: usize>(
 {
     let entries = parts.members.as_slice();
     put_number(out, 0x8a, entries.len() as u64)?;
-    put_members(out, 0xab, parts.members)
+    put_members_field(out, 0xab, parts.members)
 }
 
 /// Appends the written form of the APDU, each length and number in the fewest octets and both booleans there, where it

@@ -68,7 +68,7 @@ fn put_contents<const N: usize>(
 
 // Appends the savPdu of so many ASDUs, which stand in their written form, where it fits; else `out` is unchanged.
 #[tactic(auto, using(mms_data::proofs::Sizes::element_size))]
-pub fn put_unit<const N: usize>(
+pub fn put_sampled_apdu<const N: usize>(
     out: &mut ArrayVec<u8, N>,
     count: usize,
     asdus: &[u8],

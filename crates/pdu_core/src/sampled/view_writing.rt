@@ -8,7 +8,7 @@ ghost use Rattle.pdu_core.specs.SampledViews.{asdus_left, sv_of};
 ghost use Rattle.pdu_core.specs.SampledWritten.{HasWrittenSv, written_asdus, written_sv};
 ghost use Rattle.pdu_core.specs.Written.{Appends};
 
-use crate::sampled::elements::{put_asdu, put_unit};
+use crate::sampled::elements::{put_asdu, put_sampled_apdu};
 use crate::sampled::view::{Asdus, SvView};
 use arrayvec::ArrayVec;
 use ber_core::Full;
@@ -50,5 +50,5 @@ fn put_written<const N: usize>(out: &mut ArrayVec<u8, N>, view: &SvView<'_>) -> 
 {
     let mut contents = ArrayVec::<u8, N>::new();
     put_each(&mut contents, view.asdus)?;
-    put_unit(out, view.count as usize, contents.as_slice())
+    put_sampled_apdu(out, view.count as usize, contents.as_slice())
 }

@@ -6,7 +6,7 @@ ghost use Rattle.pdu_core.specs.SampledSpellable.{IsSpellableSv};
 ghost use Rattle.pdu_core.specs.SampledWritten.{HasWrittenSv, written_asdus, written_sv};
 
 use crate::sampled::asdu::{AsduList, SvPdu};
-use crate::sampled::elements::{put_asdu, put_unit};
+use crate::sampled::elements::{put_asdu, put_sampled_apdu};
 use crate::sampled::spellable::is_spellable_sv;
 use arrayvec::ArrayVec;
 use ber_core::Full;
@@ -29,7 +29,7 @@ fn put_asdus<A: Allocator, const N: usize>(
 }
 
 // Appends the savPdu of the ASDUs, where it fits; else `out` is unchanged.
-#[tactic(auto, using(crate::proofs::UnitSizes::asdus_within, crate::proofs::UnitSizes::asdus_fit))]
+#[tactic(auto, using(crate::proofs::ApduSizes::asdus_within, crate::proofs::ApduSizes::asdus_fit))]
 fn put_pdu<A: Allocator, const N: usize>(
     out: &mut ArrayVec<u8, N>,
     pdu: &SvPdu<A>,
@@ -41,7 +41,7 @@ fn put_pdu<A: Allocator, const N: usize>(
     let mut contents = ArrayVec::<u8, N>::new();
     put_asdus(&mut contents, &pdu.asdus)?;
     let asdus = pdu.asdus.as_slice();
-    put_unit(out, asdus.len(), contents.as_slice())
+    put_sampled_apdu(out, asdus.len(), contents.as_slice())
 }
 
 /// Appends the written form of the APDU, each length and noASDU in the fewest octets, where it is spellable and fits;

@@ -7,8 +7,8 @@ use Rattle.mms_data.proofs.putting.+putting.Given as goal
 abbrev pub decreases-put : goal.decreases-put
 decreases-put g l = 3 * weight (data_of l.value.now) + 2
 
-abbrev pub decreases-put_members : goal.decreases-put_members
-decreases-put_members g l = 3 * weight_of_all l.values.now + 1
+abbrev pub decreases-put_nested_values : goal.decreases-put_nested_values
+decreases-put_nested_values g l = 3 * weight_of_all l.values.now + 1
 
 abbrev pub decreases-put_each : goal.decreases-put_each
 decreases-put_each g l = 3 * weight_of_all l.values.now

@@ -1,7 +1,7 @@
 use Rattle.std.proofs.Common.{◌≤◌, ◌<◌, ◌+◌, ◌^◌, length, ap, arith, rules}
 use Rattle.pdu_core.specs.SampledViews.{asdus_left, sv_of}
 use Rattle.pdu_core.specs.SampledWritten.{written_asdus}
-use Rattle.pdu_core.proofs.UnitSizes.{asdus_within, asdus_fit}
+use Rattle.pdu_core.proofs.ApduSizes.{asdus_within, asdus_fit}
 use Rattle.pdu_core.proofs.sampled.view_writing.put_written.Goals as goal
 
 pub returns-in_err-put_each-clause-fits : goal.returns-in_err-put_each-clause-fits
