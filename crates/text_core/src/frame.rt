@@ -7,7 +7,7 @@ ghost use Rattle.text_core.specs.FrameText.{tag_text, trailer_text, envelope_tex
 use crate::fields::{put_boolean, put_digits, put_number, put_optional, put_text};
 use crate::pieces::{put_decimal, put_hexadecimal};
 use crate::sampled::put_sampled;
-use crate::value::{put_members, put_utc};
+use crate::value::{put_members_text, put_utc};
 use frame_core::{ApduView, FrameView, VlanTag};
 use pdu_core::GooseView;
 use std::alloc::{AllocError, Allocator};
@@ -63,12 +63,12 @@ fn put_goose<A: Allocator>(out: &mut Vec<u8, A>, goose: &GooseView<'_>) -> Resul
     put_number(out, b" rev=", goose.conf_rev)?;
     put_boolean(out, b" com=", goose.nds_com)?;
     out.extend_from_slice(b" ")?;
-    put_members(out, goose.members)?;
+    put_members_text(out, goose.members)?;
     Ok(())
 }
 
 // The word for the kind of APDU.
-fn unit_word(apdu: &ApduView<'_>) -> &'static [u8]
+fn kind_word(apdu: &ApduView<'_>) -> &'static [u8]
     ensures { result.now ≡ apdu_word (apdu_of {A = Unit {0}} apdu.now) }
 {
     match apdu {
@@ -78,7 +78,7 @@ fn unit_word(apdu: &ApduView<'_>) -> &'static [u8]
 }
 
 // Appends the APDU.
-fn put_unit<A: Allocator>(out: &mut Vec<u8, A>, apdu: &ApduView<'_>) -> Result<(), AllocError>
+fn put_apdu<A: Allocator>(out: &mut Vec<u8, A>, apdu: &ApduView<'_>) -> Result<(), AllocError>
     ensures { OnOk result (out.new.items ≡ out.old.items ++ apdu_text (apdu_of {A = Unit {0}} apdu.now)) }
 {
     match apdu {
@@ -96,9 +96,9 @@ pub fn put_frame<A: Allocator>(
     ensures { OnOk result (out.new.items ≡ out.old.items ++ frame_line number (frame_of {A = Unit {0}} frame.now)) }
 {
     put_decimal(out, number)?;
-    out.extend_from_slice(unit_word(&frame.apdu))?;
+    out.extend_from_slice(kind_word(&frame.apdu))?;
     put_envelope(out, frame)?;
-    put_unit(out, &frame.apdu)?;
+    put_apdu(out, &frame.apdu)?;
     put_trailer(out, frame.trailer)?;
     out.extend_from_slice(b"\n")?;
     Ok(())

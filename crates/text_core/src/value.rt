@@ -112,7 +112,7 @@ fn put_others<A: Allocator>(out: &mut Vec<u8, A>, others: Members<'_>) -> Result
 }
 
 /// Appends a list of members.
-pub fn put_members<A: Allocator>(
+pub fn put_members_text<A: Allocator>(
     out: &mut Vec<u8, A>,
     members: Members<'_>,
 ) -> Result<(), AllocError>

@@ -18,5 +18,5 @@ returns g c = row _ _ (goose_parts (pdu_of {A = Unit {0}} c.args.goose.now)) (
     more c.in_ok-put_number-4.ensures (
     more c.in_ok-put_boolean-2.ensures (
     more c.in_ok-extend_from_slice-2.ensures.items (
-    more c.in_ok-put_members.ensures (
+    more c.in_ok-put_members_text.ensures (
     done refl))))))))))))))
