@@ -1,4 +1,5 @@
-"""The documents name what there is: modules and words of definitions, files and headings that are linked to."""
+"""The documents name what there is: modules and words of definitions, files and headings that are linked to; crates.txt
+names the crates that sources use."""
 import pathlib
 import re
 
@@ -8,6 +9,8 @@ TOP = pathlib.Path(__file__).resolve().parent.parent.parent
 DEFINITIONS = TOP / "docs" / "DEFINITIONS.md"
 PROOFS = TOP / "docs" / "PROOFS.md"
 FORMATS = TOP / "docs" / "FORMATS.md"
+PROGRAM = "goose"
+COMMENTS = {".rt": r"(?m)//.*$", ".antt": r"(?m)--.*$"}
 DECLARED = r"(?m)^\s*(?:(?:abbrev|unfoldable|opaque)\s+)*pub\s+(?:data\s+|record\s+)?{}(?=[\s:({{])"
 
 
@@ -64,6 +67,21 @@ def contracts(source):
         yield found[2], source[found.start():end.start() if end else len(source)]
 
 
+class StandsOn:
+    """A crate's line in crates.txt names the crates that its sources use, and no others."""
+
+    def __init__(self, crate, named, crates):
+        self.name, self.crate, self.named, self.crates = f"the line of {crate} in crates.txt", crate, named, crates
+
+    def why_wrong(self, _program):
+        files = [file for folder in ("src", "specs", "proofs") for file in (TOP / "crates" / self.crate / folder).rglob("*")
+                 if file.suffix in COMMENTS]
+        code = "\n".join(re.sub(COMMENTS[file.suffix], "", file.read_text()) for file in files)
+        used = {it for it in self.crates - {self.crate} if re.search(rf"\b{it}(?:::|\.[A-Za-z])", code)}
+        return ([f"{it} is used and not named" for it in sorted(used - self.named)]
+                + [f"{it} is named and not used" for it in sorted(self.named - used)])
+
+
 class Linked:
     """Each relative link of a document leads to a file, and to a heading in it."""
 
@@ -109,10 +127,14 @@ def cases():
     for folder in folders:
         for document in sorted(folder.glob("*.md")):
             yield Linked(document)
-    listed = (TOP / "crates.txt").read_text().splitlines()
-    crates = [line.split(":")[0].split()[0] for line in listed if line.strip() and not line.startswith("#")]
+    listed = [line for line in (TOP / "crates.txt").read_text().splitlines() if line.strip() and not line.startswith("#")]
+    lines = {line.split(":")[0].split()[0]: set(line.partition(":")[2].split()) for line in listed}
+    # No crate stands on the program, and its name is that of a field of frames.
+    others = set(lines).union(*lines.values()) - {PROGRAM}
+    for crate, named in lines.items():
+        yield StandsOn(crate, named, others)
     defined, proved = parts(DEFINITIONS), parts(PROOFS)
-    for crate in crates:
+    for crate in lines:
         if (TOP / "crates" / crate / "specs").is_dir():
             yield Described(crate, defined.get(crate, ""))
             yield Claimed(crate, proved.get(crate, ""))

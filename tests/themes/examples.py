@@ -11,7 +11,7 @@ from harness import SECONDS, Skipped, first_difference
 TOP = pathlib.Path(__file__).resolve().parent.parent.parent
 DOCUMENTS = ["README.md", "examples/README.md", "docs/FORMATS.md", "docs/REPLAY.md", "docs/RECIPES.md"]
 # Tools that some commands ask for, and that may not be installed.
-TOOLS = ["editcap", "jq"]
+TOOLS = ["editcap", "jq", "tshark"]
 
 
 class Shown:
