@@ -132,7 +132,7 @@ kind_text moment (Mode on) = codes "M " ++ moment ++ codes " " ++ mode_text on +
 abbrev pub event_text : {A : Type 0} → Event A → List ℕ
 event_text e = kind_text (decimal e.moment) e.kind
 
--- what can stand in a list: a frame of 1 to 2,000 octets, or the clock
+-- what can stand in a list: a frame of 1 to 2,000 octets, the clock, or a mode
 abbrev pub IsListableKind : {A : Type 0} → EventKind A → Type 0
 IsListableKind Clock = Unit {0}
 IsListableKind (Frame octets) = (0 < length octets) × (length octets ≤ 2000)
