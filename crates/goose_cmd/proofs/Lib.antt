@@ -1,4 +1,5 @@
 pub mod PlainTexts
 pub mod WrittenLists
 pub mod ScriptOrder
+pub mod ScriptLimits
 pub mod PublishedScripts

@@ -5,10 +5,7 @@ use Rattle.std.proofs.lemmas.List.{append-nil, length-append, length_push, map-a
 use Rattle.std.proofs.lemmas.Option.{none-some}
 use Rattle.std.specs.List.{flat_map}
 use Rattle.frame_core.specs.declared.frame.Frame.{Frame}
-use Rattle.frame_core.specs.declared.event_lines.EventLines.TheVariants.{First}
-use Rattle.frame_core.specs.declared.device.InputEnd.TheVariants.{End}
-use Rattle.frame_core.specs.EventLine.{event_rules, event_text}
-use Rattle.frame_core.specs.Items.{listing}
+use Rattle.frame_core.specs.EventLine.{event_text}
 use Rattle.frame_core.specs.Lines.{finished}
 use Rattle.publish_core.specs.declared.fault.PublishFault.{PublishFault}
 use Rattle.publish_core.specs.declared.table.Step.{Step}
@@ -20,15 +17,17 @@ use Rattle.publish_core.proofs.Judged.{changes_are_judged}
 use Rattle.publish_core.proofs.Runs.{answer_one, answers_stay}
 use Rattle.publish_core.proofs.Whole.{greatest-push}
 use Rattle.subscribe_core.proofs.Traces.{get_middle}
-use Rattle.exchange_laws.specs.PublishedList.{Sent, published_events, sent_from, with_frame}
+use Rattle.exchange_laws.specs.PublishedList.{Sent, one_entry_each, published_events, sent_from, with_frame}
 use Rattle.exchange_laws.specs.Stems.{AreAccepted}
 use Rattle.script_core.specs.declared.script.ScriptCause.{ScriptCause}
 use Rattle.script_core.specs.declared.script.ScriptItem.{ScriptItem}
 use Rattle.script_core.specs.declared.script.ScriptItem.TheVariants as item
 use Rattle.engine_core.specs.EngineText.{Account, Text, put_step, whole_text, told_after}
-use Rattle.goose_cmd.specs.PublishedReplay.{PublishedTextsReplay, ScriptsGiveLists}
+use Rattle.goose_cmd.specs.PublishedReplay.{PublishedTextsReplay, ScriptsGiveLists, script_of_text}
 use Rattle.engine_core.specs.PublishText.{IsCallText, IsPublishText, IsRefused, IsScriptSound, answer_text, item_of_call, items_of_lines, script_of}
 use Rattle.engine_core.proofs.PublishLemmas.{items-push}
+use Rattle.goose_cmd.specs.ListText.{ReplayGives}
+use Rattle.goose_cmd.proofs.ScriptLimits.{script_moments, script_room}
 use Rattle.goose_cmd.proofs.WrittenLists.{published_lists_replay}
 
 -- the frames of the calls that are left, as they are written
@@ -178,9 +177,21 @@ scripts_give_lists {A} B p calls answers script t sound accepted are says is = (
     told_is : told_after t [] script.items script.stop ≡ sent_told B (sent_from 0 calls answers)
     told_is = ap (told_after t [] script.items) says.whole ∙ script_told B p t is sound calls answers script.items says.items are.0 accepted are.1
 
+with_count : {A : Type 0} (m : ℕ) (act : Act) (a : Option (Frame A)) (rest : List (Sent A)) → length (with_frame m act a rest) ≤ suc (length rest)
+with_count m act None rest = omega arith
+with_count m act (Some f) rest = omega arith
+
+-- a call sends one frame at most
+sent_count : {A : Type 0} (m : ℕ) (calls : List Call) (answers : List (Option (Frame A))) → length (sent_from m calls answers) ≤ length calls
+sent_count m [] answers = omega arith
+sent_count m (c ∷ cs) [] = omega arith
+sent_count m (c ∷ cs) (a ∷ answers) =
+    omega (arith, with_count (max m c.moment) c.act a (sent_from (max m c.moment) cs answers), sent_count (max m c.moment) cs answers)
+
 pub published_texts_replay : {A B : Type 0} → PublishedTextsReplay A B
-published_texts_replay {A} {B} p block calls answers script t r run says is can room replay =
+published_texts_replay {A} {B} p block calls answers text t r run says is octets replay =
     let sound : IsScriptSound p = record { steps = run.steps; some = run.some; most = run.most } in
-    let listed = scripts_give_lists B p calls answers script t sound run.accepted run.are_answers says is in
-    ap (λ (text : List ℕ). whole_text r (listing event_rules First End 0 text)) listed.0 ∙
-    (published_lists_replay p block calls answers r run can room replay).0
+    let listed = scripts_give_lists B p calls answers (script_of_text text) t sound run.accepted run.are_answers says is in
+    let room : length (sent_from 0 calls answers) < 1000000 = omega (arith, sent_count 0 calls answers, script_room p calls text says) in
+    subst (λ (written : List ℕ). ReplayGives r written (one_entry_each (sent_from 0 calls answers))) (sym listed.0)
+    (published_lists_replay p block calls answers r run (script_moments p calls text says) octets room replay)

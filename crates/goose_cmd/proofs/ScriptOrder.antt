@@ -80,7 +80,7 @@ Goes before (Ok (None, q)) = Settles q before
 Goes before (Ok (Some i, q)) = StandsBefore before i × Settles q (before ++ i ∷ [])
 Goes before (Err why) = Unit {0}
 
-either : {X : Type 0} (b : Bool) (x y : X) (P : X → Type 0) → (b ≡ true → P x) → (b ≡ false → P y) → P (if b then x else y)
+pub either : {X : Type 0} (b : Bool) (x y : X) (P : X → Type 0) → (b ≡ true → P x) → (b ≡ false → P y) → P (if b then x else y)
 either true x y P f g = f refl
 either false x y P f g = g refl
 

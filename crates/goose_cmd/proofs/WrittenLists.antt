@@ -1,6 +1,7 @@
 -- A list that is written is listed as its events, and replayed by the lines of their entries.
-use Rattle.std.proofs.Common.{◌≡◌, ℕ, suc, ◌+◌, ◌<◌, ◌≤◌, false, Some, List, [], ◌∷◌, ◌++◌, length, slice_get, Ok, ap, ap₂, subst, sym, ◌∙◌, refl, arith, append_assoc}
+use Rattle.std.proofs.Common.{◌≡◌, ℕ, suc, ◌+◌, ◌^◌, ◌<◌, ◌≤◌, max, false, inl, inr, Option, Some, None, List, [], ◌∷◌, ◌++◌, length, slice_get, Ok, ap, ap₂, subst, sym, ◌∙◌, refl, arith, append_assoc}
 use Rattle.std.specs.List.{flat_map}
+use Rattle.std.proofs.lemmas.Bool.{cases_lt}
 use Rattle.std.proofs.lemmas.List.{length_push}
 use Rattle.frame_core.specs.declared.device.InputEnd.TheVariants.{End}
 use Rattle.frame_core.specs.declared.event.Event.{Event}
@@ -10,19 +11,27 @@ use Rattle.frame_core.specs.declared.list_fault.ListCause.{ListCause}
 use Rattle.frame_core.specs.EventLine.{event_rules, event_text}
 use Rattle.frame_core.specs.Items.{Listing, items_in, items_said, listing, put_item}
 use Rattle.frame_core.specs.Lines.{finished}
+use Rattle.frame_core.specs.Written.{written_frame}
+use Rattle.frame_core.specs.declared.frame.Frame.{Frame}
 use Rattle.frame_core.proofs.Lines.{reading-end}
 use Rattle.frame_core.proofs.WrittenLines.{version-first, written-first}
+use Rattle.publish_core.specs.Frames.{Setup, frame}
+use Rattle.publish_core.specs.Numbers.{state_number}
+use Rattle.publish_core.specs.Run.{Act, Call, IsAnswer, trace_of_calls}
+use Rattle.publish_core.proofs.GivesOne.{carried}
 use Rattle.subscribe_core.specs.declared.block.Block.{Block}
 use Rattle.subscribe_core.specs.declared.entry.Entry.{Entry}
 use Rattle.subscribe_core.specs.Entries.{AreEntriesAt}
 use Rattle.subscribe_core.specs.Standing.{AreApart}
 use Rattle.subscribe_core.proofs.Runs.{entries_are_one, entries_stay}
-use Rattle.exchange_laws.specs.PublishedList.{Sent, one_entry_each, published_events, sent_from}
+use Rattle.exchange_laws.specs.PublishedList.{Sent, one_entry_each, published_events, sent_from, with_frame}
+use Rattle.exchange_laws.specs.Stems.{AreAccepted, AreHeld}
 use Rattle.exchange_laws.proofs.OneFrame.{one_apart}
 use Rattle.exchange_laws.proofs.PublishedLists.{whole_runs_replay}
+use Rattle.exchange_laws.proofs.WrittenForms.{change_accepted}
 use Rattle.engine_core.specs.EngineText.{Account, Text, put_step, told_after}
 use Rattle.text_core.specs.EntryText.{entry_lines}
-use Rattle.goose_cmd.specs.ListText.{CanBeListed, PublishedListsReplay, WrittenListsReplay, lines_from, list_of_text}
+use Rattle.goose_cmd.specs.ListText.{CanBeListed, MomentsAreShort, PublishedListsReplay, SendsOctets, WrittenListsReplay, lines_from, list_of_text, list_text}
 use Rattle.engine_core.specs.ReplayText.{IsReplayText, events_of}
 use Rattle.engine_core.proofs.ReplayLemmas.{events_push}
 
@@ -44,7 +53,7 @@ all_listed {A} n (e ∷ es) w room =
     written-first e w.0.0 w.0.1 End n (flat_map event_text es) (omega arith) ∙
     ap (put_item (n + 1, e)) (all_listed (n + 1) es w.1 (omega arith))
 
-list_is : {A : Type 0} (events : List (Event A)) → CanBeListed events → length events < 1000000 → list_of_text events ≡ whole 2 events
+list_is : {A : Type 0} (events : List (Event A)) → CanBeListed events → length events < 1000000 → list_of_text (list_text events) ≡ whole 2 events
 list_is {A} events w room = version-first A End (flat_map event_text events) ∙ all_listed 1 events w (omega arith)
 
 -- the step of an event is the lines of the entries that the whole list has there
@@ -98,10 +107,44 @@ written_lists_replay {A} blocks events entries t apart can room are is = (
     at : (i : ℕ) (x : List (Entry A)) → slice_get entries i ≡ Some x → AreEntriesAt blocks events (0 + i) x
     at i x here = let none : i ≡ 0 + i = omega arith in subst (λ (j : ℕ). AreEntriesAt blocks events j x) none (are.each i x here)
 
-    told_is : told_after t [] (list_of_text events).items (list_of_text events).stop ≡ lines_told 2 entries
+    told_is : told_after t [] (list_of_text {A = A} (list_text events)).items (list_of_text {A = A} (list_text events)).stop ≡ lines_told 2 entries
     told_is =
         ap (λ (l : Listing (Event A) ListCause). told_after t [] l.items l.stop) (list_is events can room) ∙
         lines_are blocks t apart is [] 2 events entries are.sizes at
+
+-- ---- the frames that are sent can stand in a list
+
+-- a frame has octets, and no more than a line can write
+abbrev HasSize : {A : Type 0} → Frame A → Type 0
+HasSize f = (0 < length (written_frame f)) × (length (written_frame f) ≤ 2000)
+
+behind_some : (d a b : List ℕ) → length d ≡ 6 → 0 < length ((d ++ a) ++ b)
+behind_some [] a b e = absurd (omega arith)
+behind_some (x ∷ d) a b e = omega arith
+
+answer_size : {A : Type 0} (p : Setup A) (calls : List Call) (i : ℕ) (f : Frame A) → AreHeld p → AreAccepted p calls → IsAnswer p (trace_of_calls calls) i (Some f) → HasSize f
+answer_size {A} p calls i f held accepted w =
+    let at = carried w.3 in
+    let fit = (change_accepted p calls at.0 w.0 w.2 accepted at.2).fit w.1 in
+    subst HasSize (sym w.4) (
+      behind_some p.control.destination _ _ held.to,
+      elim (cases_lt 1600 (length (written_frame (frame p.control p.table (state_number p.first w.0) w.2 w.1)))) [
+        | inl long ↦ absurd (fit (inr long))
+        | inr short ↦ omega arith
+      ],
+    )
+
+with_can : {A : Type 0} (B : Type 0) (m : ℕ) (act : Act) (a : Option (Frame A)) (rest : List (Sent A)) → m < 10 ^ 18 → ((f : Frame A) → a ≡ Some f → HasSize f) → SendsOctets (with_frame m act a rest) → (SendsOctets rest → CanBeListed (published_events {B = B} rest)) → CanBeListed (published_events {B = B} (with_frame m act a rest))
+with_can B m act None rest short size octets can = can octets
+with_can B m act (Some f) rest short size octets can = (((short, size f refl), octets.0), can octets.1)
+
+sent_can : {A : Type 0} (B : Type 0) (m : ℕ) (calls : List Call) (answers : List (Option (Frame A))) → m < 10 ^ 18 → MomentsAreShort calls → ((i : ℕ) (f : Frame A) → slice_get answers i ≡ Some (Some f) → HasSize f) → SendsOctets (sent_from m calls answers) → CanBeListed (published_events {B = B} (sent_from m calls answers))
+sent_can B m [] answers small short size octets = tt
+sent_can B m (c ∷ cs) [] small short size octets = tt
+sent_can {A} B m (c ∷ cs) (a ∷ answers) small short size octets =
+    let next : max m c.moment < 10 ^ 18 = let first : c.moment < 10 ^ 18 = short.0 in omega arith in
+    with_can B (max m c.moment) c.act a (sent_from (max m c.moment) cs answers) next (λ f e. size 0 f (ap (λ (o : Option (Frame A)). Some o) e)) octets
+    (sent_can B (max m c.moment) cs answers next short.1 (λ i f e. size (suc i) f e))
 
 -- there are as many events as frames
 events_counted : {A : Type 0} (B : Type 0) (sent : List (Sent A)) → length (published_events {B = B} sent) ≡ length sent
@@ -109,6 +152,7 @@ events_counted B [] = refl
 events_counted B (s ∷ sent) = ap suc (events_counted B sent)
 
 pub published_lists_replay : {A B : Type 0} → PublishedListsReplay A B
-published_lists_replay {A} {B} p block calls answers t run can room is =
-    written_lists_replay (block ∷ []) (published_events (sent_from 0 calls answers)) (one_entry_each (sent_from 0 calls answers)) t (one_apart block) can
+published_lists_replay {A} {B} p block calls answers t run short octets room is =
+    written_lists_replay (block ∷ []) (published_events (sent_from 0 calls answers)) (one_entry_each (sent_from 0 calls answers)) t (one_apart block)
+    (sent_can B 0 calls answers (omega arith) short (λ i f at. answer_size p calls i f run.held run.accepted (run.are_answers.1 i (Some f) at)) octets)
     (omega (arith, room, events_counted B (sent_from 0 calls answers))) (whole_runs_replay p block calls answers run (omega arith)) is

@@ -1,11 +1,9 @@
 -- What `publish` writes of a script that is read to its end, and what the replay of that writes.
-use Rattle.std.specs.Prelude.{◌≡◌, ◌<◌, List, [], ◌∷◌, length, Option}
+use Rattle.std.specs.Prelude.{◌≡◌, ℕ, List, [], ◌∷◌, Option}
 use Rattle.frame_core.specs.declared.device.InputEnd.TheVariants.{End}
 use Rattle.frame_core.specs.declared.event.Event.{Event}
-use Rattle.frame_core.specs.declared.event_lines.EventLines.TheVariants.{First}
 use Rattle.frame_core.specs.declared.frame.Frame.{Frame}
 use Rattle.frame_core.specs.declared.list_fault.ListCause.{ListCause}
-use Rattle.frame_core.specs.EventLine.{event_rules}
 use Rattle.frame_core.specs.Items.{Listing, listing}
 use Rattle.frame_core.specs.Lines.{finished}
 use Rattle.publish_core.specs.Frames.{Setup}
@@ -15,8 +13,10 @@ use Rattle.exchange_laws.specs.PublishedList.{IsWholeRun, one_entry_each, publis
 use Rattle.exchange_laws.specs.Stems.{AreAccepted}
 use Rattle.script_core.specs.declared.script.ScriptCause.{ScriptCause}
 use Rattle.script_core.specs.declared.script.ScriptItem.{ScriptItem}
+use Rattle.script_core.specs.declared.script.ScriptLines.TheVariants.{First}
+use Rattle.script_core.specs.Script.{script_rules}
 use Rattle.engine_core.specs.EngineText.{Text, whole_text, told}
-use Rattle.goose_cmd.specs.ListText.{CanBeListed, lines_from, list_text}
+use Rattle.goose_cmd.specs.ListText.{ReplayGives, SendsOctets, list_text}
 use Rattle.engine_core.specs.PublishText.{IsPublishText, IsScriptSound, items_of_lines, script_of}
 use Rattle.engine_core.specs.ReplayText.{IsReplayText}
 
@@ -25,6 +25,10 @@ pub record SaysRun {A : Type 0} (p : Setup A) (calls : List Call) (script : List
   pub items : items_of_lines script.items ≡ script_of p calls
   pub whole : script.stop ≡ finished
 
+-- what the whole text of a script says
+abbrev pub script_of_text : {A : Type 0} → List ℕ → Listing (ScriptItem A) ScriptCause
+script_of_text text = listing script_rules First End 0 text
+
 -- Of a script whose changes are accepted `publish` writes the list of the frames that its calls give, to the script's end.
 abbrev pub ScriptsGiveLists : Type 0 → Type 0 → Type 0
 ScriptsGiveLists A B =
@@ -32,11 +36,10 @@ ScriptsGiveLists A B =
     IsScriptSound p → AreAccepted p calls → AreAnswers p calls answers → SaysRun p calls script → IsPublishText t →
     (whole_text t script ≡ list_text (published_events {B = B} (sent_from 0 calls answers))) × ((told t script).stop ≡ finished)
 
--- What `publish` writes of a script of a publisher's whole run is replayed with the publisher's own block by one line for
--- each frame: an action for a change's, a renewal for a poll's.
+-- What `publish` writes of the text of a script that says a publisher's whole run is replayed with the publisher's own block
+-- by one line for each frame: an action for a change's, a renewal for a poll's, and nothing else.
 abbrev pub PublishedTextsReplay : Type 0 → Type 0 → Type 0
 PublishedTextsReplay A B =
-    (p : Setup A) (block : Block B) (calls : List Call) (answers : List (Option (Frame A))) (script : Listing (ScriptItem A) ScriptCause) (t : Text (ScriptItem A) ScriptCause) (r : Text (Event B) ListCause) →
-    IsWholeRun p block calls answers → SaysRun p calls script → IsPublishText t →
-    CanBeListed (published_events {B = B} (sent_from 0 calls answers)) → length (sent_from 0 calls answers) < 1000000 → IsReplayText (block ∷ []) r →
-    whole_text r (listing event_rules First End 0 (whole_text t script)) ≡ lines_from 2 (one_entry_each {B = B} (sent_from 0 calls answers))
+    (p : Setup A) (block : Block B) (calls : List Call) (answers : List (Option (Frame A))) (text : List ℕ) (t : Text (ScriptItem A) ScriptCause) (r : Text (Event B) ListCause) →
+    IsWholeRun p block calls answers → SaysRun p calls (script_of_text text) → IsPublishText t → SendsOctets (sent_from 0 calls answers) → IsReplayText (block ∷ []) r →
+    ReplayGives r (whole_text t (script_of_text text)) (one_entry_each (sent_from 0 calls answers))
