@@ -3,7 +3,7 @@ ghost use Rattle.std.specs.Prelude.{◌≡◌, ◌++◌, ℕ, List, Bool};
 ghost use Rattle.std.specs.List.{flat_map, list_any};
 ghost use Rattle.frame_core.specs.Items.{Listing};
 ghost use Rattle.engine_core.specs.EngineText.{IsPlain, Text, last_text, whole_text, told};
-ghost use Rattle.goose_cmd.specs.ListText.{PublishedListsReplay, WrittenListsReplay};
+ghost use Rattle.goose_cmd.specs.ListText.{PublishedListsReplay, ReplayTextsAreOne, WrittenListsReplay};
 ghost use Rattle.engine_core.specs.PublishText.{ScriptsAreInOrder};
 ghost use Rattle.goose_cmd.specs.PublishedReplay.{PublishedTextsReplay, ScriptsGiveLists};
 
@@ -38,15 +38,22 @@ pub fn written_lists_replay<A: Allocator>()
     ensures { WrittenListsReplay A }
 {}
 
+/// What a replay with some control blocks writes of a list is one text: whatever says it says the same of each list.
+pub fn replay_texts_are_one<A: Allocator>()
+    ensures { ReplayTextsAreOne A }
+{}
+
 /// The list of a publisher's whole run, replayed with its own block, gives one line for each frame: an action for that of a
-/// change, a renewal for that of a poll, and nothing else.
+/// change, a renewal for that of a poll, and nothing else. The moments of its calls have at most 18 digits, the frames are
+/// octets, and there are at most 999,999 of them.
 pub fn published_lists_replay<P: Allocator, S: Allocator>()
     ensures { PublishedListsReplay P S }
 {}
 
 /// What `publish` writes of a script whose changes are accepted is the list of the frames that its calls give. Where the
-/// calls are a publisher's whole run, a replay of it with the publisher's own block gives one line for each frame: an
-/// action for that of a change, a renewal for that of a poll, and nothing else.
+/// text of a script says a publisher's whole run, a replay of what is written with the publisher's own block gives one line
+/// for each frame: an action for that of a change, a renewal for that of a poll, and nothing else. The frames are octets;
+/// that they and their moments can stand in a list, and that there are not too many, follows from the text.
 pub fn published_texts_replay<P: Allocator, S: Allocator>()
     ensures list { ScriptsGiveLists P S }
     ensures replay { PublishedTextsReplay P S }
