@@ -4,7 +4,7 @@ import subprocess
 import tty
 
 from captures import header, record
-from frames import WORKED, WORKED_LINE, put
+from frames import SAMPLED, WORKED, WORKED_LINE, put
 from harness import Case, Pieces, Skipped, cut, descriptor, listed, relisted, run, text
 
 FAULT = [b"read or write fault"]
@@ -150,12 +150,37 @@ def reading():
                      relisted(WORKED) + b"# 2 list ReadFailed\n", 4, FAULT)
     yield FailsAfter("whole lines are checked before a read fault", ["check"], listed(put(WORKED, at66=1)),
                      b"1 not-written\n2 list ReadFailed\n", 4, FAULT)
+    yield FailsAfter("entries of a replay stand before a read fault", WORDS["replay"], failing + listed(b"\1") + b"C 7",
+                     b"1 act 0 st=1 sq=0 t=0000000000000000 {true}\n2 fault 1 Truncated\n3 list ReadFailed\n", 4, FAULT)
+    yield from in_pieces()
     for size in (1, 2, 3, 7):
         yield Pieces(f"input in pieces of {size}", ["show"], cut(failing * 3 + b"C 7", size), text(
             [f"{n} {WORKED_LINE}" for n in (1, 2, 3)] + ["4 clock 7000"]))
     for size in (1, 2, 3, 7, 4096, 8192):
         yield Pieces(f"a long list, rewritten from pieces of {size}", ["rewrite"], cut(failing * 200, size),
                      relisted(*[WORKED] * 200))
+
+
+class SameInPieces:
+    """A command on an input that comes a few octets at a time writes what it writes of the whole input, and ends so."""
+
+    def __init__(self, asked, octets, size):
+        self.name, self.asked, self.octets, self.size = f"{asked[0]} in pieces of {size}", asked, octets, size
+
+    def why_wrong(self, program):
+        whole = run(program, self.asked, self.octets)
+        cutting = Pieces(self.name, self.asked, cut(self.octets, self.size), b"", waits=True)
+        pieces = cutting.run(program)
+        return [] if pieces == whole and whole[0] else [f"whole: {whole!r}, in pieces: {pieces!r}"]
+
+
+def in_pieces():
+    """Every command, on an input with a version, something good, something bad and no last LF."""
+    listed_input = b"V2\r\n# a comment\n" + listed(WORKED, b"\1", SAMPLED) + b"M 7 on\nC 9"
+    inputs = {"publish": b"V2\n" + SCRIPT + CHANGE + b"poll,4000\nX", "import": header() + record(1, 2, WORKED) + record(3, 4, b"") + b"\0"}
+    for command in [*BEFORE, "import"]:
+        for size in (1, 5):
+            yield SameInPieces(words(command), inputs.get(command, listed_input), size)
 
 
 def writing():

@@ -13,6 +13,7 @@ from themes.devices import CHANGE, SCRIPT
 FRAMES = 4000
 SEEN_FIRST = 65536
 GROWTH = 4096  # kilobytes
+MOST = 8192  # kilobytes
 
 
 class ComesEarly:
@@ -54,7 +55,7 @@ class ComesEarly:
 
 
 class DoesNotGrow:
-    """A long input takes no more memory than a short one: a head, and then the same octets again and again."""
+    """A long input takes no more memory than a short one, and at most 8 MiB: a head, and then the same octets again and again."""
 
     def __init__(self, name, words, unit, head=b""):
         self.name, self.words, self.unit, self.head = f"{name} is not held", words, unit, head
@@ -70,7 +71,8 @@ class DoesNotGrow:
 
     def why_wrong(self, program):
         short, long = self.peak(program, 1000), self.peak(program, 100000)
-        return [f"{short} kB for a short list, {long} kB for a long one"] if long > short + GROWTH else []
+        why = [f"{short} kB for a short list, {long} kB for a long one"] if long > short + GROWTH else []
+        return why + ([f"{long} kB, and not at most {MOST}"] if long > MOST else [])
 
 
 class WantsMemory:
