@@ -623,15 +623,15 @@ def rewrite(octets, has_failed=False):
 COMMANDS = {"show": show, "check": check, "rewrite": rewrite}
 
 # What help says of the program and of each command (docs/FORMATS.md), and the version.
-ABOUT = "Reads recorded GOOSE and Sampled Values frames from standard input, one event a line"
+ABOUT = "Reads recorded GOOSE and Sampled Values frames from standard input and tells what they say"
 HELP = {
-    "show": "Writes one line an event",
-    "check": "Writes one line a note on a frame",
-    "rewrite": "Writes the list again, each good frame in its one written form",
-    "replay": "Writes one line an entry of a subscriber of control blocks",
-    "publish": "Writes the list of frames that a publisher sends by a script",
-    "watch": "Writes one line a sample of a stream, and whether its count is the next one",
-    "import": "Writes a capture (classic libpcap) as a list",
+    "show": "Shows each event on one line: every field of a frame, or its first error",
+    "check": "Writes a line for each error of a frame, and for each note on a good one",
+    "rewrite": "Writes the list again, each good frame in its canonical encoding",
+    "replay": "Shows what a device that subscribes to control blocks makes of each frame",
+    "publish": "Reads a script and writes the list of frames that a publisher sends",
+    "watch": "Shows each sample of one stream, and whether its count is the next one",
+    "import": "Reads a capture (classic libpcap, as tcpdump -w writes) and writes it as a list",
 }
 # The words behind a command's name, as its help writes them.
 TAKES = {"replay": " <BLOCK>...", "watch": " --period <N> --id <TEXT>"}

@@ -4,7 +4,7 @@ use Rattle.std.specs.Prelude.{Box, IfOk, IfErr, codes, find}
 use Rattle.std.specs.Option.{option_map_or}
 use Rattle.std.specs.Str.{bytes_eq}
 use Rattle.std.specs.Box.{box_value}
-use Rattle.clap.specs.Words.{App, HasKind, Kinds, Row, Shape, Text, all_of, built, fault_of, has_subcommand, kind_of, subcommand_name_of, subcommand_of, subcommand_rows, subcommand_rows_of, takes}
+use Rattle.clap.specs.Words.{App, HasKind, Kinds, Row, Shape, Text, all_of, built, fault_of, kind_of, subcommand_name_of, subcommand_of, subcommand_rows, subcommand_rows_of, takes}
 use Rattle.clap.specs.Kinds.{check_kinds}
 use Rattle.clap.specs.Faults.{entered_fault, level_fault, walk_fault}
 use Rattle.clap.specs.Simple.{argument_words, entered, names_of, rows_at}
@@ -82,13 +82,6 @@ met_rows (Some b) name rows e f =
 pub met : (m : ArgMatches) (name : Text) (rows : List Row) → subcommand_name_of m ≡ Some name
     → option_map (λ (p : Text × List Row). p.1) (subcommand_rows_of m) ≡ Some rows → subcommand_rows_of m ≡ Some (name, rows)
 met m name rows e f = met_rows (out-ArgMatches m).subcommand name rows e f
-
-none_rows : {Z : Type 0} (o : Option (Box SubCommand Z)) → is_some o ≡ false → subcommand_rows o ≡ None
-none_rows None e = refl
-none_rows (Some b) e = cc
-
-pub none_met : (m : ArgMatches) → has_subcommand m ≡ false → subcommand_rows_of m ≡ None
-none_met m e = none_rows (out-ArgMatches m).subcommand e
 
 -- an argument that is given has values
 given_row : (id : Text) (rows : List Row) → (not (is_given id rows) || false) ≡ false → is_some (all_of id rows) ≡ true

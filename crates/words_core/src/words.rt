@@ -53,7 +53,11 @@ pub enum WordsError {
 
 // What each subcommand's help ends with.
 const MORE: &str =
-    "Moments are read in microseconds where the first line is V2, else in milliseconds, and written in microseconds. Exit status: 0 done, 1 findings, 2 a mistake in the words, 3 an input fault, 4 a read or write fault, 5 out of memory. More: docs/FORMATS.md, man docs/goose.1";
+    "Moments in the input are microseconds where its first line is V2, else milliseconds; in the output they are always microseconds.\nExit status: 0 done, 1 something was found, 2 wrong arguments, 3 an error in the input, 4 a device failed while reading or writing, 5 out of memory.\nMore: docs/FORMATS.md, man docs/goose.1";
+
+// What the help of `check` ends with besides: an encoding is no error.
+const CHECK_MORE: &str =
+    "A line fault is an error of the frame. A line not-written is a note and no error: the frame is good, but encoded otherwise than rewrite would write it. A line destination is a note too: the frame is sent to another address than the standards recommend.\n\nMoments in the input are microseconds where its first line is V2, else milliseconds.\nExit status: 0 nothing to note, 1 a line was written for some frame, 2 wrong arguments, 3 an error in the input, 4 a device failed while reading or writing, 5 out of memory.\nMore: docs/FORMATS.md, man docs/goose.1";
 
 // The program before its subcommands, one of which must be named.
 fn program<'a>(alloc: Global) -> Command<'a>
@@ -63,10 +67,10 @@ fn program<'a>(alloc: Global) -> Command<'a>
         .version("0.1.0")
         .before_help("Example: goose show < examples/one_frame.list")
         .after_help(
-            "Exit status: 0 done, 1 findings, 2 a mistake in the words, 3 an input fault, 4 a read or write fault, 5 out of memory. More: docs/FORMATS.md, man docs/goose.1",
+            "Run goose COMMAND --help for an example of each command.\nExit status: 0 done, 1 something was found, 2 wrong arguments, 3 an error in the input, 4 a device failed while reading or writing, 5 out of memory.\nMore: docs/FORMATS.md, man docs/goose.1",
         )
         .about(
-            "Reads recorded GOOSE and Sampled Values frames from standard input, one event a line",
+            "Reads recorded GOOSE and Sampled Values frames from standard input and tells what they say",
         )
         .disable_help_subcommand(true)
         .subcommand_required(true)
@@ -79,12 +83,13 @@ fn with_plain<'a>(
     name: &'a str,
     about: &'a str,
     example: &'a str,
+    more: &'a str,
 ) -> Result<Command<'a>, AllocError>
     ensures { IfOk result (λ c. app_of c ≡ with_subcommand (app_of program.entry) (new_app name.now).top) }
 {
     let plain = Command::new(alloc, name)
         .before_help(example)
-        .after_help(MORE)
+        .after_help(more)
         .about(about);
     program.subcommand(plain)
 }
@@ -95,7 +100,7 @@ fn block_words<'a>(alloc: Global) -> Arg<'a>
     ensures local { result.global ≡ false }
 {
     Arg::new(alloc, "BLOCK").required(true).num_args(1..).help(
-        "A control block: APPID,gocbRef,datSet,goID,confRev,entries, as 0001,IED1LD/LLN0$GO$gcb,IED1LD/LLN0$ds,,1,2. APPID has 4 hexadecimal digits; an empty goID is not looked at",
+        "A control block: APPID,gocbRef,datSet,goID,confRev,entries, as 0001,IED1LD/LLN0$GO$gcb,IED1LD/LLN0$ds,,1,2. APPID has 4 hexadecimal digits; an empty goID is not compared; entries is the number of members. Put it in single quotes: $ names a variable in a shell",
     )
 }
 
@@ -106,7 +111,7 @@ fn with_replay<'a>(alloc: Global, program: Command<'a>) -> Result<Command<'a>, A
     let replay = Command::new(alloc, "replay")
         .before_help("Example: goose replay 0001,G,D,,1,1 < examples/repeated_frames.list")
         .after_help(MORE)
-        .about("Writes one line an entry of a subscriber of control blocks")
+        .about("Shows what a device that subscribes to control blocks makes of each frame")
         .arg(block_words(alloc))?;
     program.subcommand(replay)
 }
@@ -122,7 +127,7 @@ fn period_option<'a>(alloc: Global) -> Arg<'a>
         .value_name("N")
         .value_parser(value_parser!(u32).range(2..=65536))
         .help(
-            "After how many samples smpCnt begins at 0 again, from 2 to 65536: 4000 for 80 samples a cycle at 50 Hz",
+            "How many samples smpCnt counts before it begins at 0 again, from 2 to 65536: those of one second, so 4000 for 80 samples a cycle at 50 Hz",
         )
 }
 
@@ -145,7 +150,7 @@ fn with_watch<'a>(alloc: Global, program: Command<'a>) -> Result<Command<'a>, Al
     let watch = Command::new(alloc, "watch")
         .before_help("Example: goose watch --period 4000 --id MU01 < examples/sample_counts.list")
         .after_help(MORE)
-        .about("Writes one line a sample of a stream, and whether its count is the next one")
+        .about("Shows each sample of one stream, and whether its count is the next one")
         .arg(period_option(alloc))?
         .arg(id_option(alloc))?;
     program.subcommand(watch)
@@ -160,38 +165,43 @@ fn command<'a>(alloc: Global) -> Result<Command<'a>, AllocError>
         alloc,
         program,
         "show",
-        "Writes one line an event",
+        "Shows each event on one line: every field of a frame, or its first error",
         "Example: goose show < examples/one_frame.list",
+        MORE,
     )?;
     let program = with_plain(
         alloc,
         program,
         "check",
-        "Writes one line a note on a frame",
+        "Writes a line for each error of a frame, and for each note on a good one",
         "Example: goose check < examples/notes.list",
+        CHECK_MORE,
     )?;
     let program = with_plain(
         alloc,
         program,
         "rewrite",
-        "Writes the list again, each good frame in its one written form",
+        "Writes the list again, each good frame in its canonical encoding",
         "Example: goose rewrite < examples/long_lengths.list",
+        MORE,
     )?;
     let program = with_replay(alloc, program)?;
     let program = with_plain(
         alloc,
         program,
         "publish",
-        "Writes the list of frames that a publisher sends by a script",
+        "Reads a script and writes the list of frames that a publisher sends",
         "Example: goose publish < examples/publisher.script",
+        MORE,
     )?;
     let program = with_watch(alloc, program)?;
     with_plain(
         alloc,
         program,
         "import",
-        "Writes a capture (classic libpcap) as a list",
+        "Reads a capture (classic libpcap, as tcpdump -w writes) and writes it as a list",
         "Example: goose import < examples/two_frames.pcap",
+        MORE,
     )
 }
 
