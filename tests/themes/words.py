@@ -8,6 +8,10 @@ from harness import SECONDS, Case, clipped
 from reference import ABOUT, COMMANDS, HELP, TAKES, VERSION
 
 TOP = pathlib.Path(__file__).resolve().parent.parent.parent
+# What help says of the exit statuses above 1.
+STATUSES = [b"2 wrong arguments", b"3 an error in the input", b"4 a device failed", b"5 out of memory"]
+# What standard error says of a text that is no control block, behind its position.
+BLOCK_FORM = b"A BLOCK is APPID,gocbRef,datSet,goID,confRev,entries, for example '0001,IED1LD/LLN0$GO$gcb,IED1LD/LLN0$ds,,1,2'\n"
 
 
 class Helps(Case):
@@ -47,7 +51,12 @@ class Begins(Case):
         ran = subprocess.run(["bash", "-c", f"{shlex.join(program)} {words}{found[1]}"], cwd=TOP, stdin=subprocess.DEVNULL,
                              stdout=subprocess.PIPE, stderr=subprocess.PIPE, timeout=SECONDS)
         why += [] if ran.returncode in (0, 1) and ran.stdout and not ran.stderr else [f"the example ends so: {ran}"]
-        return why + [f"help lacks {part!r}" for part in (b"Exit status: 0 done, ", b"docs/FORMATS.md") if part not in wrote]
+        parts = [b"Exit status: 0 ", *STATUSES, b"docs/FORMATS.md"]
+        if self.words[0] in HELP:
+            parts += [b"Moments in the input are microseconds where its first line is V2, else milliseconds"]
+        if self.words[0] == "check":
+            parts += [b"not-written is a note and no error: the frame is good"]
+        return why + [f"help lacks {part!r}" for part in parts if part not in wrote]
 
 
 class Refuses(Case):
@@ -63,6 +72,23 @@ class Refuses(Case):
         why += ["standard output is not empty"] if wrote else []
         is_told = complained.startswith(b"error: ") and self.named in complained
         return why + ([] if is_told else [f"standard error does not name {self.named!r}: {clipped(complained)!r}"])
+
+
+class SaysBlockForm(Case):
+    """A text that is no control block: its position and what form a block has, and nothing else; and the example that is
+    given there is a block."""
+
+    def __init__(self, block):
+        super().__init__(f"no block: {block!r}", ["replay", "0001,G,D,,1,1", block], b"X\n", b"", 2)
+
+    def why_wrong(self, program):
+        why = super().why_wrong(program)
+        complained = self.run(program)[1]
+        if complained != b"block 1 BlockForm\n" + BLOCK_FORM:
+            return [*why, f"standard error is {clipped(complained)!r}"]
+        example = re.search(rb"'(.*)'", complained)[1]
+        status = subprocess.run([*program, "replay", example], stdin=subprocess.DEVNULL, timeout=SECONDS).returncode
+        return why + ([] if status == 0 else [f"its example ends with status {status}"])
 
 
 def helps():
@@ -118,7 +144,7 @@ def refusals():
         "0001,G,D,,4294967296,1", "0001,G,D,,1,12345678901", "0001,G,D,,1,-1", "0001,G\x7f,D,,1,1", "0001,G\u00e9,D,,1,1",
         " 0001,G,D,,1,1", "0001,G,D,,1,1 ",
     ):
-        yield Case(f"no block: {block!r}", ["replay", "0001,G,D,,1,1", block], b"X\n", b"", 2, [b"block 1 BlockForm\n"])
+        yield SaysBlockForm(block)
 
 
 def accepted():

@@ -1,6 +1,6 @@
 //! The program `goose`: reads recorded GOOSE and Sampled Values frames from standard input and writes what its
 //! subcommand asks for to standard output. Exit statuses: 0 done, also after help and the version;
-//! 1 findings; 2 a mistake in the words; 3 an input fault; 4 a read or write fault; 5 want of memory.
+//! 1 something was found; 2 wrong arguments; 3 an error in the input; 4 a read or write fault; 5 out of memory.
 #![tactic(auto)]
 
 ghost use Rattle.std.specs.Prelude.{IfOk};
@@ -14,6 +14,10 @@ use goose_cmd::{
 use std::io::{BufReader, BufWriter, ErrorKind, Write};
 use std::process::ExitCode;
 use std::{env, io};
+
+// What standard error says of a control block that can't be read, behind its position.
+const BLOCK_FORM: &str =
+    "A BLOCK is APPID,gocbRef,datSet,goID,confRev,entries, for example '0001,IED1LD/LLN0$GO$gcb,IED1LD/LLN0$ds,,1,2'";
 
 // The words as texts, or the exit status where they can't be had.
 fn texts_of(rt: &HostRuntime) -> Result<Vec<String>, u8> {
@@ -84,6 +88,7 @@ fn answer(rt: &HostRuntime, texts: &[String]) -> u8 {
         },
         Err(WordsError::Block(position)) => {
             let _ = eprintln!(rt; "block {position} BlockForm");
+            let _ = rt.eprintln(BLOCK_FORM);
             2
         }
         Err(WordsError::Memory) => status(&Ending::Memory),
