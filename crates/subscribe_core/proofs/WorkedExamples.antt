@@ -88,3 +88,9 @@ both_at_once = refl
 greatest_moment : entries (block 1 1 ∷ []) (record { moment = 2 ^ 64 - 1; content = OfGoose (record { app_id = 1; pdu = unit false 1 0 2000 }) } ∷ record { moment = 2 ^ 64 - 1; content = OfClock } ∷ [])
     ≡ (act 0 1 0 ∷ []) ∷ [] ∷ []
 greatest_moment = refl
+
+-- a trip recording: a retransmission lost, a frame repeated, two states out of order, an expiry and a restart, and a simulated
+-- trip with the way back
+recording : entries (block 1 1 ∷ []) (real 0 4 120 2000 ∷ real 1000 4 121 2000 ∷ real 1200 5 0 2000 ∷ real 1201 5 0 2000 ∷ real 1208 5 2 2000 ∷ real 1300 7 0 2000 ∷ real 1301 6 0 2000 ∷ real 1304 7 1 2000 ∷ clock 3400 ∷ real 4000 1 0 2000 ∷ mode 4500 true ∷ test 4600 1 0 2000 ∷ real 5000 1 1 2000 ∷ mode 5500 false ∷ real 6000 1 2 2000 ∷ [])
+    ≡ (act 0 4 120 ∷ []) ∷ (says.Refreshed 0 4 121 ∷ []) ∷ (act 0 5 0 ∷ []) ∷ (says.Repeated 0 5 0 ∷ []) ∷ (says.Refreshed 0 5 2 ∷ []) ∷ (act 0 7 0 ∷ []) ∷ (says.Older 0 6 0 ∷ []) ∷ (says.Refreshed 0 7 1 ∷ []) ∷ (says.Expired 0 ∷ []) ∷ (act 0 1 0 ∷ []) ∷ [] ∷ (says.Switched 0 ∷ act 0 1 0 ∷ []) ∷ (says.Refused 0 Simulated ∷ []) ∷ (says.Switched 0 ∷ []) ∷ (act 0 1 2 ∷ []) ∷ []
+recording = refl
