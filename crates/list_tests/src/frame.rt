@@ -6,6 +6,7 @@ mod frame_writing;
 mod frames;
 mod line_reading;
 mod list_reading;
+mod list_versions;
 mod list_writing;
 mod refused_memory;
 mod sampled_frames;

@@ -33,10 +33,41 @@ fn an_event_is_written_as_its_line(rt: HostRuntime) -> Result<(), Fail> {
     Ok(())
 }
 
+fn mode(moment: u64) -> Event<Global> {
+    Event {
+        moment,
+        kind: EventKind::Mode(false),
+    }
+}
+
+#[test]
+fn the_last_moment_is_written(rt: HostRuntime) -> Result<(), Fail> {
+    let mut last = frame(vec![in rt.alloc(); 0xab]?);
+    last.moment = 999_999_999_999_999_999;
+    for (event, line) in [
+        (clock(0), b"C 0\n".as_slice()),
+        (clock(999_999_999_999_999_999), b"C 999999999999999999\n"),
+        (mode(0), b"M 0 off\n"),
+        (mode(999_999_999_999_999_999), b"M 999999999999999999 off\n"),
+        (last, b"F 999999999999999999 ab\n"),
+    ] {
+        let mut sink = sink_of(rt.alloc(), 9, NEVER);
+        assert_eq!(rt; write_event(&mut sink, &event), Ok(()));
+        assert_eq!(rt; sink.octets.as_slice(), line);
+    }
+    Ok(())
+}
+
 #[test]
 fn what_no_list_can_hold_is_not_written(rt: HostRuntime) -> Result<(), Fail> {
+    let mut late = frame(vec![in rt.alloc(); 0]?);
+    late.moment = 1_000_000_000_000_000_000;
     for event in [
+        late,
         clock(1_000_000_000_000_000_000),
+        clock(u64::MAX),
+        mode(1_000_000_000_000_000_000),
+        mode(u64::MAX),
         frame(vec![in rt.alloc()]?),
         frame(vec![in rt.alloc(); 0; 2001]?),
     ] {

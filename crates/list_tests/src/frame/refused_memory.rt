@@ -143,26 +143,87 @@ fn answer_at_last<H: Abort, R: Source>(
     next_answer(texts, alloc, list)
 }
 
-#[test]
-fn next_where_each_growth_is_refused(rt: HostRuntime) -> Result<(), Fail> {
+/// How many growths it takes to give these answers, each beside its line's number, where each is refused in turn.
+fn growths_to_tell<H: Abort>(
+    rt: &H,
+    memory: Global,
+    text: &[u8],
+    answers: &[(&str, u64)],
+) -> Result<usize, Fail> {
     for first_refused in 0..100usize {
-        let alloc = RefusingAlloc::new(rt.alloc(), first_refused);
-        let text = b"# first\nF 5 0aff\n\nC 7\nF 8 00\n";
+        let alloc = RefusingAlloc::new(memory, first_refused);
         let mut list = ListReader::new(source_of(text, 7, NEVER));
-        for (answer, line) in [
-            ("F 5000 0aff\n", 2),
-            ("C 7000\n", 4),
-            ("F 8000 00\n", 5),
-            ("end", 5),
-        ] {
-            let said = answer_at_last(&rt, rt.alloc(), &alloc, &mut list)?;
-            assert_eq!(rt; said.as_str(), answer, "at {first_refused}");
-            assert_eq!(rt; list.line_number(), line, "at {first_refused}");
+        for (answer, line) in answers {
+            let said = answer_at_last(rt, memory, &alloc, &mut list)?;
+            assert_eq!(rt; said.as_str(), *answer, "at {first_refused}");
+            assert_eq!(rt; list.line_number(), *line, "at {first_refused}");
         }
         if !alloc.has_refused() {
-            assert!(rt; first_refused > 1);
-            return Ok(());
+            return Ok(first_refused);
         }
     }
     Err(Fail::from("each list was refused memory"))
+}
+
+#[test]
+fn next_where_each_growth_is_refused(rt: HostRuntime) -> Result<(), Fail> {
+    let first = b"# first\nF 5 0aff\n\nC 7\nF 8 00\n".as_slice();
+    let answers = [
+        ("F 5000 0aff\n", 2),
+        ("C 7000\n", 4),
+        ("F 8000 00\n", 5),
+        ("end", 5),
+    ];
+    assert!(rt; growths_to_tell(&rt, rt.alloc(), first, &answers)? > 1);
+    let second = b"V2\nF 5 0aff\nM 6 on\nF 8 00\nV2\n".as_slice();
+    let fault = "line 5: the line is neither an event, nor a comment, nor empty";
+    let answers = [
+        ("F 5 0aff\n", 2),
+        ("M 6 on\n", 3),
+        ("F 8 00\n", 4),
+        (fault, 5),
+    ];
+    assert!(rt; growths_to_tell(&rt, rt.alloc(), second, &answers)? > 1);
+    Ok(())
+}
+
+/// Whether the APDU of the frame of these octets is made with so many growths, and written as they have it; else it is
+/// once memory is granted.
+fn is_unit_made_by<H: Abort>(
+    rt: &H,
+    alloc: &RefusingAlloc<Global>,
+    first_refused: usize,
+    octets: &[u8],
+) -> Result<bool, Fail> {
+    let view = view_frame(octets)?;
+    let mut frame = view.to_frame(alloc)?;
+    alloc.refuse_from(first_refused);
+    frame.apdu = match view.apdu.to_apdu(alloc) {
+        Ok(apdu) => apdu,
+        Err(_) => {
+            assert!(rt; alloc.has_refused());
+            alloc.allow();
+            view.apdu.to_apdu(alloc)?
+        }
+    };
+    assert!(rt; is_written_as(&frame, octets));
+    Ok(!alloc.has_refused())
+}
+
+/// How many growths it takes to make the APDU of the frame of these octets, where each is refused in turn.
+fn growths_to_make_unit<H: Abort>(rt: &H, memory: Global, octets: &[u8]) -> Result<usize, Fail> {
+    for first_refused in 0..100usize {
+        let alloc = RefusingAlloc::new(memory, 100);
+        if is_unit_made_by(rt, &alloc, first_refused, octets)? {
+            return Ok(first_refused);
+        }
+    }
+    Err(Fail::from("each call was refused memory"))
+}
+
+#[test]
+fn to_apdu_where_each_growth_is_refused(rt: HostRuntime) -> Result<(), Fail> {
+    assert!(rt; growths_to_make_unit(&rt, rt.alloc(), &TAGGED)? > 2);
+    assert!(rt; growths_to_make_unit(&rt, rt.alloc(), &TAGGED_SAMPLED)? > 2);
+    Ok(())
 }
