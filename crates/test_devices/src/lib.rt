@@ -11,7 +11,7 @@ use std::io::{Read, Write};
 /// No read or write fails.
 pub const NEVER: u64 = u64::MAX;
 
-/// Gives at most so many octets a read, and fails at a read.
+/// Gives at most so many octets a read, and fails at one read alone: a later one would be answered.
 #[derive(Drop)]
 pub struct Give<'a> {
     octets: &'a [u8],
@@ -27,6 +27,11 @@ impl Give<'_> {
     pub fn octets_left(&self) -> usize {
         self.octets.len()
     }
+
+    /// How often it was read, the read that failed among them.
+    pub fn reads(&self) -> u64 {
+        self.reads
+    }
 }
 
 impl Source for Give<'_> {
@@ -35,11 +40,12 @@ impl Source for Give<'_> {
     ghost ending = { λ s. s.ending };
 
     fn read_some(&mut self, into: &mut [u8]) -> Result<usize, DeviceFault> {
-        if self.reads == self.fails_at {
+        let fails = self.reads == self.fails_at;
+        self.reads = self.reads.saturating_add(1);
+        if fails {
             self.ending = InputEnd::Failed;
             return Err(DeviceFault);
         }
-        self.reads = self.reads.saturating_add(1);
         let octets = self.octets;
         let count = octets.len().min(self.at_most).min(into.len());
         if count == 0 {
@@ -70,7 +76,7 @@ pub fn source_of(octets: &[u8], at_most: usize, fails_at: u64) -> Give<'_>
     }
 }
 
-/// Takes at most so many octets a write, and fails at a write.
+/// Takes at most so many octets a write, and fails at one write alone: a later one would be answered.
 #[derive(Drop)]
 pub struct Keep {
     pub octets: Vec<u8>,
@@ -81,17 +87,25 @@ pub struct Keep {
     ghost some: { 0 < at_most },
 }
 
+impl Keep {
+    /// How often it was written to, the write that failed among them.
+    pub fn writes(&self) -> u64 {
+        self.writes
+    }
+}
+
 impl Sink for Keep {
     ghost contents = { λ s. Some s.octets.items };
 
     ghost failed = { λ s. s.failed };
 
     fn write_some(&mut self, octets: &[u8]) -> Result<usize, DeviceFault> {
-        if self.writes == self.fails_at {
+        let fails = self.writes == self.fails_at;
+        self.writes = self.writes.saturating_add(1);
+        if fails {
             self.failed = true;
             return Err(DeviceFault);
         }
-        self.writes = self.writes.saturating_add(1);
         let count = octets.len().min(self.at_most);
         match self.octets.extend_from_slice(&octets[..count]) {
             Ok(()) => Ok(count),
