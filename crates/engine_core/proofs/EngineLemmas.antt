@@ -4,6 +4,7 @@ use Rattle.std.specs.Prelude.{◌||◌, if◌then◌else◌}
 use Rattle.std.proofs.lemmas.List.{append_assoc, append-nil}
 use Rattle.std.specs.Io.KnownBytes.{Appends}
 use Rattle.frame_core.specs.declared.device.InputEnd.{InputEnd}
+use Rattle.frame_core.specs.declared.device.InputEnd.TheVariants.{Open}
 use Rattle.frame_core.specs.declared.list_fault.ListCause.{ListCause}
 use Rattle.frame_core.specs.declared.list_fault.ListCause.TheVariants.{LineTooLong, LineForm, Moment, Hex, ListTooLong, ReadFailed}
 use Rattle.frame_core.specs.declared.line_rules.ItemFault.{ItemFault}
@@ -271,7 +272,7 @@ module _ {S X C : Type 0} (r : Rules S X C) (t : Text X C) (a b c : Place S) (es
       let text : Appends old new (whole_text t l) = subst (λ y. Appends old y (whole_text t l)) (sym x) (subst (λ k. Appends old mid k) (sym (append-nil so_far) ∙ same) wrote_so_far) in
       (p.took.given ++ q.given, gives_both r a b c es (Ok None) p.took q, writes_well r a.settled t a.taken c.ending (octets (Ok None) q) old new found (stop, finds, text))
 
--- the first text was not written whole, and nothing was read
-pub not_begun : {S X C : Type 0} (r : Rules S X C) (s : S) (t : Text X C) (z : InputEnd) (left old new : Option (List ℕ)) → AppendsFront old new t.first →
+-- the first text was not written whole, and the reader is untouched
+pub not_begun : {S X C : Type 0} (r : Rules S X C) (s : S) (t : Text X C) (z : InputEnd) (left old new : Option (List ℕ)) → z ≡ Open → AppendsFront old new t.first →
     (given : List ℕ) × GivesOctets left left given × WritesAfter r s t 0 WriteFault z given old new
-not_begun r s t z left old new w = ([], Gives-from_Consumes left left [] (Consumes-none left), (AppendsFront-more old new t.first (told t (listing r s z 0 [])).text w, inl refl))
+not_begun r s t z left old new is w = ([], Gives-from_Consumes left left [] (Consumes-none left), (AppendsFront-more old new t.first (told t (listing r s z 0 [])).text w, inl (is, refl)))

@@ -111,65 +111,65 @@ given_all form a b c z w v rs n answer p q =
 
 -- ---- the exits of the run
 
-abbrev Imported : Ending → Option (List ℕ) → Option (List ℕ) → InputEnd → Option (List ℕ) → Option (List ℕ) → Type 0
-Imported ending a c v old new = (given : List ℕ) × GivesOctets a c given × Imports ending v given old new
+abbrev Imported : InputEnd → Ending → Option (List ℕ) → Option (List ℕ) → InputEnd → Option (List ℕ) → Option (List ℕ) → Type 0
+Imported z ending a c v old new = (given : List ℕ) × GivesOctets a c given × Imports z ending v given old new
 
--- the first line was not written whole, and nothing was read
-pub not_begun : (a : Option (List ℕ)) (z : InputEnd) (old new : Option (List ℕ)) → AppendsFront old new (codes "V2\n") → Imported WriteFault a a z old new
-not_begun a z old new w = ([], no_more a, (AppendsFront-more old new (codes "V2\n") (text_behind (capture z [])) w, inl refl))
+-- the first line was not written whole, and the reader is untouched
+pub not_begun : (a : Option (List ℕ)) (z : InputEnd) (old new : Option (List ℕ)) → AppendsFront old new (codes "V2\n") → Imported z WriteFault a a z old new
+not_begun a z old new w = ([], no_more a, (AppendsFront-more old new (codes "V2\n") (text_behind (capture z [])) w, inl (refl, refl)))
 
-module _ (v : InputEnd) (given : List ℕ) (start held new : Option (List ℕ)) (first : Appends start held (codes "V2\n")) where
-  well : (found : Bool) → (capture v given).stop ≡ finished → list_any is_left_out (capture v given).records ≡ found → Appends held new (text_behind (capture v given)) → Imports (if found then Findings else Done) v given start new
+module _ (z v : InputEnd) (given : List ℕ) (start held new : Option (List ℕ)) (first : Appends start held (codes "V2\n")) where
+  well : (found : Bool) → (capture v given).stop ≡ finished → list_any is_left_out (capture v given).records ≡ found → Appends held new (text_behind (capture v given)) → Imports z (if found then Findings else Done) v given start new
   well true s f w = (s, f, Appends-append start held new (codes "V2\n") (text_behind (capture v given)) first w)
   well false s f w = (s, f, Appends-append start held new (codes "V2\n") (text_behind (capture v given)) first w)
 
-  by_cause : (why : CaptureCause) → ImportsToFault (ending_of_capture why) (capture v given) start new → Imports (ending_of_capture why) v given start new
+  by_cause : (why : CaptureCause) → ImportsToFault (ending_of_capture why) (capture v given) start new → Imports z (ending_of_capture why) v given start new
   by_cause ReadFailed w = w
   by_cause CaptureHeader w = w
   by_cause CaptureShort w = w
   by_cause RecordLength w = w
   by_cause TooManyRecords w = w
 
-  badly : (f : CaptureFault) → (capture v given).stop ≡ faulty f → Appends held new (text_behind (capture v given)) → Imports (ending_of_capture f.cause) v given start new
+  badly : (f : CaptureFault) → (capture v given).stop ≡ faulty f → Appends held new (text_behind (capture v given)) → Imports z (ending_of_capture f.cause) v given start new
   badly f s w = by_cause f.cause (f, s, refl, Appends-append start held new (codes "V2\n") (text_behind (capture v given)) first w)
 
-  in_part : AppendsFront held new (text_behind (capture v given)) → Imports WriteFault v given start new
+  in_part : AppendsFront held new (text_behind (capture v given)) → Imports z WriteFault v given start new
   in_part w = (AppendsFront-append start held new (codes "V2\n") (text_behind (capture v given)) first w, inr (held, first, w))
 
 -- a fault ends the text behind these records
-faulted : (rs : List (ℕ × CaptureRecord)) (v : InputEnd) (given : List ℕ) (f : CaptureFault) (ending : Ending) (start held mid new : Option (List ℕ)) → Appends start held (codes "V2\n") →
-    capture v given ≡ put_records rs (no_records (faulty f)) → Appends held mid (text_to rs) → FaultWrites f ending mid new → Imports ending v given start new
-faulted rs v given f ending start held mid new first e w p =
+faulted : (rs : List (ℕ × CaptureRecord)) (z v : InputEnd) (given : List ℕ) (f : CaptureFault) (ending : Ending) (start held mid new : Option (List ℕ)) → Appends start held (codes "V2\n") →
+    capture v given ≡ put_records rs (no_records (faulty f)) → Appends held mid (text_to rs) → FaultWrites f ending mid new → Imports z ending v given start new
+faulted rs z v given f ending start held mid new first e w p =
     let text : text_behind (capture v given) ≡ text_to rs ++ capture_line f = ap text_behind e ∙ text_parts rs (no_records (faulty f)) in
     by_case text p
   where
-    by_case : text_behind (capture v given) ≡ text_to rs ++ capture_line f → FaultWrites f ending mid new → Imports ending v given start new
-    by_case text (inl q) = rw q.0 (in_part v given start held new first (subst (AppendsFront held new) (sym text) (AppendsFront-append held mid new (text_to rs) (capture_line f) w q.1)))
-    by_case text (inr q) = rw q.0 (badly v given start held new first f (ap (λ (c : Capture). c.stop) e) (subst (Appends held new) (sym text) (Appends-append held mid new (text_to rs) (capture_line f) w q.1)))
+    by_case : text_behind (capture v given) ≡ text_to rs ++ capture_line f → FaultWrites f ending mid new → Imports z ending v given start new
+    by_case text (inl q) = rw q.0 (in_part z v given start held new first (subst (AppendsFront held new) (sym text) (AppendsFront-append held mid new (text_to rs) (capture_line f) w q.1)))
+    by_case text (inr q) = rw q.0 (badly z v given start held new first f (ap (λ (c : Capture). c.stop) e) (subst (Appends held new) (sym text) (Appends-append held mid new (text_to rs) (capture_line f) w q.1)))
 
 -- the header has a fault
-pub bad_header : (a b : Option (List ℕ)) (z w : InputEnd) (f : CaptureFault) (ending : Ending) (start held new : Option (List ℕ)) → ReadsHeader a z (Err f) b w → Appends start held (codes "V2\n") → FaultWrites f ending held new → Imported ending a b w start new
+pub bad_header : (a b : Option (List ℕ)) (z w : InputEnd) (f : CaptureFault) (ending : Ending) (start held new : Option (List ℕ)) → ReadsHeader a z (Err f) b w → Appends start held (codes "V2\n") → FaultWrites f ending held new → Imported z ending a b w start new
 bad_header a b z w f ending start held new h first p =
-    (h.given, h.took, faulted [] w h.given f ending start held held new first (ap (capture w) (sym (append-nil h.given)) ∙ h.reads [] w (CanFollow-none w)) (Appends-none held) p)
+    (h.given, h.took, faulted [] z w h.given f ending start held held new first (ap (capture w) (sym (append-nil h.given)) ∙ h.reads [] w (CanFollow-none w)) (Appends-none held) p)
 
 module _ (form : CaptureForm) (a b c : Option (List ℕ)) (z w v : InputEnd) (rs : List (ℕ × CaptureRecord)) (n : ℕ) (start held mid new : Option (List ℕ)) (p : Took form a z rs n b w) (first : Appends start held (codes "V2\n")) (so_far : Appends held mid (text_to rs)) where
   -- the capture has ended
-  pub import_ended : (found : Bool) → found ≡ list_any is_left_out rs → ReadsRecord form n [] b w (Ok None) c v → new ≡ mid → Imported (if found then Findings else Done) a c v start new
+  pub import_ended : (found : Bool) → found ≡ list_any is_left_out rs → ReadsRecord form n [] b w (Ok None) c v → new ≡ mid → Imported z (if found then Findings else Done) a c v start new
   import_ended found finds q same =
       let g = given_all form a b c z w v rs n (Ok None) p q in
       let text : text_behind (capture v g.given) ≡ text_to rs = ap text_behind g.is ∙ text_parts rs (no_records finished) ∙ append-nil (text_to rs) in
       let all : list_any is_left_out (capture v g.given).records ≡ found = ap (λ (k : Capture). list_any is_left_out k.records) g.is ∙ ap (list_any is_left_out) (append-nil rs) ∙ sym finds in
-      (g.given, g.gives, well v g.given start held new first found (ap (λ (k : Capture). k.stop) g.is) all (subst (Appends held new) (sym text) (rw same so_far)))
+      (g.given, g.gives, well z v g.given start held new first found (ap (λ (k : Capture). k.stop) g.is) all (subst (Appends held new) (sym text) (rw same so_far)))
 
   -- the run stops at an answer
   pub import_stopped : (answer : Result (Option CaptureRecord) CaptureFault) (ending : Ending) → ReadsRecord form n [] b w answer c v →
-      (((ending ≡ WriteFault) × AppendsFront mid new (import_due n answer)) ⊎ ((f : CaptureFault) × (answer ≡ Err f) × FaultWrites f ending mid new)) → Imported ending a c v start new
+      (((ending ≡ WriteFault) × AppendsFront mid new (import_due n answer)) ⊎ ((f : CaptureFault) × (answer ≡ Err f) × FaultWrites f ending mid new)) → Imported z ending a c v start new
   import_stopped answer ending q (inl s) =
       let g = given_all form a b c z w v rs n answer p q in
       let d = due_first form n v answer in
       let text : text_behind (capture v g.given) ≡ text_to rs ++ (import_due n answer ++ d.0) = ap text_behind g.is ∙ text_parts rs (behind_record form n answer v []) ∙ ap (λ l. text_to rs ++ l) d.1 in
       let front = AppendsFront-append held mid new (text_to rs) (import_due n answer ++ d.0) so_far (AppendsFront-more mid new (import_due n answer) d.0 s.1) in
-      (g.given, g.gives, rw s.0 (in_part v g.given start held new first (subst (AppendsFront held new) (sym text) front)))
+      (g.given, g.gives, rw s.0 (in_part z v g.given start held new first (subst (AppendsFront held new) (sym text) front)))
   import_stopped answer ending q (inr s) =
       let g = given_all form a b c z w v rs n answer p q in
-      (g.given, g.gives, faulted rs v g.given s.0 ending start held mid new first (g.is ∙ ap (λ o. put_records rs (behind_record form n o v [])) s.1) so_far s.2)
+      (g.given, g.gives, faulted rs z v g.given s.0 ending start held mid new first (g.is ∙ ap (λ o. put_records rs (behind_record form n o v [])) s.1) so_far s.2)

@@ -2,6 +2,7 @@
 use Rattle.std.specs.Prelude.{◌≡◌, ◌≤◌, ◌⊎◌, ◌||◌, ℕ, Bool, true, false, List, [], ◌∷◌, ◌++◌, length, Option, Result, Ok, Err}
 use Rattle.std.specs.Io.KnownBytes.{Appends}
 use Rattle.frame_core.specs.declared.device.InputEnd.{InputEnd}
+use Rattle.frame_core.specs.declared.device.InputEnd.TheVariants.{Open}
 use Rattle.frame_core.specs.declared.list_fault.ListCause.{ListCause}
 use Rattle.frame_core.specs.declared.list_fault.ListCause.TheVariants.{LineTooLong, LineForm, Moment, Hex, ListTooLong, ReadFailed}
 use Rattle.frame_core.specs.declared.line_rules.ItemFault.{ItemFault}
@@ -96,14 +97,18 @@ EndsByFault {C = C} t ending l old new = (f : ItemFault C) × ((told t l).stop �
 abbrev pub EndsWell : {X C : Type 0} → Text X C → Bool → Listing X C → Option (List ℕ) → Option (List ℕ) → Type 0
 EndsWell t found l old new = ((told t l).stop ≡ finished) × ((told t l).found ≡ found) × Appends old new (whole_text t l)
 
--- What a run leaves written of a text that follows n lines, which settled s: the whole text at Done, Findings, InputFault and ReadFault; a front of it at WriteFault, where nothing was read or it stopped at some line; at Memory the text of the items before some line.
+-- a reader that told this ending was left as it was: it tells the same one, and nothing was given
+abbrev pub IsUntouched : InputEnd → InputEnd → List ℕ → Type 0
+IsUntouched before after given = (after ≡ before) × (given ≡ [])
+
+-- What a run of an open reader leaves written of a text that follows n lines, which settled s: the whole text at Done, Findings, InputFault and ReadFault; a front of it at WriteFault, where the reader is untouched or the run stopped at some line; at Memory the text of the items before some line.
 abbrev pub WritesAfter : {S X C : Type 0} → Rules S X C → S → Text X C → ℕ → Ending → InputEnd → List ℕ → Option (List ℕ) → Option (List ℕ) → Type 0
 WritesAfter r s t n Done z input old new = EndsWell t false (listing r s z n input) old new
 WritesAfter r s t n Findings z input old new = EndsWell t true (listing r s z n input) old new
 WritesAfter r s t n InputFault z input old new = EndsByFault t InputFault (listing r s z n input) old new
 WritesAfter r s t n ReadFault z input old new = EndsByFault t ReadFault (listing r s z n input) old new
 WritesAfter r s t n WriteFault z input old new = AppendsFront old new (whole_text t (listing r s z n input))
-    × ((input ≡ []) ⊎ ((p : StopsAt r s t n z input old) × AppendsFront p.held new (told_rest t p.items (listing r p.at z p.number p.rest)).text))
+    × (IsUntouched Open z input ⊎ ((p : StopsAt r s t n z input old) × AppendsFront p.held new (told_rest t p.items (listing r p.at z p.number p.rest)).text))
 WritesAfter r s t n Memory z input old new = (p : StopsAt r s t n z input old) × (p.held ≡ new)
 
 -- what a run leaves written of an input, with the ending that its reader tells

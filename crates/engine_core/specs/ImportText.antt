@@ -12,6 +12,7 @@ use Rattle.capture_core.specs.Capture.{Capture, CaptureRecord, capture}
 use Rattle.capture_core.specs.declared.capture_fault.CaptureCause.{CaptureCause}
 use Rattle.capture_core.specs.declared.capture_fault.CaptureCause.TheVariants.{CaptureHeader, CaptureShort, RecordLength, TooManyRecords, ReadFailed}
 use Rattle.capture_core.specs.declared.capture_fault.CaptureFault.{CaptureFault}
+use Rattle.engine_core.specs.EngineText.{IsUntouched}
 use Rattle.engine_core.specs.declared.ending.Ending.{Ending}
 use Rattle.engine_core.specs.declared.ending.Ending.TheVariants.{Done, Findings, InputFault, ReadFault, WriteFault, Memory}
 use Rattle.text_core.specs.Names.{name_of_capture_cause}
@@ -66,16 +67,16 @@ ImportsToFault ending c old new = (f : CaptureFault) × (c.stop ≡ faulty f) ×
 abbrev pub ImportsToEnd : Bool → Capture → Option (List ℕ) → Option (List ℕ) → Type 0
 ImportsToEnd found c old new = (c.stop ≡ finished) × (list_any is_left_out c.records ≡ found) × Appends old new (import_text c)
 
--- a front of the text of these octets was written; where any were read, the first line had been written whole
-abbrev pub ImportsFront : InputEnd → List ℕ → Option (List ℕ) → Option (List ℕ) → Type 0
-ImportsFront z given old new = AppendsFront old new (import_text (capture z given))
-    × ((given ≡ []) ⊎ ((held : Option (List ℕ)) × Appends old held (codes "V2\n") × AppendsFront held new (text_behind (capture z given))))
+-- a front of the text of these octets was written; the reader, which told such an ending before, is untouched, or the first line had been written whole
+abbrev pub ImportsFront : InputEnd → InputEnd → List ℕ → Option (List ℕ) → Option (List ℕ) → Type 0
+ImportsFront before z given old new = AppendsFront old new (import_text (capture z given))
+    × (IsUntouched before z given ⊎ ((held : Option (List ℕ)) × Appends old held (codes "V2\n") × AppendsFront held new (text_behind (capture z given))))
 
--- What `import` leaves written of the octets that a reader gave, with the ending that it tells: the whole text at Done, Findings, InputFault and ReadFault, a front of it at WriteFault. It never wants memory.
-abbrev pub Imports : Ending → InputEnd → List ℕ → Option (List ℕ) → Option (List ℕ) → Type 0
-Imports Done z given old new = ImportsToEnd false (capture z given) old new
-Imports Findings z given old new = ImportsToEnd true (capture z given) old new
-Imports InputFault z given old new = ImportsToFault InputFault (capture z given) old new
-Imports ReadFault z given old new = ImportsToFault ReadFault (capture z given) old new
-Imports WriteFault z given old new = ImportsFront z given old new
-Imports Memory z given old new = ⊥
+-- What `import` leaves written of the octets that a reader gave, with the endings that it told before and tells after: the whole text at Done, Findings, InputFault and ReadFault, a front of it at WriteFault. It never wants memory.
+abbrev pub Imports : InputEnd → Ending → InputEnd → List ℕ → Option (List ℕ) → Option (List ℕ) → Type 0
+Imports before Done z given old new = ImportsToEnd false (capture z given) old new
+Imports before Findings z given old new = ImportsToEnd true (capture z given) old new
+Imports before InputFault z given old new = ImportsToFault InputFault (capture z given) old new
+Imports before ReadFault z given old new = ImportsToFault ReadFault (capture z given) old new
+Imports before WriteFault z given old new = ImportsFront before z given old new
+Imports before Memory z given old new = ⊥

@@ -2,6 +2,7 @@
 use Rattle.std.specs.Prelude.{◌≡◌, ◌⊎◌, ℕ, List, [], ◌∷◌, ◌++◌, length, map, false, Option, Ok, codes}
 use Rattle.std.specs.Fmt.{decimal}
 use Rattle.frame_core.specs.declared.device.InputEnd.{InputEnd}
+use Rattle.frame_core.specs.declared.device.InputEnd.TheVariants.{Open}
 use Rattle.frame_core.specs.declared.event.Event.{Event}
 use Rattle.frame_core.specs.declared.event_lines.EventLines.TheVariants.{First}
 use Rattle.frame_core.specs.declared.line_rules.ItemFault.{ItemFault}
@@ -14,7 +15,7 @@ use Rattle.subscribe_core.specs.Entries.{AreEntriesAt}
 use Rattle.subscribe_core.specs.Standing.{AreApart, IsFirstTwice}
 use Rattle.engine_core.specs.declared.ending.Ending.{Ending}
 use Rattle.engine_core.specs.declared.ending.Ending.TheVariants.{Memory}
-use Rattle.engine_core.specs.EngineText.{Text, LeavesRefused, Writes}
+use Rattle.engine_core.specs.EngineText.{Text, IsUntouched, LeavesRefused, Writes}
 use Rattle.text_core.specs.EntryText.{entry_lines}
 use Rattle.text_core.specs.LineText.{list_line}
 
@@ -33,13 +34,13 @@ pub record IsReplayText {A : Type 0} (blocks : List (Block A)) (t : Text (Event 
 abbrev pub twice_line : ℕ → List ℕ
 twice_line i = codes "blocks SameBlockTwice " ++ decimal i ++ codes "\n"
 
--- a block is given twice: nothing is read, and its line is written, unless memory is refused for that
-abbrev pub ReplayRefuses : {A : Type 0} → List (Block A) → Ending → List ℕ → Option (List ℕ) → Option (List ℕ) → Type 0
-ReplayRefuses blocks ending given old new =
-    (i : ℕ) × IsFirstTwice blocks i × (given ≡ []) × (LeavesRefused (twice_line i) ending old new ⊎ ((ending ≡ Memory) × (new ≡ old)))
+-- a block is given twice: the reader is untouched, and its line is written, unless memory is refused for that
+abbrev pub ReplayRefuses : {A : Type 0} → List (Block A) → Ending → InputEnd → List ℕ → Option (List ℕ) → Option (List ℕ) → Type 0
+ReplayRefuses blocks ending z given old new =
+    (i : ℕ) × IsFirstTwice blocks i × IsUntouched Open z given × (LeavesRefused (twice_line i) ending old new ⊎ ((ending ≡ Memory) × (new ≡ old)))
 
 -- what a replay of these blocks leaves written of an input
 abbrev pub ReplayWrites : {A : Type 0} → List (Block A) → Ending → InputEnd → List ℕ → Option (List ℕ) → Option (List ℕ) → Type 0
 ReplayWrites {A = A} blocks ending z given old new =
-    ReplayRefuses blocks ending given old new
+    ReplayRefuses blocks ending z given old new
     ⊎ (AreApart blocks × ((t : Text (Event A) ListCause) × IsReplayText blocks t × Writes event_rules First t ending z given old new))

@@ -122,7 +122,7 @@ fn answer_record<R: Source, W: Sink>(
 fn import_all<R: Source, W: Sink>(reader: &mut R, writer: &mut W) -> Ending
     requires { W.failed writer.old ≡ false }
     ensures text { (given : List ℕ) × GivesOctets (R.left reader.old) (R.left reader.new) given
-        × Imports result (R.ending reader.new) given (W.contents writer.old) (W.contents writer.new) }
+        × Imports (R.ending reader.old) result (R.ending reader.new) given (W.contents writer.old) (W.contents writer.new) }
     ensures read_fault { result ≡ Ending.ReadFault → R.ending reader.new ≡ InputEnd.Failed }
     ensures fault { W.failed writer.new ≡ is_write_fault result }
 {
@@ -163,7 +163,7 @@ pub fn import<A: Allocator + Copy, R: Source, W: Sink>(
 ) -> (Ending, R)
     requires { W.failed writer.old ≡ false }
     ensures text { (given : List ℕ) × GivesOctets (R.left reader) (R.left result.1) given
-        × Imports result.0 (R.ending result.1) given (W.contents writer.old) (W.contents writer.new) }
+        × Imports (R.ending reader) result.0 (R.ending result.1) given (W.contents writer.old) (W.contents writer.new) }
     ensures read_fault { result.0 ≡ Ending.ReadFault → R.ending result.1 ≡ InputEnd.Failed }
     ensures fault { W.failed writer.new ≡ is_write_fault result.0 }
 {

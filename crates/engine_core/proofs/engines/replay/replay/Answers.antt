@@ -35,7 +35,7 @@ returns-in-Ok-put_position-clause-text g c =
       inl (
         c.in-Err-SameBlockTwice.position,
         twice,
-        refl,
+        (rw c.refuse.ensures.reader c.requires.open, refl),
         inl (subst (λ (l : List ℕ). LeavesRefused l c.refuse.result.0 (g.W.Sink.contents c.args.writer.now) (g.W.Sink.contents c.refuse.new.writer)) line c.refuse.ensures.text),
       ),
     )
@@ -45,7 +45,7 @@ returns-in-Err-SameBlockTwice-clause-text g c =
     let twice = rw c.in-Err-SameBlockTwice.field-0-is at c.in-Err-SameBlockTwice.ensures.fault in (
       [],
       Gives-from_Consumes _ _ [] (Consumes-none (g.R.Source.left c.args.reader)),
-      inl (c.in-Err-SameBlockTwice.position, twice, refl, inr (refl, refl)),
+      inl (c.in-Err-SameBlockTwice.position, twice, (c.requires.open, refl), inr (refl, refl)),
     )
 
 pub returns-clause-text : goal.returns-clause-text

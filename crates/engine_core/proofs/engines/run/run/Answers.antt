@@ -4,7 +4,7 @@ use Rattle.engine_core.proofs.ReadFaults.{only_failed}
 use Rattle.engine_core.proofs.engines.run.run.Goals as goal
 
 pub returns-in-Err-clause-text : goal.returns-in-Err-clause-text
-returns-in-Err-clause-text g c = not_begun _ _ _ _ _ _ _ (rw (← c.requires.first) c.in-Err.ensures.written.1)
+returns-in-Err-clause-text g c = not_begun _ _ _ _ _ _ _ c.requires.open (rw (← c.requires.first) c.in-Err.ensures.written.1)
 
 pub answers-init : goal.answers-init
 answers-init g c = record {
