@@ -123,7 +123,7 @@ module _ {S X C : Type 0} (r : Rules S X C) where
     skipped = p.skipped ++ q.skipped;
     rest = q.rest;
     off = off_after a.held p.given p.skipped b.held q.given q.skipped q.rest p.off q.off;
-    asked = passed_after _ _ _ _ _ _ _ _ _ _ _ _ p.off p.asked q.asked;
+    asked = passed_after _ _ _ _ _ _ _ _ _ _ _ _ p.off p.only_open q.only_open p.asked q.asked;
     starts = starts_after b.ending c.ending p.skipped b.held q.given q.skipped q.rest p.starts q.only_open q.off q.starts;
     bounded = q.bounded;
     takes_off = q.takes_off;
@@ -141,7 +141,7 @@ module _ {S X C : Type 0} (r : Rules S X C) where
     counted = omega (arith, p.counted, q.counted);
     skipped = p.skipped ++ q.skipped;
     off = off_after a.held p.given p.skipped b.held q.given q.skipped c.held p.off q.off;
-    asked = passed_after _ _ _ _ _ _ _ _ _ _ _ _ p.off p.asked q.asked;
+    asked = passed_after _ _ _ _ _ _ _ _ _ _ _ _ p.off p.only_open q.only_open p.asked q.asked;
     starts = starts_after b.ending c.ending p.skipped b.held q.given q.skipped c.held p.starts q.only_open q.off q.starts;
     reads = λ more z f. before a b c p q.given q.only_open more z f ∙ q.reads more z f;
   }

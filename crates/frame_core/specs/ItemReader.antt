@@ -90,10 +90,14 @@ TakesOff (Ok (Some e)) z rest held = (line : List ℕ) × (rest ≡ line ++ held
 TakesOff (Ok None) z rest held = held ≡ rest
 TakesOff (Err f) z rest held = held ≡ rest
 
--- the source was asked for octets only once the whole lines that were held were passed over, and where what followed them was wanting
+-- of these octets the lines in front were passed over, and what follows them is wanting
+abbrev pub WantsBehind : List ℕ → List ℕ → Type 0
+WantsBehind octets skipped = (lines rest more : List ℕ) × (octets ≡ lines ++ rest) × IsWanting rest × (skipped ≡ lines ++ more)
+
+-- The source was asked for octets only once the whole lines that were held were passed over, and where what followed them was wanting: of what was held at first; and of what was held in the end, where the last read gave none and told another ending.
 abbrev pub OnlyPassed : Option (List ℕ) → InputEnd → List ℕ → List ℕ → List ℕ → Option (List ℕ) → InputEnd → Type 0
 OnlyPassed old z held given skipped new w = ((given ≡ []) × (new ≡ old) × (w ≡ z))
-    ⊎ ((lines rest more : List ℕ) × (held ≡ lines ++ rest) × IsWanting rest × (skipped ≡ lines ++ more))
+    ⊎ (WantsBehind held skipped × ((w ≡ z) ⊎ WantsBehind (held ++ given) skipped))
 
 -- memory is wanted only where the first line has something to keep
 abbrev pub OnlyKept : {S X C : Type 0} → Rules S X C → S → InputEnd → ℕ → List ℕ → Answer X C → Type 0
