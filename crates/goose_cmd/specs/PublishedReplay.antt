@@ -7,10 +7,10 @@ use Rattle.frame_core.specs.declared.list_fault.ListCause.{ListCause}
 use Rattle.frame_core.specs.Items.{Listing, listing}
 use Rattle.frame_core.specs.Lines.{finished}
 use Rattle.publish_core.specs.Frames.{Setup}
-use Rattle.publish_core.specs.Run.{AreAnswers, Call}
+use Rattle.publish_core.specs.Run.{AreAnswers, Call, NoWrap}
 use Rattle.subscribe_core.specs.declared.block.Block.{Block}
-use Rattle.exchange_laws.specs.PublishedList.{IsWholeRun, one_entry_each, published_events, sent_from}
-use Rattle.exchange_laws.specs.Stems.{AreAccepted}
+use Rattle.exchange_laws.specs.PublishedList.{InTime, IsOwnBlock, one_entry_each, published_events, sent_from}
+use Rattle.exchange_laws.specs.Stems.{AreAccepted, AreHeld}
 use Rattle.script_core.specs.declared.script.ScriptCause.{ScriptCause}
 use Rattle.script_core.specs.declared.script.ScriptItem.{ScriptItem}
 use Rattle.script_core.specs.declared.script.ScriptLines.TheVariants.{First}
@@ -36,10 +36,19 @@ ScriptsGiveLists A B =
     IsScriptSound p → AreAccepted p calls → AreAnswers p calls answers → SaysRun p calls script → IsPublishText t →
     (whole_text t script ≡ list_text (published_events {B = B} (sent_from 0 calls answers))) × ((told t script).stop ≡ finished)
 
--- What `publish` writes of the text of a script that says a publisher's whole run is replayed with the publisher's own block
--- by one line for each frame: an action for a change's, a renewal for a poll's, and nothing else.
+-- A run that the publisher's own block can follow: the status numbers don't wrap, and each frame comes in the lifetime of the one before.
+pub record CanBeFollowed {A B : Type 0} (p : Setup A) (block : Block B) (calls : List Call) (answers : List (Option (Frame A))) : Type 0 where
+  pub own : IsOwnBlock p block
+  pub held : AreHeld p
+  pub no_wrap : NoWrap p calls
+  pub are_answers : AreAnswers p calls answers
+  pub in_time : InTime (sent_from 0 calls answers)
+
+-- What `publish` writes of the text of a script to its end is replayed with the publisher's own block by one line for each
+-- frame: an action for a change's, a renewal for a poll's, and nothing else.
 abbrev pub PublishedTextsReplay : Type 0 → Type 0 → Type 0
 PublishedTextsReplay A B =
     (p : Setup A) (block : Block B) (calls : List Call) (answers : List (Option (Frame A))) (text : List ℕ) (t : Text (ScriptItem A) ScriptCause) (r : Text (Event B) ListCause) →
-    IsWholeRun p block calls answers → SaysRun p calls (script_of_text text) → IsPublishText t → SendsOctets (sent_from 0 calls answers) → IsReplayText (block ∷ []) r →
+    CanBeFollowed p block calls answers → SaysRun p calls (script_of_text text) → IsPublishText t → (told t (script_of_text text)).stop ≡ finished →
+    SendsOctets (sent_from 0 calls answers) → IsReplayText (block ∷ []) r →
     ReplayGives r (whole_text t (script_of_text text)) (one_entry_each (sent_from 0 calls answers))
