@@ -4,6 +4,8 @@
 mod blocks;
 mod checking;
 mod command_line;
+mod devices;
+mod engines;
 mod first_line;
 mod importing;
 mod publishing;
