@@ -7,19 +7,30 @@ use crate::block::Block;
 use crate::registers::Register;
 use std::alloc::Allocator;
 
-/// The blocks and what is kept of each. Each reach adds one to a count, which stays at its greatest number.
+/// One reach, counted: it is good for one look.
+pub struct Reach {
+    at: usize,
+}
+
+/// The blocks and what is kept of each. The only ways to a block or to a register are a look, which takes a reach that was
+/// counted, and the two writes, which count one each. The count stays at its greatest number.
 #[derive(Drop)]
 pub struct Rows<A: Allocator> {
     blocks: Vec<Block<A>, A>,
     registers: Vec<Register, A>,
+    reaches: u64,
 }
 
 impl<A: Allocator> Rows<A> {
-    // Blocks with a register for each.
+    // Blocks with a register for each, not reached yet.
     pub(crate) fn new(blocks: Vec<Block<A>, A>, registers: Vec<Register, A>) -> Rows<A>
-        ensures { result ≡ record { blocks = blocks; registers = registers } }
+        ensures { result ≡ record { blocks = blocks; registers = registers; reaches = 0 } }
     {
-        Rows { blocks, registers }
+        Rows {
+            blocks,
+            registers,
+            reaches: 0,
+        }
     }
 
     // How many blocks there are.
@@ -29,37 +40,66 @@ impl<A: Allocator> Rows<A> {
         self.blocks.len()
     }
 
-    // The block at a position, and its register.
-    pub(crate) fn look(&self, at: usize, looks: &mut u64) -> (&Block<A>, Register)
-        requires within { at < length self.now.blocks.items }
-        requires sizes { length self.now.registers.items ≡ length self.now.blocks.items }
-        ensures block { slice_get self.now.blocks.items at ≡ Some result.0.now }
-        ensures register { slice_get self.now.registers.items at ≡ Some result.1 }
-        ensures count { looks.new ≡ min (looks.old + 1) (2 ^ 64 - 1) }
+    // How often a block or its register was reached.
+    pub(crate) fn reaches(&self) -> u64
+        ensures { result ≡ self.now.reaches }
     {
-        *looks = looks.saturating_add(1);
+        self.reaches
+    }
+
+    // Has the count of reaches go on from a number, and gives what it was.
+    pub(crate) fn count_from(&mut self, reaches: u64) -> u64
+        ensures was { result ≡ self.old.reaches }
+        ensures reaches { self.new.reaches ≡ reaches }
+        ensures blocks { self.new.blocks ≡ self.old.blocks }
+        ensures registers { self.new.registers ≡ self.old.registers }
+    {
+        let was = self.reaches;
+        self.reaches = reaches;
+        was
+    }
+
+    // Reaches for the block at a position.
+    pub(crate) fn reach(&mut self, at: usize) -> Reach
+        ensures at { result.at ≡ at }
+        ensures blocks { self.new.blocks ≡ self.old.blocks }
+        ensures registers { self.new.registers ≡ self.old.registers }
+        ensures count { self.new.reaches ≡ min (self.old.reaches + 1) (2 ^ 64 - 1) }
+    {
+        self.reaches = self.reaches.saturating_add(1);
+        Reach { at }
+    }
+
+    // The block that was reached for, and its register.
+    pub(crate) fn look(&self, reach: Reach) -> (&Block<A>, Register)
+        requires within { reach.at < length self.now.blocks.items }
+        requires sizes { length self.now.registers.items ≡ length self.now.blocks.items }
+        ensures block { slice_get self.now.blocks.items reach.at ≡ Some result.0.now }
+        ensures register { slice_get self.now.registers.items reach.at ≡ Some result.1 }
+    {
+        let Reach { at } = reach;
         (&self.blocks[at], self.registers[at])
     }
 
     // Writes the register of the block at a position.
-    pub(crate) fn write(&mut self, at: usize, register: Register, looks: &mut u64)
+    pub(crate) fn write(&mut self, at: usize, register: Register)
         requires within { at < length self.old.registers.items }
         ensures registers { self.new.registers.items ≡ slice_set self.old.registers.items at register }
         ensures blocks { self.new.blocks ≡ self.old.blocks }
-        ensures count { looks.new ≡ min (looks.old + 1) (2 ^ 64 - 1) }
+        ensures count { self.new.reaches ≡ min (self.old.reaches + 1) (2 ^ 64 - 1) }
     {
-        *looks = looks.saturating_add(1);
+        self.reaches = self.reaches.saturating_add(1);
         self.registers[at] = register;
     }
 
     // Has the block at a position hold nothing.
-    pub(crate) fn let_go(&mut self, at: usize, looks: &mut u64)
+    pub(crate) fn let_go(&mut self, at: usize)
         requires within { at < length self.old.registers.items }
         ensures registers { (r : Kept) → slice_get self.old.registers.items at ≡ Some r → self.new.registers.items ≡ slice_set self.old.registers.items at (record { held = None; simulated = r.simulated }) }
         ensures blocks { self.new.blocks ≡ self.old.blocks }
-        ensures count { looks.new ≡ min (looks.old + 1) (2 ^ 64 - 1) }
+        ensures count { self.new.reaches ≡ min (self.old.reaches + 1) (2 ^ 64 - 1) }
     {
-        *looks = looks.saturating_add(1);
+        self.reaches = self.reaches.saturating_add(1);
         self.registers[at].held = None;
     }
 }

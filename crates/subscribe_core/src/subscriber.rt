@@ -24,7 +24,7 @@ use crate::fault::SubscribeFault;
 use crate::matching::{Received, first_reason, is_against};
 use crate::names::{self, Name};
 use crate::registers::{Held, Register};
-use crate::rows::Rows;
+use crate::rows::{Reach, Rows};
 use crate::twice::first_twice;
 use frame_core::{ApduView, Event, EventKind, view_frame};
 use std::alloc::{AllocError, Allocator};
@@ -40,7 +40,6 @@ pub struct Subscriber<A: Allocator> {
     deadlines: BTreeSet<(u128, usize), A>,
     mode: bool,
     moment: u64,
-    looks: u64,
 }
 
 impl<A: Allocator> Model for Subscriber<A> {
@@ -49,7 +48,7 @@ impl<A: Allocator> Model for Subscriber<A> {
 
     ghost Value = { Standing A };
 
-    ghost view = { λ s. record { state = record { blocks = s.rows.blocks.items; registers = s.rows.registers.items; mode = s.mode; moment = s.moment }; looks = s.looks } };
+    ghost view = { λ s. record { state = record { blocks = s.rows.blocks.items; registers = s.rows.registers.items; mode = s.mode; moment = s.moment }; looks = s.rows.reaches } };
 
     ghost invariant = { λ s. IsIndexed s.rows.blocks.items s.rows.registers.items s.names.items s.deadlines };
 }
@@ -103,7 +102,6 @@ impl<A: Allocator + Copy> Subscriber<A> {
             deadlines: BTreeSet::new(alloc),
             mode: false,
             moment: 0,
-            looks: 0,
         })
     }
 
@@ -111,7 +109,7 @@ impl<A: Allocator + Copy> Subscriber<A> {
     pub fn looks(&self) -> u64
         ensures { result ≡ self.now.looks }
     {
-        self.looks // of the last that answered Ok
+        self.rows.reaches() // of the last that answered Ok
     }
 
     // The simulation mode.
@@ -130,14 +128,22 @@ impl<A: Allocator + Copy> Subscriber<A> {
         names::find(&self.names, frame.app_id, frame.goose.gocb_ref)
     }
 
-    // The block at a position, and its register.
-    fn look(&self, at: usize, looks: &mut u64) -> (&Block<A>, Register)
-        requires { at < length self.now.state.blocks }
-        ensures block { slice_get self.now.state.blocks at ≡ Some result.0.now }
-        ensures register { slice_get self.now.state.registers at ≡ Some result.1 }
-        ensures count { looks.new ≤ looks.old + 1 }
+    // Reaches for the block at a position.
+    fn reach(&mut self, at: usize) -> Reach
+        ensures at { result.at ≡ at }
+        ensures state { self.new.state ≡ self.old.state }
+        ensures count { self.new.looks ≤ self.old.looks + 1 }
     {
-        self.rows.look(at, looks)
+        self.rows.reach(at)
+    }
+
+    // The block that was reached for, and its register.
+    fn look(&self, reach: Reach) -> (&Block<A>, Register)
+        requires { reach.at < length self.now.state.blocks }
+        ensures block { slice_get self.now.state.blocks reach.at ≡ Some result.0.now }
+        ensures register { slice_get self.now.state.registers reach.at ≡ Some result.1 }
+    {
+        self.rows.look(reach)
     }
 
     // An entry for each block that expires at the moment, in their order.
@@ -154,15 +160,15 @@ impl<A: Allocator + Copy> Subscriber<A> {
     }
 
     // Lets go of what is over at the moment.
-    fn expire(&mut self, now: u64, looks: &mut u64)
+    fn expire(&mut self, now: u64)
         ensures registers { self.new.state.registers ≡ registers_after_clock now self.old.state.registers }
         ensures blocks { self.new.state.blocks ≡ self.old.state.blocks }
         ensures mode { self.new.state.mode ≡ self.old.state.mode }
         ensures moment { self.new.state.moment ≡ self.old.state.moment }
-        ensures count { looks.new ≤ looks.old + due_count now (helds self.old.state.registers) }
+        ensures count { self.new.looks ≤ self.old.looks + due_count now (helds self.old.state.registers) }
     {
         while let Some(at) = deadlines::take_due(&mut self.deadlines, now) {
-            self.rows.let_go(at, looks);
+            self.rows.let_go(at);
         }
     }
 
@@ -175,15 +181,14 @@ impl<A: Allocator + Copy> Subscriber<A> {
         old: Option<Held>,
         held: Held,
         simulated: bool,
-        looks: &mut u64,
     ) -> Result<(), AllocError>
         requires was { (r : Holding) × (slice_get self.old.state.registers at ≡ Some r) × (r.held ≡ old) }
         ensures registers { OnOk result (self.new.state.registers ≡ slice_set self.old.state.registers at (record { held = Some held; simulated = simulated })) }
         ensures blocks { OnOk result (self.new.state.blocks ≡ self.old.state.blocks) }
         ensures mode { OnOk result (self.new.state.mode ≡ self.old.state.mode) }
         ensures moment { OnOk result (self.new.state.moment ≡ self.old.state.moment) }
-        ensures count { OnOk result (looks.new ≤ looks.old + 1) }
-        ensures err { OnErr result (self.new ≡ self.old) }
+        ensures count { OnOk result (self.new.looks ≤ self.old.looks + 1) }
+        ensures err { OnErr result (self.new.state ≡ self.old.state) }
     {
         deadlines::swap(&mut self.deadlines, at, old, held.deadline)?;
         self.rows.write(
@@ -192,7 +197,6 @@ impl<A: Allocator + Copy> Subscriber<A> {
                 held: Some(held),
                 simulated,
             },
-            looks,
         );
         Ok(())
     }
@@ -210,15 +214,14 @@ impl<A: Allocator + Copy> Subscriber<A> {
         now: u64,
         frame: &Received<'_>,
         entries: &mut Vec<Entry<A>, A>,
-        looks: &mut u64,
     ) -> Result<(), AllocError>
         ensures entries { OnOk result (entries.new.items ≡ entries.old.items ++ (switched_entries self.old.state.mode (OfGoose (received_frame frame.now)) 0 self.old.state.blocks self.old.state.registers ++ said_of now self.old.state.mode self.old.state.blocks self.old.state.registers (OfGoose (received_frame frame.now)))) }
         ensures registers { OnOk result (registers_after_clock now self.new.state.registers ≡ registers_by now self.old.state.mode (OfGoose (received_frame frame.now)) self.old.state.blocks self.old.state.registers) }
         ensures blocks { OnOk result (self.new.state.blocks ≡ self.old.state.blocks) }
         ensures mode { OnOk result (self.new.state.mode ≡ self.old.state.mode) }
         ensures moment { OnOk result (self.new.state.moment ≡ self.old.state.moment) }
-        ensures count { OnOk result (looks.new + due_count now (helds self.new.state.registers) ≤ looks.old + due_count now (helds self.old.state.registers) + 2) }
-        ensures err { OnErr result (self.new ≡ self.old) }
+        ensures count { OnOk result (self.new.looks + due_count now (helds self.new.state.registers) ≤ self.old.looks + due_count now (helds self.old.state.registers) + 2) }
+        ensures err { OnErr result (self.new.state ≡ self.old.state) }
     {
         let Some(at) = self.find(frame) else {
             entries.push(Entry::NotSubscribed)?;
@@ -226,7 +229,8 @@ impl<A: Allocator + Copy> Subscriber<A> {
         };
         let alloc = self.alloc();
         let mode = self.is_simulating();
-        let (block, old) = self.look(at, looks);
+        let reach = self.reach(at);
+        let (block, old) = self.look(reach);
         let is_against = is_against(frame, mode, old.simulated);
         if let Some(reason) = first_reason(block, frame, is_against) {
             entries.push(Entry::Refused { block: at, reason })?;
@@ -236,7 +240,7 @@ impl<A: Allocator + Copy> Subscriber<A> {
             None => Ok(()),
             Some(held) => {
                 let simulated = old.simulated || frame.goose.simulation;
-                self.hold(at, old.held, held, simulated, looks)
+                self.hold(at, old.held, held, simulated)
             }
         }
     }
@@ -247,15 +251,14 @@ impl<A: Allocator + Copy> Subscriber<A> {
         now: u64,
         octets: &[u8],
         entries: &mut Vec<Entry<A>, A>,
-        looks: &mut u64,
     ) -> Result<(), AllocError>
         ensures entries { OnOk result (entries.new.items ≡ entries.old.items ++ (switched_entries self.old.state.mode (content_by (frame_at octets.now)) 0 self.old.state.blocks self.old.state.registers ++ said_of now self.old.state.mode self.old.state.blocks self.old.state.registers (content_by (frame_at octets.now)))) }
         ensures registers { OnOk result (registers_after_clock now self.new.state.registers ≡ registers_by now self.old.state.mode (content_by (frame_at octets.now)) self.old.state.blocks self.old.state.registers) }
         ensures blocks { OnOk result (self.new.state.blocks ≡ self.old.state.blocks) }
         ensures mode { OnOk result (self.new.state.mode ≡ mode_by (content_by (frame_at octets.now)) self.old.state.mode) }
         ensures moment { OnOk result (self.new.state.moment ≡ self.old.state.moment) }
-        ensures count { OnOk result (looks.new + due_count now (helds self.new.state.registers) ≤ looks.old + due_count now (helds self.old.state.registers) + 2) }
-        ensures err { OnErr result (self.new ≡ self.old) }
+        ensures count { OnOk result (self.new.looks + due_count now (helds self.new.state.registers) ≤ self.old.looks + due_count now (helds self.old.state.registers) + 2) }
+        ensures err { OnErr result (self.new.state ≡ self.old.state) }
     {
         let _ = self.alloc();
         match view_frame(octets) {
@@ -273,24 +276,22 @@ impl<A: Allocator + Copy> Subscriber<A> {
                         app_id: view.app_id,
                         goose,
                     };
-                    self.take_goose(now, &frame, entries, looks)
+                    self.take_goose(now, &frame, entries)
                 }
             },
         }
     }
 
     // Appends an entry for each block that takes simulated frames.
-    fn list_switched(
-        &self,
-        entries: &mut Vec<Entry<A>, A>,
-        looks: &mut u64,
-    ) -> Result<(), AllocError>
-        ensures entries { OnOk result (entries.new.items ≡ entries.old.items ++ flagged_entries 0 self.now.state.registers) }
-        ensures quiet { flagged_entries {A = A} 0 self.now.state.registers ≡ [] → IsOk result }
-        ensures sizes { length self.now.state.registers ≡ length self.now.state.blocks }
+    fn list_switched(&mut self, entries: &mut Vec<Entry<A>, A>) -> Result<(), AllocError>
+        ensures entries { OnOk result (entries.new.items ≡ entries.old.items ++ flagged_entries 0 self.old.state.registers) }
+        ensures quiet { flagged_entries {A = A} 0 self.old.state.registers ≡ [] → IsOk result }
+        ensures sizes { length self.old.state.registers ≡ length self.old.state.blocks }
+        ensures state { self.new.state ≡ self.old.state }
     {
         for at in 0..self.rows.count() {
-            let (_, register) = self.rows.look(at, looks);
+            let reach = self.rows.reach(at);
+            let (_, register) = self.rows.look(reach);
             if register.simulated {
                 entries.push(Entry::Switched { block: at })?;
             }
@@ -299,21 +300,22 @@ impl<A: Allocator + Copy> Subscriber<A> {
     }
 
     // Has no block take simulated frames. Those that did let go of what they hold.
-    fn switch_off(&mut self, looks: &mut u64)
+    fn switch_off(&mut self)
         ensures registers { self.new.state.registers ≡ switched_off self.old.state.registers }
         ensures blocks { self.new.state.blocks ≡ self.old.state.blocks }
         ensures mode { self.new.state.mode ≡ self.old.state.mode }
         ensures moment { self.new.state.moment ≡ self.old.state.moment }
     {
         for at in 0..self.rows.count() {
-            let (_, old) = self.rows.look(at, looks);
+            let reach = self.rows.reach(at);
+            let (_, old) = self.rows.look(reach);
             if old.simulated {
                 deadlines::leave(&mut self.deadlines, at, old.held);
                 let idle = Register {
                     held: None,
                     simulated: false,
                 };
-                self.rows.write(at, idle, looks);
+                self.rows.write(at, idle);
             }
         }
     }
@@ -330,26 +332,21 @@ impl<A: Allocator + Copy> Subscriber<A> {
     }
 
     // Takes a mode event: blocks that take simulated frames are switched where the mode is set off.
-    fn take_mode(
-        &mut self,
-        on: bool,
-        entries: &mut Vec<Entry<A>, A>,
-        looks: &mut u64,
-    ) -> Result<(), AllocError>
+    fn take_mode(&mut self, on: bool, entries: &mut Vec<Entry<A>, A>) -> Result<(), AllocError>
         ensures entries { OnOk result (entries.new.items ≡ entries.old.items ++ switched_entries self.old.state.mode (OfMode on) 0 self.old.state.blocks self.old.state.registers) }
         ensures registers { OnOk result ((now : ℕ) → registers_after_clock now self.new.state.registers ≡ registers_by now self.old.state.mode (OfMode on) self.old.state.blocks self.old.state.registers) }
         ensures blocks { OnOk result (self.new.state.blocks ≡ self.old.state.blocks) }
         ensures mode { OnOk result (self.new.state.mode ≡ on) }
         ensures moment { OnOk result (self.new.state.moment ≡ self.old.state.moment) }
         ensures quiet { switched_entries self.old.state.mode (OfMode on) 0 self.old.state.blocks self.old.state.registers ≡ [] → IsOk result }
-        ensures err { OnErr result (self.new ≡ self.old) }
+        ensures err { OnErr result (self.new.state ≡ self.old.state) }
     {
         if on {
             self.set_mode(true);
             return Ok(());
         }
-        self.list_switched(entries, looks)?;
-        self.switch_off(looks);
+        self.list_switched(entries)?;
+        self.switch_off();
         self.set_mode(false);
         Ok(())
     }
@@ -360,26 +357,52 @@ impl<A: Allocator + Copy> Subscriber<A> {
         now: u64,
         kind: &EventKind<A>,
         entries: &mut Vec<Entry<A>, A>,
-        looks: &mut u64,
     ) -> Result<(), AllocError>
         ensures entries { OnOk result (entries.new.items ≡ entries.old.items ++ (switched_entries self.old.state.mode (content_of kind.now) 0 self.old.state.blocks self.old.state.registers ++ said_of now self.old.state.mode self.old.state.blocks self.old.state.registers (content_of kind.now))) }
         ensures registers { OnOk result (registers_after_clock now self.new.state.registers ≡ registers_by now self.old.state.mode (content_of kind.now) self.old.state.blocks self.old.state.registers) }
         ensures blocks { OnOk result (self.new.state.blocks ≡ self.old.state.blocks) }
         ensures mode { OnOk result (self.new.state.mode ≡ mode_by (content_of kind.now) self.old.state.mode) }
         ensures moment { OnOk result (self.new.state.moment ≡ self.old.state.moment) }
-        ensures count { IsMode kind.now ⊎ OnOk result (looks.new + due_count now (helds self.new.state.registers) ≤ looks.old + due_count now (helds self.old.state.registers) + 2) }
+        ensures count { IsMode kind.now ⊎ OnOk result (self.new.looks + due_count now (helds self.new.state.registers) ≤ self.old.looks + due_count now (helds self.old.state.registers) + 2) }
         ensures quiet { IsFrame kind.now ⊎ (switched_entries self.old.state.mode (content_of kind.now) 0 self.old.state.blocks self.old.state.registers ≡ [] → IsOk result) }
-        ensures err { OnErr result (self.new ≡ self.old) }
+        ensures err { OnErr result (self.new.state ≡ self.old.state) }
     {
         let _ = self.alloc();
         match kind {
-            EventKind::Frame(octets) => self.take_octets(now, octets.as_slice(), entries, looks),
+            EventKind::Frame(octets) => self.take_octets(now, octets.as_slice(), entries),
             EventKind::Clock => Ok(()),
-            EventKind::Mode(on) => self.take_mode(*on, entries, looks),
+            EventKind::Mode(on) => self.take_mode(*on, entries),
         }
     }
 
-    // Takes one event, by what is kept.
+    // Has the count of reaches go on from a number, and gives what it was.
+    fn count_from(&mut self, looks: u64) -> u64
+        ensures was { result ≡ self.old.looks }
+        ensures looks { self.new.looks ≡ looks }
+        ensures state { self.new.state ≡ self.old.state }
+    {
+        self.rows.count_from(looks)
+    }
+
+    // Takes one event, by what is kept. The reaches are counted on.
+    fn counted(&mut self, event: &Event<A>) -> Result<Vec<Entry<A>, A>, AllocError>
+        ensures entries { IfOk result (λ entries. entries.items ≡ step_entries self.old.state (reading_of event.now)) }
+        ensures state { OnOk result (self.new.state ≡ step_state self.old.state (reading_of event.now)) }
+        ensures unchanged { OnErr result (self.new.state ≡ self.old.state) }
+        ensures quiet { IsFrame event.now.kind ⊎ (step_entries self.old.state (reading_of event.now) ≡ [] → IsOk result) }
+        ensures looks { IsMode event.now.kind ⊎ IfOk result (λ entries. self.new.looks ≤ self.old.looks + (expired_count entries.items + 2)) }
+        ensures sizes { length self.old.state.registers ≡ length self.old.state.blocks }
+        ensures apart { AreApart self.old.state.blocks }
+    {
+        let now = self.moment.max(event.moment);
+        let mut entries = self.expired(now)?;
+        self.take_kind(now, &event.kind, &mut entries)?;
+        self.expire(now);
+        self.moment = now;
+        Ok(entries)
+    }
+
+    // Takes one event, by what is kept. The reaches are counted anew; where memory is refused the count is what it was.
     fn step(&mut self, event: &Event<A>) -> Result<Vec<Entry<A>, A>, AllocError>
         ensures entries { IfOk result (λ entries. entries.items ≡ step_entries self.old.state (reading_of event.now)) }
         ensures state { OnOk result (self.new.state ≡ step_state self.old.state (reading_of event.now)) }
@@ -389,14 +412,14 @@ impl<A: Allocator + Copy> Subscriber<A> {
         ensures sizes { length self.old.state.registers ≡ length self.old.state.blocks }
         ensures apart { AreApart self.old.state.blocks }
     {
-        let now = self.moment.max(event.moment);
-        let mut looks = 0;
-        let mut entries = self.expired(now)?;
-        self.take_kind(now, &event.kind, &mut entries, &mut looks)?;
-        self.expire(now, &mut looks);
-        self.moment = now;
-        self.looks = looks;
-        Ok(entries)
+        let before = self.count_from(0);
+        match self.counted(event) {
+            Ok(entries) => Ok(entries),
+            Err(e) => {
+                self.count_from(before);
+                Err(e)
+            }
+        }
     }
 
     /// Takes one event, and says what it means for each block: first an `Expired` entry for each block whose lifetime is over

@@ -1,8 +1,9 @@
 use Rattle.std.proofs.Common.{◌++◌, Bool, List, length, ap, sym, ◌∙◌, append-nil}
 use Rattle.std.proofs.lemmas.Bool.{false≢true}
 use Rattle.subscribe_core.specs.declared.entry.Entry.{Entry}
-use Rattle.subscribe_core.specs.Indexed.{registers_after_clock}
+use Rattle.subscribe_core.specs.Indexed.{registers_after_clock, switched_off}
 use Rattle.subscribe_core.specs.Reading.{OfMode}
+use Rattle.subscribe_core.specs.Standing.{State}
 use Rattle.subscribe_core.specs.Steps.{registers_by, switched_entries}
 use Rattle.subscribe_core.proofs.Switching.{registers_off, registers_on, switched_off_entries, switched_on}
 use Rattle.subscribe_core.proofs.subscriber.Subscriber.take_mode.Goals as goal
@@ -38,6 +39,7 @@ returns-clause-entries g c =
 pub returns-clause-registers : goal.returns-clause-registers
 returns-clause-registers g c = λ now.
     let s = c.args.self.now.state in
-    ap (registers_after_clock now) (c.set_mode-2.ensures.registers ∙ c.switch_off.ensures.registers)
+    ap (registers_after_clock now)
+    (c.set_mode-2.ensures.registers ∙ (c.switch_off.ensures.registers ∙ ap (λ (t : State _). switched_off t.registers) c.list_switched.ensures.state))
     ∙ sym (ap (λ (on : Bool). registers_by now s.mode (OfMode on) s.blocks s.registers) c.if-on.false
     ∙ registers_off now s.mode s.blocks s.registers c.list_switched.ensures.sizes)

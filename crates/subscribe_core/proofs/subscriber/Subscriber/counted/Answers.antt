@@ -8,7 +8,7 @@ use Rattle.subscribe_core.specs.Steps.{expired_entries, said_of, switched_entrie
 use Rattle.subscribe_core.specs.Content.{content_of}
 use Rattle.subscribe_core.proofs.Due.{expired_counted}
 use Rattle.subscribe_core.proofs.Quiet.{back_nil, front_nil}
-use Rattle.subscribe_core.proofs.subscriber.Subscriber.step.Goals as goal
+use Rattle.subscribe_core.proofs.subscriber.Subscriber.counted.Goals as goal
 
 pub returns-in_err-entries-clause-quiet : goal.returns-in_err-entries-clause-quiet
 returns-in_err-entries-clause-quiet g c =
@@ -35,13 +35,15 @@ returns-clause-looks g c =
     let now = c.max-now.result in
     let kind = content_of c.args.event.now.kind in
     let spent = c.expire.ensures.count in
+    let first = ap (λ (t : Standing _). t.looks) c.self.view_is in
+    let last = ap (λ (t : Standing _). t.looks) c.self-2.view_is in
     let rest : List (Entry g.row.A.Denot) = switched_entries s.mode kind 0 s.blocks s.registers ++ said_of now s.mode s.blocks s.registers kind in
     let items : c.take_kind.new.entries.items ≡ expired_entries now 0 s.registers ++ rest =
     c.in_ok-take_kind.ensures.entries ∙ ap (λ (es : List (Entry g.row.A.Denot)). es ++ rest) c.in_ok-entries.ensures.entries in
     let said : due_count now (helds s.registers) ≤ expired_count (expired_entries now 0 s.registers ++ rest) = expired_counted now 0 s.registers rest in
     elim c.in_ok-take_kind.ensures.count [
       | inl m ↦ inl m
-      | inr count ↦ inr (rw items (omega (arith, count, spent, said)))
+      | inr count ↦ inr (rw items (omega (arith, count, spent, said, first, last)))
     ]
 
 pub returns-clause-apart : goal.returns-clause-apart
