@@ -3,7 +3,7 @@ use Rattle.std.proofs.Common.{◌≡◌, ℕ, zero, suc, ◌<◌, List, [], ◌�
 use Rattle.std.specs.Prelude.{◌&&◌, nat_lt, nat_le, IfErr, IfOk, OnOk, codes}
 use Rattle.std.specs.Fmt.{decimal}
 use Rattle.std.specs.List.{list_all}
-use Rattle.std.proofs.lemmas.Bool.{and_from, and_left, and_parts, and_right, eq-eqb, false_from_ne_true, le-leb, le-ltb, lt-leb, lt-ltb, ltb-true, ne_eqb}
+use Rattle.std.proofs.lemmas.Bool.{and_from, and_parts, eq-eqb, le-leb, lt-ltb, ltb-true, ne_eqb}
 use Rattle.std.proofs.lemmas.List.{append-nil}
 use Rattle.arrayvec.specs.ArrayVec.{ArrayVec}
 use Rattle.hex.specs.Hex.{encode_lower}
@@ -11,7 +11,6 @@ use Rattle.frame_core.specs.declared.frame.Frame.{Frame as SentFrame}
 use Rattle.frame_core.specs.Written.{written_frame}
 use Rattle.publish_core.specs.declared.control.Control.{Control}
 use Rattle.publish_core.specs.declared.fault.PublishFault.{PublishFault}
-use Rattle.publish_core.specs.declared.fault.PublishFault.TheVariants as publish
 use Rattle.publish_core.specs.declared.table.Step.{Step}
 use Rattle.publish_core.specs.Frames.{Change, Setup, setup}
 use Rattle.publish_core.specs.Judgement.{IsJudged, refusal}
@@ -19,7 +18,7 @@ use Rattle.publish_core.specs.Refusal.{Accepts, Refuses, next_state}
 use Rattle.publish_core.specs.Run.{Act, Call, Changed, Polled, IsAnswer, PublishesNone, PublishesOctets, call, greatest_call_moment, trace_of_calls}
 use Rattle.publish_core.specs.Standing.{PublisherStanding, PublisherStandsAfter}
 use Rattle.publish_core.specs.Step.{act_frame, act_state, fresh_publisher}
-use Rattle.publish_core.specs.Table.{AreSteps, IsGood, IsTableFault, step_at}
+use Rattle.publish_core.specs.Table.{AreSteps, IsGood, step_at}
 use Rattle.publish_core.proofs.Judged.{judged, judged_only}
 use Rattle.publish_core.proofs.Runs.{act_ok, answer_one, fresh_stands}
 use Rattle.engine_core.specs.declared.engines.publish.Stage.{Stage}
@@ -100,19 +99,6 @@ sound_setup p sound =
 -- no first status number
 pub first_cause : {A : Type 0} (p : Setup A) → AreSteps p.table → p.first ≡ 0 → setup_cause p ≡ Some cause.FirstState
 first_cause p steps none = rw (counted p steps, all_good p.table steps.good, eq-eqb p.first 0 none) refl
-
--- no table
-pub table_cause : {A : Type 0} (p : Setup A) (f : PublishFault) → IsTableFault p.table f → setup_cause p ≡ Some (script_cause f)
-table_cause p publish.StepCount (inl few) = rw (and_left (nat_lt 0 (length p.table)) (nat_le (length p.table) 16) (le-ltb 0 (length p.table) (omega (arith, few)))) refl
-table_cause p publish.StepCount (inr many) = rw (and_right (nat_lt 0 (length p.table)) (nat_le (length p.table) 16) (lt-leb (length p.table) 16 many)) refl
-table_cause p (publish.StepTimes i) x =
-    let count = and_from _ _ (lt-ltb 0 (length p.table) (omega (arith, x.0))) (le-leb (length p.table) 16 x.1) in
-    let bad = false_from_ne_true (list_all is_good p.table) (λ e. x.2.bad (good_each p.table e i x.2.here)) in
-    rw (count, bad) refl
-table_cause p publish.FirstState x = absurd x
-table_cause p publish.EntriesDiffer x = absurd x
-table_cause p publish.NotSpellable x = absurd x
-table_cause p publish.WouldNotFit x = absurd x
 
 -- ---- calls
 

@@ -22,7 +22,7 @@ answer_line n (Err f) = fault_line n f
 abbrev pub octets_line : ℕ → List ℕ → List ℕ
 octets_line n octets = answer_line {A = Unit {0}} n (frame_at octets)
 
--- the line of an event: of a clock moment, or of the octets of a frame
+-- the line of an event: of a clock moment, of the octets of a frame, or of a mode
 abbrev pub kind_line : {A : Type 0} → ℕ → ℕ → EventKind A → List ℕ
 kind_line n moment Clock = clock_line n moment
 kind_line n moment (Frame octets) = octets_line n octets
