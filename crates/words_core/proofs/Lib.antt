@@ -8,3 +8,4 @@ pub mod NamedWords
 pub mod ReplayWords
 pub mod WatchWords
 pub mod AskedWords
+pub mod StandardFacts

@@ -1,0 +1,61 @@
+-- Command lines, with the period of a watch at both ends, computed: a wrong definition does not check.
+use Rattle.std.proofs.Common.{◌≡◌, true, false, List, [], ◌∷◌, Some, None, Ok, Err, refl}
+use Rattle.std.specs.Prelude.{codes}
+use Rattle.clap.specs.Words.{Text, takes}
+use Rattle.clap.proofs.OnLiterals.{clap_on_literals}
+use Rattle.words_core.specs.CommandLine.{block_at, check, command_line, import, publish, replay_of, rewrite, show, task_of_words, watch}
+
+-- each command without arguments asks for its task
+pub record AreNames : Type 0 where
+  pub shows : task_of_words (codes "goose" ∷ codes "show" ∷ []) ≡ Some (Ok show)
+  pub checks : task_of_words (codes "goose" ∷ codes "check" ∷ []) ≡ Some (Ok check)
+  pub rewrites : task_of_words (codes "goose" ∷ codes "rewrite" ∷ []) ≡ Some (Ok rewrite)
+  pub publishes : task_of_words (codes "goose" ∷ codes "publish" ∷ []) ≡ Some (Ok publish)
+  pub imports : task_of_words (codes "goose" ∷ codes "import" ∷ []) ≡ Some (Ok import)
+
+pub names : AreNames
+unfolding clap_on_literals
+names = record { shows = refl; checks = refl; rewrites = refl; publishes = refl; imports = refl }
+
+-- a word that differs by one letter asks for none, and neither does the program's name alone
+pub record AreOthers : Type 0 where
+  pub other : takes command_line (codes "goose" ∷ codes "shows" ∷ []) ≡ false
+  pub nothing : takes command_line (codes "goose" ∷ []) ≡ false
+
+pub others : AreOthers
+unfolding clap_on_literals
+others = record { other = refl; nothing = refl }
+
+-- a watch over MU01 by this text of a period
+abbrev watch_by : Text → List Text
+watch_by period = codes "goose" ∷ codes "watch" ∷ codes "--period" ∷ period ∷ codes "--id" ∷ codes "MU01" ∷ []
+
+-- the whole line is taken with a period at either end, and refused just outside
+pub record AreLines : Type 0 where
+  pub one : takes command_line (watch_by (codes "1")) ≡ false
+  pub two : takes command_line (watch_by (codes "2")) ≡ true
+  pub most : takes command_line (watch_by (codes "65536")) ≡ true
+  pub more : takes command_line (watch_by (codes "65537")) ≡ false
+
+pub lines : AreLines
+unfolding clap_on_literals
+lines = record { one = refl; two = refl; most = refl; more = refl }
+
+-- and it asks for this watch
+pub record AreWatches : Type 0 where
+  pub two : task_of_words (watch_by (codes "2")) ≡ Some (Ok (watch 2 (codes "MU01")))
+  pub most : task_of_words (watch_by (codes "65536")) ≡ Some (Ok (watch 65536 (codes "MU01")))
+  pub joined : task_of_words (codes "goose" ∷ codes "watch" ∷ codes "--id=MU01" ∷ codes "--period=4000" ∷ []) ≡ Some (Ok (watch 4000 (codes "MU01")))
+
+pub watches : AreWatches
+unfolding clap_on_literals
+watches = record { two = refl; most = refl; joined = refl }
+
+-- a block has six fields, and the first text that says none counts, from 0
+pub record AreNoBlocks : Type 0 where
+  pub five_fields : block_at (codes "0001,G,D,,1") ≡ None
+  pub seven_fields : block_at (codes "0001,G,D,,1,2,3") ≡ None
+  pub first_bad : replay_of (codes "1" ∷ codes "2" ∷ []) ≡ Err 0
+
+pub no_blocks : AreNoBlocks
+no_blocks = record { five_fields = refl; seven_fields = refl; first_bad = refl }
