@@ -1,4 +1,5 @@
 """What a subscriber makes of lists: worked ones, and lists made by chance of which the slow subscriber says what comes."""
+import itertools
 import os
 import pathlib
 import random
@@ -88,6 +89,25 @@ class ManyLists:
         return frame[:14] + name[0].to_bytes(2, "big") + frame[16:]
 
 
+class EachFour:
+    """All 4,096 lists of four events drawn from real and simulated frames of two states, two clocks, and both modes, of which
+    the program writes what the slow subscriber writes. Event i comes at 400 times i milliseconds, the second clock at 1,200."""
+
+    name = "each list of four real and simulated frames, clocks and modes"
+
+    def why_wrong(self, program):
+        frames = [state(st, 0, 1000, simulation) for st in (1, 2) for simulation in (False, True)]
+        events = [[line(400 * i, frame) for frame in frames]
+                  + [b"C %d\n" % (400 * i), b"C 1200\n", b"M %d on\n" % (400 * i), b"M %d off\n" % (400 * i)] for i in range(4)]
+        for drawn in itertools.product(*events):
+            octets = b"".join(drawn)
+            wanted, _ = subscriber.replay(octets, [BLOCK])
+            wrote, complained, status = run(program, ["replay", BLOCK], octets)
+            if (wrote, complained, status) != (text(wanted), b"", 0):
+                return [f"{octets!r}", first_difference(text(wanted), wrote) or f"status {status}"]
+        return []
+
+
 class Split:
     """A list that examples/replay_by_block replays block by block, with the text and the status of one run."""
 
@@ -170,5 +190,6 @@ def cases():
         yield Replays(f"a list by chance, {at}", some_list(chance, 60), BLOCKS[:1 + at % 3])
     yield Replays("a long list by chance", some_list(chance, 5000), BLOCKS)
     yield ManyLists()
+    yield EachFour()
     for at in range(6):
         yield Split(f"block by block, {at}", some_list(chance, 300), BLOCKS[:1 + at % 3])

@@ -50,10 +50,11 @@ pub fn published_lists_replay<P: Allocator, S: Allocator>()
     ensures { PublishedListsReplay P S }
 {}
 
-/// What `publish` writes of a script whose changes are accepted is the list of the frames that its calls give. Where the
-/// text of a script says a publisher's whole run, a replay of what is written with the publisher's own block gives one line
-/// for each frame: an action for that of a change, a renewal for that of a poll, and nothing else. The frames are octets;
-/// that they and their moments can stand in a list, and that there are not too many, follows from the text.
+/// What `publish` writes of a script whose changes are accepted is the list of the frames that its calls give. Where it
+/// writes the text of a script to its end, a replay of that with the publisher's own block gives one line for each frame:
+/// an action for that of a change, a renewal for that of a poll, and nothing else. The status numbers don't wrap, each
+/// frame comes in the lifetime of the one before, and the frames are octets. That each change was accepted, and that the
+/// frames and their moments can stand in a list and are not too many, follows from the text.
 pub fn published_texts_replay<P: Allocator, S: Allocator>()
     ensures list { ScriptsGiveLists P S }
     ensures replay { PublishedTextsReplay P S }

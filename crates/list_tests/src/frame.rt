@@ -4,6 +4,7 @@ mod each_octet;
 mod frame_reading;
 mod frame_writing;
 mod frames;
+mod header_reading;
 mod line_reading;
 mod list_reading;
 mod list_versions;
