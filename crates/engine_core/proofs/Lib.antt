@@ -6,3 +6,4 @@ pub mod ReplayLemmas
 pub mod WatchLemmas
 pub mod PublishLemmas
 pub mod ImportLemmas
+pub mod WorkedExamples
