@@ -1,7 +1,7 @@
 // Outside examples: a recorded frame of GOOSE whose octets are changed one at a time.
 
 mod ample_memory;
-mod goose_unit;
+mod goose_apdu;
 mod refused_memory;
 mod sampled;
 mod sampled_faults;

@@ -183,7 +183,7 @@ module _ {S X C : Type 0} (r : Rules S X C) (t : Text X C) (a b c : Place S) (es
 
     listed : listing r a.settled c.ending a.taken octets ≡ put_items es next_list
     unfolding octets next_list
-    listed = list_whole r a b c es p.took q.given q.only_open _ refl
+    listed = list_whole r a b c es p.took q.given q.source.only_open _ refl
 
     tells_next : Tells answer next_list (listing r c.settled c.ending c.taken (c.held ++ []))
     unfolding next_list
@@ -214,11 +214,11 @@ module _ {S X C : Type 0} (r : Rules S X C) (t : Text X C) (a b c : Place S) (es
         accepted = p.accepted;
         number = lines_before answer c.taken;
         at = q.at;
-        front = p.took.taken ++ q.skipped;
+        front = p.took.lines ++ q.skipped;
         rest = q.rest;
-        parts = off_after a.held p.took.given p.took.taken b.held q.given q.skipped q.rest p.took.off q.off;
-        starts = starts_after b.ending c.ending p.took.taken b.held q.given q.skipped q.rest p.took.starts q.only_open q.off q.starts;
-        few = q.bounded;
+        parts = off_after a.held p.took.given p.took.lines b.held q.given q.skipped q.rest p.took.off q.lines.off;
+        starts = starts_after b.ending c.ending p.took.lines b.held q.given q.skipped q.rest p.took.starts q.source.only_open q.lines.off q.lines.starts;
+        few = q.lines.bounded;
         earlier = listed ∙ ap (put_items es) same_rest;
       },
       refl,

@@ -5,7 +5,7 @@ use Rattle.ber_core.specs.declared.fault.Fault.{Fault}
 use Rattle.ber_core.specs.declared.fault.Full.{Full}
 use Rattle.frame_core.specs.declared.frame.Frame.{Frame}
 use Rattle.frame_core.specs.declared.frame_view.FrameView.{FrameView}
-use Rattle.frame_core.specs.Frame.{frame_of}
+use Rattle.frame_core.specs.FrameViews.{frame_of}
 use Rattle.frame_core.specs.FrameReading.{frame_at}
 use Rattle.frame_core.specs.Written.{ApduIsSpellable, IsTooLong, written_frame}
 use Rattle.frame_core.proofs.PutLaws.{fits_short, too_long_fails}

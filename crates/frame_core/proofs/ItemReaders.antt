@@ -58,16 +58,10 @@ module _ {S X C : Type 0} (r : Rules S X C) where
       AnswersItem r old answer new
   tells old mid new answer given h t s o k a l e b n p x w f = record {
     given = given;
-    took = rw l k;
-    only_open = rw e o;
-    counted = rw (← t) n;
     skipped = [];
     rest = mid.held;
-    off = sym h;
-    asked = passed_none _ _ _ _ _ _ _ (asked_by _ _ _ _ _ _ _ _ l e a);
-    starts = inl refl;
-    bounded = b;
-    takes_off = rw e x;
+    source = record { took = rw l k; only_open = rw e o; asked = passed_none _ _ _ _ _ _ _ (asked_by _ _ _ _ _ _ _ _ l e a) };
+    lines = record { off = sym h; starts = inl refl; bounded = b; takes_off = rw e x; counted = rw (← t) n };
     at = old.settled;
     kept = rw (e, p, ← s) w;
     skips = λ more z _. ap (λ (k : ℕ). listing r old.settled z k (old.held ++ given ++ more)) (sym t ∙ sym p) ∙ ap (λ (l : List ℕ). listing r old.settled z (lines_before answer new.taken) (l ++ more)) (sym h);
@@ -117,20 +111,24 @@ module _ {S X C : Type 0} (r : Rules S X C) where
   pub skips-then : (a b c : Place S) (answer : Answer X C) → SkipsLines r a b → AnswersItem r b answer c → AnswersItem r a answer c
   skips-then a b c answer p q = record {
     given = p.given ++ q.given;
-    took = took_after answer _ _ _ _ _ p.took q.took;
-    only_open = OnlyOpen-append _ _ _ _ _ p.only_open q.only_open;
-    counted = counts_after answer _ _ _ p.counted q.counted;
     skipped = p.skipped ++ q.skipped;
     rest = q.rest;
-    off = off_after a.held p.given p.skipped b.held q.given q.skipped q.rest p.off q.off;
-    asked = passed_after _ _ _ _ _ _ _ _ _ _ _ _ p.off p.only_open q.only_open p.asked q.asked;
-    starts = starts_after b.ending c.ending p.skipped b.held q.given q.skipped q.rest p.starts q.only_open q.off q.starts;
-    bounded = q.bounded;
-    takes_off = q.takes_off;
+    source = record {
+      took = took_after answer _ _ _ _ _ p.took q.source.took;
+      only_open = OnlyOpen-append _ _ _ _ _ p.only_open q.source.only_open;
+      asked = passed_after _ _ _ _ _ _ _ _ _ _ _ _ p.off p.only_open q.source.only_open p.asked q.source.asked;
+    };
+    lines = record {
+      off = off_after a.held p.given p.skipped b.held q.given q.skipped q.rest p.off q.lines.off;
+      starts = starts_after b.ending c.ending p.skipped b.held q.given q.skipped q.rest p.starts q.source.only_open q.lines.off q.lines.starts;
+      bounded = q.lines.bounded;
+      takes_off = q.lines.takes_off;
+      counted = counts_after answer _ _ _ p.counted q.lines.counted;
+    };
     at = q.at;
     kept = q.kept;
-    skips = λ more z f. before a b c p q.given q.only_open more z f ∙ q.skips more z f;
-    reads = λ more z f. Tells-from answer _ _ _ (before a b c p q.given q.only_open more z f) (q.reads more z f);
+    skips = λ more z f. before a b c p q.given q.source.only_open more z f ∙ q.skips more z f;
+    reads = λ more z f. Tells-from answer _ _ _ (before a b c p q.given q.source.only_open more z f) (q.reads more z f);
   }
 
   pub skips-skips : (a b c : Place S) → SkipsLines r a b → SkipsLines r b c → SkipsLines r a c
@@ -166,7 +164,7 @@ module _ {S X C : Type 0} (r : Rules S X C) where
     took = Consumes-none s.left;
     only_open = OnlyOpen-none s.ending;
     counted = omega arith;
-    taken = [];
+    lines = [];
     off = append-nil s.held;
     starts = inl refl;
     reads = λ more z _. ap (listing r s.settled z s.taken) (ap (λ l. l ++ more) (append-nil s.held));
@@ -180,23 +178,23 @@ module _ {S X C : Type 0} (r : Rules S X C) where
       ∙ ap (λ l. put_items es (listing r b.settled z b.taken l)) (sym (append_assoc b.held g more))
 
   -- the octets that an answer takes off with its item
-  item_off : (b c : Place S) (e : ℕ × X) (q : AnswersItem r b (Ok (Some e)) c) → b.held ++ q.given ≡ (q.skipped ++ q.takes_off.0) ++ c.held
-  item_off b c e q = q.off ∙ ap (λ l. q.skipped ++ l) q.takes_off.1 ∙ sym (append_assoc q.skipped q.takes_off.0 c.held)
+  item_off : (b c : Place S) (e : ℕ × X) (q : AnswersItem r b (Ok (Some e)) c) → b.held ++ q.given ≡ (q.skipped ++ q.lines.takes_off.0) ++ c.held
+  item_off b c e q = q.lines.off ∙ ap (λ l. q.skipped ++ l) q.lines.takes_off.1 ∙ sym (append_assoc q.skipped q.lines.takes_off.0 c.held)
 
-  item_starts : (b c : Place S) (e : ℕ × X) (q : AnswersItem r b (Ok (Some e)) c) → StartsLine c.ending (q.skipped ++ q.takes_off.0) c.held
-  item_starts b c e q = starts_after c.ending c.ending q.skipped q.rest [] q.takes_off.0 c.held q.starts (OnlyOpen-none c.ending) (append-nil q.rest ∙ q.takes_off.1) q.takes_off.2
+  item_starts : (b c : Place S) (e : ℕ × X) (q : AnswersItem r b (Ok (Some e)) c) → StartsLine c.ending (q.skipped ++ q.lines.takes_off.0) c.held
+  item_starts b c e q = starts_after c.ending c.ending q.skipped q.rest [] q.lines.takes_off.0 c.held q.lines.starts (OnlyOpen-none c.ending) (append-nil q.rest ∙ q.lines.takes_off.1) q.lines.takes_off.2
 
   -- an item more
   pub TakesItems-push : (a b c : Place S) (es : List (ℕ × X)) (e : ℕ × X) → TakesItems r a es b → AnswersItem r b (Ok (Some e)) c → TakesItems r a (es ++ e ∷ []) c
   TakesItems-push a b c es e p q = record {
     given = p.given ++ q.given;
-    took = Consumes-append _ _ _ _ _ p.took q.took;
-    only_open = OnlyOpen-append _ _ _ _ _ p.only_open q.only_open;
-    counted = omega (arith, p.counted, q.counted.0);
-    taken = p.taken ++ (q.skipped ++ q.takes_off.0);
-    off = off_after a.held p.given p.taken b.held q.given (q.skipped ++ q.takes_off.0) c.held p.off (item_off b c e q);
-    starts = starts_after b.ending c.ending p.taken b.held q.given (q.skipped ++ q.takes_off.0) c.held p.starts q.only_open (item_off b c e q) (item_starts b c e q);
-    reads = λ more z f. after_items a b c es p q.given q.only_open more z f ∙ ap (put_items es) (q.reads more z f)
+    took = Consumes-append _ _ _ _ _ p.took q.source.took;
+    only_open = OnlyOpen-append _ _ _ _ _ p.only_open q.source.only_open;
+    counted = omega (arith, p.counted, q.lines.counted.0);
+    lines = p.lines ++ (q.skipped ++ q.lines.takes_off.0);
+    off = off_after a.held p.given p.lines b.held q.given (q.skipped ++ q.lines.takes_off.0) c.held p.off (item_off b c e q);
+    starts = starts_after b.ending c.ending p.lines b.held q.given (q.skipped ++ q.lines.takes_off.0) c.held p.starts q.source.only_open (item_off b c e q) (item_starts b c e q);
+    reads = λ more z f. after_items a b c es p q.given q.source.only_open more z f ∙ ap (put_items es) (q.reads more z f)
         ∙ put_items-put_item es e (listing r c.settled z c.taken (c.held ++ more));
   }
 
@@ -209,4 +207,4 @@ module _ {S X C : Type 0} (r : Rules S X C) where
 
   -- the octets that were given for several items and an answer
   pub gives_both : (a b c : Place S) (es : List (ℕ × X)) (answer : Answer X C) (p : TakesItems r a es b) (q : AnswersItem r b answer c) → GivesOctets a.left c.left (p.given ++ q.given)
-  gives_both a b c es answer p q = Gives-append _ _ _ _ _ p.took (gives_of answer _ _ _ q.took)
+  gives_both a b c es answer p q = Gives-append _ _ _ _ _ p.took (gives_of answer _ _ _ q.source.took)

@@ -105,21 +105,28 @@ OnlyKept r s z n rest (Ok o) = Unit {0}
 OnlyKept r s z n rest (Err (Some f)) = Unit {0}
 OnlyKept r s z n rest (Err None) = (size : ℕ) × IsFront z n rest (Ok (Some size)) × (r.keeps s (without_cr (take size rest)) ≡ true)
 
--- An answer takes its line, and those without items before it, off the front of the text. The end, a fault and want of memory stay.
-pub record AnswersItem {S X C : Type 0} (r : Rules S X C) (old : Place S) (answer : Answer X C) (new : Place S) : Type 0 where
-  -- the octets that were read
-  pub given : List ℕ
+-- Octets that the source gave for an answer: while it was open, and only once the lines before the answered one were passed over.
+pub record IsGiven {S X C : Type 0} (old : Place S) (answer : Answer X C) (new : Place S) (given skipped : List ℕ) : Type 0 where
   pub took : GivesFor answer old.left new.left given
   pub only_open : OnlyOpen old.ending given new.ending
-  pub counted : CountsTo answer old.taken new.taken
-  -- the octets before the answered line, and those from its start on, which are few
-  pub skipped : List ℕ
-  pub rest : List ℕ
-  pub off : old.held ++ given ≡ skipped ++ rest
   pub asked : OnlyPassed old.left old.ending old.held given skipped new.left new.ending
+
+-- What was held and what was given is whole lines that were passed over, and the rest, which is short. The answer takes its line off that rest.
+pub record CutsLines {S X C : Type 0} (old : Place S) (answer : Answer X C) (new : Place S) (given skipped rest : List ℕ) : Type 0 where
+  pub off : old.held ++ given ≡ skipped ++ rest
   pub starts : StartsLine new.ending skipped rest
   pub bounded : length rest ≤ 8192
   pub takes_off : TakesOff answer new.ending rest new.held
+  pub counted : CountsTo answer old.taken new.taken
+
+-- An answer takes its line, and those without items before it, off the front of the text. The end, a fault and want of memory stay.
+pub record AnswersItem {S X C : Type 0} (r : Rules S X C) (old : Place S) (answer : Answer X C) (new : Place S) : Type 0 where
+  -- the octets that were read, those before the answered line, and those from its start on
+  pub given : List ℕ
+  pub skipped : List ℕ
+  pub rest : List ℕ
+  pub source : IsGiven old answer new given skipped
+  pub lines : CutsLines old answer new given skipped rest
   -- what is settled before the line
   pub at : S
   pub kept : OnlyKept r at new.ending (lines_before answer new.taken) rest answer
@@ -149,9 +156,9 @@ pub record TakesItems {S X C : Type 0} (r : Rules S X C) (old : Place S) (items 
   pub took : Consumes old.left new.left given
   pub only_open : OnlyOpen old.ending given new.ending
   pub counted : old.taken ≤ new.taken
-  pub taken : List ℕ
-  pub off : old.held ++ given ≡ taken ++ new.held
-  pub starts : StartsLine new.ending taken new.held
+  pub lines : List ℕ
+  pub off : old.held ++ given ≡ lines ++ new.held
+  pub starts : StartsLine new.ending lines new.held
   pub reads : (more : List ℕ) (z : InputEnd) → CanFollow new.ending more z →
       listing r old.settled z old.taken (old.held ++ given ++ more) ≡ put_items items (listing r new.settled z new.taken (new.held ++ more))
 

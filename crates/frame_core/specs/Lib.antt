@@ -15,6 +15,7 @@ pub mod ApduReading
 pub mod Envelope
 pub mod EnvelopeReading
 pub mod Frame
+pub mod FrameViews
 pub mod Memory
 pub mod GooseFrame
 pub mod FrameFault

@@ -51,10 +51,10 @@ is_spelled_since control change s =
 short_fits : {A : Type 0} (f : Frame A) → is_short f ≡ true → ¬ IsTooLong f
 short_fits f e long =
     let a = and_parts (nat_le (8 + length (written_apdu f.apdu)) 1500) _ e in
-    let unit : 8 + length (written_apdu f.apdu) ≤ 1500 = leb-true _ _ a.0 in
+    let size : 8 + length (written_apdu f.apdu) ≤ 1500 = leb-true _ _ a.0 in
     let whole : length (written_frame f) ≤ 1600 = leb-true _ _ a.1 in
     elim long [
-      | inl over ↦ omega (arith, over, unit)
+      | inl over ↦ omega (arith, over, size)
       | inr over ↦ omega (arith, over, whole)
     ]
 

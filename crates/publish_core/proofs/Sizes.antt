@@ -86,7 +86,7 @@ word_length n = length-bytes_high_first 2 n
 same_in : (d s t e a w v r : List ℕ) → length w ≡ length v → length (d ++ (s ++ (t ++ (e ++ (a ++ (w ++ r)))))) ≡ length (d ++ (s ++ (t ++ (e ++ (a ++ (v ++ r))))))
 same_in d s t e a w v r same = simp length-append (omega arith)
 
--- what stands before a unit has as many octets, however many the unit has
+-- what stands before an APDU has as many octets, however many the APDU has
 head_length : {A : Type 0} (f : Frame A) (s t : ℕ) → length (written_head f s) ≡ length (written_head f t)
 head_length f s t =
     same_in f.destination f.source (written_tag f.tag) (written_word (ether_type_of f.apdu)) (written_word f.app_id) (written_word (8 + s)) (written_word (8 + t)) (written_word f.reserved1 ++ written_word f.reserved2)
@@ -117,9 +117,9 @@ module _ {A : Type 0} (control : Control A) (change : Change) (state live q r : 
       (before (written_element 0x86 (short_integer (pos q))) (written_element 0x86 (short_integer (pos r))) rest
       (element_grows 0x86 (short_integer (pos q)) (short_integer (pos r)) shorter)))))))
 
-  unit_grows : length (written_apdu (frame_with control change state q live).apdu) ≤ length (written_apdu (frame_with control change state r live).apdu)
+  apdu_grows : length (written_apdu (frame_with control change state q live).apdu) ≤ length (written_apdu (frame_with control change state r live).apdu)
   unfolding contents numbered rest
-  unit_grows = element_grows 0x61 (contents q) (contents r) contents_grow
+  apdu_grows = element_grows 0x61 (contents q) (contents r) contents_grow
 
   frame_grows : length (written_frame (frame_with control change state q live)) ≤ length (written_frame (frame_with control change state r live))
   frame_grows =
@@ -128,8 +128,8 @@ module _ {A : Type 0} (control : Control A) (change : Change) (state live q r : 
       let u : List ℕ = written_apdu f.apdu in
       let v : List ℕ = written_apdu g.apdu in
       let head : length (written_head f (length u)) ≡ length (written_head g (length v)) = head_length f (length u) (length v) in
-      omega (arith, length-append (written_head f (length u)) (u ++ []), length-append (written_head g (length v)) (v ++ []), length-append u [], length-append v [], head, unit_grows)
+      omega (arith, length-append (written_head f (length u)) (u ++ []), length-append (written_head g (length v)) (v ++ []), length-append u [], length-append v [], head, apdu_grows)
 
   pub too_long_grows : IsTooLong (frame_with control change state q live) → IsTooLong (frame_with control change state r live)
-  too_long_grows (inl more) = inl (let grown = unit_grows in omega arith)
+  too_long_grows (inl more) = inl (let grown = apdu_grows in omega arith)
   too_long_grows (inr more) = inr (let grown = frame_grows in omega arith)

@@ -15,8 +15,8 @@ use Rattle.subscribe_core.specs.Content.{content_with, content_by, content_of, r
 -- the function reads what is there
 
 spelled_content : (A : Type 0) (o : List ℕ) (f : Frame (Unit {0})) (a : Apdu (Unit {0})) → frame_at o ≡ Ok f → f.apdu ≡ a → IsContent {A = A} (kinds.Frame o) (content_with f.app_id a)
-spelled_content A o f (apdus.Goose p) is unit = (f, frame_read_found o f is, refl, unit)
-spelled_content A o f (apdus.Sampled p) is unit = (f, p, frame_read_found o f is, unit)
+spelled_content A o f (apdus.Goose p) is same = (f, frame_read_found o f is, refl, same)
+spelled_content A o f (apdus.Sampled p) is same = (f, p, frame_read_found o f is, same)
 
 octets_content : (A : Type 0) (o : List ℕ) (r : Result (Frame (Unit {0})) Fault) → frame_at o ≡ r → IsContent {A = A} (kinds.Frame o) (content_by r)
 octets_content A o (Ok f) is = spelled_content A o f f.apdu is refl

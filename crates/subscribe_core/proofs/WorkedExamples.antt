@@ -11,8 +11,8 @@ use Rattle.subscribe_core.specs.Standing.{fresh_state}
 use Rattle.subscribe_core.specs.Steps.{run_events}
 
 -- the APDU of control block G with data set D and one boolean
-abbrev unit : Bool → ℕ → ℕ → ℕ → GoosePdu (Unit {0})
-unit simulation state sequence live = record {
+abbrev apdu : Bool → ℕ → ℕ → ℕ → GoosePdu (Unit {0})
+apdu simulation state sequence live = record {
   gocb_ref = 71 ∷ [];
   live = live;
   dat_set = 68 ∷ [];
@@ -31,7 +31,7 @@ block app_id conf_rev = record { app_id = app_id; gocb_ref = 71 ∷ []; dat_set 
 
 -- moments in milliseconds
 abbrev frame_of : ℕ → Bool → ℕ → ℕ → ℕ → ℕ → EventRead
-frame_of app_id simulation at state sequence live = record { moment = 1000 * at; content = OfGoose (record { app_id = app_id; pdu = unit simulation state sequence live }) }
+frame_of app_id simulation at state sequence live = record { moment = 1000 * at; content = OfGoose (record { app_id = app_id; pdu = apdu simulation state sequence live }) }
 
 abbrev real : ℕ → ℕ → ℕ → ℕ → EventRead
 real at state sequence live = frame_of 1 false at state sequence live
@@ -85,7 +85,7 @@ both_at_once : entries (block 1 1 ∷ []) (mode 0 true ∷ real 0 1 0 1000 ∷ t
     ≡ [] ∷ (act 0 1 0 ∷ []) ∷ (says.Expired 0 ∷ says.Switched 0 ∷ act 0 1 0 ∷ []) ∷ (says.Expired 0 ∷ says.Switched 0 ∷ []) ∷ []
 both_at_once = refl
 
-greatest_moment : entries (block 1 1 ∷ []) (record { moment = 2 ^ 64 - 1; content = OfGoose (record { app_id = 1; pdu = unit false 1 0 2000 }) } ∷ record { moment = 2 ^ 64 - 1; content = OfClock } ∷ [])
+greatest_moment : entries (block 1 1 ∷ []) (record { moment = 2 ^ 64 - 1; content = OfGoose (record { app_id = 1; pdu = apdu false 1 0 2000 }) } ∷ record { moment = 2 ^ 64 - 1; content = OfClock } ∷ [])
     ≡ (act 0 1 0 ∷ []) ∷ [] ∷ []
 greatest_moment = refl
 

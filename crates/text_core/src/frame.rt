@@ -1,7 +1,7 @@
 //! The line of a frame, from the octets in which it stands.
 ghost use Rattle.std.specs.Prelude.{◌≡◌, ◌++◌, OnOk, codes};
 ghost use Rattle.pdu_core.specs.Views.{pdu_of};
-ghost use Rattle.frame_core.specs.Frame.{apdu_of, frame_of};
+ghost use Rattle.frame_core.specs.FrameViews.{apdu_of, frame_of};
 ghost use Rattle.text_core.specs.FrameText.{tag_text, trailer_text, envelope_text, goose_text, apdu_word, apdu_text, frame_line};
 
 use crate::fields::{put_boolean, put_digits, put_number, put_optional, put_text};

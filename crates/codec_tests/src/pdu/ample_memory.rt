@@ -143,7 +143,7 @@ fn texts_and_members_of_each_count_are_owned(rt: HostRuntime) -> Result<(), Fail
 
 // ---- Sampled Values
 
-// A unit of so many ASDUs, which count from 0.
+// An APDU of so many ASDUs, which count from 0.
 fn sampled<A: Allocator + Copy>(alloc: A, count: u16) -> Result<Vec<u8, A>, AllocError>
     requires { count ≤ 1000 }
 {
@@ -210,7 +210,7 @@ fn asdus_of_each_count_are_owned(rt: HostRuntime) -> Result<(), Fail> {
     Ok(())
 }
 
-// A unit of one ASDU of these fields.
+// An APDU of one ASDU of these fields.
 fn alone<A: Allocator + Copy>(alloc: A, fields: &[u8]) -> Result<Vec<u8, A>, AllocError> {
     let mut asdu = Vec::new(alloc);
     put(&mut asdu, 0x30, fields)?;
@@ -222,7 +222,7 @@ fn alone<A: Allocator + Copy>(alloc: A, fields: &[u8]) -> Result<Vec<u8, A>, All
     Ok(octets)
 }
 
-// Whether the one ASDU of the unit is owned as what its view stands for.
+// Whether the one ASDU of the APDU is owned as what its view stands for.
 fn is_asdu_owned<A: Allocator + Copy>(alloc: A, octets: &[u8]) -> Result<bool, Fail> {
     let view = view_sv(octets, 0, octets.len())?;
     let mut asdus = view.asdus;

@@ -1,4 +1,4 @@
-// Sampled Values: a recorded unit, and one with each field, whose octets are changed one at a time.
+// Sampled Values: a recorded APDU, and one with each field, whose octets are changed one at a time.
 
 ghost use Rattle.std.specs.Prelude.{◌≤◌, length};
 

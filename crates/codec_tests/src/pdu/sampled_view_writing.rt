@@ -6,7 +6,7 @@ use ber_core::Full;
 use pdu_core::{put_sv_view, view_sv};
 use std::test::Fail;
 
-// A unit of eight times the ASDU of `FRAME`, its lengths and its count with an octet more than they need.
+// An APDU of eight times the ASDU of `FRAME`, its lengths and its count with an octet more than they need.
 const FRONT: [u8; 12] = [
     0x60, 0x82, 0x00, 0xd0, 0x80, 0x02, 0x00, 0x08, 0xa2, 0x82, 0x00, 0xc8,
 ];
@@ -15,7 +15,7 @@ const FRONT: [u8; 12] = [
 const EIGHT: [u8; 9] = [0x60, 0x81, 0xce, 0x80, 0x01, 0x08, 0xa2, 0x81, 0xc8];
 
 #[test]
-fn unit_fits_from_where_it_stands(rt: HostRuntime) -> Result<(), Fail> {
+fn apdu_fits_from_where_it_stands(rt: HostRuntime) -> Result<(), Fail> {
     let view = view_sv(&FRAME, 22, 54)?;
     let mut exact = ArrayVec::<u8, 33>::new();
     exact.push(7);

@@ -45,7 +45,7 @@ fn alone<A: Allocator>(alloc: A, asdu: Asdu<A>) -> Result<SvPdu<A>, AllocError> 
 }
 
 #[test]
-fn unit_fits_or_leaves_the_vector(rt: HostRuntime) -> Result<(), Fail> {
+fn apdu_fits_or_leaves_the_vector(rt: HostRuntime) -> Result<(), Fail> {
     let pdu = alone(rt.alloc(), asdu(rt.alloc())?)?;
     assert!(rt; is_spellable_sv(&pdu));
     let mut ample = ArrayVec::<u8, 100>::new();

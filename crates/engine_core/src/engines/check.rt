@@ -4,7 +4,7 @@ ghost use Rattle.frame_core.specs.declared.device.InputEnd.{InputEnd};
 ghost use Rattle.frame_core.specs.declared.event_lines.EventLines.TheVariants.{First};
 ghost use Rattle.frame_core.specs.Device.{GivesOctets};
 ghost use Rattle.frame_core.specs.EventLine.{event_rules};
-ghost use Rattle.frame_core.specs.Frame.{frame_of};
+ghost use Rattle.frame_core.specs.FrameViews.{frame_of};
 ghost use Rattle.frame_core.specs.Written.{ApduIsSpellable};
 ghost use Rattle.engine_core.specs.CheckText.{check_text, goes_where_recommended, has_text, is_form, note_unless, notes, octets_notes};
 ghost use Rattle.engine_core.specs.EngineText.{Writes, is_write_fault};

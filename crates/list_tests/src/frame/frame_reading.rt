@@ -195,7 +195,7 @@ fn each_identifier_of_a_member_is_judged(rt: HostRuntime) {
 }
 
 #[test]
-fn a_unit_is_made_from_its_view(rt: HostRuntime) -> Result<(), Fail> {
+fn an_apdu_is_made_from_its_view(rt: HostRuntime) -> Result<(), Fail> {
     let view = view_frame(&FRAME)?;
     let Apdu::Goose(goose) = view.apdu.to_apdu(rt.alloc())? else {
         return Err(Fail::from("no GOOSE"));

@@ -28,7 +28,7 @@ fn a_frame_has_one_written_form(rt: HostRuntime) -> Result<(), Fail> {
     has_form(&rt, rt.alloc(), &TAGGED, &TAGGED)
 }
 
-/// Whether the GOOSE frame that the octets spell has this written form where its unit is kept elsewhere, without its
+/// Whether the GOOSE frame that the octets spell has this written form where its APDU is kept elsewhere, without its
 /// trailer.
 fn has_form_by_parts<H: Abort>(
     rt: &H,

@@ -189,7 +189,7 @@ fn next_where_each_growth_is_refused(rt: HostRuntime) -> Result<(), Fail> {
 
 /// Whether the APDU of the frame of these octets is made with so many growths, and written as they have it; else it is
 /// once memory is granted.
-fn is_unit_made_by<H: Abort>(
+fn is_apdu_made_by<H: Abort>(
     rt: &H,
     alloc: &RefusingAlloc<Global>,
     first_refused: usize,
@@ -211,10 +211,10 @@ fn is_unit_made_by<H: Abort>(
 }
 
 /// How many growths it takes to make the APDU of the frame of these octets, where each is refused in turn.
-fn growths_to_make_unit<H: Abort>(rt: &H, memory: Global, octets: &[u8]) -> Result<usize, Fail> {
+fn growths_to_make_apdu<H: Abort>(rt: &H, memory: Global, octets: &[u8]) -> Result<usize, Fail> {
     for first_refused in 0..100usize {
         let alloc = RefusingAlloc::new(memory, 100);
-        if is_unit_made_by(rt, &alloc, first_refused, octets)? {
+        if is_apdu_made_by(rt, &alloc, first_refused, octets)? {
             return Ok(first_refused);
         }
     }
@@ -223,7 +223,7 @@ fn growths_to_make_unit<H: Abort>(rt: &H, memory: Global, octets: &[u8]) -> Resu
 
 #[test]
 fn to_apdu_where_each_growth_is_refused(rt: HostRuntime) -> Result<(), Fail> {
-    assert!(rt; growths_to_make_unit(&rt, rt.alloc(), &TAGGED)? > 2);
-    assert!(rt; growths_to_make_unit(&rt, rt.alloc(), &TAGGED_SAMPLED)? > 2);
+    assert!(rt; growths_to_make_apdu(&rt, rt.alloc(), &TAGGED)? > 2);
+    assert!(rt; growths_to_make_apdu(&rt, rt.alloc(), &TAGGED_SAMPLED)? > 2);
     Ok(())
 }

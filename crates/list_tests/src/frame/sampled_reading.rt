@@ -15,11 +15,11 @@ fn is_seen<H: Abort>(rt: &H, octets: &[u8], count: u16) -> Result<(), Fail> {
     assert_eq!(rt; view.source, [0x02, 0x00, 0x00, 0x00, 0x00, 0x01]);
     assert_eq!(rt; view.app_id, 0x4000);
     assert_eq!(rt; (view.reserved1, view.reserved2), (0, 0));
-    let ApduView::Sampled(unit) = view.apdu else {
+    let ApduView::Sampled(apdu) = view.apdu else {
         return Err(Fail::from("no Sampled Values"));
     };
-    assert_eq!(rt; unit.count, count);
-    let mut asdus = unit.asdus;
+    assert_eq!(rt; apdu.count, count);
+    let mut asdus = apdu.asdus;
     for _ in 0..count {
         let asdu = asdus.next().ok_or("too few ASDUs")?;
         assert_eq!(rt; asdu.sv_id, b"S".as_slice());
@@ -35,11 +35,11 @@ fn is_seen<H: Abort>(rt: &H, octets: &[u8], count: u16) -> Result<(), Fail> {
 /// Whether a frame of so many ASDUs is read from these octets.
 fn is_read<H: Abort>(rt: &H, alloc: Global, octets: &[u8], count: usize) -> Result<(), Fail> {
     let frame = decode(alloc, octets)?;
-    let Apdu::Sampled(unit) = &frame.apdu else {
+    let Apdu::Sampled(apdu) = &frame.apdu else {
         return Err(Fail::from("no Sampled Values"));
     };
-    assert_eq!(rt; unit.asdus.as_slice().len(), count);
-    for asdu in unit.asdus.as_slice() {
+    assert_eq!(rt; apdu.asdus.as_slice().len(), count);
+    for asdu in apdu.asdus.as_slice() {
         assert_eq!(rt; asdu.sv_id.as_slice(), b"S".as_slice());
         assert_eq!(rt; asdu.sample.as_slice(), [0x00, 0x2a].as_slice());
     }
@@ -105,7 +105,7 @@ fn each_cause_stands_at_its_place_in_sampled_values(rt: HostRuntime) {
 }
 
 #[test]
-fn a_unit_is_read_as_its_ether_type_announces(rt: HostRuntime) {
+fn an_apdu_is_read_as_its_ether_type_announces(rt: HostRuntime) {
     let as_goose = changed_sampled(13, 0xb8);
     assert_eq!(rt; seen(&as_goose), fault(22, Cause::UnexpectedTag));
     assert_eq!(rt;
@@ -121,7 +121,7 @@ fn a_unit_is_read_as_its_ether_type_announces(rt: HostRuntime) {
 }
 
 #[test]
-fn other_ether_types_announce_no_unit(rt: HostRuntime) {
+fn other_ether_types_announce_no_apdu(rt: HostRuntime) {
     assert_eq!(rt;
         seen(&changed_sampled(13, 0xb9)),
         fault(12, Cause::EtherType)

@@ -1,5 +1,5 @@
 use Rattle.std.proofs.Common.{refl}
-use Rattle.frame_core.specs.Frame.{frame_of}
+use Rattle.frame_core.specs.FrameViews.{frame_of}
 use Rattle.text_core.specs.FrameText.{envelope_parts}
 use Rattle.text_core.proofs.PieceLemmas.{row, more, done}
 use Rattle.text_core.proofs.frame.put_envelope.Goals as goal

@@ -1,6 +1,6 @@
 use Rattle.std.proofs.Common.{ℕ, List, ap, ◌∙◌}
 use Rattle.std.specs.Str.{bytes_eq}
-use Rattle.frame_core.specs.Frame.{frame_of}
+use Rattle.frame_core.specs.FrameViews.{frame_of}
 use Rattle.engine_core.proofs.CheckLemmas.{form_compared}
 use Rattle.engine_core.proofs.engines.check.is_in_written_form.Goals as goal
 

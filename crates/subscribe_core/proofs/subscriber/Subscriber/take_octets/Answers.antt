@@ -1,5 +1,5 @@
 use Rattle.std.proofs.Common.{◌++◌, List, ap, sym, ◌∙◌}
-use Rattle.frame_core.specs.Frame.{apdu_of}
+use Rattle.frame_core.specs.FrameViews.{apdu_of}
 use Rattle.frame_core.specs.FrameReading.{frame_at}
 use Rattle.frame_core.specs.declared.frame_view.ApduView.{ApduView}
 use Rattle.subscribe_core.specs.declared.entry.Entry.{Entry}
