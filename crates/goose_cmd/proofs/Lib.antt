@@ -1,6 +1,6 @@
 pub mod PlainTexts
 pub mod WrittenLists
-pub mod OneText
 pub mod ScriptOrder
+pub mod OneText
 pub mod ScriptLimits
 pub mod PublishedScripts

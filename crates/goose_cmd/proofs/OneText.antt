@@ -1,18 +1,39 @@
--- What a replay writes is one text: two texts that agree on each item and on each fault agree on each list.
-use Rattle.std.proofs.Common.{◌≡◌, ℕ, false, List, [], ◌∷◌, ◌++◌, length, Bool, Result, Ok, Err, ap, ap₂, sym, ◌∙◌, refl}
+-- What an engine writes is one text: two texts that agree on each item and on each fault agree on each list.
+use Rattle.std.proofs.Common.{◌≡◌, ℕ, false, List, [], ◌∷◌, ◌++◌, length, Bool, Option, Some, None, Result, Ok, Err, inl, inr, ap, ap₂, subst, sym, ◌∙◌, refl, append_assoc, arith}
+use Rattle.std.proofs.lemmas.List.{append-nil, length-append}
+use Rattle.std.proofs.lemmas.Option.{none-some, same_Some}
 use Rattle.frame_core.specs.declared.event.Event.{Event}
+use Rattle.frame_core.specs.declared.frame.Frame.{Frame}
 use Rattle.frame_core.specs.declared.line_rules.ItemFault.{ItemFault}
 use Rattle.frame_core.specs.declared.line_rules.ItemFault.TheVariants as fault
 use Rattle.frame_core.specs.declared.list_fault.ListCause.{ListCause}
+use Rattle.frame_core.specs.Items.{Listing, listing}
 use Rattle.frame_core.specs.Lines.{Stop, faulty, finished, unfinished}
+use Rattle.publish_core.specs.declared.fault.PublishFault.{PublishFault}
+use Rattle.publish_core.specs.Frames.{Setup, change}
+use Rattle.publish_core.specs.Refusal.{next_state}
+use Rattle.publish_core.specs.Run.{Act, Call, Changed, Polled, call, greatest_call_moment, trace_of_calls}
+use Rattle.publish_core.specs.Table.{AreSteps}
+use Rattle.publish_core.proofs.Judged.{changes_are_judged}
+use Rattle.publish_core.proofs.Runs.{answer_one}
 use Rattle.subscribe_core.specs.declared.block.Block.{Block}
 use Rattle.subscribe_core.specs.declared.entry.Entry.{Entry}
+use Rattle.subscribe_core.specs.declared.watch.Seen.{Seen}
 use Rattle.subscribe_core.specs.Standing.{AreApart}
+use Rattle.subscribe_core.proofs.Counts.{answers_are_one}
 use Rattle.subscribe_core.proofs.Runs.{entries_are_one}
+use Rattle.script_core.specs.declared.script.ScriptCause.{ScriptCause}
+use Rattle.script_core.specs.declared.script.ScriptItem.{ScriptItem}
+use Rattle.script_core.specs.declared.script.ScriptItem.TheVariants as item
+use Rattle.script_core.specs.declared.script.ScriptLines.TheVariants.{First}
+use Rattle.script_core.specs.Script.{script_rules}
 use Rattle.text_core.specs.EntryText.{entry_lines}
 use Rattle.engine_core.specs.EngineText.{Account, Text, put_step, told_after, told_stop}
+use Rattle.engine_core.specs.PublishText.{IsCallText, IsPublishText, IsRefused, IsTaken, StandsBefore, answer_text, items_of_lines, script_cause}
 use Rattle.engine_core.specs.ReplayText.{IsReplayText, events_of}
-use Rattle.goose_cmd.specs.ListText.{ReplayTextsAreOne}
+use Rattle.engine_core.specs.WatchText.{IsWatchText, counts, counts_of, samples_of, watched}
+use Rattle.goose_cmd.specs.OneText.{PublishTextsAreOne, ReplayTextsAreOne, SaySame, WatchTextsAreOne}
+use Rattle.goose_cmd.proofs.ScriptOrder.{scripts_in_order}
 
 module _ {X C : Type 0} (t u : Text X C) (lasts : (f : ItemFault C) → t.last f ≡ u.last f) where
   stop_same : (stop : Stop (ItemFault C)) → told_stop t stop ≡ told_stop u stop
@@ -24,25 +45,107 @@ module _ {X C : Type 0} (t u : Text X C) (lasts : (f : ItemFault C) → t.last f
   put_same n (Ok s) a b same = ap (put_step t n (Ok s)) same
   put_same n (Err why) a b same = stop_same (faulty (fault.Line n why))
 
-  told_same : (steps : (before : List (ℕ × X)) (e : ℕ × X) → t.step before e ≡ u.step before e) (before es : List (ℕ × X)) (stop : Stop (ItemFault C)) → told_after t before es stop ≡ told_after u before es stop
+  -- the texts agree on each item where it stands
+  abbrev Agree : List (ℕ × X) → List (ℕ × X) → Type 0
+  Agree before es = (xs more : List (ℕ × X)) (e : ℕ × X) → es ≡ xs ++ e ∷ more → t.step (before ++ xs) e ≡ u.step (before ++ xs) e
+
+  agree_here : (before es : List (ℕ × X)) (e : ℕ × X) → Agree before (e ∷ es) → t.step before e ≡ u.step before e
+  agree_here before es e agree = subst (λ (b : List (ℕ × X)). t.step b e ≡ u.step b e) (append-nil before) (agree [] es e refl)
+
+  agree_behind : (before es : List (ℕ × X)) (e : ℕ × X) → Agree before (e ∷ es) → Agree (before ++ e ∷ []) es
+  agree_behind before es e agree xs more i is =
+      subst (λ (b : List (ℕ × X)). t.step b i ≡ u.step b i) (sym (append_assoc before (e ∷ []) xs)) (agree (e ∷ xs) more i (ap (λ (l : List (ℕ × X)). e ∷ l) is))
+
+  told_same : (before es : List (ℕ × X)) → Agree before es → (stop : Stop (ItemFault C)) → told_after t before es stop ≡ told_after u before es stop
   unfolding told_after
-  told_same steps before [] stop = stop_same stop
-  told_same steps before (e ∷ es) stop =
-      ap (λ (r : Result (List ℕ × Bool) C). put_step t e.0 r (told_after t (before ++ e ∷ []) es stop)) (steps before e) ∙
-      put_same e.0 (u.step before e) (told_after t (before ++ e ∷ []) es stop) (told_after u (before ++ e ∷ []) es stop) (told_same steps (before ++ e ∷ []) es stop)
+  told_same before [] agree stop = stop_same stop
+  told_same before (e ∷ es) agree stop =
+      ap (λ (r : Result (List ℕ × Bool) C). put_step t e.0 r (told_after t (before ++ e ∷ []) es stop)) (agree_here before es e agree) ∙
+      put_same e.0 (u.step before e) (told_after t (before ++ e ∷ []) es stop) (told_after u (before ++ e ∷ []) es stop) (told_same (before ++ e ∷ []) es (agree_behind before es e agree) stop)
+
+  say_same : t.first ≡ u.first → (l : Listing X C) → Agree [] l.items → SaySame t u l
+  say_same firsts l agree = (ap₂ (λ (a : List ℕ) (o : Account C). a ++ o.text) firsts same, same)
+    where
+      same : told_after t [] l.items l.stop ≡ told_after u [] l.items l.stop
+      same = told_same [] l.items agree l.stop
+
+-- ---- replay
 
 -- the entries of an event are one, so its lines are
-step_same : {A : Type 0} (blocks : List (Block A)) (t u : Text (Event A) ListCause) → AreApart blocks → IsReplayText blocks t → IsReplayText blocks u → (before : List (ℕ × Event A)) (e : ℕ × Event A) → t.step before e ≡ u.step before e
-step_same {A} blocks t u apart is other before e =
+entries_same : {A : Type 0} (blocks : List (Block A)) (t u : Text (Event A) ListCause) → AreApart blocks → IsReplayText blocks t → IsReplayText blocks u → (before : List (ℕ × Event A)) (e : ℕ × Event A) → t.step before e ≡ u.step before e
+entries_same {A} blocks t u apart is other before e =
     let a = is.step before e in
     let b = other.step before e in
     a.2 ∙ (ap (λ (es : List (Entry A)). Ok (entry_lines e.0 es, false)) (entries_are_one blocks (events_of before ++ e.1 ∷ []) (length (events_of before)) a.0 b.0 apart a.1 b.1) ∙ sym b.2)
 
 pub replay_texts_are_one : {A : Type 0} → ReplayTextsAreOne A
-replay_texts_are_one {A} blocks t u l apart is other = (
-  ap₂ (λ (a : List ℕ) (o : Account ListCause). a ++ o.text) (is.first ∙ sym other.first) same,
-  same,
-)
-  where
-    same : told_after t [] l.items l.stop ≡ told_after u [] l.items l.stop
-    same = told_same t u (λ f. is.last f ∙ sym (other.last f)) (step_same blocks t u apart is other) [] l.items l.stop
+replay_texts_are_one {A} blocks t u l apart is other =
+    say_same t u (λ f. is.last f ∙ sym (other.last f)) (is.first ∙ sym other.first) l (λ xs more e at. entries_same blocks t u apart is other xs e)
+
+-- ---- watch
+
+-- lists that end alike, behind fronts of any kind
+end_same : {X : Type 0} (a b c d : List X) → length b ≡ length d → a ++ b ≡ c ++ d → b ≡ d
+end_same [] b [] d sizes is = is
+end_same [] b (y ∷ c) d sizes is = let whole = ap length is in absurd (omega (arith, sizes, whole, length-append c d))
+end_same (x ∷ a) b [] d sizes is = let whole = ap length is in absurd (omega (arith, sizes, whole, length-append a b))
+end_same (x ∷ a) b (y ∷ c) d sizes is = end_same a b c d sizes (cc)
+
+-- the answers to the counts of a stream are one, so those of an event are
+seen_same : {A : Type 0} (period : ℕ) (id : List ℕ) (t u : Text (Event A) ListCause) → IsWatchText period id t → IsWatchText period id u → (before : List (ℕ × Event A)) (e : ℕ × Event A) → t.step before e ≡ u.step before e
+seen_same {A} period id t u is other before e =
+    let a = is.step before e in
+    let b = other.step before e in
+    let all : a.0 ++ a.1 ≡ b.0 ++ b.1 = (answers_are_one period (counts_of id before ++ counts (samples_of id e.1.kind))).1 (a.0 ++ a.1) (b.0 ++ b.1) a.2 b.2 in
+    let same : a.1 ≡ b.1 = end_same a.0 a.1 b.0 b.1 (a.3 ∙ sym b.3) all in
+    a.4 ∙ (ap (λ (answers : List Seen). Ok (watched e.0 id e.1.kind answers)) same ∙ sym b.4)
+
+pub watch_texts_are_one : {A : Type 0} → WatchTextsAreOne A
+watch_texts_are_one period id t u l is other =
+    say_same t u (λ f. is.last f ∙ sym (other.last f)) (is.first ∙ sym other.first) l (λ xs more e at. seen_same period id t u is other xs e)
+
+-- ---- publish
+
+module _ {A : Type 0} (p : Setup A) (calls : List Call) (steps : AreSteps p.table) where
+  -- a call is not both taken and refused
+  not_both : (act : Act) (why : PublishFault) → IsTaken p calls act → IsRefused p calls act why → ⊥
+  not_both (Changed c) why taken refused =
+      let judged = changes_are_judged p.control p.table (next_state p calls) c steps in
+      none-some why (judged.2 None taken ∙ sym (judged.2 (Some why) refused))
+  not_both Polled why taken refused = refused
+
+  -- and refused for one reason
+  reason_one : (act : Act) (a b : PublishFault) → IsRefused p calls act a → IsRefused p calls act b → a ≡ b
+  reason_one (Changed c) a b first second =
+      let judged = changes_are_judged p.control p.table (next_state p calls) c steps in
+      same_Some a b (judged.2 (Some a) first ∙ sym (judged.2 (Some b) second))
+  reason_one Polled a b first second = absurd first
+
+  -- so what is said of it is one
+  call_same : (c : Call) (said other : Result (List ℕ × Bool) ScriptCause) → IsCallText p calls c said → IsCallText p calls c other → said ≡ other
+  call_same c said other (inl x) (inl y) =
+      let a = x.1 in
+      let b = y.1 in
+      a.2 ∙ (ap (λ (answer : Option (Frame A)). Ok (answer_text (greatest_call_moment (calls ++ c ∷ [])) answer, false)) (answer_one p (trace_of_calls (calls ++ c ∷ [])) (length calls) a.0 b.0 a.1 b.1) ∙ sym b.2)
+  call_same c said other (inl x) (inr y) = absurd (not_both c.act y.0 x.0 y.1)
+  call_same c said other (inr x) (inl y) = absurd (not_both c.act x.0 y.0 x.1)
+  call_same c said other (inr x) (inr y) = x.2 ∙ (ap (λ (why : PublishFault). Err (script_cause why)) (reason_one c.act x.0 y.0 x.1 y.1) ∙ sym y.2)
+
+module _ {A : Type 0} (t u : Text (ScriptItem A) ScriptCause) (is : IsPublishText t) (other : IsPublishText u) where
+  -- where an item stands as in a script, the texts agree on it
+  item_same : (before : List (ℕ × ScriptItem A)) (n : ℕ) (i : ScriptItem A) → StandsBefore (items_of_lines before) i → t.step before (n, i) ≡ u.step before (n, i)
+  item_same [] n (item.Control control first) none = is.control n first control ∙ sym (other.control n first control)
+  item_same (x ∷ before) n (item.Control control first) none = absurd (cc)
+  item_same before n (item.Step s) stands =
+      is.step stands.0 before stands.1 stands.2 n s ∙ sym (other.step stands.0 before stands.1 stands.2 n s)
+  item_same before n (item.Change moment time values) stands =
+      let c = call moment (Changed (change time values)) in
+      call_same stands.0 stands.1 stands.3.steps c _ _ (is.call stands.0 stands.1 before stands.2 stands.3 n c) (other.call stands.0 stands.1 before stands.2 stands.3 n c)
+  item_same before n (item.Poll moment) stands =
+      let c = call moment Polled in
+      call_same stands.0 stands.1 stands.3.steps c _ _ (is.call stands.0 stands.1 before stands.2 stands.3 n c) (other.call stands.0 stands.1 before stands.2 stands.3 n c)
+
+pub publish_texts_are_one : {A : Type 0} → PublishTextsAreOne A
+publish_texts_are_one t u z text is other =
+    say_same t u (λ f. is.last f ∙ sym (other.last f)) (is.first ∙ sym other.first) (listing script_rules First z 0 text)
+    (λ xs more e at. item_same t u is other xs e.0 e.1 (scripts_in_order z text xs more e at))

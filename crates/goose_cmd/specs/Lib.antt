@@ -1,2 +1,3 @@
 pub mod ListText
+pub mod OneText
 pub mod PublishedReplay

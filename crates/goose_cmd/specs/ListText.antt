@@ -53,12 +53,6 @@ lines_from n (es ∷ rest) = entry_lines n es ++ lines_from (n + 1) rest
 abbrev pub ReplayGives : {A : Type 0} → Text (Event A) ListCause → List ℕ → List (List (Entry A)) → Type 0
 ReplayGives t text entries = (whole_text t (list_of_text text) ≡ lines_from 2 entries) × ((told t (list_of_text text)).stop ≡ finished)
 
--- what a replay with these blocks writes of a list is one text: it says the same of each list, event by event and in its end
-abbrev pub ReplayTextsAreOne : Type 0 → Type 0
-ReplayTextsAreOne A =
-    (blocks : List (Block A)) (t u : Text (Event A) ListCause) (l : Listing (Event A) ListCause) → AreApart blocks → IsReplayText blocks t → IsReplayText blocks u →
-    (whole_text t l ≡ whole_text u l) × (told t l ≡ told u l)
-
 -- a list that is written is replayed as its events are: by the lines of the entries that they have
 abbrev pub WrittenListsReplay : Type 0 → Type 0
 WrittenListsReplay A =

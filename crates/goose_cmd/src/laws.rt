@@ -3,7 +3,8 @@ ghost use Rattle.std.specs.Prelude.{◌≡◌, ◌++◌, ℕ, List, Bool};
 ghost use Rattle.std.specs.List.{flat_map, list_any};
 ghost use Rattle.frame_core.specs.Items.{Listing};
 ghost use Rattle.engine_core.specs.EngineText.{IsPlain, Text, last_text, whole_text, told};
-ghost use Rattle.goose_cmd.specs.ListText.{PublishedListsReplay, ReplayTextsAreOne, WrittenListsReplay};
+ghost use Rattle.goose_cmd.specs.ListText.{PublishedListsReplay, WrittenListsReplay};
+ghost use Rattle.goose_cmd.specs.OneText.{PublishTextsAreOne, ReplayTextsAreOne, WatchTextsAreOne};
 ghost use Rattle.engine_core.specs.PublishText.{ScriptsAreInOrder};
 ghost use Rattle.goose_cmd.specs.PublishedReplay.{PublishedTextsReplay, ScriptsGiveLists};
 
@@ -43,17 +44,30 @@ pub fn replay_texts_are_one<A: Allocator>()
     ensures { ReplayTextsAreOne A }
 {}
 
+/// What a watch of a stream writes of a list is one text: whatever says it says the same of each list.
+pub fn watch_texts_are_one<A: Allocator>()
+    ensures { WatchTextsAreOne A }
+{}
+
+/// What `publish` writes of a script is one text: whatever says it says the same of each script, also of one that has a
+/// fault or a change that is refused.
+pub fn publish_texts_are_one<A: Allocator>()
+    ensures { PublishTextsAreOne A }
+{}
+
 /// The list of a publisher's whole run, replayed with its own block, gives one line for each frame: an action for that of a
-/// change, a renewal for that of a poll, and nothing else. The moments of its calls have at most 18 digits, the frames are
-/// octets, and there are at most 999,999 of them.
+/// change, a renewal for that of a poll, and nothing else. The control is neither simulated nor in commissioning, the status
+/// numbers don't wrap, and each frame comes in the lifetime of the one before. The moments of its calls have at most 18
+/// digits, the frames are octets, and there are at most 999,999 of them.
 pub fn published_lists_replay<P: Allocator, S: Allocator>()
     ensures { PublishedListsReplay P S }
 {}
 
 /// What `publish` writes of a script whose changes are accepted is the list of the frames that its calls give. Where it
 /// writes the text of a script to its end, a replay of that with the publisher's own block gives one line for each frame:
-/// an action for that of a change, a renewal for that of a poll, and nothing else. The status numbers don't wrap, each
-/// frame comes in the lifetime of the one before, and the frames are octets. That each change was accepted, and that the
+/// an action for that of a change, a renewal for that of a poll, and nothing else. The control is neither simulated nor in
+/// commissioning, the status numbers don't wrap, each frame comes in the lifetime of the one before, and the frames are
+/// octets. That each change was accepted, and that the
 /// frames and their moments can stand in a list and are not too many, follows from the text.
 pub fn published_texts_replay<P: Allocator, S: Allocator>()
     ensures list { ScriptsGiveLists P S }
