@@ -268,3 +268,22 @@ fn texts_and_samples_of_each_count_are_owned(rt: HostRuntime) -> Result<(), Fail
     }
     Ok(())
 }
+
+#[test]
+fn an_empty_text_is_owned_beside_others(rt: HostRuntime) -> Result<(), Fail> {
+    let letters = letters(rt.alloc(), 3)?;
+    for empty in 0..3usize {
+        let mut texts = [letters.as_slice(); 3];
+        texts[empty] = b"";
+        let [sv_id, dat_set, sample] = texts;
+        let mut fields = Vec::new(rt.alloc());
+        put(&mut fields, 0x80, sv_id)?;
+        put(&mut fields, 0x81, dat_set)?;
+        fields.extend_from_slice(&[0x82, 0x02, 0x00, 0x00, 0x83, 0x04, 0x00, 0x00, 0x00, 0x01])?;
+        fields.extend_from_slice(&[0x85, 0x01, 0x02])?;
+        put(&mut fields, 0x87, sample)?;
+        let octets = alone(rt.alloc(), fields.as_slice())?;
+        assert!(rt; is_asdu_owned(rt.alloc(), octets.as_slice())?);
+    }
+    Ok(())
+}

@@ -1,12 +1,13 @@
 // A recorded APDU: its value, with an identifier, with another count, and where only its front is there.
 
-use crate::pdu::{FRAME, NO_TIME, SHORT, changed, fault};
+use crate::pdu::{NO_TIME, SHORT, changed, fault};
 use arrayvec::ArrayVec;
 use ber_core::{Cause, Fault};
 use mms_data::{PutFault, ReadFault, Value};
 use pdu_core::{laws, put_goose, read_goose, view_goose};
 use std::alloc::Global;
 use std::test::Fail;
+use worked_frames::FRAME;
 
 #[test]
 fn recorded_pdu_is_read(rt: HostRuntime) -> Result<(), Fail> {

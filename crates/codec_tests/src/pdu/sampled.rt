@@ -7,14 +7,7 @@ use ber_core::{Cause, Fault};
 use mms_data::{ReadFault, UtcTime};
 use pdu_core::{AsduView, read_sv, view_sv};
 use std::test::Fail;
-
-/// A frame. Its APDU stands at 22, its ASDU at 29.
-pub const FRAME: [u8; 54] = [
-    0x01, 0x0c, 0xcd, 0x04, 0x00, 0x01, 0x02, 0x00, 0x00, 0x00, 0x00, 0x01, 0x88, 0xba, 0x40, 0x00,
-    0x00, 0x28, 0x00, 0x00, 0x00, 0x00, 0x60, 0x1e, 0x80, 0x01, 0x01, 0xa2, 0x19, 0x30, 0x17, 0x80,
-    0x01, 0x53, 0x82, 0x02, 0x0f, 0x9e, 0x83, 0x04, 0x00, 0x00, 0x00, 0x01, 0x85, 0x01, 0x02, 0x87,
-    0x02, 0x00, 0x2a, 0x88, 0x01, 0x00,
-];
+use worked_frames::SAMPLED;
 
 /// An APDU of one ASDU with each field.
 pub const FULL: [u8; 54] = [
@@ -54,7 +47,7 @@ fn one_asdu<'a>(octets: &'a [u8], at: usize, end: usize) -> Result<Option<AsduVi
 
 #[test]
 fn recorded_pdu_stands(rt: HostRuntime) -> Result<(), Fail> {
-    let Some(asdu) = one_asdu(&FRAME, 22, 54)? else {
+    let Some(asdu) = one_asdu(&SAMPLED, 22, 54)? else {
         return Err(Fail::from("not one ASDU"));
     };
     assert_eq!(rt; asdu.sv_id, b"S".as_slice());
@@ -105,7 +98,7 @@ fn fields_that_may_be_absent_are(rt: HostRuntime) -> Result<(), Fail> {
 
 #[test]
 fn recorded_pdu_is_read(rt: HostRuntime) -> Result<(), Fail> {
-    let pdu = read_sv(rt.alloc(), &FRAME, 22, 54)?;
+    let pdu = read_sv(rt.alloc(), &SAMPLED, 22, 54)?;
     let [asdu] = pdu.asdus.as_slice() else {
         return Err(Fail::from("not one ASDU"));
     };
@@ -122,7 +115,7 @@ fn recorded_pdu_is_read(rt: HostRuntime) -> Result<(), Fail> {
 
 #[test]
 fn wrong_count_is_told(rt: HostRuntime) {
-    let mut frame = FRAME;
+    let mut frame = SAMPLED;
     frame[26] = 2;
     let fault = match read_sv(rt.alloc(), &frame, 22, 54) {
         Err(ReadFault::Fault(fault)) => Some(fault),
@@ -138,7 +131,7 @@ fn eight() -> ArrayVec<u8, 209> {
     let _ = pdu.try_extend_from_slice(&[0x60, 0x81, 0xce, 0x80, 0x01, 0x08, 0xa2, 0x81, 0xc8]);
     for count in 0..8u8 {
         let mut asdu = [0; 25];
-        asdu.copy_from_slice(&FRAME[29..]);
+        asdu.copy_from_slice(&SAMPLED[29..]);
         asdu[7] = 0;
         asdu[8] = count;
         let _ = pdu.try_extend_from_slice(&asdu);

@@ -2,10 +2,11 @@
 
 ghost use Rattle.std.specs.Prelude.{◌<◌, ◌≤◌};
 
-use crate::pdu::sampled::{FRAME, FULL};
+use crate::pdu::sampled::FULL;
 use arrayvec::ArrayVec;
 use ber_core::{Cause, Fault};
 use pdu_core::view_sv;
+use worked_frames::SAMPLED;
 
 // The fault of the APDU with each field, with this octet at this place.
 fn fault(place: usize, octet: u8) -> Option<Fault>
@@ -108,13 +109,13 @@ fn count_is_judged_last(rt: HostRuntime) {
 #[test]
 fn each_cut_is_at_fault(rt: HostRuntime) {
     assert_eq!(rt;
-        view_sv(&FRAME, 22, 22).err(),
+        view_sv(&SAMPLED, 22, 22).err(),
         Some(Cause::ElementMissing.at(22))
     );
-    assert_eq!(rt; view_sv(&FRAME, 22, 23).err(), Some(Cause::Ends.at(23)));
+    assert_eq!(rt; view_sv(&SAMPLED, 22, 23).err(), Some(Cause::Ends.at(23)));
     for end in 24..54 {
         assert_eq!(rt;
-            view_sv(&FRAME, 22, end).err(),
+            view_sv(&SAMPLED, 22, end).err(),
             Some(Cause::LengthPastEnd.at(23))
         );
     }
@@ -127,7 +128,7 @@ fn with_few(identifier: u8, count: u8) -> ArrayVec<u8, 64>
     let mut pdu = ArrayVec::<u8, 64>::new();
     let _ = pdu.try_extend_from_slice(&[0x60, 0x1d + count, 0x80, 0x01, 0x01, 0xa2, 0x18 + count]);
     let _ = pdu.try_extend_from_slice(&[0x30, 0x16 + count]);
-    let _ = pdu.try_extend_from_slice(&FRAME[31..51]);
+    let _ = pdu.try_extend_from_slice(&SAMPLED[31..51]);
     let _ = pdu.try_extend_from_slice(&[identifier, count]);
     let _ = pdu.try_extend_from_slice(&[0xff; 17][..count as usize]);
     pdu

@@ -1,7 +1,7 @@
 //! Frames that are read, and the first fault of those that are not.
 
 use crate::frame::frames::{
-    FRAME, LONG, MISSING, TAGGED, changed, changed_twice, fault, read, seen, with_deep_member,
+    LONG, MISSING, TAGGED, changed, changed_twice, fault, read, seen, with_deep_member,
     with_one_more,
 };
 use ber_core::Cause;
@@ -9,6 +9,7 @@ use frame_core::{Apdu, ApduView, VlanTag, decode, laws, view_frame};
 use std::alloc::Global;
 use std::process::Abort;
 use std::test::Fail;
+use worked_frames::FRAME;
 
 /// Whether the view of these octets is of the frame of one boolean.
 fn is_seen<H: Abort>(rt: &H, octets: &[u8]) -> Result<(), Fail> {

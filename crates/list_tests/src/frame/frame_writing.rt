@@ -1,6 +1,6 @@
 //! Frames in their written form.
 
-use crate::frame::frames::{FRAME, LONG, TAGGED};
+use crate::frame::frames::{LONG, TAGGED};
 use arrayvec::ArrayVec;
 use ber_core::Full;
 use frame_core::{
@@ -10,6 +10,7 @@ use mms_data::Octets;
 use std::alloc::Global;
 use std::process::Abort;
 use std::test::Fail;
+use worked_frames::FRAME;
 
 /// Whether the frame that the octets spell has this written form, owned and as a view.
 fn has_form<H: Abort>(rt: &H, alloc: Global, octets: &[u8], form: &[u8]) -> Result<(), Fail> {

@@ -1,12 +1,13 @@
 //! Frames cut near their header's end, the forms of the field Length and of the APDU's length, and other tags.
 
-use crate::frame::frames::{FRAME, TAGGED, changed, changed_twice, fault, read, seen};
+use crate::frame::frames::{TAGGED, changed, changed_twice, fault, read, seen};
 use arrayvec::ArrayVec;
 use ber_core::{Cause, Fault};
 use frame_core::{decode, encode};
 use std::alloc::Global;
 use std::process::Abort;
 use std::test::Fail;
+use worked_frames::FRAME;
 
 /// Whether these octets are answered so, as a view and as a frame.
 fn is_told<H: Abort>(rt: &H, alloc: Global, octets: &[u8], told: Result<(), Fault>) {

@@ -49,6 +49,15 @@ fn a_line_has_4096_octets_at_most(rt: HostRuntime) -> Result<(), Fail> {
 }
 
 #[test]
+fn the_end_of_a_reader_is_the_end(rt: HostRuntime) {
+    let mut reader = LineReader::new(FromRead::new(b"one\ntwo".as_slice()));
+    assert_eq!(rt; reader.next_line(), Ok(Some(b"one".as_slice())));
+    assert_eq!(rt; reader.next_line(), Ok(Some(b"two".as_slice())));
+    assert_eq!(rt; reader.next_line(), Ok(None));
+    assert_eq!(rt; reader.into_reader().ending(), InputEnd::End);
+}
+
+#[test]
 fn a_failed_read_comes_after_the_whole_lines(rt: HostRuntime) -> Result<(), Fail> {
     let mut reader = LineReader::new(source_of(b"one\ntwo", 5, 1));
     let fault = ListFault {

@@ -1,12 +1,13 @@
 //! Frames of Sampled Values that are read, and the first fault of those that are not.
 
 use crate::frame::frames::{changed, changed_twice, fault, read, seen};
-use crate::frame::sampled_frames::{SAMPLED, TAGGED_SAMPLED, changed_sampled, of_eight};
+use crate::frame::sampled_frames::{TAGGED_SAMPLED, changed_sampled, of_eight};
 use ber_core::Cause;
 use frame_core::{Apdu, ApduView, VlanTag, decode, view_frame};
 use std::alloc::Global;
 use std::process::Abort;
 use std::test::Fail;
+use worked_frames::SAMPLED;
 
 /// Whether the view of these octets is of a frame of so many ASDUs, each as that of the one.
 fn is_seen<H: Abort>(rt: &H, octets: &[u8], count: u16) -> Result<(), Fail> {

@@ -1,6 +1,6 @@
 //! Frames of Sampled Values in their written form.
 
-use crate::frame::sampled_frames::{SAMPLED, TAGGED_SAMPLED, of_eight};
+use crate::frame::sampled_frames::{TAGGED_SAMPLED, of_eight};
 use arrayvec::ArrayVec;
 use frame_core::{Apdu, EncodeFault, Frame, decode, encode, encode_view, view_frame};
 use mms_data::Octets;
@@ -8,6 +8,7 @@ use pdu_core::{Asdu, AsduList, SvPdu};
 use std::alloc::Global;
 use std::process::Abort;
 use std::test::Fail;
+use worked_frames::SAMPLED;
 
 /// Whether the frame that the octets spell is written as they are, owned and as a view.
 fn is_its_form<H: Abort>(rt: &H, alloc: Global, octets: &[u8]) -> Result<(), Fail> {
