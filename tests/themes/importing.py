@@ -56,6 +56,8 @@ class Judged:
         ours = [(moment / 10**6, *(found.groups() if found else ("", ""))) for moment, found in zip(moments, numbers)]
         theirs = [line.split("\t") for line in told.stdout.decode().splitlines()]
         theirs = [(float(moment), st, sq) for moment, st, sq in theirs]
+        why += [f"tshark ended with status {told.returncode}"] if told.returncode else []
+        why += [f"tshark tells of {len(theirs)} packets, and not of {len(ours)}"] if len(theirs) != len(ours) else []
         why += [f"tshark says {b}, and not {a}" for a, b in zip(ours, theirs) if a != b][:3]
         lines, _ = subscriber.replay(listed, [BLOCK])
         replayed = run(program, ["replay", BLOCK], listed)[0]

@@ -10,6 +10,11 @@ from reference import ABOUT, COMMANDS, HELP, TAKES, VERSION
 TOP = pathlib.Path(__file__).resolve().parent.parent.parent
 # What help says of the exit statuses above 1.
 STATUSES = [b"2 wrong arguments", b"3 an error in the input", b"4 a device failed", b"5 out of memory"]
+# What help says of the units of moments, where that is not what it says of a command over lists.
+UNITS = {
+    "--help": b"Moments in lists and scripts are microseconds where the first line is V2, else milliseconds",
+    "import": b"Moments in the output are microseconds, whatever the capture has",
+}
 # What standard error says of a text that is no control block, behind its position.
 BLOCK_FORM = b"A BLOCK is APPID,gocbRef,datSet,goID,confRev,entries, for example '0001,IED1LD/LLN0$GO$gcb,IED1LD/LLN0$ds,,1,2'\n"
 
@@ -52,8 +57,7 @@ class Begins(Case):
                              stdout=subprocess.PIPE, stderr=subprocess.PIPE, timeout=SECONDS)
         why += [] if ran.returncode in (0, 1) and ran.stdout and not ran.stderr else [f"the example ends so: {ran}"]
         parts = [b"Exit status: 0 ", *STATUSES, b"docs/FORMATS.md"]
-        if self.words[0] in HELP:
-            parts += [b"Moments in the input are microseconds where its first line is V2, else milliseconds"]
+        parts += [UNITS.get(self.words[0], b"Moments in the input are microseconds where its first line is V2, else milliseconds")]
         if self.words[0] == "check":
             parts += [b"not-written is a note and no error: the frame is good"]
         return why + [f"help lacks {part!r}" for part in parts if part not in wrote]

@@ -26,8 +26,8 @@ pub fn what_is_published_is_of_the_run<P: Allocator, S: Allocator>()
 {}
 
 /// Of the frames of a publisher's whole run, whose changes were accepted, the publisher's own block acts on each change's
-/// and is renewed by each poll's, and there is no other entry: where the status numbers don't wrap, each frame comes in the
-/// lifetime of the one before, and there are at most 4294967295 of them.
+/// and is renewed by each poll's, and there is no other entry: where the control is neither simulated nor in commissioning,
+/// the status numbers don't wrap, each frame comes in the lifetime of the one before, and there are at most 4294967295 of them.
 pub fn whole_runs_replay<P: Allocator, S: Allocator>()
     ensures { WholeRunsReplay P S }
 {}

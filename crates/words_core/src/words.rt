@@ -59,6 +59,10 @@ const MORE: &str =
 const CHECK_MORE: &str =
     "A line fault is an error of the frame. A line not-written is a note and no error: the frame is good, but encoded otherwise than rewrite would write it. A line destination is a note too: the frame is sent to another address than the standards recommend.\n\nMoments in the input are microseconds where its first line is V2, else milliseconds.\nExit status: 0 nothing to note, 1 a line was written for some frame, 2 wrong arguments, 3 an error in the input, 4 a device failed while reading or writing, 5 out of memory.\nMore: docs/FORMATS.md, man docs/goose.1";
 
+// What the help of `import` ends with: a capture has a unit of its own.
+const IMPORT_MORE: &str =
+    "Moments in the output are microseconds, whatever the capture has. A record that no list can hold is left out, and a comment says so.\nExit status: 0 done, 1 a record was left out, 2 wrong arguments, 3 an error in the input, 4 a device failed while reading or writing, 5 out of memory.\nMore: docs/FORMATS.md, man docs/goose.1";
+
 // The program before its subcommands, one of which must be named.
 fn program<'a>(alloc: Global) -> Command<'a>
     ensures { app_of result ≡ bare_program }
@@ -67,7 +71,7 @@ fn program<'a>(alloc: Global) -> Command<'a>
         .version("0.1.0")
         .before_help("Example: goose show < examples/one_frame.list")
         .after_help(
-            "Run goose COMMAND --help for an example of each command.\nExit status: 0 done, 1 something was found, 2 wrong arguments, 3 an error in the input, 4 a device failed while reading or writing, 5 out of memory.\nMore: docs/FORMATS.md, man docs/goose.1",
+            "Run goose COMMAND --help for an example of each command.\nMoments in lists and scripts are microseconds where the first line is V2, else milliseconds; what is written is always in microseconds.\nExit status: 0 done, 1 something was found, 2 wrong arguments, 3 an error in the input, 4 a device failed while reading or writing, 5 out of memory.\nMore: docs/FORMATS.md, man docs/goose.1",
         )
         .about(
             "Reads recorded GOOSE and Sampled Values frames from standard input and tells what they say",
@@ -201,7 +205,7 @@ fn command<'a>(alloc: Global) -> Result<Command<'a>, AllocError>
         "import",
         "Reads a capture (classic libpcap, as tcpdump -w writes) and writes it as a list",
         "Example: goose import < examples/two_frames.pcap",
-        MORE,
+        IMPORT_MORE,
     )
 }
 
