@@ -1,5 +1,6 @@
 """The documents name what there is: modules and words of definitions, files and headings that are linked to; crates.txt
-names the crates that sources use."""
+names the crates that sources use. And they name all of it: each public definition and each public call with a contract
+has a row."""
 import pathlib
 import re
 
@@ -11,29 +12,44 @@ PROOFS = TOP / "docs" / "PROOFS.md"
 FORMATS = TOP / "docs" / "FORMATS.md"
 PROGRAM = "goose"
 COMMENTS = {".rt": r"(?m)//.*$", ".antt": r"(?m)--.*$"}
-DECLARED = r"(?m)^\s*(?:(?:abbrev|unfoldable|opaque)\s+)*pub\s+(?:data\s+|record\s+)?{}(?=[\s:({{])"
+DECLARED = r"(?:(?:abbrev|unfoldable|opaque) +)*pub +(?:data +|record +)?([^\s:({]+)"
+OWNER = r"(?:pub |unsafe )?(trait|impl)(?:<.*?>)? (.* for )?(\w+)"
+# Of the calls of text_core docs/PROOFS.md says one sentence for all, and has no rows.
+WITHOUT_ROWS = {"text_core"}
 
 
 class Described:
-    """The definitions of one crate are described, and those that are described stand where it is said."""
+    """The definitions of one crate are described, each in a row of its module, and those that are described stand where it
+    is said."""
 
     def __init__(self, crate, text):
         self.name, self.text = f"the definitions of {crate}", text
         self.specs = TOP / "crates" / crate / "specs"
 
     def why_wrong(self, _program):
+        # What stands in specs/declared is generated.
         modules = {file.stem: file.read_text() for file in self.specs.glob("*.antt") if file.stem != "Lib"}
         described = re.split(r"(?m)^### ", self.text)[1:]
         headed = {part.split("\n")[0].strip(): part for part in described}
         named = set(headed) | set(re.findall(r"`(\w+)`", self.text))
         why = [f"no word on specs/{module}.antt" for module in sorted(set(modules) - named)]
         why += [f"there is no specs/{module}.antt" for module in sorted(set(headed) - set(modules))]
-        for module in sorted(set(headed) & set(modules)):
-            for row in re.findall(r"(?m)^\| (`.*?) \|", headed[module]):
-                words = re.findall(r"`(\w+)`", row)
-                why += [f"specs/{module}.antt does not define {word}" for word in words
-                        if not re.search(DECLARED.format(re.escape(word)), modules[module])]
+        for module, source in sorted(modules.items()):
+            why += self.why_module_wrong(module, source, headed.get(module, ""))
         return why
+
+    def why_module_wrong(self, module, source, part):
+        words = {word for row in re.findall(r"(?m)^\| (`.*?) \|", part) for word in re.findall(r"`([^`]+)`", row)}
+        defined = set(definitions(source))
+        yield from (f"specs/{module}.antt does not define {word}" for word in sorted(words - defined))
+        yield from (f"no row has {word} of specs/{module}.antt" for word in sorted(defined - words))
+
+
+def definitions(source):
+    """The public names of a module, at the margin, or one step in under `mutual`. Fields of records stand further in."""
+    for block in re.split(r"(?m)^(?=\S)", source):
+        margin = "  " if re.match(r"(?:\w+ )*mutual\n", block) else ""
+        yield from re.findall(f"(?m)^{margin}{DECLARED}", block)
 
 
 class Claimed:
@@ -43,8 +59,7 @@ class Claimed:
         self.name, self.text = f"the clauses of {crate}", text
 
     def why_wrong(self, _program):
-        rows = [row.strip("| ").split(" | ") for row in self.text.splitlines() if row.startswith("| `")]
-        return [why for row in rows if len(row) == 4 for why in self.why_row_wrong(*row)]
+        return [why for row in rows(self.text) for why in self.why_row_wrong(*row)]
 
     def why_row_wrong(self, calls, claims, _premise, files):
         clauses = {}
@@ -60,10 +75,70 @@ class Claimed:
             yield from (f"{call} has no clause {it}" for it in missing)
 
 
+class Listed:
+    """The public calls of one crate that have a contract stand in rows of docs/PROOFS.md. Those that it hands on from
+    another crate stand in that one's rows."""
+
+    def __init__(self, crate, text):
+        self.name, self.text = f"the public calls of {crate}", text
+        self.sources = TOP / "crates" / crate / "src"
+
+    def why_wrong(self, _program):
+        named = {call for row in rows(self.text) for call in full_names(row[0])}
+        return [f"no row has {call} of {file.relative_to(TOP)}" for call, file in self.calls() if call not in named]
+
+    def calls(self):
+        """The full name of each call, and its file."""
+        public = dict(public_names(self.sources))
+        types = {name for _, name in public}
+        for file in sorted(self.sources.rglob("*.rt")):
+            for owner, name, contract in owned_contracts(file.read_text()):
+                call = f"{owner}::{name}" if owner in types else public.get((file, name))
+                if call and re.search(r"\b(?:requires|ensures)\b", contract):
+                    yield call, file
+
+
+def rows(text):
+    """The rows on calls: which they are, what is claimed of them, under which premise, and where they stand."""
+    cells = [row.strip("| ").split(" | ") for row in text.splitlines() if row.startswith("| `")]
+    return [row for row in cells if len(row) == 4]
+
+
+def full_names(calls):
+    """The calls in a cell, each also as one of the owner named last: behind `A::f` the name `g` may mean `A::g`."""
+    owner = ""
+    for call in re.findall(r"`([\w:]+)`", calls):
+        owner = call.rpartition("::")[0] or owner
+        yield from (call, f"{owner}::{call}")
+
+
+def public_names(sources):
+    """What a crate makes public: each by its file and its name there, with its full name."""
+    lib = (sources / "lib.rt").read_text()
+    for module in re.findall(r"(?m)^pub mod (\w+);", lib):
+        file = sources / f"{module}.rt"
+        for name in re.findall(r"(?m)^pub (?:fn|struct|enum|trait) (\w+)", file.read_text()):
+            yield (file, name), f"{module}::{name}"
+    for path, names in re.findall(r"(?m)^pub use (?:crate::)?([\w:]+)::(\w+|\{[^}]*\});", lib):
+        file = sources.joinpath(*path.split("::")).with_suffix(".rt")
+        yield from (((file, name), name) for name in re.findall(r"\w+", names))
+
+
+def owned_contracts(source):
+    """Each function at the margin, and each public one of a type or a trait, with its owner, its name and its contract."""
+    for part in re.split(r"(?m)^(?=(?:pub |unsafe )?(?:trait|impl)\b)", source):
+        head = re.match(OWNER, part)
+        for name, contract in contracts(part):
+            if not contract.startswith(" "):
+                yield None, name, contract
+            elif head and (head[1] == "trait" or head[2] or contract.lstrip().startswith("pub ")):
+                yield head[3], name, contract
+
+
 def contracts(source):
-    """Each function with the text up to its body."""
+    """Each function with the text up to its body, or to its end where a trait has it without one."""
     for found in re.finditer(r"(?m)^( *)(?:pub )?fn (\w+)", source):
-        end = re.compile(rf"(?m)^{found[1]}\{{|\{{\}}$").search(source, found.end())
+        end = re.compile(rf"(?m)^{found[1]}\{{|\{{\}}?$|;$").search(source, found.end())
         yield found[2], source[found.start():end.start() if end else len(source)]
 
 
@@ -135,6 +210,10 @@ def cases():
         yield StandsOn(crate, named, others)
     defined, proved = parts(DEFINITIONS), parts(PROOFS)
     for crate in lines:
-        if (TOP / "crates" / crate / "specs").is_dir():
+        has_definitions = (TOP / "crates" / crate / "specs").is_dir()
+        if has_definitions:
             yield Described(crate, defined.get(crate, ""))
+        if has_definitions or crate in proved:
             yield Claimed(crate, proved.get(crate, ""))
+            if crate not in WITHOUT_ROWS:
+                yield Listed(crate, proved.get(crate, ""))
