@@ -4,3 +4,4 @@ pub mod ScriptOrder
 pub mod OneText
 pub mod ScriptLimits
 pub mod PublishedScripts
+pub mod WorkedExamples

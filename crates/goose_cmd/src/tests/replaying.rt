@@ -223,3 +223,25 @@ fn laws_hold(_rt: HostRuntime) {
     laws::published_texts_replay::<Global, Global>();
     laws::actions_carry_what_was_published::<Global, Global>();
 }
+
+#[test]
+fn a_first_write_that_fails_leaves_the_rest_unread(rt: HostRuntime) -> Result<(), Fail> {
+    let mut list = Vec::from_slice(
+        rt.alloc(),
+        b"F 0 010ccd01000102000000000188b80001003500000000612b800147810207d0820144840800000000000000008501018601008701008801018901008a0101ab038301ff\n",
+    )?;
+    for _ in 0..3000u32 {
+        list.extend_from_slice(b"C 9\n")?;
+    }
+    let blocks = blocks_of(rt.alloc(), ["0001,G,D,,1,1"].as_slice())?;
+    let source = source_of(list.as_slice(), 8192, NEVER);
+    let (ending, source) = replay(
+        rt.alloc(),
+        source,
+        blocks,
+        &mut sink_of(rt.alloc(), 8192, 0),
+    );
+    assert_eq!(rt; ending, Ending::WriteFault);
+    assert!(rt; list.len().saturating_sub(source.octets_left()) <= 8192);
+    Ok(())
+}

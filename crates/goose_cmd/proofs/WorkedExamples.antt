@@ -1,0 +1,72 @@
+-- Written lists, scripts with what `publish` writes of them, and the watch over a counter, computed: a wrong definition does not check.
+use Rattle.std.proofs.Common.{◌≡◌, ℕ, true, List, [], ◌∷◌, ◌++◌, None, refl}
+use Rattle.std.specs.Prelude.{codes}
+use Rattle.std.specs.Fmt.{digits}
+use Rattle.hex.specs.Hex.{decode_pairs, encode_with}
+use Rattle.ber_core.specs.ContentsReading.{all_visible_at, boolean_at}
+use Rattle.ber_core.specs.Reading.{header_at, length_at}
+use Rattle.ber_core.specs.Written.{integer_size, short_integer, short_length, written_element}
+use Rattle.mms_data.specs.ContentsReading.{simple_at}
+use Rattle.mms_data.specs.Kinds.{kind_at}
+use Rattle.mms_data.specs.Reading.{member_at, member_with, members_at, members_with}
+use Rattle.frame_core.specs.declared.event.Event.{Event}
+use Rattle.frame_core.specs.declared.event.EventKind.TheVariants.{Clock, Mode}
+use Rattle.frame_core.specs.Items.{items_said}
+use Rattle.frame_core.specs.Lines.{finished, reading}
+use Rattle.subscribe_core.specs.declared.entry.Entry.{Entry}
+use Rattle.subscribe_core.specs.declared.entry.Entry.TheVariants.{Expired, NotSubscribed}
+use Rattle.subscribe_core.specs.declared.watch.Seen.TheVariants.{First, Next, Skipped, Same, Late, OutOfRange}
+use Rattle.subscribe_core.specs.Watch.{seen_all}
+use Rattle.engine_core.specs.EngineText.{told_after, whole_text}
+use Rattle.engine_core.specs.PublishStep.{publish_text}
+use Rattle.goose_cmd.specs.ListText.{lines_from, list_of_text, list_text}
+use Rattle.goose_cmd.specs.PublishedReplay.{script_of_text}
+
+-- ---- written lists
+
+abbrev events : List (Event (Unit {0}))
+events = record { moment = 7; kind = Clock } ∷ record { moment = 8; kind = Mode true } ∷ []
+
+abbrev entries : List (List (Entry (Unit {0})))
+entries = (Expired 0 ∷ []) ∷ [] ∷ (Expired 1 ∷ NotSubscribed ∷ []) ∷ []
+
+pub record AreLists : Type 0 where
+  pub written : list_text events ≡ codes "V2\nC 7\nM 8 on\n"
+  pub read : list_of_text {A = Unit {0}} (codes "V2\nC 7\nM 8 on\n") ≡ record { items = (2, record { moment = 7; kind = Clock }) ∷ (3, record { moment = 8; kind = Mode true }) ∷ []; stop = finished }
+  pub replayed : lines_from 2 entries ≡ codes "2 expired 0\n4 expired 1\n4 not-subscribed\n"
+
+pub lists : AreLists
+unfolding reading items_said digits
+lists = record { written = refl; read = refl; replayed = refl }
+
+-- ---- the watch
+
+pub record AreCounts : Type 0 where
+  pub half_a_second : seen_all 4000 None (3998 ∷ 3999 ∷ 0 ∷ 2 ∷ 1 ∷ 2 ∷ 4000 ∷ []) ≡ First ∷ Next ∷ Next ∷ Skipped 1 ∷ Late ∷ Same ∷ OutOfRange ∷ []
+  pub least_period : seen_all 2 None (0 ∷ 1 ∷ 0 ∷ []) ≡ First ∷ Next ∷ Next ∷ []
+  -- half the period is late, and one less is not
+  pub half : seen_all 8 None (0 ∷ 4 ∷ 3 ∷ []) ≡ First ∷ Late ∷ Skipped 2 ∷ []
+
+pub are_counts : AreCounts
+are_counts = record { half_a_second = refl; least_period = refl; half = refl }
+
+-- ---- scripts
+
+-- a control block of one boolean, with two steps
+abbrev front : List ℕ
+front = codes "control,010ccd010001,020000000001,,0001,G,D,,1,1,0,0,1\nstep,10,2000\nstep,1000,3000\n"
+
+abbrev published : List ℕ → List ℕ
+published script = whole_text (publish_text {A = Unit {0}}) (script_of_text script)
+
+pub record AreScripts : Type 0 where
+  pub none : published [] ≡ codes "V2\n# 1 script ScriptForm\n"
+  pub no_change : published (front ++ codes "poll,5\n") ≡ codes "V2\n"
+  -- a change, a poll before the wait is over, and one at its end: the frame of the second step, with its lifetime
+  pub sent : published (front ++ codes "change,0,0000000000000000,8301ff\npoll,9\npoll,10\n")
+      ≡ codes "V2\nF 0 010ccd01000102000000000188b80001003500000000612b800147810207d0820144840800000000000000008501018601008701008801018901008a0101ab038301ff\nF 10000 010ccd01000102000000000188b80001003500000000612b80014781020bb8820144840800000000000000008501018601018701008801018901008a0101ab038301ff\n"
+  pub entries_differ : published (front ++ codes "change,0,0000000000000000,\n") ≡ codes "V2\n# 4 script EntriesDiffer\n"
+
+pub scripts : AreScripts
+unfolding reading items_said decode_pairs encode_with digits told_after members_at members_with member_at member_with kind_at header_at length_at simple_at boolean_at all_visible_at written_element short_length short_integer integer_size
+scripts = record { none = refl; no_change = refl; sent = refl; entries_differ = refl }
