@@ -489,6 +489,14 @@ class ListFault(Exception):
         return 4 if self.cause == "ReadFailed" else 3
 
 
+def moment_of(digits, version):
+    """A moment in microseconds, by its digits in a list of this version."""
+    most, microseconds = VERSIONS[version]
+    if not 1 <= len(digits) <= most or not all(digit in b"0123456789" for digit in digits):
+        raise ValueError("Moment")
+    return int(digits) * microseconds
+
+
 def line_event(line, version):
     """The event of a line without its ending, as its sort, its moment in microseconds, and what it holds: the octets
     of a frame, whether a mode is on, nothing of a clock. None where the line has no event."""
@@ -499,10 +507,7 @@ def line_event(line, version):
         raise ValueError("LineForm")
     if fields[0] == b"M" and fields[2] not in (b"on", b"off"):
         raise ValueError("LineForm")
-    most, microseconds = VERSIONS[version]
-    if len(fields[1]) > most or not all(digit in b"0123456789" for digit in fields[1]):
-        raise ValueError("Moment")
-    moment = int(fields[1]) * microseconds
+    moment = moment_of(fields[1], version)
     if fields[0] == b"C":
         return "clock", moment, None
     if fields[0] == b"M":
@@ -515,10 +520,9 @@ def line_event(line, version):
     return "frame", moment, bytes.fromhex(digits.decode("ascii"))
 
 
-def events(octets, has_failed):
-    """The events of a list with their line numbers; a ListFault ends them where the list has one."""
+def numbered(octets, has_failed):
+    """The lines of an input without their endings, each with its number; a ListFault ends them where there is one."""
     *ended, rest = octets.split(b"\n")
-    version = 1
     for number, line in enumerate([*ended, rest], 1):
         is_last = number == len(ended) + 1
         if number > MOST_LINES and (line or not is_last):
@@ -527,7 +531,14 @@ def events(octets, has_failed):
             raise ListFault(number, "LineTooLong")
         if is_last and has_failed:
             raise ListFault(number, "ReadFailed")
-        line = line[:-1] if line[-1:] == b"\r" else line
+        if line or not is_last:
+            yield number, line[:-1] if line[-1:] == b"\r" else line
+
+
+def events(octets, has_failed):
+    """The events of a list with their line numbers; a ListFault ends them where the list has one."""
+    version = 1
+    for number, line in numbered(octets, has_failed):
         if number == 1 and line == b"V2":
             version = 2
             continue
