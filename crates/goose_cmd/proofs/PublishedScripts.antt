@@ -28,7 +28,7 @@ use Rattle.goose_cmd.specs.PublishedReplay.{PublishedTextsReplay, SaysRun, Scrip
 use Rattle.engine_core.specs.PublishText.{IsCallText, IsPublishText, IsRefused, IsScriptSound, IsTaken, answer_text, item_of_call, items_of_lines, script_of}
 use Rattle.engine_core.proofs.PublishLemmas.{items-push}
 use Rattle.goose_cmd.specs.ListText.{ReplayGives}
-use Rattle.goose_cmd.proofs.ScriptLimits.{script_moments, script_room}
+use Rattle.goose_cmd.proofs.ScriptLimits.{script_moments, script_room, script_sizes}
 use Rattle.goose_cmd.proofs.ScriptOrder.{script_sound}
 use Rattle.goose_cmd.proofs.WrittenLists.{published_lists_replay}
 
@@ -261,7 +261,7 @@ published_texts_replay {A} {B} p block calls answers text t r run says is whole 
     let room : length (sent_from 0 calls answers) < 1000000 = omega (arith, sent_count 0 calls answers, script_room p calls text says) in
     let all : IsWholeRun p block calls answers = record {
       own = run.own;
-      held = run.held;
+      held = script_sizes p calls text says;
       steps = sound.steps;
       some = sound.some;
       most = sound.most;

@@ -1,4 +1,4 @@
--- The limits that the lines of a script keep: their moments have at most 18 digits, and there are no more items than lines.
+-- The limits that the lines of a script keep: their moments have at most 18 digits, their fields have their sizes, and there are no more items than lines.
 use Rattle.std.proofs.Common.{◌≡◌, ℕ, suc, ◌+◌, ◌*◌, ◌^◌, ◌<◌, ◌≤◌, Bool, true, false, ◌&&◌, Option, Some, None, List, [], ◌∷◌, ◌++◌, length, map, Result, Ok, Err, ap, subst, refl, arith}
 use Rattle.std.specs.Prelude.{◌==◌, nat_le, nat_lt, codes}
 use Rattle.std.specs.Char.{is_ascii_digit}
@@ -26,6 +26,7 @@ use Rattle.frame_core.proofs.MomentDigits.{digits_test}
 use Rattle.publish_core.specs.declared.table.Step.{Step}
 use Rattle.publish_core.specs.Frames.{Setup}
 use Rattle.publish_core.specs.Run.{Act, Call, Changed, Polled}
+use Rattle.exchange_laws.specs.Stems.{AreHeld}
 use Rattle.script_core.specs.Commas.{comma_fields}
 use Rattle.script_core.specs.declared.script.ScriptCause.{ScriptCause}
 use Rattle.script_core.specs.declared.script.ScriptItem.{ScriptItem}
@@ -39,6 +40,7 @@ use Rattle.engine_core.specs.PublishText.{item_of_act, item_of_call, items_of_li
 use Rattle.goose_cmd.specs.ListText.{MomentsAreShort}
 use Rattle.goose_cmd.specs.PublishedReplay.{SaysRun, script_of_text}
 use Rattle.goose_cmd.proofs.ScriptOrder.{either}
+use Rattle.goose_cmd.proofs.ScriptSizes.{ControlIsHeld, LiveBelow, LivesBelow, SaysSizes, control_sizes, setup_held, steps_low}
 
 -- ---- moments
 
@@ -65,39 +67,43 @@ moment_short unit digits =
 
 -- ---- what a line says
 
--- the moment of a change or a poll has at most 18 digits
-abbrev KeepsMoment : {A : Type 0} → ScriptItem A → Type 0
-KeepsMoment (item.Control control first) = Unit {0}
-KeepsMoment (item.Step s) = Unit {0}
-KeepsMoment (item.Change moment t values) = moment < 10 ^ 18
-KeepsMoment (item.Poll moment) = moment < 10 ^ 18
+-- the moment of a change or a poll has at most 18 digits, and what is set up has its sizes
+abbrev KeepsLimits : {A : Type 0} → ScriptItem A → Type 0
+KeepsLimits (item.Control control first) = ControlIsHeld control
+KeepsLimits (item.Step s) = s.live_ms ≤ 4294967295
+KeepsLimits (item.Change moment t values) = moment < 10 ^ 18
+KeepsLimits (item.Poll moment) = moment < 10 ^ 18
 
 abbrev AllKeep : {A : Type 0} → List (ScriptItem A) → Type 0
 AllKeep [] = Unit {0}
-AllKeep (i ∷ items) = KeepsMoment i × AllKeep items
+AllKeep (i ∷ items) = KeepsLimits i × AllKeep items
 
 abbrev Said : {A S : Type 0} → Result (Option (ScriptItem A) × S) ScriptCause → Type 0
 Said (Ok (None, s)) = Unit {0}
-Said (Ok (Some i, s)) = KeepsMoment i
+Said (Ok (Some i, s)) = KeepsLimits i
 Said (Err why) = Unit {0}
 
 abbrev Called : {A : Type 0} → Result (ScriptItem A) ScriptCause → Type 0
-Called (Ok i) = KeepsMoment i
+Called (Ok i) = KeepsLimits i
 Called (Err why) = Unit {0}
 
 module _ (A : Type 0) where
-  control_short : (q : ScriptPart) (o : Option ControlLine) → Said {A = A} (control_said q o)
-  control_short part.Control None = tt
-  control_short part.Control (Some l) = either (l.numbers.first == 0) _ _ (Said {A = A}) (λ none. tt) (λ some. tt)
-  control_short (part.Steps n) o = tt
-  control_short part.Calls o = tt
+  control_short : (q : ScriptPart) (o : Option ControlLine) → SaysSizes o → Said {A = A} (control_said q o)
+  control_short part.Control None k = tt
+  control_short part.Control (Some l) k =
+      either (l.numbers.first == 0) _ _ (Said {A = A}) (λ none. tt) (λ some.
+      let rev : l.numbers.conf_rev ≤ 4294967295 = k.conf_rev in
+      let count : l.numbers.entries ≤ 4294967295 = k.entries in
+      record { to = k.to; from = k.from; tag = k.tag; app_id = k.app_id; conf_rev = omega (arith, rev); entries = omega (arith, count) })
+  control_short (part.Steps n) o k = tt
+  control_short part.Calls o k = tt
 
-  step_short : (q : ScriptPart) (o : Option Step) → Said {A = A} (step_said q o)
-  step_short part.Control o = tt
-  step_short (part.Steps n) None = tt
-  step_short (part.Steps n) (Some s) =
-      either (nat_lt 0 s.wait_ms && nat_lt s.wait_ms s.live_ms) _ _ (Said {A = A}) (λ good. either (nat_lt n 16) _ _ (Said {A = A}) (λ room. tt) (λ full. tt)) (λ bad. tt)
-  step_short part.Calls o = tt
+  step_short : (q : ScriptPart) (o : Option Step) → LivesBelow o → Said {A = A} (step_said q o)
+  step_short part.Control o k = tt
+  step_short (part.Steps n) None k = tt
+  step_short (part.Steps n) (Some s) k =
+      either (nat_lt 0 s.wait_ms && nat_lt s.wait_ms s.live_ms) _ _ (Said {A = A}) (λ good. either (nat_lt n 16) _ _ (Said {A = A}) (λ room. k) (λ full. tt)) (λ bad. tt)
+  step_short part.Calls o k = tt
 
   call_short : (why : Option ScriptCause) (r : Result (ScriptItem A) ScriptCause) → Called r → Said (call_said why r)
   call_short (Some why) r c = tt
@@ -133,8 +139,8 @@ module _ (A : Type 0) where
   all_short : (unit : MomentUnit) (q : ScriptPart) (fields : List (List ℕ)) → Said {A = A} (all_said unit q fields)
   all_short unit q [] = tt
   all_short unit q (name ∷ fields) =
-      either (bytes_eq name (codes "control")) _ _ (Said {A = A}) (λ e. control_short q (control_of fields))
-      (λ e. either (bytes_eq name (codes "step")) _ _ (Said {A = A}) (λ e. step_short q (step_said_by fields))
+      either (bytes_eq name (codes "control")) _ _ (Said {A = A}) (λ e. control_short q (control_of fields) (control_sizes fields))
+      (λ e. either (bytes_eq name (codes "step")) _ _ (Said {A = A}) (λ e. step_short q (step_said_by fields) (steps_low fields))
       (λ e. either (bytes_eq name (codes "change")) _ _ (Said {A = A}) (λ e. change_short unit q fields)
       (λ e. either (bytes_eq name (codes "poll")) _ _ (Said {A = A}) (λ e. poll_short unit q fields) (λ e. tt))))
 
@@ -216,11 +222,15 @@ script_room {A} p calls text says =
     let steps : List (ScriptItem A) = map item.Step p.table in
     omega (arith, most, same, length-map (script_of_text {A = A} text).items (λ (e : ℕ × ScriptItem A). e.1), length-append steps (map item_of_call calls), length-map calls (item_of_call {A = A}))
 
+at_steps : {A : Type 0} (steps : List Step) (items : List (ScriptItem A)) → AllKeep (map item.Step steps ++ items) → LiveBelow steps
+at_steps [] items w = tt
+at_steps (s ∷ steps) items w = (w.0, at_steps steps items w.1)
+
 behind_steps : {A : Type 0} (steps : List Step) (items : List (ScriptItem A)) → AllKeep (map item.Step steps ++ items) → AllKeep items
 behind_steps [] items w = w
 behind_steps (s ∷ steps) items w = behind_steps steps items w.1
 
-act_short : (A : Type 0) (m : ℕ) (act : Act) → KeepsMoment {A = A} (item_of_act m act) → m < 10 ^ 18
+act_short : (A : Type 0) (m : ℕ) (act : Act) → KeepsLimits {A = A} (item_of_act m act) → m < 10 ^ 18
 act_short A m (Changed change) w = w
 act_short A m Polled w = w
 
@@ -228,9 +238,14 @@ calls_short : (A : Type 0) (calls : List Call) → AllKeep (map (item_of_call {A
 calls_short A [] w = tt
 calls_short A (c ∷ calls) w = (act_short A c.moment c.act w.0, calls_short A calls w.1)
 
+-- what the text of a script says keeps the limits
+says_limits : {A : Type 0} (p : Setup A) (calls : List Call) (text : List ℕ) → SaysRun p calls (script_of_text text) → AllKeep (script_of p calls)
+says_limits {A} p calls text says = subst AllKeep says.items (lines_short A First 0 (reading End 0 text).lines (reading End 0 text).stop)
+
 -- its moments have at most 18 digits
 pub script_moments : {A : Type 0} (p : Setup A) (calls : List Call) (text : List ℕ) → SaysRun p calls (script_of_text text) → MomentsAreShort calls
-script_moments {A} p calls text says =
-    let keep : AllKeep (items_of_lines (script_of_text {A = A} text).items) = lines_short A First 0 (reading End 0 text).lines (reading End 0 text).stop in
-    let all : AllKeep (script_of p calls) = subst AllKeep says.items keep in
-    calls_short A calls (behind_steps p.table (map item_of_call calls) all.1)
+script_moments {A} p calls text says = calls_short A calls (behind_steps p.table (map item_of_call calls) (says_limits p calls text says).1)
+
+-- its fields have their sizes
+pub script_sizes : {A : Type 0} (p : Setup A) (calls : List Call) (text : List ℕ) → SaysRun p calls (script_of_text text) → AreHeld p
+script_sizes p calls text says = let w = says_limits p calls text says in setup_held p w.0 (at_steps p.table (map item_of_call calls) w.1)

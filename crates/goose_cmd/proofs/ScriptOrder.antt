@@ -91,11 +91,11 @@ either false x y P f g = g refl
 -- ---- the control line
 
 -- a number of at most 32 bits, where there is one
-abbrev Below : Option ℕ → Type 0
+abbrev pub Below : Option ℕ → Type 0
 Below None = Unit {0}
 Below (Some n) = n ≤ 4294967295
 
-below : (o : Option ℕ) → Below (option_and_then at_most_32_bits o)
+pub below : (o : Option ℕ) → Below (option_and_then at_most_32_bits o)
 below None = tt
 below (Some n) = either (nat_le n 4294967295) (Some n) None Below (λ le. leb-true n 4294967295 le) (λ gt. tt)
 

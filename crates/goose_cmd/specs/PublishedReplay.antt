@@ -10,7 +10,7 @@ use Rattle.publish_core.specs.Frames.{Setup}
 use Rattle.publish_core.specs.Run.{AreAnswers, Call, NoWrap}
 use Rattle.subscribe_core.specs.declared.block.Block.{Block}
 use Rattle.exchange_laws.specs.PublishedList.{InTime, IsOwnBlock, one_entry_each, published_events, sent_from}
-use Rattle.exchange_laws.specs.Stems.{AreAccepted, AreHeld}
+use Rattle.exchange_laws.specs.Stems.{AreAccepted}
 use Rattle.script_core.specs.declared.script.ScriptCause.{ScriptCause}
 use Rattle.script_core.specs.declared.script.ScriptItem.{ScriptItem}
 use Rattle.script_core.specs.declared.script.ScriptLines.TheVariants.{First}
@@ -39,7 +39,6 @@ ScriptsGiveLists A B =
 -- A run that the publisher's own block can follow: the status numbers don't wrap, and each frame comes in the lifetime of the one before.
 pub record CanBeFollowed {A B : Type 0} (p : Setup A) (block : Block B) (calls : List Call) (answers : List (Option (Frame A))) : Type 0 where
   pub own : IsOwnBlock p block
-  pub held : AreHeld p
   pub no_wrap : NoWrap p calls
   pub are_answers : AreAnswers p calls answers
   pub in_time : InTime (sent_from 0 calls answers)
