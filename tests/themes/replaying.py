@@ -8,7 +8,7 @@ import subprocess
 import tempfile
 
 import subscriber
-from frames import ENVELOPE, SAMPLED, element, with_fields, with_members
+from frames import BOOLEAN, ENVELOPE, SAMPLED, element, with_fields
 from harness import SECONDS, Case, first_difference, run, text
 
 SEED = 61850
@@ -126,25 +126,31 @@ class Split:
         return why + ([f"ended with status {ran.returncode}, and not {wanted_status}"] if ran.returncode != wanted_status else [])
 
 
+def members(count):
+    """The fields of a data set of so many members."""
+    return {"entries": element(0x8A, bytes([count])), "members": element(0xAB, BOOLEAN * count)}
+
+
+# Of each block the APPID, and what its good frames have that is not as in the worked one; fields for which a frame is
+# refused, or is none of the blocks'.
+OWN = [(b"\0\1", {}), (b"\0\2", {}), (b"\0\1", {"gocb_ref": element(0x80, b"H"), "go_id": element(0x83, b"I"), **members(2)})]
+OTHER = [{"dat_set": element(0x82, b"E")}, {"go_id": b""}, {"go_id": element(0x83, b"")}, {"go_id": element(0x83, b"J")},
+         {"conf_rev": number(0x88, 2)}, {"nds_com": flag(0x89, True)}, members(0), members(3),
+         {"gocb_ref": element(0x80, b"")}, {"gocb_ref": element(0x80, b"GG")}]
+
+
 def some_frame(chance):
-    """A frame of few numbers, so that repeated, lost and late ones are common."""
-    other = chance.randrange(12)
-    fields = {}
-    if other == 0:
-        fields["dat_set"] = element(0x82, b"E")
-    elif other == 1:
-        fields["go_id"] = element(0x83, chance.choice([b"", b"I", b"J"]))
-    elif other == 2:
-        fields["conf_rev"] = number(0x88, 2)
-    elif other == 3:
-        fields["nds_com"] = flag(0x89, True)
-    elif other == 4:
-        fields["gocb_ref"] = element(0x80, chance.choice([b"H", b"", b"GG"]))
-    elif other == 5:
-        return chance.choice([SAMPLED, ENVELOPE, with_members(b"\x83\x01\xff" * 2, 2), with_members(b"", 0), b"\0"])
-    frame = state(chance.randrange(5), chance.randrange(4), chance.choice([0, 1, 2, 3, 4294967295]), chance.random() < 0.4,
-                  **fields)
-    return frame[:14] + chance.choice([b"\0\1", b"\0\1", b"\0\1", b"\0\2", b"\0\3"]) + frame[16:]
+    """A frame of few numbers, so that repeated, lost and late ones are common. Now and then several reasons hold of one."""
+    if chance.randrange(16) == 0:
+        return chance.choice([SAMPLED, ENVELOPE, b"\0"])
+    app_id, own = chance.choice([OWN[0], OWN[0], OWN[0], *OWN[1:]])
+    fields = dict(own)
+    for other in OTHER:
+        if chance.randrange(24) == 0:
+            fields.update(other)
+    frame = state(chance.choice([0, 1, 1, 1, 2, 2, 3]), chance.choice([0, 1, 1, 2, 2, 3]),
+                  chance.choice([0, 1, 2, 3, 3, 4294967295]), chance.random() < 0.4, **fields)
+    return frame[:14] + chance.choice([app_id] * 11 + [b"\0\3"]) + frame[16:]
 
 
 def some_list(chance, count):
