@@ -1,4 +1,5 @@
-"""What a subscriber makes of lists: worked ones, and lists made by chance of which the slow subscriber says what comes."""
+"""What a subscriber makes of lists: worked ones, lists made by chance of which the slow subscriber says what comes, and short
+lists of which the definitions say it."""
 import itertools
 import os
 import pathlib
@@ -7,6 +8,7 @@ import shlex
 import subprocess
 import tempfile
 
+import by_definition
 import subscriber
 from frames import BOOLEAN, ENVELOPE, SAMPLED, element, with_fields
 from harness import SECONDS, Case, first_difference, run, text
@@ -89,23 +91,46 @@ class ManyLists:
         return frame[:14] + name[0].to_bytes(2, "big") + frame[16:]
 
 
-class EachFour:
-    """All 4,096 lists of four events drawn from real and simulated frames of two states, two clocks, and both modes, of which
-    the program writes what the slow subscriber writes. Event i comes at 400 times i milliseconds, the second clock at 1,200."""
+class ByDefinition:
+    """Lists with the blocks that are replayed of them, of which the program and the slow subscriber write what the definitions
+    say of each list as a whole."""
 
-    name = "each list of four real and simulated frames, clocks and modes"
+    def __init__(self, name, lists):
+        self.name, self.lists = name, lists
 
     def why_wrong(self, program):
-        frames = [state(st, 0, 1000, simulation) for st in (1, 2) for simulation in (False, True)]
-        events = [[line(400 * i, frame) for frame in frames]
-                  + [b"C %d\n" % (400 * i), b"C 1200\n", b"M %d on\n" % (400 * i), b"M %d off\n" % (400 * i)] for i in range(4)]
-        for drawn in itertools.product(*events):
-            octets = b"".join(drawn)
-            wanted, _ = subscriber.replay(octets, [BLOCK])
-            wrote, complained, status = run(program, ["replay", BLOCK], octets)
-            if (wrote, complained, status) != (text(wanted), b"", 0):
-                return [f"{octets!r}", first_difference(text(wanted), wrote) or f"status {status}"]
+        for octets, words in self.lists():
+            why = self.why_list_wrong(program, octets, words)
+            if why:
+                return [f"{words}: {octets!r}", *why]
         return []
+
+    @staticmethod
+    def why_list_wrong(program, octets, words):
+        lines, wanted_status = by_definition.replay(octets, words)
+        slow_lines, slow_status = subscriber.replay(octets, words)
+        given = {"the program": run(program, ["replay", *words], octets),
+                 "the slow subscriber": (text(slow_lines), b"", slow_status)}
+        return [f"{who}: {first_difference(text(lines), wrote) or f'status {status}, standard error {complained!r}'}"
+                for who, (wrote, complained, status) in given.items()
+                if (wrote, complained, status) != (text(lines), b"", wanted_status)]
+
+
+def each_four():
+    """All 4,096 lists of four events drawn from real and simulated frames of two states, two clocks, and both modes. Event i
+    comes at 400 times i milliseconds, the second clock at 1,200."""
+    frames = [state(st, 0, 1000, simulation) for st in (1, 2) for simulation in (False, True)]
+    events = [[line(400 * i, frame) for frame in frames]
+              + [b"C %d\n" % (400 * i), b"C 1200\n", b"M %d on\n" % (400 * i), b"M %d off\n" % (400 * i)] for i in range(4)]
+    for drawn in itertools.product(*events):
+        yield b"".join(drawn), [BLOCK]
+
+
+def short_lists():
+    """Three hundred lists of 8 to 12 events made by chance, over one to three blocks."""
+    chance = random.Random(SEED)
+    for at in range(300):
+        yield some_list(chance, chance.randrange(8, 13)), BLOCKS[:1 + at % 3]
 
 
 class Split:
@@ -196,6 +221,7 @@ def cases():
         yield Replays(f"a list by chance, {at}", some_list(chance, 60), BLOCKS[:1 + at % 3])
     yield Replays("a long list by chance", some_list(chance, 5000), BLOCKS)
     yield ManyLists()
-    yield EachFour()
+    yield ByDefinition("each list of four real and simulated frames, clocks and modes", each_four)
+    yield ByDefinition("three hundred short lists by chance", short_lists)
     for at in range(6):
         yield Split(f"block by block, {at}", some_list(chance, 300), BLOCKS[:1 + at % 3])
