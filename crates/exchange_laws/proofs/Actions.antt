@@ -14,7 +14,7 @@ use Rattle.subscribe_core.specs.Content.{reading_of}
 use Rattle.subscribe_core.specs.Entries.{AreEntriesAt, AreReadEntriesAt}
 use Rattle.subscribe_core.specs.Epoch.{Acts, IsLastStart}
 use Rattle.subscribe_core.specs.Laws.{IsActOn, IsIn}
-use Rattle.subscribe_core.specs.Reading.{AreRead, GooseFrame, OfGoose, EventRead}
+use Rattle.subscribe_core.specs.Reading.{AreRead, FrameRead, OfGoose, EventRead}
 use Rattle.subscribe_core.specs.Sight.{trace_of_block}
 use Rattle.subscribe_core.specs.Standing.{AreApart, fresh_state}
 use Rattle.subscribe_core.specs.Steps.{run_events}
@@ -47,7 +47,7 @@ record IsAction {B : Type 0} (block : Block B) (readings : List EventRead) (i nu
   acts : Acts (trace_of_block block readings) i
   reading : EventRead
   at : slice_get readings i ≡ Some reading
-  frame : GooseFrame
+  frame : FrameRead
   goose : reading.content ≡ OfGoose frame
   number_is : frame.pdu.st_num ≡ number
   t_is : frame.pdu.t ≡ t

@@ -13,7 +13,7 @@ use Rattle.subscribe_core.specs.declared.registers.Verdict.{Verdict}
 use Rattle.subscribe_core.specs.declared.registers.Verdict.TheVariants.{Acted, Renewed, Again, Stale}
 use Rattle.subscribe_core.specs.Entries.{entry_of}
 use Rattle.subscribe_core.specs.Matching.{facts_of_frame, first_of, is_of, reason_of}
-use Rattle.subscribe_core.specs.Reading.{GooseFrame, OfGoose, EventRead}
+use Rattle.subscribe_core.specs.Reading.{FrameRead, OfGoose, EventRead}
 use Rattle.subscribe_core.specs.Simulation.{is_against}
 use Rattle.subscribe_core.specs.Standing.{AreApart, State}
 use Rattle.subscribe_core.specs.Steps.{after_clock, after_switch, expired_entries, is_over, registers_by, run_events, said_of, step_entries, step_state, switched_entries, held_after_frame, verdict_on}
@@ -25,7 +25,7 @@ use Rattle.subscribe_core.proofs.Frames.{answer_good, registers_good}
 abbrev pub alone : {B : Type 0} → Block B → Option Held → ℕ → State B
 alone block h moment = record { blocks = block ∷ []; registers = record { held = h; simulated = false } ∷ []; mode = false; moment = moment }
 
-abbrev pub comes : ℕ → GooseFrame → EventRead
+abbrev pub comes : ℕ → FrameRead → EventRead
 comes now x = record { moment = now; content = OfGoose x }
 
 pub one_apart : {B : Type 0} (block : Block B) → AreApart (block ∷ [])
@@ -45,7 +45,7 @@ pub none_told : (p : Reason → Bool) (rs : List Reason) → NoneHolds p rs → 
 none_told p [] w = refl
 none_told p (r ∷ rs) w = ap (λ (b : Bool). if b then Some r else first_of p rs) w.0 ∙ none_told p rs w.1
 
-module _ {B : Type 0} (block : Block B) (x : GooseFrame) where
+module _ {B : Type 0} (block : Block B) (x : FrameRead) where
   -- the frame is a good one of the block, and not simulated
   pub record IsPlain : Type 0 where
     pub own : is_of x block ≡ true

@@ -15,7 +15,7 @@ use Rattle.subscribe_core.specs.declared.block.Block.{Block}
 use Rattle.subscribe_core.specs.declared.entry.Reason.{Reason}
 use Rattle.subscribe_core.specs.declared.registers.Facts.{Facts}
 use Rattle.subscribe_core.specs.Matching.{facts_of_frame, is_of, reason_of, facts_unless_refused}
-use Rattle.subscribe_core.specs.Reading.{AreRead, Content, GooseFrame, IsContent, IsRead, OfClock, OfFault, OfGoose, OfMode, OfSampled, EventRead}
+use Rattle.subscribe_core.specs.Reading.{AreRead, Content, FrameRead, IsContent, IsRead, OfClock, OfFault, OfGoose, OfMode, OfSampled, EventRead}
 use Rattle.subscribe_core.specs.Sight.{facts_at, facts_of, trace_of_block}
 use Rattle.subscribe_core.specs.Simulation.{is_against, mode_at, takes_simulated}
 use Rattle.subscribe_core.proofs.Readings.{read_one}
@@ -80,15 +80,15 @@ pdu_or p (OfFault fault) = p
 pdu_or p OfClock = p
 pdu_or p (OfMode on) = p
 
-pub same_pdu : (x y : GooseFrame) → OfGoose x ≡ OfGoose y → x.pdu ≡ y.pdu
+pub same_pdu : (x y : FrameRead) → OfGoose x ≡ OfGoose y → x.pdu ≡ y.pdu
 unfolding pdu_or
 same_pdu x y e = ap (pdu_or x.pdu) e
 
 -- octets that spell a frame with this APDU are read as it
-pub pdu_read : {A B : Type 0} (e : Event B) (r : EventRead) (x : GooseFrame) (o : List ℕ) (f : Frame A) (q : GoosePdu A) → IsRead e r → r.content ≡ OfGoose x → e.kind ≡ kinds.Frame o → SpellsFrame f o → f.apdu ≡ apdus.Goose q → x.pdu ≡ plain q
+pub pdu_read : {A B : Type 0} (e : Event B) (r : EventRead) (x : FrameRead) (o : List ℕ) (f : Frame A) (q : GoosePdu A) → IsRead e r → r.content ≡ OfGoose x → e.kind ≡ kinds.Frame o → SpellsFrame f o → f.apdu ≡ apdus.Goose q → x.pdu ≡ plain q
 pdu_read {A} {B} e r x o f q read goose kind s unit = same_pdu x y (sym goose ∙ ap (λ (z : EventRead). z.content) same)
   where
-    y : GooseFrame
+    y : FrameRead
     y = record { app_id = f.app_id; pdu = plain q }
 
     other : EventRead
@@ -111,14 +111,14 @@ read_at (e ∷ es) [] i r are at = absurd are
 read_at (e ∷ es) (x ∷ rs) zero r are at = (e, refl, subst (λ (y : EventRead). IsRead e y) (same_Some x r at) are.0)
 read_at (e ∷ es) (x ∷ rs) (suc i) r are at = read_at es rs i r are.1 at
 
-pub goose_octets : {A : Type 0} (k : EventKind A) (x : GooseFrame) → IsContent k (OfGoose x) → (o : List ℕ) × (k ≡ kinds.Frame o)
+pub goose_octets : {A : Type 0} (k : EventKind A) (x : FrameRead) → IsContent k (OfGoose x) → (o : List ℕ) × (k ≡ kinds.Frame o)
 goose_octets (kinds.Frame o) x w = (o, refl)
 goose_octets kinds.Clock x w = absurd w
 goose_octets (kinds.Mode on) x w = absurd w
 
 -- a good position is that of a frame of GOOSE, and has its facts
 
-frame_facts : {A : Type 0} (block : Block A) (mode taken : Bool) (x : GooseFrame) (f : Facts) → facts_of block mode taken (OfGoose x) ≡ Some f → f ≡ facts_of_frame x
+frame_facts : {A : Type 0} (block : Block A) (mode taken : Bool) (x : FrameRead) (f : Facts) → facts_of block mode taken (OfGoose x) ≡ Some f → f ≡ facts_of_frame x
 frame_facts block mode taken x f e = go (is_of x block) (reason_of (is_against x mode taken) block x) e
   where
     go : (o : Bool) (r : Option Reason) → (if o then facts_unless_refused r (facts_of_frame x) else None) ≡ Some f → f ≡ facts_of_frame x
@@ -126,21 +126,21 @@ frame_facts block mode taken x f e = go (is_of x block) (reason_of (is_against x
     go true (Some r) is = absurd (none-some f is)
     go false r is = absurd (none-some f is)
 
-content_good : {A : Type 0} (block : Block A) (mode taken : Bool) (k : Content) (f : Facts) → facts_of block mode taken k ≡ Some f → (x : GooseFrame) × (k ≡ OfGoose x)
+content_good : {A : Type 0} (block : Block A) (mode taken : Bool) (k : Content) (f : Facts) → facts_of block mode taken k ≡ Some f → (x : FrameRead) × (k ≡ OfGoose x)
 content_good block mode taken (OfGoose x) f e = (x, refl)
 content_good block mode taken OfSampled f e = absurd (none-some f e)
 content_good block mode taken (OfFault fault) f e = absurd (none-some f e)
 content_good block mode taken OfClock f e = absurd (none-some f e)
 content_good block mode taken (OfMode on) f e = absurd (none-some f e)
 
-reading_good : {A : Type 0} (block : Block A) (mode taken : Bool) (o : Option EventRead) (f : Facts) → facts_at block mode taken o ≡ Some f → (r : EventRead) × (x : GooseFrame) × (o ≡ Some r) × (r.content ≡ OfGoose x)
+reading_good : {A : Type 0} (block : Block A) (mode taken : Bool) (o : Option EventRead) (f : Facts) → facts_at block mode taken o ≡ Some f → (r : EventRead) × (x : FrameRead) × (o ≡ Some r) × (r.content ≡ OfGoose x)
 reading_good block mode taken None f e = absurd (none-some f e)
 reading_good block mode taken (Some r) f e = let w = content_good block mode taken r.content f e in (r, w.0, refl, w.1)
 
-pub good_goose : {A : Type 0} (block : Block A) (readings : List EventRead) (i : ℕ) (f : Facts) → (trace_of_block block readings).good i ≡ Some f → (r : EventRead) × (x : GooseFrame) × (slice_get readings i ≡ Some r) × (r.content ≡ OfGoose x)
+pub good_goose : {A : Type 0} (block : Block A) (readings : List EventRead) (i : ℕ) (f : Facts) → (trace_of_block block readings).good i ≡ Some f → (r : EventRead) × (x : FrameRead) × (slice_get readings i ≡ Some r) × (r.content ≡ OfGoose x)
 good_goose block readings i f e = reading_good block (mode_at readings i) (takes_simulated block readings i) (slice_get readings i) f e
 
-pub good_facts : {A : Type 0} (block : Block A) (readings : List EventRead) (i : ℕ) (f : Facts) (r : EventRead) (x : GooseFrame) → (trace_of_block block readings).good i ≡ Some f → slice_get readings i ≡ Some r → r.content ≡ OfGoose x → f ≡ facts_of_frame x
+pub good_facts : {A : Type 0} (block : Block A) (readings : List EventRead) (i : ℕ) (f : Facts) (r : EventRead) (x : FrameRead) → (trace_of_block block readings).good i ≡ Some f → slice_get readings i ≡ Some r → r.content ≡ OfGoose x → f ≡ facts_of_frame x
 good_facts block readings i f r x e at goose =
     frame_facts block (mode_at readings i) (takes_simulated block readings i) x f
     (ap (facts_of block (mode_at readings i) (takes_simulated block readings i)) (sym goose) ∙

@@ -14,7 +14,7 @@ use Rattle.subscribe_core.specs.declared.block.Block.{Block}
 use Rattle.subscribe_core.specs.declared.registers.Held.{Held}
 use Rattle.subscribe_core.specs.declared.registers.Verdict.TheVariants.{Acted, Renewed}
 use Rattle.subscribe_core.specs.Matching.{facts_of_frame, has_other_id, holds, reasons}
-use Rattle.subscribe_core.specs.Reading.{GooseFrame}
+use Rattle.subscribe_core.specs.Reading.{FrameRead}
 use Rattle.subscribe_core.specs.Steps.{run_events}
 use Rattle.subscribe_core.proofs.BlockNames.{key_is_of}
 use Rattle.exchange_laws.specs.PublishedList.{InTime, InTimeFrom, IsOwnBlock, Sent, one_entry_each, sent_from, with_frame}
@@ -65,7 +65,7 @@ module _ {A B : Type 0} (p : Setup A) (block : Block B) (own : IsOwnBlock p bloc
   held_of l = record { state = l.state; sequence = l.sequence; deadline = l.given + 1000 * live_at l }
 
   -- the frame that was given last, as it is read
-  abbrev read_of : Last A → GooseFrame
+  abbrev read_of : Last A → FrameRead
   read_of l = record { app_id = p.control.app_id; pdu = plain (pdu_with p.control (change_of l) l.state l.sequence (live_at l)) }
 
   abbrev sent_by : ℕ → ℕ → Option (Last A) → List Call → List (Sent A)

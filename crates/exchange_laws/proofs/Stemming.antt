@@ -14,7 +14,7 @@ use Rattle.publish_core.proofs.GivesOne.{carried}
 use Rattle.subscribe_core.specs.declared.block.Block.{Block}
 use Rattle.subscribe_core.specs.declared.registers.Facts.{Facts}
 use Rattle.subscribe_core.specs.Laws.{IsIn}
-use Rattle.subscribe_core.specs.Reading.{AreRead, GooseFrame, IsContent, IsRead, OfGoose, EventRead}
+use Rattle.subscribe_core.specs.Reading.{AreRead, FrameRead, IsContent, IsRead, OfGoose, EventRead}
 use Rattle.subscribe_core.specs.Sight.{trace_of_block}
 use Rattle.exchange_laws.specs.Stems.{IsOfRun, IsPublishedUnder, StemsFromRun}
 use Rattle.exchange_laws.proofs.Changes.{number_of_change}
@@ -37,7 +37,7 @@ pdu_with control change state sequence live = record {
 }
 
 -- what is read in octets of the run is published under the number that is read
-of_run : {A B : Type 0} (p : Setup A) (calls : List Call) (e : Event B) (r : EventRead) (x : GooseFrame) (o : List ℕ) → 1 ≤ p.first → NoWrap p calls → IsOfRun p calls o → IsRead e r → r.content ≡ OfGoose x → e.kind ≡ kinds.Frame o → IsPublishedUnder p calls x.pdu.st_num (change x.pdu.t x.pdu.members)
+of_run : {A B : Type 0} (p : Setup A) (calls : List Call) (e : Event B) (r : EventRead) (x : FrameRead) (o : List ℕ) → 1 ≤ p.first → NoWrap p calls → IsOfRun p calls o → IsRead e r → r.content ≡ OfGoose x → e.kind ≡ kinds.Frame o → IsPublishedUnder p calls x.pdu.st_num (change x.pdu.t x.pdu.members)
 of_run {A} p calls e r x o some no_wrap w read goose kind = record {
   c = c;
   call = at.0;
@@ -70,7 +70,7 @@ of_run {A} p calls e r x o some no_wrap w read goose kind = record {
     carries = ap (λ (y : GoosePdu (Unit {0})). change y.t y.members) pdu
 
 -- so is every good frame of an epoch that stems from a run
-pub good_published : {A B : Type 0} (block : Block B) (events : List (Event B)) (readings : List EventRead) (s : ℕ) (p : Setup A) (calls : List Call) → AreRead events readings → StemsFromRun block events readings s p calls → (i : ℕ) (f : Facts) (r : EventRead) (x : GooseFrame) → IsIn (trace_of_block block readings) s i f → slice_get readings i ≡ Some r → r.content ≡ OfGoose x → IsPublishedUnder p calls x.pdu.st_num (change x.pdu.t x.pdu.members)
+pub good_published : {A B : Type 0} (block : Block B) (events : List (Event B)) (readings : List EventRead) (s : ℕ) (p : Setup A) (calls : List Call) → AreRead events readings → StemsFromRun block events readings s p calls → (i : ℕ) (f : Facts) (r : EventRead) (x : FrameRead) → IsIn (trace_of_block block readings) s i f → slice_get readings i ≡ Some r → r.content ≡ OfGoose x → IsPublishedUnder p calls x.pdu.st_num (change x.pdu.t x.pdu.members)
 good_published {A} {B} block events readings s p calls are from i f r x good at goose =
     let e = read_at events readings i r are at in
     let o = goose_octets e.0.kind x (subst (IsContent e.0.kind) goose e.2.content) in

@@ -16,7 +16,7 @@ use Rattle.subscribe_core.specs.Entries.{AreExpired, AreOfContent, AreReadEntrie
 use Rattle.subscribe_core.specs.Epoch.{Acts, IsVerdict}
 use Rattle.subscribe_core.specs.Laws.{ActsAreTold, IsActOn}
 use Rattle.subscribe_core.specs.Matching.{facts_of_frame, is_of}
-use Rattle.subscribe_core.specs.Reading.{Content, GooseFrame, OfClock, OfFault, OfGoose, OfMode, OfSampled, EventRead}
+use Rattle.subscribe_core.specs.Reading.{Content, FrameRead, OfClock, OfFault, OfGoose, OfMode, OfSampled, EventRead}
 use Rattle.subscribe_core.specs.Sight.{facts_at, facts_of, trace_of_block}
 use Rattle.subscribe_core.specs.Simulation.{is_switched, mode_at, takes_simulated}
 use Rattle.subscribe_core.specs.Standing.{AreApart}
@@ -61,13 +61,13 @@ switched_only {A} events i b (x ∷ xs) c st sq t m w =
 
 -- an action is that of its block
 
-record IsActionOf {A : Type 0} (blocks : List (Block A)) (events : List EventRead) (i b : ℕ) (f : GooseFrame) (entry : Entry A) : Type 0 where
+record IsActionOf {A : Type 0} (blocks : List (Block A)) (events : List EventRead) (i b : ℕ) (f : FrameRead) (entry : Entry A) : Type 0 where
   block : Block A
   at : slice_get blocks b ≡ Some block
   acts : Acts (trace_of_block block events) i
   told : entry ≡ entry_of b f Acted
 
-verdict_action : {A : Type 0} → (blocks : List (Block A)) (events : List EventRead) (i c : ℕ) (block : Block A) (f : GooseFrame) (v : Verdict) (b st sq : ℕ) (t : UtcTime) (m : List Data) → slice_get blocks c ≡ Some block → IsVerdict (trace_of_block block events) i (facts_of_frame f) v → entry_of {A = A} c f v ≡ says.Act b st sq t m → IsActionOf blocks events i b f (says.Act b st sq t m)
+verdict_action : {A : Type 0} → (blocks : List (Block A)) (events : List EventRead) (i c : ℕ) (block : Block A) (f : FrameRead) (v : Verdict) (b st sq : ℕ) (t : UtcTime) (m : List Data) → slice_get blocks c ≡ Some block → IsVerdict (trace_of_block block events) i (facts_of_frame f) v → entry_of {A = A} c f v ≡ says.Act b st sq t m → IsActionOf blocks events i b f (says.Act b st sq t m)
 verdict_action {A} blocks events i c block f Acted b st sq t m here w e =
     let place : c ≡ b = cc in
     record {
@@ -80,15 +80,15 @@ verdict_action blocks events i c block f Renewed b st sq t m here w e = absurd c
 verdict_action blocks events i c block f Again b st sq t m here w e = absurd cc
 verdict_action blocks events i c block f Stale b st sq t m here w e = absurd cc
 
-block_action : {A : Type 0} → (blocks : List (Block A)) (events : List EventRead) (i c : ℕ) (block : Block A) (f : GooseFrame) (r : Option Reason) (b st sq : ℕ) (t : UtcTime) (m : List Data) → slice_get blocks c ≡ Some block → IsBlockEntry events i c block f r (says.Act b st sq t m) → IsActionOf blocks events i b f (says.Act b st sq t m)
+block_action : {A : Type 0} → (blocks : List (Block A)) (events : List EventRead) (i c : ℕ) (block : Block A) (f : FrameRead) (r : Option Reason) (b st sq : ℕ) (t : UtcTime) (m : List Data) → slice_get blocks c ≡ Some block → IsBlockEntry events i c block f r (says.Act b st sq t m) → IsActionOf blocks events i b f (says.Act b st sq t m)
 block_action blocks events i c block f (Some r) b st sq t m here a = absurd cc
 block_action blocks events i c block f None b st sq t m here a = verdict_action blocks events i c block f a.0 b st sq t m here a.1 (sym a.2)
 
-frame_action : {A : Type 0} → (blocks : List (Block A)) (events : List EventRead) (i : ℕ) (f : GooseFrame) (b st sq : ℕ) (t : UtcTime) (m : List Data) → IsFrameEntry blocks events i f (says.Act b st sq t m) → IsActionOf blocks events i b f (says.Act b st sq t m)
+frame_action : {A : Type 0} → (blocks : List (Block A)) (events : List EventRead) (i : ℕ) (f : FrameRead) (b st sq : ℕ) (t : UtcTime) (m : List Data) → IsFrameEntry blocks events i f (says.Act b st sq t m) → IsActionOf blocks events i b f (says.Act b st sq t m)
 frame_action blocks events i f b st sq t m (inl a) = absurd (let e = a.1 in cc)
 frame_action blocks events i f b st sq t m (inr a) = block_action blocks events i a.0 a.1 f (reason_at a.1 events i f) b st sq t m a.2 a.4
 
-content_action : {A : Type 0} → (blocks : List (Block A)) (events : List EventRead) (i : ℕ) (k : Content) (es : List (Entry A)) (b st sq : ℕ) (t : UtcTime) (m : List Data) → AreOfContent blocks events i k es → Contains es (says.Act b st sq t m) → (f : GooseFrame) × (k ≡ OfGoose f) × IsActionOf blocks events i b f (says.Act b st sq t m)
+content_action : {A : Type 0} → (blocks : List (Block A)) (events : List EventRead) (i : ℕ) (k : Content) (es : List (Entry A)) (b st sq : ℕ) (t : UtcTime) (m : List Data) → AreOfContent blocks events i k es → Contains es (says.Act b st sq t m) → (f : FrameRead) × (k ≡ OfGoose f) × IsActionOf blocks events i b f (says.Act b st sq t m)
 content_action {A} blocks events i (OfGoose f) es b st sq t m a w =
     let e : a.0 ≡ says.Act b st sq t m = only_cases a.0 (says.Act b st sq t m) (subst (λ (l : List (Entry A)). Contains l (says.Act b st sq t m)) a.2 w) in
     (f, refl, frame_action blocks events i f b st sq t m (subst (λ (x : Entry A). IsFrameEntry blocks events i f x) e a.1))
@@ -123,18 +123,18 @@ act_told {A} blocks events i es b st sq t m a has =
 
 -- and what its block acts on is told
 
-good_at : {A : Type 0} → (block : Block A) (events : List EventRead) (i : ℕ) (e : EventRead) (f : GooseFrame) (g : Facts) → slice_get events i ≡ Some e → e.content ≡ OfGoose f → (trace_of_block block events).good i ≡ Some g → (is_of f block ≡ true) × (reason_at block events i f ≡ None)
+good_at : {A : Type 0} → (block : Block A) (events : List EventRead) (i : ℕ) (e : EventRead) (f : FrameRead) (g : Facts) → slice_get events i ≡ Some e → e.content ≡ OfGoose f → (trace_of_block block events).good i ≡ Some g → (is_of f block ≡ true) × (reason_at block events i f ≡ None)
 good_at block events i e f g at kind good =
     good_frame block (mode_at events i) (takes_simulated block events i) f g
     (ap (facts_of block (mode_at events i) (takes_simulated block events i)) (sym kind) ∙
     (ap (facts_at block (mode_at events i) (takes_simulated block events i)) (sym at) ∙ good))
 
-acted_block : {A : Type 0} → (events : List EventRead) (i c : ℕ) (block : Block A) (f : GooseFrame) (r : Option Reason) (x : Entry A) → Acts (trace_of_block block events) i → r ≡ None → IsBlockEntry events i c block f r x → x ≡ entry_of c f Acted
+acted_block : {A : Type 0} → (events : List EventRead) (i c : ℕ) (block : Block A) (f : FrameRead) (r : Option Reason) (x : Entry A) → Acts (trace_of_block block events) i → r ≡ None → IsBlockEntry events i c block f r x → x ≡ entry_of c f Acted
 acted_block events i c block f (Some r) x acts none a = absurd cc
 acted_block {A} events i c block f None x acts none a =
     a.2 ∙ ap (entry_of {A = A} c f) (verdict_unique (trace_of_block block events) i (facts_of_frame f) a.0 Acted a.1 acts)
 
-acted_frame : {A : Type 0} → (blocks : List (Block A)) (events : List EventRead) (i b : ℕ) (block : Block A) (f : GooseFrame) (x : Entry A) → AreApart blocks → slice_get blocks b ≡ Some block → is_of f block ≡ true → reason_at block events i f ≡ None → Acts (trace_of_block block events) i → IsFrameEntry blocks events i f x → x ≡ entry_of b f Acted
+acted_frame : {A : Type 0} → (blocks : List (Block A)) (events : List EventRead) (i b : ℕ) (block : Block A) (f : FrameRead) (x : Entry A) → AreApart blocks → slice_get blocks b ≡ Some block → is_of f block ≡ true → reason_at block events i f ≡ None → Acts (trace_of_block block events) i → IsFrameEntry blocks events i f x → x ≡ entry_of b f Acted
 acted_frame blocks events i b block f x apart here yes_of clear acts (inl a) = absurd (false≢true (sym (a.0 b block here) ∙ yes_of))
 acted_frame {A} blocks events i b block f x apart here yes_of clear acts (inr a) =
     let place : a.0 ≡ b = same_place blocks apart f a.0 b a.1 block a.2 here a.3 yes_of in

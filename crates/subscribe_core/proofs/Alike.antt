@@ -3,7 +3,7 @@ use Rattle.std.proofs.Common.{◌≡◌, ℕ, zero, suc, ◌+◌, ◌-◌, ◌<�
 use Rattle.std.proofs.lemmas.Bool.{cases_lt, cases_Bool, false≢true, and_parts, and_from, or_parts, not-false}
 use Rattle.std.proofs.lemmas.Option.{none-some}
 use Rattle.subscribe_core.specs.declared.block.Block.{Block}
-use Rattle.subscribe_core.specs.Reading.{GooseFrame, EventRead, Content, OfGoose}
+use Rattle.subscribe_core.specs.Reading.{FrameRead, EventRead, Content, OfGoose}
 use Rattle.subscribe_core.specs.declared.registers.Facts.{Facts}
 use Rattle.subscribe_core.specs.declared.entry.Reason.{Reason}
 use Rattle.subscribe_core.specs.declared.entry.Reason.TheVariants.{DatSet, GoId, ConfRev, Commissioning, Simulated, Entries, StateZero, LiveZero}
@@ -57,12 +57,12 @@ steady (suc d) b events s (suc j) h e =
 
 -- what a good frame tells
 
-pub refused : {A : Type 0} → (x : Bool) (b : Block A) (f : GooseFrame) → reason_of x b f ≡ None → x ≡ false
+pub refused : {A : Type 0} → (x : Bool) (b : Block A) (f : FrameRead) → reason_of x b f ≡ None → x ≡ false
 refused false b f e = refl
 refused true b f e =
     absurd (no_reason (holds true b f) (DatSet ∷ GoId ∷ ConfRev ∷ Commissioning ∷ []) (Entries ∷ StateZero ∷ LiveZero ∷ []) Simulated refl e)
 
-pub good_frame : {A : Type 0} → (b : Block A) (mode taken : Bool) (f : GooseFrame) (g : Facts) → facts_of b mode taken (OfGoose f) ≡ Some g → (is_of f b ≡ true) × (reason_of (is_against f mode taken) b f ≡ None)
+pub good_frame : {A : Type 0} → (b : Block A) (mode taken : Bool) (f : FrameRead) (g : Facts) → facts_of b mode taken (OfGoose f) ≡ Some g → (is_of f b ≡ true) × (reason_of (is_against f mode taken) b f ≡ None)
 good_frame b mode taken f g e = go (is_of f b) refl (reason_of (is_against f mode taken) b f) refl e
   where
     go : (o : Bool) → is_of f b ≡ o → (r : Option Reason) → reason_of (is_against f mode taken) b f ≡ r → (if o then facts_unless_refused r (facts_of_frame f) else None) ≡ Some g → (is_of f b ≡ true) × (reason_of (is_against f mode taken) b f ≡ None)
@@ -70,15 +70,15 @@ good_frame b mode taken f g e = go (is_of f b) refl (reason_of (is_against f mod
     go true o (Some reason) r e = absurd (none-some g e)
     go false o r rs e = absurd (none-some g e)
 
-against_is : (f : GooseFrame) (mode taken v : Bool) → f.pdu.simulation ≡ v → is_against f mode taken ≡ (if v then not mode else taken)
+against_is : (f : FrameRead) (mode taken v : Bool) → f.pdu.simulation ≡ v → is_against f mode taken ≡ (if v then not mode else taken)
 against_is f mode taken v e = ap (λ (x : Bool). if x then not mode else taken) e
 
 -- a good frame at i is simulated or real as the block takes them afterwards
-record Tells {A : Type 0} (b : Block A) (events : List EventRead) (i : ℕ) (f : GooseFrame) : Type 0 where
+record Tells {A : Type 0} (b : Block A) (events : List EventRead) (i : ℕ) (f : FrameRead) : Type 0 where
   simulated : f.pdu.simulation ≡ true → invites b events i ≡ true
   real : f.pdu.simulation ≡ false → (takes_simulated b events i ≡ false) × (invites b events i ≡ false)
 
-tells : {A : Type 0} → (b : Block A) (events : List EventRead) (i : ℕ) (g : Facts) (e : EventRead) (f : GooseFrame) → (trace_of_block b events).good i ≡ Some g → slice_get events i ≡ Some e → e.content ≡ OfGoose f → Tells b events i f
+tells : {A : Type 0} → (b : Block A) (events : List EventRead) (i : ℕ) (g : Facts) (e : EventRead) (f : FrameRead) → (trace_of_block b events).good i ≡ Some g → slice_get events i ≡ Some e → e.content ≡ OfGoose f → Tells b events i f
 tells b events i g e f good at kind =
     let mode : Bool = mode_at events i in
     let event : slice_get events i ≡ Some e = at in
@@ -113,7 +113,7 @@ tells b events i g e f good at kind =
     }
 
 -- the kind of a good frame is the one that the block takes since its epoch's start
-kind_at_start : {A : Type 0} → (b : Block A) (events : List EventRead) (s : ℕ) (f : GooseFrame) → Tells b events s f → f.pdu.simulation ≡ takes_simulated b events (s + 1)
+kind_at_start : {A : Type 0} → (b : Block A) (events : List EventRead) (s : ℕ) (f : FrameRead) → Tells b events s f → f.pdu.simulation ≡ takes_simulated b events (s + 1)
 kind_at_start b events s f x =
     elim (cases_Bool f.pdu.simulation) [
       | inl y ↦
@@ -130,7 +130,7 @@ kind_at_start b events s f x =
           ]
     ]
 
-kind_later : {A : Type 0} → (b : Block A) (events : List EventRead) (i : ℕ) (f : GooseFrame) → Tells b events i f → is_switched b events i ≡ false → f.pdu.simulation ≡ takes_simulated b events i
+kind_later : {A : Type 0} → (b : Block A) (events : List EventRead) (i : ℕ) (f : FrameRead) → Tells b events i f → is_switched b events i ≡ false → f.pdu.simulation ≡ takes_simulated b events i
 kind_later b events i f x same =
     let parts = or_parts (invites b events i && not (takes_simulated b events i)) (sets_off events i && takes_simulated b events i) same in
     elim (cases_Bool f.pdu.simulation) [
@@ -143,7 +143,7 @@ kind_later b events i f x same =
       | inr n ↦ n ∙ sym (x.real n).0
     ]
 
-kind_is : {A : Type 0} → (b : Block A) (events : List EventRead) (s i : ℕ) (g : Facts) (e : EventRead) (f : GooseFrame) → IsIn (trace_of_block b events) s i g → slice_get events i ≡ Some e → e.content ≡ OfGoose f → f.pdu.simulation ≡ takes_simulated b events (s + 1)
+kind_is : {A : Type 0} → (b : Block A) (events : List EventRead) (s i : ℕ) (g : Facts) (e : EventRead) (f : FrameRead) → IsIn (trace_of_block b events) s i g → slice_get events i ≡ Some e → e.content ≡ OfGoose f → f.pdu.simulation ≡ takes_simulated b events (s + 1)
 kind_is b events s i g e f a at kind =
     let within : s ≤ i = a.epoch.within in
     let told : Tells b events i f = tells b events i g e f a.good at kind in

@@ -3,7 +3,7 @@ use Rattle.std.proofs.Common.{◌≡◌, ℕ, zero, suc, ◌+◌, ◌<◌, Bool,
 use Rattle.std.proofs.lemmas.Bool.{false≢true}
 use Rattle.std.proofs.lemmas.Option.{none-some, same_Some}
 use Rattle.subscribe_core.specs.declared.block.Block.{Block}
-use Rattle.subscribe_core.specs.Reading.{GooseFrame, EventRead, Content, OfGoose, OfSampled, OfFault, OfClock, OfMode}
+use Rattle.subscribe_core.specs.Reading.{FrameRead, EventRead, Content, OfGoose, OfSampled, OfFault, OfClock, OfMode}
 use Rattle.subscribe_core.specs.declared.registers.Facts.{Facts}
 use Rattle.subscribe_core.specs.declared.entry.Reason.{Reason}
 use Rattle.subscribe_core.specs.declared.registers.Verdict.{Verdict}
@@ -49,13 +49,13 @@ expired_unique {A} events i b (x ∷ xs) es fs (inl a) (inr c) = absurd (c.0 a.0
 expired_unique {A} events i b (x ∷ xs) es fs (inr a) (inl c) = absurd (a.0 c.0)
 expired_unique {A} events i b (x ∷ xs) es fs (inr a) (inr c) = expired_unique events i (b + 1) xs es fs a.1 c.1
 
-block_unique : {A : Type 0} → (events : List EventRead) (i b : ℕ) (block : Block A) (f : GooseFrame) (r : Option Reason) (x y : Entry A) → IsBlockEntry events i b block f r x → IsBlockEntry events i b block f r y → x ≡ y
+block_unique : {A : Type 0} → (events : List EventRead) (i b : ℕ) (block : Block A) (f : FrameRead) (r : Option Reason) (x y : Entry A) → IsBlockEntry events i b block f r x → IsBlockEntry events i b block f r y → x ≡ y
 block_unique {A} events i b block f (Some r) x y a c = a ∙ sym c
 block_unique {A} events i b block f None x y a c =
     a.2 ∙ (ap (entry_of b f) (verdict_unique (trace_of_block block events) i (facts_of_frame f) a.0 c.0 a.1 c.1) ∙ sym c.2)
 
 -- two blocks of one frame are one
-pub same_place : {A : Type 0} → (blocks : List (Block A)) → AreApart blocks → (f : GooseFrame) (b c : ℕ) (x y : Block A) → slice_get blocks b ≡ Some x → slice_get blocks c ≡ Some y → is_of f x ≡ true → is_of f y ≡ true → b ≡ c
+pub same_place : {A : Type 0} → (blocks : List (Block A)) → AreApart blocks → (f : FrameRead) (b c : ℕ) (x y : Block A) → slice_get blocks b ≡ Some x → slice_get blocks c ≡ Some y → is_of f x ≡ true → is_of f y ≡ true → b ≡ c
 same_place {A} blocks apart f b c x y p q u v =
     let u_key = is_of_key f x u in
     let v_key = is_of_key f y v in
@@ -64,7 +64,7 @@ same_place {A} blocks apart f b c x y p q u v =
 pub same_block : {A : Type 0} → (blocks : List (Block A)) (b c : ℕ) (x y : Block A) → slice_get blocks b ≡ Some x → slice_get blocks c ≡ Some y → b ≡ c → x ≡ y
 same_block {A} blocks b c x y p q e = same_Some x y (sym p ∙ (ap (slice_get blocks) e ∙ q))
 
-frame_unique : {A : Type 0} → (blocks : List (Block A)) → AreApart blocks → (events : List EventRead) (i : ℕ) (f : GooseFrame) (x y : Entry A) → IsFrameEntry blocks events i f x → IsFrameEntry blocks events i f y → x ≡ y
+frame_unique : {A : Type 0} → (blocks : List (Block A)) → AreApart blocks → (events : List EventRead) (i : ℕ) (f : FrameRead) (x y : Entry A) → IsFrameEntry blocks events i f x → IsFrameEntry blocks events i f y → x ≡ y
 frame_unique {A} blocks apart events i f x y (inl a) (inl c) = a.1 ∙ sym c.1
 frame_unique {A} blocks apart events i f x y (inl a) (inr c) = absurd (false≢true (sym (a.0 c.0 c.1 c.2) ∙ c.3))
 frame_unique {A} blocks apart events i f x y (inr a) (inl c) = absurd (false≢true (sym (c.0 a.0 a.1 a.2) ∙ a.3))
@@ -177,24 +177,24 @@ own_three : {A : Type 0} → (b : ℕ) (xs ys zs : List (Entry A)) → own b (xs
 own_three {A} b xs ys zs = own-append b xs (ys ++ zs) ∙ ap (λ (l : List (Entry A)). own b xs ++ l) (own-append b ys zs)
 
 -- a verdict's entry is the block's own
-own_entry_is : (A : Type 0) (b : ℕ) (f : GooseFrame) (v : Verdict) → own_of {A = A} b (entry_of b f v) ≡ entry_of 0 f v ∷ []
+own_entry_is : (A : Type 0) (b : ℕ) (f : FrameRead) (v : Verdict) → own_of {A = A} b (entry_of b f v) ≡ entry_of 0 f v ∷ []
 own_entry_is A b f Acted = ap (λ (x : Bool). if x then entry_of {A = A} 0 f Acted ∷ [] else []) (eq-eqb b b refl)
 own_entry_is A b f Renewed = ap (λ (x : Bool). if x then entry_of {A = A} 0 f Renewed ∷ [] else []) (eq-eqb b b refl)
 own_entry_is A b f Again = ap (λ (x : Bool). if x then entry_of {A = A} 0 f Again ∷ [] else []) (eq-eqb b b refl)
 own_entry_is A b f Stale = ap (λ (x : Bool). if x then entry_of {A = A} 0 f Stale ∷ [] else []) (eq-eqb b b refl)
 
-own_entry_not : (A : Type 0) (b c : ℕ) (f : GooseFrame) (v : Verdict) → (c ≡ b → ⊥) → own_of {A = A} b (entry_of c f v) ≡ []
+own_entry_not : (A : Type 0) (b c : ℕ) (f : FrameRead) (v : Verdict) → (c ≡ b → ⊥) → own_of {A = A} b (entry_of c f v) ≡ []
 own_entry_not A b c f Acted ne = ap (λ (x : Bool). if x then entry_of {A = A} 0 f Acted ∷ [] else []) (ne_eqb c b ne)
 own_entry_not A b c f Renewed ne = ap (λ (x : Bool). if x then entry_of {A = A} 0 f Renewed ∷ [] else []) (ne_eqb c b ne)
 own_entry_not A b c f Again ne = ap (λ (x : Bool). if x then entry_of {A = A} 0 f Again ∷ [] else []) (ne_eqb c b ne)
 own_entry_not A b c f Stale ne = ap (λ (x : Bool). if x then entry_of {A = A} 0 f Stale ∷ [] else []) (ne_eqb c b ne)
 
-own_block_not : {A : Type 0} → (events : List EventRead) (i b c : ℕ) (block : Block A) (f : GooseFrame) (r : Option Reason) (x : Entry A) → (c ≡ b → ⊥) → IsBlockEntry events i c block f r x → own_of b x ≡ []
+own_block_not : {A : Type 0} → (events : List EventRead) (i b c : ℕ) (block : Block A) (f : FrameRead) (r : Option Reason) (x : Entry A) → (c ≡ b → ⊥) → IsBlockEntry events i c block f r x → own_of b x ≡ []
 own_block_not {A} events i b c block f (Some r) x ne a =
     ap (own_of b) a ∙ ap (λ (y : Bool). if y then says.Refused 0 r ∷ [] else []) (ne_eqb c b ne)
 own_block_not {A} events i b c block f None x ne a = ap (own_of b) a.2 ∙ own_entry_not A b c f a.0 ne
 
-own_block_same : {A : Type 0} → (events : List EventRead) (i b : ℕ) (block : Block A) (f : GooseFrame) (r : Option Reason) (x y : Entry A) → IsBlockEntry events i b block f r x → IsBlockEntry events i 0 block f r y → own_of b x ≡ own_of 0 y
+own_block_same : {A : Type 0} → (events : List EventRead) (i b : ℕ) (block : Block A) (f : FrameRead) (r : Option Reason) (x y : Entry A) → IsBlockEntry events i b block f r x → IsBlockEntry events i 0 block f r y → own_of b x ≡ own_of 0 y
 own_block_same {A} events i b block f (Some r) x y a c =
     ap (own_of b) a ∙ (ap (λ (z : Bool). if z then says.Refused 0 r ∷ [] else []) (eq-eqb b b refl) ∙ sym (ap (own_of 0) c))
 own_block_same {A} events i b block f None x y a c =
@@ -206,7 +206,7 @@ only : {A : Type 0} → (block x : Block A) (c : ℕ) → slice_get (block ∷ [
 only {A} block x zero e = (refl, same_Some block x e)
 only {A} block x (suc c) e = absurd (none-some x e)
 
-own_frame : {A : Type 0} → (blocks : List (Block A)) → AreApart blocks → (events : List EventRead) (i b : ℕ) (block : Block A) (f : GooseFrame) (x y : Entry A) → slice_get blocks b ≡ Some block → IsFrameEntry blocks events i f x → IsFrameEntry (block ∷ []) events i f y → own_of b x ≡ own_of 0 y
+own_frame : {A : Type 0} → (blocks : List (Block A)) → AreApart blocks → (events : List EventRead) (i b : ℕ) (block : Block A) (f : FrameRead) (x y : Entry A) → slice_get blocks b ≡ Some block → IsFrameEntry blocks events i f x → IsFrameEntry (block ∷ []) events i f y → own_of b x ≡ own_of 0 y
 own_frame {A} blocks apart events i b block f x y here (inl a) (inl c) = ap (own_of b) a.1 ∙ sym (ap (own_of 0) c.1)
 own_frame {A} blocks apart events i b block f x y here (inl a) (inr c) =
     let o = only block c.1 c.0 c.2 in

@@ -5,7 +5,7 @@ use Rattle.std.proofs.lemmas.List.{length-append, length_push}
 use Rattle.std.proofs.lemmas.Option.{none-some, same_Some}
 use Rattle.subscribe_core.specs.declared.watch.Seen.{Seen}
 use Rattle.subscribe_core.specs.declared.watch.Seen.TheVariants as seen
-use Rattle.subscribe_core.specs.Watch.{AreSeen, SeenAreOne, GoesOn, IsLastCount, IsSeenLast, SkipsAddUp, Watching, WatchesAfter, advance, advances, by_way, greatest_index, last_by, moves, seen_after, seen_all, way}
+use Rattle.subscribe_core.specs.Watch.{AreSeen, SeenAreOne, GoesOn, IsLastCount, IsSeenLast, SkipsAddUp, WatchState, WatchesAfter, advance, advances, by_way, greatest_index, last_by, moves, seen_after, seen_all, way}
 use Rattle.subscribe_core.proofs.Traces.{get_front, get_middle, get_pushed}
 use Rattle.std.proofs.Math.Nat.{add-mod_left, div-add-mod, mod-add-mod, mod-eq_of_lt, mod-lt, mul-add-mod_self_left}
 
@@ -117,11 +117,11 @@ last_push counts answers last count seen.Same same w = stayed counts answers las
 last_push counts answers last count seen.Late same w = stayed counts answers last count seen.Late same refl w
 last_push counts answers last count seen.OutOfRange same w = stayed counts answers last count seen.OutOfRange same refl w
 
-pub seen_last : (counts : List ℕ) (w : Watching) (count : ℕ) (s : Seen) → s ≡ seen_after w.period w.last count → WatchesAfter counts w → IsSeenLast w.period counts count s
+pub seen_last : (counts : List ℕ) (w : WatchState) (count : ℕ) (s : Seen) → s ≡ seen_after w.period w.last count → WatchesAfter counts w → IsSeenLast w.period counts count s
 seen_last counts w count s is stands =
     (stands.0, subst (λ x. AreSeen w.period (counts ++ count ∷ []) (stands.0 ++ x ∷ [])) (sym is) (seen_push w.period counts stands.0 w.last count stands.1 stands.2))
 
-pub watches_on : (counts : List ℕ) (w v : Watching) (count : ℕ) (s : Seen) → s ≡ seen_after w.period w.last count → v.period ≡ w.period → v.last ≡ last_by w.last count s → WatchesAfter counts w → WatchesAfter (counts ++ count ∷ []) v
+pub watches_on : (counts : List ℕ) (w v : WatchState) (count : ℕ) (s : Seen) → s ≡ seen_after w.period w.last count → v.period ≡ w.period → v.last ≡ last_by w.last count s → WatchesAfter counts w → WatchesAfter (counts ++ count ∷ []) v
 unfolding seen_last
 watches_on counts w v count s is period last stands = (
   stands.0 ++ s ∷ [],

@@ -17,7 +17,7 @@ use Rattle.subscribe_core.specs.declared.registers.Verdict.TheVariants.{Acted, R
 use Rattle.subscribe_core.specs.Deadlines.{due_count, helds}
 use Rattle.subscribe_core.specs.Indexed.{registers_after_clock, register_after_clock, good_entries, good_held, good_register, good_renewal, switches}
 use Rattle.subscribe_core.specs.Matching.{facts_of_frame, holds, is_clear, is_of, reason_of}
-use Rattle.subscribe_core.specs.Reading.{GooseFrame, OfGoose}
+use Rattle.subscribe_core.specs.Reading.{FrameRead, OfGoose}
 use Rattle.subscribe_core.specs.Simulation.{is_against, is_plain_simulated}
 use Rattle.subscribe_core.specs.Standing.{AreApart}
 use Rattle.subscribe_core.specs.Steps.{after_clock, after_switch, block_entry, block_held, flag_by, is_over, register_by, registers_by, said_of, switch_by, switched_entries, held_after_frame, turned, verdict_on}
@@ -28,16 +28,16 @@ use Rattle.subscribe_core.proofs.Whole.{position_none}
 
 -- whether the frame switches a block
 
-plain_is : {A : Type 0} (x : Block A) (f : GooseFrame) → is_of f x ≡ true → reason_of false x f ≡ None → f.pdu.simulation ≡ true → is_plain_simulated x (OfGoose f) ≡ true
+plain_is : {A : Type 0} (x : Block A) (f : FrameRead) → is_of f x ≡ true → reason_of false x f ≡ None → f.pdu.simulation ≡ true → is_plain_simulated x (OfGoose f) ≡ true
 plain_is x f yes_of clear s =
     and_from (is_of f x) (is_clear (reason_of false x f) && f.pdu.simulation) yes_of
     (and_from (is_clear (reason_of false x f)) f.pdu.simulation (ap is_clear clear) s)
 
-plain_real : {A : Type 0} (x : Block A) (f : GooseFrame) → f.pdu.simulation ≡ false → is_plain_simulated x (OfGoose f) ≡ false
+plain_real : {A : Type 0} (x : Block A) (f : FrameRead) → f.pdu.simulation ≡ false → is_plain_simulated x (OfGoose f) ≡ false
 plain_real x f s =
     and_right (is_of f x) (is_clear (reason_of false x f) && f.pdu.simulation) (and_right (is_clear (reason_of false x f)) f.pdu.simulation s)
 
-plain_other : {A : Type 0} (x : Block A) (f : GooseFrame) → is_of f x ≡ false → is_plain_simulated x (OfGoose f) ≡ false
+plain_other : {A : Type 0} (x : Block A) (f : FrameRead) → is_of f x ≡ false → is_plain_simulated x (OfGoose f) ≡ false
 plain_other x f no_of = and_left (is_of f x) (is_clear (reason_of false x f) && f.pdu.simulation) no_of
 
 -- the switch and the flag, by whether such a frame comes with the mode on
@@ -54,11 +54,11 @@ flag_false true = refl
 flag_false false = refl
 
 -- what a frame says of its block, where no reason holds against it
-pub record Good {A : Type 0} (mode flag : Bool) (x : Block A) (f : GooseFrame) : Type 0 where
+pub record Good {A : Type 0} (mode flag : Bool) (x : Block A) (f : FrameRead) : Type 0 where
   pub switch_is : switch_by x mode flag (OfGoose f) ≡ (f.pdu.simulation && not flag)
   pub flag_is : flag_by x mode flag (OfGoose f) ≡ (flag || f.pdu.simulation)
 
-good_case : {A : Type 0} (mode flag : Bool) (x : Block A) (f : GooseFrame) (p s : Bool) → (is_plain_simulated x (OfGoose f) && mode) ≡ p → f.pdu.simulation ≡ s → p ≡ s → Good mode flag x f
+good_case : {A : Type 0} (mode flag : Bool) (x : Block A) (f : FrameRead) (p s : Bool) → (is_plain_simulated x (OfGoose f) && mode) ≡ p → f.pdu.simulation ≡ s → p ≡ s → Good mode flag x f
 good_case mode flag x f true true e s same =
     record {
       switch_is = ap (λ (y : Bool). (y && not flag) || (false && flag)) e ∙ (switch_true flag ∙ ap (λ (y : Bool). y && not flag) (sym s));
@@ -72,7 +72,7 @@ good_case mode flag x f false false e s same =
 good_case mode flag x f true false e s same = absurd (false≢true (sym same))
 good_case mode flag x f false true e s same = absurd (false≢true same)
 
-pub good_is : {A : Type 0} (mode flag : Bool) (x : Block A) (f : GooseFrame) → is_of f x ≡ true → reason_of (is_against f mode flag) x f ≡ None → Good mode flag x f
+pub good_is : {A : Type 0} (mode flag : Bool) (x : Block A) (f : FrameRead) → is_of f x ≡ true → reason_of (is_against f mode flag) x f ≡ None → Good mode flag x f
 good_is mode flag x f yes_of clear =
     let none : is_against f mode flag ≡ false = refused (is_against f mode flag) x f clear in
     elim (cases_Bool f.pdu.simulation) [
@@ -85,18 +85,18 @@ good_is mode flag x f yes_of clear =
     ]
 
 -- and what it says where one does, or where it is another block's: nothing
-pub record Quiet {A : Type 0} (mode flag : Bool) (x : Block A) (f : GooseFrame) : Type 0 where
+pub record Quiet {A : Type 0} (mode flag : Bool) (x : Block A) (f : FrameRead) : Type 0 where
   pub switch_is : switch_by x mode flag (OfGoose f) ≡ false
   pub flag_is : flag_by x mode flag (OfGoose f) ≡ flag
 
-quiet_from : {A : Type 0} (mode flag : Bool) (x : Block A) (f : GooseFrame) → (is_plain_simulated x (OfGoose f) && mode) ≡ false → Quiet mode flag x f
+quiet_from : {A : Type 0} (mode flag : Bool) (x : Block A) (f : FrameRead) → (is_plain_simulated x (OfGoose f) && mode) ≡ false → Quiet mode flag x f
 quiet_from mode flag x f e =
     record {
       switch_is = ap (λ (y : Bool). (y && not flag) || (false && flag)) e;
       flag_is = ap (λ (y : Bool). y || flag) e;
     }
 
-pub quiet_refused : {A : Type 0} (mode flag : Bool) (x : Block A) (f : GooseFrame) (r : Reason) → reason_of (is_against f mode flag) x f ≡ Some r → Quiet mode flag x f
+pub quiet_refused : {A : Type 0} (mode flag : Bool) (x : Block A) (f : FrameRead) (r : Reason) → reason_of (is_against f mode flag) x f ≡ Some r → Quiet mode flag x f
 quiet_refused mode flag x f r e =
     quiet_from mode flag x f
     (elim (cases_Bool (is_plain_simulated x (OfGoose f) && mode)) [
@@ -110,11 +110,11 @@ quiet_refused mode flag x f r e =
           absurd (false≢true (sym (ap is_clear told) ∙ s.0))
     ])
 
-pub quiet_other : {A : Type 0} (mode flag : Bool) (x : Block A) (f : GooseFrame) → is_of f x ≡ false → Quiet mode flag x f
+pub quiet_other : {A : Type 0} (mode flag : Bool) (x : Block A) (f : FrameRead) → is_of f x ≡ false → Quiet mode flag x f
 quiet_other mode flag x f no_of = quiet_from mode flag x f (and_left (is_plain_simulated x (OfGoose f)) mode (plain_other x f no_of))
 
 -- a register of another block
-register_other : {A : Type 0} (now : ℕ) (mode : Bool) (x : Block A) (r : Register) (f : GooseFrame) → is_of f x ≡ false → register_by now mode (OfGoose f) x r ≡ register_after_clock now r
+register_other : {A : Type 0} (now : ℕ) (mode : Bool) (x : Block A) (r : Register) (f : FrameRead) → is_of f x ≡ false → register_by now mode (OfGoose f) x r ≡ register_after_clock now r
 register_other now mode x r f no_of =
     let q = quiet_other mode r.simulated x f no_of in
     let held : turned now mode (OfGoose f) x r ≡ after_clock r.held now = ap (λ (y : Bool). after_switch y (after_clock r.held now)) q.switch_is in
@@ -124,7 +124,7 @@ register_other now mode x r f no_of =
 
 -- lists of blocks, of which the frame is none's
 
-pub switched_none : {A : Type 0} (mode : Bool) (f : GooseFrame) (b : ℕ) (xs : List (Block A)) (rs : List Register)
+pub switched_none : {A : Type 0} (mode : Bool) (f : FrameRead) (b : ℕ) (xs : List (Block A)) (rs : List Register)
     → ((j : ℕ) (y : Block A) → slice_get xs j ≡ Some y → is_of f y ≡ false) → switched_entries mode (OfGoose f) b xs rs ≡ []
 switched_none mode f b [] rs none = refl
 switched_none mode f b (x ∷ xs) [] none = refl
@@ -133,7 +133,7 @@ switched_none {A} mode f b (x ∷ xs) (r ∷ rs) none =
     (quiet_other mode r.simulated x f (none 0 x refl)).switch_is
     ∙ switched_none mode f (b + 1) xs rs (λ j. none (suc j))
 
-pub registers_none : {A : Type 0} (now : ℕ) (mode : Bool) (f : GooseFrame) (xs : List (Block A)) (rs : List Register) → length rs ≡ length xs
+pub registers_none : {A : Type 0} (now : ℕ) (mode : Bool) (f : FrameRead) (xs : List (Block A)) (rs : List Register) → length rs ≡ length xs
     → ((j : ℕ) (y : Block A) → slice_get xs j ≡ Some y → is_of f y ≡ false) → registers_by now mode (OfGoose f) xs rs ≡ registers_after_clock now rs
 registers_none now mode f [] [] same none = refl
 registers_none now mode f [] (r ∷ rs) same none = absurd (omega arith)
@@ -147,7 +147,7 @@ registers_none now mode f (x ∷ xs) (r ∷ rs) same none =
 abbrev one_switched : (A : Type 0) → ℕ → Bool → List (Entry A)
 one_switched A b y = if y then says.Switched b ∷ [] else []
 
-pub switched_one : {A : Type 0} (mode : Bool) (f : GooseFrame) (b at : ℕ) (xs : List (Block A)) (rs : List Register) (x : Block A) (r : Register)
+pub switched_one : {A : Type 0} (mode : Bool) (f : FrameRead) (b at : ℕ) (xs : List (Block A)) (rs : List Register) (x : Block A) (r : Register)
     → slice_get xs at ≡ Some x → slice_get rs at ≡ Some r
     → ((j : ℕ) (y : Block A) → slice_get xs j ≡ Some y → (j ≡ at → ⊥) → is_of f y ≡ false)
     → switched_entries mode (OfGoose f) b xs rs ≡ one_switched A (b + at) (switch_by x mode r.simulated (OfGoose f))
@@ -166,7 +166,7 @@ switched_one {A} mode f b (suc at) (z ∷ xs) (w ∷ rs) x r p q others =
     ∙ (switched_one mode f (b + 1) at xs rs x r p q (λ j y e apart. others (suc j) y e (λ c. apart (omega arith)))
     ∙ ap (λ (n : ℕ). one_switched A n (switch_by x mode r.simulated (OfGoose f))) next)
 
-pub registers_one : {A : Type 0} (now : ℕ) (mode : Bool) (f : GooseFrame) (at : ℕ) (xs : List (Block A)) (rs : List Register) (x : Block A) (r : Register) → length rs ≡ length xs
+pub registers_one : {A : Type 0} (now : ℕ) (mode : Bool) (f : FrameRead) (at : ℕ) (xs : List (Block A)) (rs : List Register) (x : Block A) (r : Register) → length rs ≡ length xs
     → slice_get xs at ≡ Some x → slice_get rs at ≡ Some r
     → ((j : ℕ) (y : Block A) → slice_get xs j ≡ Some y → (j ≡ at → ⊥) → is_of f y ≡ false)
     → registers_by now mode (OfGoose f) xs rs ≡ set (registers_after_clock now rs) at (register_by now mode (OfGoose f) x r)
@@ -182,7 +182,7 @@ registers_one now mode f (suc at) (z ∷ xs) (w ∷ rs) x r same p q others =
     (registers_one now mode f at xs rs x r (omega arith) p q (λ j y e apart. others (suc j) y e (λ c. apart (omega arith))))
 
 -- the frame is of no other block than the one at the position
-pub is_of_others : {A : Type 0} (xs : List (Block A)) (f : GooseFrame) (at : ℕ) (x : Block A) → AreApart xs → slice_get xs at ≡ Some x → is_of f x ≡ true
+pub is_of_others : {A : Type 0} (xs : List (Block A)) (f : FrameRead) (at : ℕ) (x : Block A) → AreApart xs → slice_get xs at ≡ Some x → is_of f x ≡ true
     → (j : ℕ) (y : Block A) → slice_get xs j ≡ Some y → (j ≡ at → ⊥) → is_of f y ≡ false
 is_of_others xs f at x apart p yes_of j y q differ =
     elim (cases_Bool (is_of f y)) [
@@ -193,29 +193,29 @@ is_of_others xs f at x apart p yes_of j y q differ =
           absurd (differ (apart j at y x q p (b.0 ∙ sym a.0, b.1 ∙ sym a.1)))
     ]
 
-pub found_is_of : {A : Type 0} (xs : List (Block A)) (f : GooseFrame) (at : ℕ) (x : Block A) → position (is_of f) xs ≡ Some at → slice_get xs at ≡ Some x → is_of f x ≡ true
+pub found_is_of : {A : Type 0} (xs : List (Block A)) (f : FrameRead) (at : ℕ) (x : Block A) → position (is_of f) xs ≡ Some at → slice_get xs at ≡ Some x → is_of f x ≡ true
 found_is_of xs f at x e p =
     let found = position-Some (is_of f) xs at x e in
     sym (ap (is_of f) (get_or_from_slice_get xs at x x p)) ∙ found.1
 
 -- the three answers to a frame
 
-abbrev pub Answers : {A : Type 0} → ℕ → Bool → List (Block A) → List Register → GooseFrame → List (Entry A) → Type 0
+abbrev pub Answers : {A : Type 0} → ℕ → Bool → List (Block A) → List Register → FrameRead → List (Entry A) → Type 0
 Answers now mode xs rs f es = es ≡ switched_entries mode (OfGoose f) 0 xs rs ++ said_of now mode xs rs (OfGoose f)
 
-said_at : {A : Type 0} (now : ℕ) (mode : Bool) (xs : List (Block A)) (rs : List Register) (f : GooseFrame) (at : ℕ) (x : Block A) (r : Register) → position (is_of f) xs ≡ Some at → slice_get xs at ≡ Some x → slice_get rs at ≡ Some r
+said_at : {A : Type 0} (now : ℕ) (mode : Bool) (xs : List (Block A)) (rs : List Register) (f : FrameRead) (at : ℕ) (x : Block A) (r : Register) → position (is_of f) xs ≡ Some at → slice_get xs at ≡ Some x → slice_get rs at ≡ Some r
     → said_of now mode xs rs (OfGoose f) ≡ block_entry at f (reason_of (is_against f mode r.simulated) x f) (turned now mode (OfGoose f) x r) ∷ []
 said_at {A} now mode xs rs f at x r e p q = rw (e, p, q) refl
 
-pub answer_none : {A : Type 0} (now : ℕ) (mode : Bool) (xs : List (Block A)) (rs : List Register) (f : GooseFrame) → position (is_of f) xs ≡ None → Answers now mode xs rs f (says.NotSubscribed ∷ [])
+pub answer_none : {A : Type 0} (now : ℕ) (mode : Bool) (xs : List (Block A)) (rs : List Register) (f : FrameRead) → position (is_of f) xs ≡ None → Answers now mode xs rs f (says.NotSubscribed ∷ [])
 answer_none {A} now mode xs rs f e =
     let quiet : switched_entries mode (OfGoose f) 0 xs rs ≡ [] = switched_none mode f 0 xs rs (λ j y p. position_none (is_of f) xs e j y p) in
     rw (quiet, e) refl
 
-pub registers_kept : {A : Type 0} (now : ℕ) (mode : Bool) (xs : List (Block A)) (rs : List Register) (f : GooseFrame) → length rs ≡ length xs → position (is_of f) xs ≡ None → registers_after_clock now rs ≡ registers_by now mode (OfGoose f) xs rs
+pub registers_kept : {A : Type 0} (now : ℕ) (mode : Bool) (xs : List (Block A)) (rs : List Register) (f : FrameRead) → length rs ≡ length xs → position (is_of f) xs ≡ None → registers_after_clock now rs ≡ registers_by now mode (OfGoose f) xs rs
 registers_kept now mode xs rs f same e = sym (registers_none now mode f xs rs same (λ j y p. position_none (is_of f) xs e j y p))
 
-pub answer_refused : {A : Type 0} (now : ℕ) (mode : Bool) (xs : List (Block A)) (rs : List Register) (f : GooseFrame) (at : ℕ) (x : Block A) (r : Register) (reason : Reason) → AreApart xs → position (is_of f) xs ≡ Some at → slice_get xs at ≡ Some x → slice_get rs at ≡ Some r
+pub answer_refused : {A : Type 0} (now : ℕ) (mode : Bool) (xs : List (Block A)) (rs : List Register) (f : FrameRead) (at : ℕ) (x : Block A) (r : Register) (reason : Reason) → AreApart xs → position (is_of f) xs ≡ Some at → slice_get xs at ≡ Some x → slice_get rs at ≡ Some r
     → reason_of (is_against f mode r.simulated) x f ≡ Some reason → Answers now mode xs rs f (says.Refused at reason ∷ [])
 answer_refused {A} now mode xs rs f at x r reason apart e p q told =
     let others = is_of_others xs f at x apart p (found_is_of xs f at x e p) in
@@ -235,7 +235,7 @@ cleared_get now [] at r e = absurd (none-some r e)
 cleared_get now (x ∷ rs) zero r e = ap (λ (y : Register). Some (register_after_clock now y)) (same_Some x r e)
 cleared_get now (x ∷ rs) (suc at) r e = cleared_get now rs at r e
 
-pub registers_refused : {A : Type 0} (now : ℕ) (mode : Bool) (xs : List (Block A)) (rs : List Register) (f : GooseFrame) (at : ℕ) (x : Block A) (r : Register) (reason : Reason) → length rs ≡ length xs → AreApart xs → position (is_of f) xs ≡ Some at → slice_get xs at ≡ Some x → slice_get rs at ≡ Some r
+pub registers_refused : {A : Type 0} (now : ℕ) (mode : Bool) (xs : List (Block A)) (rs : List Register) (f : FrameRead) (at : ℕ) (x : Block A) (r : Register) (reason : Reason) → length rs ≡ length xs → AreApart xs → position (is_of f) xs ≡ Some at → slice_get xs at ≡ Some x → slice_get rs at ≡ Some r
     → reason_of (is_against f mode r.simulated) x f ≡ Some reason → registers_after_clock now rs ≡ registers_by now mode (OfGoose f) xs rs
 registers_refused now mode xs rs f at x r reason same apart e p q told =
     let yes_of = found_is_of xs f at x e p in
@@ -249,7 +249,7 @@ registers_refused now mode xs rs f at x r reason same apart e p q told =
     sym (registers_one now mode f at xs rs x r same p q (is_of_others xs f at x apart p yes_of)
     ∙ (ap (set (registers_after_clock now rs) at) register ∙ set_same (registers_after_clock now rs) at (register_after_clock now r) (cleared_get now rs at r q)))
 
-pub answer_good : {A : Type 0} (now : ℕ) (mode : Bool) (xs : List (Block A)) (rs : List Register) (f : GooseFrame) (at : ℕ) (x : Block A) (r : Register) → AreApart xs → position (is_of f) xs ≡ Some at → slice_get xs at ≡ Some x → slice_get rs at ≡ Some r
+pub answer_good : {A : Type 0} (now : ℕ) (mode : Bool) (xs : List (Block A)) (rs : List Register) (f : FrameRead) (at : ℕ) (x : Block A) (r : Register) → AreApart xs → position (is_of f) xs ≡ Some at → slice_get xs at ≡ Some x → slice_get rs at ≡ Some r
     → reason_of (is_against f mode r.simulated) x f ≡ None → Answers now mode xs rs f (good_entries at now r f)
 answer_good {A} now mode xs rs f at x r apart e p q clear =
     let yes_of = found_is_of xs f at x e p in
@@ -263,7 +263,7 @@ answer_good {A} now mode xs rs f at x r apart e p q clear =
     ∙ ap₂ (λ (o : Option Reason) (y : Bool). block_entry at f o (after_switch y (after_clock r.held now)) ∷ []) clear good.switch_is in
     sym (ap₂ (λ (a b : List (Entry A)). a ++ b) switched said)
 
-pub registers_good : {A : Type 0} (now : ℕ) (mode : Bool) (xs : List (Block A)) (rs : List Register) (f : GooseFrame) (at : ℕ) (x : Block A) (r : Register) → length rs ≡ length xs → AreApart xs → position (is_of f) xs ≡ Some at → slice_get xs at ≡ Some x → slice_get rs at ≡ Some r
+pub registers_good : {A : Type 0} (now : ℕ) (mode : Bool) (xs : List (Block A)) (rs : List Register) (f : FrameRead) (at : ℕ) (x : Block A) (r : Register) → length rs ≡ length xs → AreApart xs → position (is_of f) xs ≡ Some at → slice_get xs at ≡ Some x → slice_get rs at ≡ Some r
     → reason_of (is_against f mode r.simulated) x f ≡ None → set (registers_after_clock now rs) at (good_register now r f) ≡ registers_by now mode (OfGoose f) xs rs
 registers_good now mode xs rs f at x r same apart e p q clear =
     let yes_of = found_is_of xs f at x e p in
@@ -301,7 +301,7 @@ taken_idle : (o : Option Held) (now : ℕ) (f : Facts) → o ≡ None → held_a
 taken_idle None now f is e = none-some _ (sym e)
 taken_idle (Some h) now f is e = none-some h (sym is)
 
-lives : {A : Type 0} (b : Block A) (f : GooseFrame) (against : Bool) → reason_of against b f ≡ None → 0 < f.pdu.live
+lives : {A : Type 0} (b : Block A) (f : FrameRead) (against : Bool) → reason_of against b f ≡ None → 0 < f.pdu.live
 lives b f against e =
     elim (cases_lt 0 f.pdu.live) [
       | inl lt ↦ lt
@@ -310,13 +310,13 @@ lives b f against e =
           absurd (no_reason (holds against b f) (DatSet ∷ GoId ∷ ConfRev ∷ Commissioning ∷ Simulated ∷ Entries ∷ StateZero ∷ []) [] LiveZero (eq-eqb f.pdu.live 0 dead) e)
     ]
 
-pub new_lives : {A : Type 0} (now : ℕ) (b : Block A) (r : Register) (f : GooseFrame) (against : Bool) (new : Held) → reason_of against b f ≡ None → good_renewal now r f ≡ Some new → is_over (Some new) now ≡ false
+pub new_lives : {A : Type 0} (now : ℕ) (b : Block A) (r : Register) (f : FrameRead) (against : Bool) (new : Held) → reason_of against b f ≡ None → good_renewal now r f ≡ Some new → is_over (Some new) now ≡ false
 new_lives now b r f against new clear e =
     let lt = lives b f against clear in
     let at = taken_deadline (verdict_on (good_held now r f) (facts_of_frame f)) now (facts_of_frame f) new e in
     lt-leb new.deadline now (omega arith)
 
-pub written_new : (now : ℕ) (rs : List Register) (at : ℕ) (r : Register) (f : GooseFrame) (new : Held) → is_over (Some new) now ≡ false → good_renewal now r f ≡ Some new
+pub written_new : (now : ℕ) (rs : List Register) (at : ℕ) (r : Register) (f : FrameRead) (new : Held) → is_over (Some new) now ≡ false → good_renewal now r f ≡ Some new
     → registers_after_clock now (set rs at (record { held = Some new; simulated = r.simulated || f.pdu.simulation })) ≡ set (registers_after_clock now rs) at (good_register now r f)
 written_new now rs at r f new fresh e =
     let here : register_after_clock now (record { held = Some new; simulated = r.simulated || f.pdu.simulation }) ≡ good_register now r f =
@@ -329,7 +329,7 @@ flag_kept true s e = refl
 flag_kept false true e = e
 flag_kept false false e = refl
 
-pub written_none : (now : ℕ) (rs : List Register) (at : ℕ) (r : Register) (f : GooseFrame) → slice_get rs at ≡ Some r → good_renewal now r f ≡ None
+pub written_none : (now : ℕ) (rs : List Register) (at : ℕ) (r : Register) (f : FrameRead) → slice_get rs at ≡ Some r → good_renewal now r f ≡ None
     → registers_after_clock now rs ≡ set (registers_after_clock now rs) at (good_register now r f)
 written_none now rs at r f q e =
     elim (cases_Bool (switches r f)) [
@@ -357,7 +357,7 @@ written_fewer now rs at r e =
     subst (λ (hs : List (Option Held)). due_count now hs ≤ due_count now (helds rs)) (sym (map-set (λ (x : Register). x.held) rs at r)) (due_fewer (helds rs) at now r.held e)
 
 -- the reason that was found
-pub reason_told : {A : Type 0} (x : Block A) (f : GooseFrame) (against mode m flag : Bool) (o : Option Reason) → against ≡ is_against f m flag → m ≡ mode → o ≡ reason_of against x f
+pub reason_told : {A : Type 0} (x : Block A) (f : FrameRead) (against mode m flag : Bool) (o : Option Reason) → against ≡ is_against f m flag → m ≡ mode → o ≡ reason_of against x f
     → reason_of (is_against f mode flag) x f ≡ o
 reason_told x f against mode m flag o a b told =
     sym (told ∙ ap (λ (y : Bool). reason_of y x f) (a ∙ ap (λ (y : Bool). is_against f y flag) b))

@@ -17,7 +17,7 @@ use Rattle.std.specs.declared.cmp.Ordering.TheVariants.{Less, Equal, Greater}
 use Rattle.std.specs.List.{All}
 use Rattle.std.specs.List.Sorted.{IsPermutation, IsPartitionPoint}
 use Rattle.subscribe_core.specs.declared.block.Block.{Block}
-use Rattle.subscribe_core.specs.Reading.{GooseFrame}
+use Rattle.subscribe_core.specs.Reading.{FrameRead}
 use Rattle.subscribe_core.specs.declared.names.Name.{Name}
 use Rattle.subscribe_core.specs.Matching.{is_of}
 use Rattle.subscribe_core.specs.Standing.{AreApart}
@@ -101,11 +101,11 @@ not_found {A} names key i parts k d lt e =
       | inr above ↦ let more : key_cmp (key_of (get_or names k d)) key ≡ Greater = parts.1 k d above lt in greater_equal (sym more ∙ same)
     ]
 
-name_key : {A : Type 0} → (b : Block A) (f : GooseFrame) → (b.app_id ≡ f.app_id) × (b.gocb_ref ≡ f.pdu.gocb_ref) → block_key b ≡ (f.app_id, f.pdu.gocb_ref)
+name_key : {A : Type 0} → (b : Block A) (f : FrameRead) → (b.app_id ≡ f.app_id) × (b.gocb_ref ≡ f.pdu.gocb_ref) → block_key b ≡ (f.app_id, f.pdu.gocb_ref)
 name_key b f e = cc (e.0, e.1)
 
 -- the name that was found is that of the first block with this number and reference
-pub found_at : {A : Type 0} → (names : List (Name A)) (blocks : List (Block A)) (f : GooseFrame) (at : ℕ) → AreNamesOf names blocks → AreApart blocks
+pub found_at : {A : Type 0} → (names : List (Name A)) (blocks : List (Block A)) (f : FrameRead) (at : ℕ) → AreNamesOf names blocks → AreApart blocks
     → HasName names (f.app_id, f.pdu.gocb_ref) at → position (is_of f) blocks ≡ Some at
 found_at {A} names blocks f at all apart w =
     let block = all.sound w.0 w.1 in
@@ -125,7 +125,7 @@ found_at {A} names blocks f at all apart w =
     rw (first, lt-ltb at (length blocks) lt) refl
 
 -- where no name has them, no block has
-pub absent : {A : Type 0} → (names : List (Name A)) (blocks : List (Block A)) (f : GooseFrame) → AreNamesOf names blocks
+pub absent : {A : Type 0} → (names : List (Name A)) (blocks : List (Block A)) (f : FrameRead) → AreNamesOf names blocks
     → All (λ n. key_of n ≡ (f.app_id, f.pdu.gocb_ref) → ⊥) names → position (is_of f) blocks ≡ None
 absent {A} names [] f all none = refl
 absent {A} names (b ∷ bs) f all none =
@@ -139,7 +139,7 @@ absent {A} names (b ∷ bs) f all none =
     rw (last, le-ltb (length blocks) (length blocks) (omega arith)) refl
 
 -- what is found is the position of the frame's block
-pub find_is : {A : Type 0} → (names : List (Name A)) (blocks : List (Block A)) (f : GooseFrame) (o : Option ℕ) → AreNamesOf names blocks → AreApart blocks
+pub find_is : {A : Type 0} → (names : List (Name A)) (blocks : List (Block A)) (f : FrameRead) (o : Option ℕ) → AreNamesOf names blocks → AreApart blocks
     → MatchOption o (All (λ n. key_of n ≡ (f.app_id, f.pdu.gocb_ref) → ⊥) names) (HasName names (f.app_id, f.pdu.gocb_ref)) → o ≡ position (is_of f) blocks
 find_is {A} names blocks f None all apart w = sym (absent names blocks f all w)
 find_is {A} names blocks f (Some at) all apart w = sym (found_at names blocks f at all apart w)

@@ -2,7 +2,7 @@
 use Rattle.std.proofs.Common.{◌≡◌, Bool, if◌then◌else◌, subst, refl, ℕ, ◌+◌, ◌<◌, inl, inr, Option, Some, None, List, [], ◌∷◌, ◌++◌, length, sym, ap, ◌∙◌, arith}
 use Rattle.std.proofs.lemmas.Option.{slice_get_within}
 use Rattle.subscribe_core.specs.declared.block.Block.{Block}
-use Rattle.subscribe_core.specs.Reading.{GooseFrame, EventRead, Content, OfGoose, OfSampled, OfFault, OfClock, OfMode}
+use Rattle.subscribe_core.specs.Reading.{FrameRead, EventRead, Content, OfGoose, OfSampled, OfFault, OfClock, OfMode}
 use Rattle.subscribe_core.specs.declared.entry.Reason.{Reason}
 use Rattle.subscribe_core.specs.declared.entry.Entry.{Entry}
 use Rattle.subscribe_core.specs.Matching.{reason_of, facts_of_frame}
@@ -19,12 +19,12 @@ expired_stay events later i b (x ∷ xs) es lt (inl a) =
 expired_stay events later i b (x ∷ xs) es lt (inr a) =
     inr ((λ w. a.0 (expiry_same (same_sym (front_same x events later)) i lt w)), expired_stay events later i (b + 1) xs es lt a.1)
 
-block_stay : {A : Type 0} → (events later : List EventRead) (i b : ℕ) (block : Block A) (f : GooseFrame) (r : Option Reason) (x : Entry A) → i < length events → IsBlockEntry events i b block f r x → IsBlockEntry (events ++ later) i b block f r x
+block_stay : {A : Type 0} → (events later : List EventRead) (i b : ℕ) (block : Block A) (f : FrameRead) (r : Option Reason) (x : Entry A) → i < length events → IsBlockEntry events i b block f r x → IsBlockEntry (events ++ later) i b block f r x
 block_stay events later i b block f (Some r) x lt a = a
 block_stay events later i b block f None x lt a =
     (a.0, verdict_same (front_same block events later) i (facts_of_frame f) a.0 lt a.1, a.2)
 
-reason_front : {A : Type 0} → (x : Block A) (events later : List EventRead) (i : ℕ) (f : GooseFrame) → i < length events → reason_at x (events ++ later) i f ≡ reason_at x events i f
+reason_front : {A : Type 0} → (x : Block A) (events later : List EventRead) (i : ℕ) (f : FrameRead) → i < length events → reason_at x (events ++ later) i f ≡ reason_at x events i f
 reason_front x events later i f lt =
     ap (λ m. reason_of (is_against f m (takes_simulated x (events ++ later) i)) x f) (mode_front events later i (omega arith)) ∙
     ap (λ s. reason_of (is_against f (mode_at events i) s) x f) (takes_front x events later i (omega arith))
@@ -35,7 +35,7 @@ switched_stay {A} events later i b (x ∷ xs) lt =
     ap (λ (y : Bool). if y then says.Switched b ∷ switched_at (events ++ later) i (b + 1) xs else switched_at (events ++ later) i (b + 1) xs) (switched_front x events later i lt) ∙
     ap (λ (l : List (Entry A)). if is_switched x events i then says.Switched b ∷ l else l) (switched_stay events later i (b + 1) xs lt)
 
-frame_stay : {A : Type 0} → (blocks : List (Block A)) (events later : List EventRead) (i : ℕ) (f : GooseFrame) (x : Entry A) → i < length events → IsFrameEntry blocks events i f x → IsFrameEntry blocks (events ++ later) i f x
+frame_stay : {A : Type 0} → (blocks : List (Block A)) (events later : List EventRead) (i : ℕ) (f : FrameRead) (x : Entry A) → i < length events → IsFrameEntry blocks events i f x → IsFrameEntry blocks (events ++ later) i f x
 frame_stay blocks events later i f x lt (inl a) = inl a
 frame_stay blocks events later i f x lt (inr a) =
     inr (a.0, a.1, a.2, a.3, subst (λ (r : Option Reason). IsBlockEntry (events ++ later) i a.0 a.1 f r x) (sym (reason_front a.1 events later i f lt)) (block_stay events later i a.0 a.1 f (reason_at a.1 events i f) x lt a.4))

@@ -7,7 +7,7 @@ use Rattle.std.proofs.lemmas.List.Quantifiers.{position-Some}
 use Rattle.std.proofs.lemmas.Iterator.Adapters.{position_from-zero}
 use Rattle.std.specs.List.{position_from}
 use Rattle.subscribe_core.specs.declared.block.Block.{Block}
-use Rattle.subscribe_core.specs.Reading.{GooseFrame, EventRead, Content, OfGoose, OfSampled, OfFault, OfClock, OfMode}
+use Rattle.subscribe_core.specs.Reading.{FrameRead, EventRead, Content, OfGoose, OfSampled, OfFault, OfClock, OfMode}
 use Rattle.subscribe_core.specs.declared.registers.Held.{Held}
 use Rattle.subscribe_core.specs.declared.registers.Register.{Register}
 use Rattle.subscribe_core.specs.declared.entry.Reason.{Reason}
@@ -49,7 +49,7 @@ record Agrees {A : Type 0} (events : List EventRead) (e : EventRead) (now : ℕ)
   now_is : now ≡ (trace_of_block x (events ++ e ∷ [])).now (length events)
   switch_is : (trace_of_block x (events ++ e ∷ [])).switched (length events) ≡ switch_by x mode r.simulated e.content
   good_is : (trace_of_block x (events ++ e ∷ [])).good (length events) ≡ facts_of x mode r.simulated e.content
-  reason_is : (f : GooseFrame) → reason_of (is_against f (mode_at (events ++ e ∷ []) (length events)) (takes_simulated x (events ++ e ∷ []) (length events))) x f ≡ reason_of (is_against f mode r.simulated) x f
+  reason_is : (f : FrameRead) → reason_of (is_against f (mode_at (events ++ e ∷ []) (length events)) (takes_simulated x (events ++ e ∷ []) (length events))) x f ≡ reason_of (is_against f mode r.simulated) x f
   flag_is : flag_by x mode r.simulated e.content ≡ takes_simulated x (events ++ e ∷ []) (length events + 1)
   expiry : (is_over r.held now ≡ true) ↔ IsExpiry (trace_of_block x (events ++ e ∷ [])) (length events)
   held : HoldsAt (trace_of_block x (events ++ e ∷ [])) (length events) (turned now mode e.content x r)
@@ -76,12 +76,12 @@ agrees events e s w b x r p q =
     }
 
 -- what the block holds after the event, and the verdict on its frame
-of_facts : {A : Type 0} → (f : GooseFrame) (x : Block A) (mode flag : Bool) (o : Bool) (r : Option Reason) → is_of f x ≡ o → reason_of (is_against f mode flag) x f ≡ r → facts_of x mode flag (OfGoose f) ≡ (if o then facts_unless_refused r (facts_of_frame f) else None)
+of_facts : {A : Type 0} → (f : FrameRead) (x : Block A) (mode flag : Bool) (o : Bool) (r : Option Reason) → is_of f x ≡ o → reason_of (is_against f mode flag) x f ≡ r → facts_of x mode flag (OfGoose f) ≡ (if o then facts_unless_refused r (facts_of_frame f) else None)
 of_facts f x mode flag o r a b =
     ap (λ (y : Bool). if y then facts_unless_refused (reason_of (is_against f mode flag) x f) (facts_of_frame f) else None) a ∙
     ap (λ (y : Option Reason). if o then facts_unless_refused y (facts_of_frame f) else None) b
 
-block_ok : {A : Type 0} → (events : List EventRead) (e : EventRead) (now : ℕ) (mode : Bool) (x : Block A) (r : Register) (c : ℕ) (f : GooseFrame) → Agrees events e now mode x r → e.content ≡ OfGoose f → is_of f x ≡ true → (held : Option Held) → HoldsAt (trace_of_block x (events ++ e ∷ [])) (length events) held → (reason : Option Reason) → reason_of (is_against f mode r.simulated) x f ≡ reason → IsBlockEntry (events ++ e ∷ []) (length events) c x f reason (block_entry c f reason held) × BlockHolds (trace_of_block x (events ++ e ∷ [])) (length events + 1) (block_held now f reason held)
+block_ok : {A : Type 0} → (events : List EventRead) (e : EventRead) (now : ℕ) (mode : Bool) (x : Block A) (r : Register) (c : ℕ) (f : FrameRead) → Agrees events e now mode x r → e.content ≡ OfGoose f → is_of f x ≡ true → (held : Option Held) → HoldsAt (trace_of_block x (events ++ e ∷ [])) (length events) held → (reason : Option Reason) → reason_of (is_against f mode r.simulated) x f ≡ reason → IsBlockEntry (events ++ e ∷ []) (length events) c x f reason (block_entry c f reason held) × BlockHolds (trace_of_block x (events ++ e ∷ [])) (length events + 1) (block_held now f reason held)
 block_ok events e now mode x r c f a is yes_of held at (Some reason) ri =
     (refl, none_step (trace_of_block x (events ++ e ∷ [])) (length events) held at (a.good_is ∙ (ap (facts_of x mode r.simulated) is ∙ of_facts f x mode r.simulated true (Some reason) yes_of ri)))
 block_ok events e now mode x r c f a is yes_of held at None ri =
@@ -142,7 +142,7 @@ no_block = record { app_id = 0; gocb_ref = []; dat_set = []; go_id = None; conf_
 no_register : Register
 no_register = record { held = None; simulated = false }
 
-frame_ok : {A : Type 0} → (events : List EventRead) (e : EventRead) (now : ℕ) (mode : Bool) (xs : List (Block A)) (rs : List Register) → length rs ≡ length xs → AllAgree events e now mode xs rs → (f : GooseFrame) → e.content ≡ OfGoose f → (o : Option ℕ) → position (is_of f) xs ≡ o → IsFrameEntry xs (events ++ e ∷ []) (length events) f (frame_entry now mode xs rs f o)
+frame_ok : {A : Type 0} → (events : List EventRead) (e : EventRead) (now : ℕ) (mode : Bool) (xs : List (Block A)) (rs : List Register) → length rs ≡ length xs → AllAgree events e now mode xs rs → (f : FrameRead) → e.content ≡ OfGoose f → (o : Option ℕ) → position (is_of f) xs ≡ o → IsFrameEntry xs (events ++ e ∷ []) (length events) f (frame_entry now mode xs rs f o)
 frame_ok events e now mode xs rs same all f is None o =
     inl ((λ b x p. position_none (is_of f) xs o b x p), refl)
 frame_ok {A} events e now mode xs rs same all f is (Some c) o =

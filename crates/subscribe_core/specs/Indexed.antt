@@ -11,7 +11,7 @@ use Rattle.subscribe_core.specs.Deadlines.{AreDeadlinesOf, helds}
 use Rattle.subscribe_core.specs.Entries.{entry_of}
 use Rattle.subscribe_core.specs.Matching.{facts_of_frame}
 use Rattle.subscribe_core.specs.Names.{AreSorted, AreNamesOf}
-use Rattle.subscribe_core.specs.Reading.{GooseFrame}
+use Rattle.subscribe_core.specs.Reading.{FrameRead}
 use Rattle.subscribe_core.specs.Standing.{AreApart, idle}
 use Rattle.subscribe_core.specs.Steps.{after_clock, after_switch, verdict_on, held_after_frame}
 
@@ -43,20 +43,20 @@ flagged_entries b [] = []
 flagged_entries b (r ∷ rs) = if r.simulated then says.Switched b ∷ flagged_entries (b + 1) rs else flagged_entries (b + 1) rs
 
 -- a good frame switches the block of this register
-abbrev pub switches : Register → GooseFrame → Bool
+abbrev pub switches : Register → FrameRead → Bool
 switches r f = f.pdu.simulation && not r.simulated
 
 -- what the block holds once the expiry and the switch are done
-abbrev pub good_held : ℕ → Register → GooseFrame → Option Held
+abbrev pub good_held : ℕ → Register → FrameRead → Option Held
 good_held now r f = after_switch (switches r f) (after_clock r.held now)
 
 -- the entries of a good frame of block b
-abbrev pub good_entries : {A : Type 0} → ℕ → ℕ → Register → GooseFrame → List (Entry A)
+abbrev pub good_entries : {A : Type 0} → ℕ → ℕ → Register → FrameRead → List (Entry A)
 good_entries b now r f =
     (if switches r f then says.Switched b ∷ [] else []) ++ entry_of b f (verdict_on (good_held now r f) (facts_of_frame f)) ∷ []
 
 -- the block's register after a good frame
-abbrev pub good_register : ℕ → Register → GooseFrame → Register
+abbrev pub good_register : ℕ → Register → FrameRead → Register
 good_register now r f =
     record {
       held = held_after_frame (verdict_on (good_held now r f) (facts_of_frame f)) (good_held now r f) now (facts_of_frame f);
@@ -64,5 +64,5 @@ good_register now r f =
     }
 
 -- what a good frame gives its block to hold, if anything
-abbrev pub good_renewal : ℕ → Register → GooseFrame → Option Held
+abbrev pub good_renewal : ℕ → Register → FrameRead → Option Held
 good_renewal now r f = held_after_frame (verdict_on (good_held now r f) (facts_of_frame f)) None now (facts_of_frame f)

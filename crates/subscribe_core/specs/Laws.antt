@@ -10,7 +10,7 @@ use Rattle.mms_data.specs.declared.time.UtcTime.{UtcTime}
 use Rattle.subscribe_core.specs.declared.registers.Verdict.TheVariants.{Acted}
 use Rattle.subscribe_core.specs.Entries.{AreReadEntriesAt, AreEntriesAt, AreEntries, entry_of}
 use Rattle.subscribe_core.specs.Epoch.{Trace, IsLastStart, Acts}
-use Rattle.subscribe_core.specs.Reading.{GooseFrame, OfGoose, EventRead}
+use Rattle.subscribe_core.specs.Reading.{FrameRead, OfGoose, EventRead}
 use Rattle.subscribe_core.specs.Sight.{trace_of_block}
 use Rattle.subscribe_core.specs.Content.{reading_of}
 use Rattle.subscribe_core.specs.Standing.{AreApart, fresh_state}
@@ -55,7 +55,7 @@ ActedWhereInTime t = (s number : ℕ) → IsActedOn t s number ↔ ComesInTime t
 -- the good frames of one epoch are all simulated or all real
 abbrev pub OneKind : Type 0 → Type 0
 OneKind A =
-    (block : Block A) (events : List EventRead) (s i j : ℕ) (f g : Facts) (d e : EventRead) (x y : GooseFrame) →
+    (block : Block A) (events : List EventRead) (s i j : ℕ) (f g : Facts) (d e : EventRead) (x y : FrameRead) →
     IsIn (trace_of_block block events) s i f → IsIn (trace_of_block block events) s j g →
     slice_get events i ≡ Some d → d.content ≡ OfGoose x → slice_get events j ≡ Some e → e.content ≡ OfGoose y →
     x.pdu.simulation ≡ y.pdu.simulation
@@ -107,7 +107,7 @@ pub record IsActOn {A : Type 0} (blocks : List (Block A)) (events : List EventRe
   pub at : slice_get blocks b ≡ Some block
   pub event : EventRead
   pub read : slice_get events i ≡ Some event
-  pub frame : GooseFrame
+  pub frame : FrameRead
   pub goose : event.content ≡ OfGoose frame
   pub acts : Acts (trace_of_block block events) i
   pub told : entry ≡ entry_of b frame Acted

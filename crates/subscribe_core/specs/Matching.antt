@@ -5,10 +5,10 @@ use Rattle.subscribe_core.specs.declared.block.Block.{Block}
 use Rattle.subscribe_core.specs.declared.entry.Reason.{Reason}
 use Rattle.subscribe_core.specs.declared.entry.Reason.TheVariants.{DatSet, GoId, ConfRev, Commissioning, Simulated, Entries, StateZero, LiveZero}
 use Rattle.subscribe_core.specs.declared.registers.Facts.{Facts}
-use Rattle.subscribe_core.specs.Reading.{GooseFrame}
+use Rattle.subscribe_core.specs.Reading.{FrameRead}
 
 -- the frame is one of the block: it has its APPID and its gocbRef
-abbrev pub is_of : {A : Type 0} → GooseFrame → Block A → Bool
+abbrev pub is_of : {A : Type 0} → FrameRead → Block A → Bool
 is_of f b = b.app_id == f.app_id && bytes_eq b.gocb_ref f.pdu.gocb_ref
 
 -- a goID is awaited, and it is another or absent
@@ -18,7 +18,7 @@ has_other_id (Some awaited) None = true
 has_other_id (Some awaited) (Some id) = not (bytes_eq awaited id)
 
 -- the reason holds against a frame of the block; the first argument says it of `Simulated`
-abbrev pub holds : {A : Type 0} → Bool → Block A → GooseFrame → Reason → Bool
+abbrev pub holds : {A : Type 0} → Bool → Block A → FrameRead → Reason → Bool
 holds simulated b f DatSet = not (bytes_eq b.dat_set f.pdu.dat_set)
 holds simulated b f GoId = has_other_id b.go_id f.pdu.go_id
 holds simulated b f ConfRev = not (b.conf_rev == f.pdu.conf_rev)
@@ -38,7 +38,7 @@ first_of p [] = None
 first_of p (r ∷ rs) = if p r then Some r else first_of p rs
 
 -- the first reason that holds against a frame of the block
-abbrev pub reason_of : {A : Type 0} → Bool → Block A → GooseFrame → Option Reason
+abbrev pub reason_of : {A : Type 0} → Bool → Block A → FrameRead → Option Reason
 reason_of simulated b f = first_of (holds simulated b f) reasons
 
 -- no reason holds
@@ -47,7 +47,7 @@ is_clear None = true
 is_clear (Some r) = false
 
 -- the facts of a frame: its pair of numbers, and timeAllowedtoLive in microseconds
-abbrev pub facts_of_frame : GooseFrame → Facts
+abbrev pub facts_of_frame : FrameRead → Facts
 facts_of_frame f = record { state = f.pdu.st_num; sequence = f.pdu.sq_num; lifetime = 1000 * f.pdu.live }
 
 -- the facts, unless there is a reason against the frame

@@ -13,14 +13,14 @@ use Rattle.frame_core.specs.declared.event.EventKind.{EventKind}
 use Rattle.frame_core.specs.declared.event.EventKind.TheVariants as kinds
 
 -- a frame of GOOSE as a subscriber goes by it (IEC 61850-8-1)
-pub record GooseFrame : Type 0 where
+pub record FrameRead : Type 0 where
   pub app_id : ℕ
   pub pdu : GoosePdu (Unit {0})
 
 -- what is read in an event: a frame of GOOSE, one of Sampled Values, the first fault of octets that spell no frame, the
 -- clock, or the simulation mode set on or off
 pub data Content : Type 0 where
-  OfGoose : GooseFrame → Content
+  OfGoose : FrameRead → Content
   OfSampled : Content
   OfFault : Fault → Content
   OfClock : Content

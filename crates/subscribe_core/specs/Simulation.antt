@@ -1,7 +1,7 @@
 -- The simulation mode, and which blocks take simulated frames (profile). All is said by positions in the list.
 use Rattle.std.specs.Prelude.{ℕ, zero, suc, Bool, false, not, ◌&&◌, ◌||◌, Option, Some, None, List, [], ◌∷◌, take, nat_lt, slice_get, if◌then◌else◌}
 use Rattle.subscribe_core.specs.declared.block.Block.{Block}
-use Rattle.subscribe_core.specs.Reading.{GooseFrame, Content, OfGoose, OfSampled, OfFault, OfClock, OfMode, EventRead}
+use Rattle.subscribe_core.specs.Reading.{FrameRead, Content, OfGoose, OfSampled, OfFault, OfClock, OfMode, EventRead}
 use Rattle.subscribe_core.specs.Matching.{is_of, reason_of, is_clear}
 
 -- the mode that an event leaves
@@ -66,5 +66,5 @@ is_switched b events i =
     (invites b events i && not (takes_simulated b events i)) || (sets_off events i && takes_simulated b events i)
 
 -- `Simulated` holds: the frame is simulated and the mode is off, or it is real and the block takes simulated frames
-abbrev pub is_against : GooseFrame → Bool → Bool → Bool
+abbrev pub is_against : FrameRead → Bool → Bool → Bool
 is_against f mode taken = if f.pdu.simulation then not mode else taken

@@ -11,7 +11,7 @@ use Rattle.subscribe_core.specs.declared.registers.Verdict.{Verdict}
 use Rattle.subscribe_core.specs.declared.registers.Verdict.TheVariants.{Acted, Renewed, Again, Stale}
 use Rattle.subscribe_core.specs.Entries.{entry_of}
 use Rattle.subscribe_core.specs.Matching.{is_of, reason_of, facts_of_frame}
-use Rattle.subscribe_core.specs.Reading.{GooseFrame, Content, OfGoose, OfSampled, OfFault, OfClock, OfMode, EventRead}
+use Rattle.subscribe_core.specs.Reading.{FrameRead, Content, OfGoose, OfSampled, OfFault, OfClock, OfMode, EventRead}
 use Rattle.subscribe_core.specs.Simulation.{is_against, is_plain_simulated, is_off, mode_by}
 use Rattle.subscribe_core.specs.Standing.{State}
 
@@ -73,12 +73,12 @@ abbrev pub turned : {A : Type 0} → ℕ → Bool → Content → Block A → Re
 turned now mode k x r = after_switch (switch_by x mode r.simulated k) (after_clock r.held now)
 
 -- a frame of a block: its entry, by the reason against it and what the block holds
-abbrev pub block_entry : {A : Type 0} → ℕ → GooseFrame → Option Reason → Option Held → Entry A
+abbrev pub block_entry : {A : Type 0} → ℕ → FrameRead → Option Reason → Option Held → Entry A
 block_entry b f (Some reason) held = says.Refused b reason
 block_entry b f None held = entry_of b f (verdict_on held (facts_of_frame f))
 
 -- and what the block holds afterwards
-abbrev pub block_held : ℕ → GooseFrame → Option Reason → Option Held → Option Held
+abbrev pub block_held : ℕ → FrameRead → Option Reason → Option Held → Option Held
 block_held now f (Some reason) held = held
 block_held now f None held = held_after_frame (verdict_on held (facts_of_frame f)) held now (facts_of_frame f)
 
@@ -103,13 +103,13 @@ registers_by now mode k (x ∷ xs) [] = []
 registers_by now mode k (x ∷ xs) (r ∷ rs) = register_by now mode k x r ∷ registers_by now mode k xs rs
 
 -- the entry of a frame of GOOSE, by the block that was found and what is kept of it
-abbrev pub found_entry : {A : Type 0} → ℕ → Bool → GooseFrame → ℕ → Option (Block A) → Option Register → Entry A
+abbrev pub found_entry : {A : Type 0} → ℕ → Bool → FrameRead → ℕ → Option (Block A) → Option Register → Entry A
 found_entry now mode f b (Some x) (Some r) =
     block_entry b f (reason_of (is_against f mode r.simulated) x f) (turned now mode (OfGoose f) x r)
 found_entry now mode f b (Some x) None = says.NotSubscribed
 found_entry now mode f b None r = says.NotSubscribed
 
-abbrev pub frame_entry : {A : Type 0} → ℕ → Bool → List (Block A) → List Register → GooseFrame → Option ℕ → Entry A
+abbrev pub frame_entry : {A : Type 0} → ℕ → Bool → List (Block A) → List Register → FrameRead → Option ℕ → Entry A
 frame_entry now mode xs rs f None = says.NotSubscribed
 frame_entry now mode xs rs f (Some b) = found_entry now mode f b (slice_get xs b) (slice_get rs b)
 

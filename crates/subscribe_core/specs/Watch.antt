@@ -48,12 +48,12 @@ abbrev pub IsSeenLast : ℕ → List ℕ → ℕ → Seen → Type 0
 IsSeenLast period counts count s = (answers : List Seen) × AreSeen period (counts ++ count ∷ []) (answers ++ s ∷ [])
 
 -- what a watch keeps: the period, and the last count if there is one
-pub record Watching : Type 0 where
+pub record WatchState : Type 0 where
   pub period : ℕ
   pub last : Option ℕ
 
 -- it keeps what the counts say
-abbrev pub WatchesAfter : List ℕ → Watching → Type 0
+abbrev pub WatchesAfter : List ℕ → WatchState → Type 0
 WatchesAfter counts w = (answers : List Seen) × AreSeen w.period counts answers × IsLastCount counts answers (length counts) w.last
 
 -- a period that a watch may have

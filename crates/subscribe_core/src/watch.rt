@@ -39,9 +39,9 @@ pub struct Watch {
 }
 
 impl Model for Watch {
-    ghost use Rattle.subscribe_core.specs.Watch.{IsBelow, IsPeriod, Watching};
+    ghost use Rattle.subscribe_core.specs.Watch.{IsBelow, IsPeriod, WatchState};
 
-    ghost Value = { Watching };
+    ghost Value = { WatchState };
 
     ghost view = { λ w. record { period = w.period; last = w.last } };
 

@@ -11,7 +11,7 @@ ghost use Rattle.engine_core.specs.ImportStep.{FaultWrites, ImportWrites};
 ghost use Rattle.engine_core.specs.ImportText.{Imports, capture_line, ending_of_capture, left_out_line};
 
 use crate::ending::Ending;
-use crate::engines::run::{Next, ending_after};
+use crate::engines::run::{Next, ending_where};
 use arrayvec::ArrayVec;
 use capture_core::{
     CaptureCause, CaptureFault, CaptureForm, Captured, LONGEST_FRAME, read_header, read_record,
@@ -143,7 +143,7 @@ fn import_all<R: Source, W: Sink>(reader: &mut R, writer: &mut W) -> Ending
                 found |= is_left_out;
                 count += 1;
             }
-            Next::Ended => return ending_after(found),
+            Next::Ended => return ending_where(found),
             Next::Stop(ending) => return ending,
         }
     }

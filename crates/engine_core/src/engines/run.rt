@@ -157,7 +157,7 @@ fn answer_next<
 }
 
 /// The ending of a run that answered its whole input.
-pub fn ending_after(found: bool) -> Ending
+pub fn ending_where(found: bool) -> Ending
     ensures { result ≡ (if found then Ending.Findings else Ending.Done) }
 {
     if found {
@@ -195,7 +195,7 @@ pub fn run<
     'answers: loop {
         match answer_next(alloc, &mut engine, &mut line, &mut items, writer) {
             Next::Wrote(is_finding) => found |= is_finding,
-            Next::Ended => return (ending_after(found), items.into_reader()),
+            Next::Ended => return (ending_where(found), items.into_reader()),
             Next::Stop(ending) => return (ending, items.into_reader()),
         }
     }

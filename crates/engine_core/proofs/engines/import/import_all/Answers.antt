@@ -38,7 +38,7 @@ returns-in-Ended-clause-text g c =
     let so_far = c.records.invariant.so_far in
     let step = c.in-Ended.ensures.step in
     let answer = rw step.2.0 at step.1 in
-    rw c.ending_after.ensures (import_ended c.in-Ok-read_header.form _ _ _ _ _ _ so_far.0 c.records.count _ _ _ _ so_far.1 c.in-Ok.ensures.written so_far.2 c.records.found so_far.3 answer step.2.1)
+    rw c.ending_where.ensures (import_ended c.in-Ok-read_header.form _ _ _ _ _ _ so_far.0 c.records.count _ _ _ _ so_far.1 c.in-Ok.ensures.written so_far.2 c.records.found so_far.3 answer step.2.1)
 
 pub returns-in-Stop-clause-text : goal.returns-in-Stop-clause-text
 returns-in-Stop-clause-text g c =

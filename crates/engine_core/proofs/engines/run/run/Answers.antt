@@ -32,7 +32,7 @@ returns-in-Ended-clause-text g c =
     let w = s.2 p.0 p.1 in
     let q = rw w.0 at s.1 in
     let r = ended _ _ _ _ _ p.0 _ _ _ _ _ (rw c.requires.first at c.in-Ok.ensures.written) p.2 q w.1 in
-    rw (c.into_reader.ensures.left, c.into_reader.ensures.ending, c.ending_after.ensures) (rw (c.new-items.ensures.left, c.new-items.ensures.taken, c.new-items.ensures.held, c.new-items.ensures.settled) at r)
+    rw (c.into_reader.ensures.left, c.into_reader.ensures.ending, c.ending_where.ensures) (rw (c.new-items.ensures.left, c.new-items.ensures.taken, c.new-items.ensures.held, c.new-items.ensures.settled) at r)
 
 pub returns-in-Stop-clause-text : goal.returns-in-Stop-clause-text
 returns-in-Stop-clause-text g c =
