@@ -42,10 +42,12 @@ said_frame now mode xs rs (kinds.Frame o) w e = said_by now mode xs rs (frame_at
 said_frame now mode xs rs kinds.Clock w e = w
 said_frame now mode xs rs (kinds.Mode on) w e = w
 
--- where the list has no entry at an event, the step gives none, and the event is no frame
+-- where a step gives no entry, the event is no frame
+pub no_frame : {A : Type 0} (s : State A) (e : Event A) → step_entries s (reading_of e) ≡ [] → IsFrame e.kind → ⊥
+no_frame s e none frame = said_frame _ s.mode s.blocks s.registers e.kind frame (back_nil _ _ (back_nil _ _ none))
+
+-- where the list has no entry at an event, the step gives none
 pub quiet_step : {A : Type 0} (events : List (Event A)) (e : Event A) (s : State A) → AreApart s.blocks → length s.registers ≡ length s.blocks → StandsAfter events s
-    → AreEntriesAt s.blocks (events ++ e ∷ []) (length events) [] → (step_entries s (reading_of e) ≡ []) × (IsFrame e.kind → ⊥)
-quiet_step {A} events e s apart same stands none =
-    let is : step_entries s (reading_of e) ≡ [] =
-    entries_are_one s.blocks (events ++ e ∷ []) (length events) (step_entries s (reading_of e)) [] apart (entries_step events e (reading_of e) s (is_read e) same stands) none in
-    (is, λ frame. said_frame _ s.mode s.blocks s.registers e.kind frame (back_nil _ _ (back_nil _ _ is)))
+    → AreEntriesAt s.blocks (events ++ e ∷ []) (length events) [] → step_entries s (reading_of e) ≡ []
+quiet_step events e s apart same stands none =
+    entries_are_one s.blocks (events ++ e ∷ []) (length events) (step_entries s (reading_of e)) [] apart (entries_step events e (reading_of e) s (is_read e) same stands) none

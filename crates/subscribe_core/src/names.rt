@@ -1,6 +1,6 @@
 // The names of the blocks in order, by which a frame's block is found.
 
-ghost use Rattle.std.specs.Prelude.{◌≡◌, IfOk, MatchOption};
+ghost use Rattle.std.specs.Prelude.{◌≡◌, [], IfOk, IsOk, MatchOption};
 ghost use Rattle.std.specs.List.{All};
 ghost use Rattle.subscribe_core.specs.Names.{key_cmp, key_of, AreSorted, HasName, AreNamesOf};
 
@@ -29,7 +29,8 @@ fn compare<A: Allocator>(name: &Name<A>, app_id: u16, gocb_ref: &[u8]) -> Orderi
 
 // The names as the blocks stand.
 fn listed<A: Allocator + Copy>(alloc: A, blocks: &[Block<A>]) -> Result<Vec<Name<A>, A>, AllocError>
-    ensures { IfOk result (λ names. AreNamesOf names.items blocks.now) }
+    ensures named { IfOk result (λ names. AreNamesOf names.items blocks.now) }
+    ensures quiet { blocks.now ≡ [] → IsOk result }
 {
     let mut names = Vec::new(alloc);
     for (position, block) in blocks.iter().enumerate() {
@@ -49,6 +50,7 @@ pub(crate) fn sorted<A: Allocator + Copy>(
 ) -> Result<Vec<Name<A>, A>, AllocError>
     ensures order { IfOk result (λ names. AreSorted names.items) }
     ensures named { IfOk result (λ names. AreNamesOf names.items blocks.now) }
+    ensures quiet { blocks.now ≡ [] → IsOk result }
 {
     let mut names = listed(alloc, blocks)?;
     names.sort_unstable_by(|a, b| compare(a, b.app_id, b.gocb_ref.as_slice()));

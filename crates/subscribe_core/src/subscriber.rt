@@ -55,7 +55,8 @@ impl<A: Allocator> Model for Subscriber<A> {
 
 // Registers that hold nothing.
 fn idle_registers<A: Allocator>(alloc: A, count: usize) -> Result<Vec<Register, A>, AllocError>
-    ensures { IfOk result (λ registers. registers.items ≡ replicate count idle) }
+    ensures registers { IfOk result (λ registers. registers.items ≡ replicate count idle) }
+    ensures quiet { count ≡ 0 → IsOk result }
 {
     let mut registers = Vec::new(alloc);
     for _ in 0..count {
@@ -73,7 +74,7 @@ impl<A: Allocator + Copy> Subscriber<A> {
     /// # Errors
     ///
     /// `SameBlockTwice` with the least position of a block that has the APPID and the gocbRef of an earlier one; `Memory`
-    /// where memory is refused.
+    /// where memory is refused. Without blocks none is asked for.
     pub fn new(alloc: A, blocks: Vec<Block<A>, A>) -> Result<Subscriber<A>, SubscribeFault>
         // Every block is idle and takes real frames; the mode is off.
         ensures fresh { IfOk result (λ s. s.state ≡ fresh_state blocks.items) }
@@ -453,6 +454,7 @@ impl<A: Allocator + Copy> Subscriber<A> {
         // For callers: the same by what is kept.
         ensures step { IfOk result (λ entries. entries.items ≡ step_entries self.old.state (reading_of event.now)) }
         ensures state { OnOk result (self.new.state ≡ step_state self.old.state (reading_of event.now)) }
+        ensures quiet_step { step_entries self.old.state (reading_of event.now) ≡ [] → IsOk result }
     {
         self.step(event)
     }

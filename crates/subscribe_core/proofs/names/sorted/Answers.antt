@@ -11,4 +11,4 @@ returns-clause-order g c =
     (answers_always _ _ _ (λ f a r g k. search rules))
 
 pub returns-clause-named : goal.returns-clause-named
-returns-clause-named g c = names_permuted _ _ _ c.sort_unstable_by.ensures.permutation c.in_ok-names.ensures
+returns-clause-named g c = names_permuted _ _ _ c.sort_unstable_by.ensures.permutation c.in_ok-names.ensures.named

@@ -5,7 +5,7 @@ use Rattle.subscribe_core.specs.declared.entry.Entry.{Entry}
 use Rattle.subscribe_core.specs.Content.{reading_of}
 use Rattle.subscribe_core.specs.Entries.{AreEntriesAt}
 use Rattle.subscribe_core.specs.Standing.{State, StandsAfter}
-use Rattle.subscribe_core.proofs.Quiet.{quiet_step}
+use Rattle.subscribe_core.proofs.Quiet.{no_frame, quiet_step}
 use Rattle.subscribe_core.proofs.Readings.{is_read}
 use Rattle.subscribe_core.proofs.Runs.{entries_step, stands_step}
 use Rattle.subscribe_core.proofs.subscriber.Subscriber.take.Goals as goal
@@ -31,7 +31,9 @@ returns-clause-stands g c = λ events stands.
     (λ is. subst (λ (t : State _). StandsAfter (events ++ e ∷ []) t) (sym is) (stands_step events e (reading_of e) s (is_read e) c.step.ensures.sizes stands))
     c.step.ensures.state
 
+pub returns-clause-quiet_step : goal.returns-clause-quiet_step
+returns-clause-quiet_step g c = λ none. elim c.step.ensures.quiet [ inl frame ↦ absurd (no_frame c.args.self.now.state c.args.event.now none frame) | inr ok ↦ ok none ]
+
 pub returns-clause-quiet : goal.returns-clause-quiet
 returns-clause-quiet g c = λ events stands none.
-    let quiet = quiet_step events c.args.event.now c.args.self.now.state c.step.ensures.apart c.step.ensures.sizes stands none in
-    elim c.step.ensures.quiet [ inl frame ↦ absurd (quiet.1 frame) | inr ok ↦ ok quiet.0 ]
+    returns-clause-quiet_step g c (quiet_step events c.args.event.now c.args.self.now.state c.step.ensures.apart c.step.ensures.sizes stands none)
