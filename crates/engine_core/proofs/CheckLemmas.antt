@@ -1,5 +1,5 @@
 -- What is noted of a frame that was read.
-use Rattle.std.proofs.Common.{◌≡◌, ◌++◌, ℕ, List, Bool, Ok, Err, Result, ap, sym, ◌∙◌}
+use Rattle.std.proofs.Common.{◌≡◌, ◌++◌, ℕ, List, [], Bool, true, Ok, Err, Result, ap, sym, ◌∙◌}
 use Rattle.std.specs.Prelude.{Option, ◌↔◌, IsErr, OnOk, codes}
 use Rattle.std.specs.Str.{bytes_eq}
 use Rattle.std.proofs.lemmas.List.{append_assoc}
@@ -12,6 +12,8 @@ use Rattle.frame_core.specs.FrameReading.{frame_at}
 use Rattle.frame_core.specs.Written.{ApduIsSpellable, IsTooLong, written_frame}
 use Rattle.engine_core.specs.CheckText.{frame_notes, goes_where_recommended, is_form, note_unless, octets_notes}
 use Rattle.engine_core.specs.WrittenForm.{fitting_form}
+use Rattle.subscribe_core.proofs.Quiet.{back_nil, front_nil}
+use Rattle.engine_core.proofs.NonEmpty.{all_holds}
 use Rattle.engine_core.proofs.RewriteLemmas.{form_seen}
 
 -- what was written is compared with the octets
@@ -34,3 +36,11 @@ both_noted n octets v form to before mid after (Ok u) read a b m l =
     ∙ ap (λ (x : Bool). note_unless (is_form (fitting_form (Ok (frame_of {A = Unit {0}} v))) octets) n (codes " not-written\n") ++ note_unless x n (codes " destination\n")) b
     ∙ ap (λ (x : Result (Frame (Unit {0})) Fault). frame_notes n octets x) (sym read))
 both_noted n octets v form to before mid after (Err x) read a b m l = l
+
+-- where nothing is noted, both hold
+pub both_hold : (n : ℕ) (octets : List ℕ) (v : FrameView) (form to : Bool)
+    → frame_at octets ≡ Ok (frame_of {A = Unit {0}} v) → form ≡ is_form (fitting_form (Ok (frame_of {A = Unit {0}} v))) octets → to ≡ goes_where_recommended (frame_of {A = Unit {0}} v)
+    → octets_notes n octets ≡ [] → (form ≡ true) × (to ≡ true)
+both_hold n octets v form to read a b none =
+    let both = ap (frame_notes {A = Unit {0}} n octets) (sym read) ∙ none in
+    (a ∙ all_holds _ n _ _ (front_nil _ _ both), b ∙ all_holds _ n _ _ (back_nil _ _ both))

@@ -12,14 +12,14 @@ use Rattle.frame_core.specs.declared.line_rules.ItemFault.TheVariants as fault
 use Rattle.frame_core.specs.Device.{AppendsFront, GivesOctets}
 use Rattle.frame_core.specs.Lines.{Stop, finished, unfinished, faulty}
 use Rattle.frame_core.specs.Items.{Rules, Listing, listing, put_items}
-use Rattle.frame_core.specs.ItemReader.{Place, Answer, AnswersItem, TakesItems, Tells, lines_before}
+use Rattle.frame_core.specs.ItemReader.{Place, Answer, AnswersItem, OnlyKept, TakesItems, Tells, lines_before}
 use Rattle.frame_core.proofs.Devices.{Appends-append, Appends-none, AppendsFront-append, AppendsFront-more, Consumes-none, Gives-from_Consumes}
 use Rattle.frame_core.proofs.Readers.{CanFollow-none, off_after, starts_after}
 use Rattle.frame_core.proofs.ItemReaders.{TakesItems-push, TakesItems-none, gives_both, list_whole}
 use Rattle.engine_core.specs.declared.ending.Ending.{Ending}
 use Rattle.engine_core.specs.declared.ending.Ending.TheVariants.{Done, Findings, WriteFault}
-use Rattle.engine_core.specs.EngineText.{Text, Account, told, told_after, told_rest, told_stop, put_step, whole_text, ending_of, ending_at, StopsAt, EndsWell, EndsByFault, WritesAfter}
-use Rattle.engine_core.specs.EngineStep.{Stops, due, closes, step_text, step_fault}
+use Rattle.engine_core.specs.EngineText.{Text, Account, told, told_after, told_rest, told_stop, put_step, whole_text, ending_of, ending_at, StopsAt, EndsWell, EndsByFault, WantsMemory, WritesAfter, list_from, next_text, step_text}
+use Rattle.engine_core.specs.EngineStep.{Stops, WantsFor, due, closes, step_fault}
 
 -- a text, then another
 abbrev joined : {C : Type 0} → Account C → Account C → Account C
@@ -81,6 +81,13 @@ module _ {X C : Type 0} (t : Text X C) where
   due_first before (Err (Some f)) whole rest h =
       ([], ap (λ l. (told_rest t before l).text) h.0 ∙ ap (λ o. o.text) (told-none before (faulty f)) ∙ sym (append-nil (t.last f)))
   due_first before (Err None) whole rest h = ((told_rest t before whole).text, refl)
+
+  -- where nothing is to be written next, the answer asks for nothing
+  pub due_next : (before : List (ℕ × X)) (answer : Answer X C) (whole rest : Listing X C) → Tells answer whole rest → next_text t before whole.items whole.stop ≡ [] → due t before answer ≡ []
+  due_next before (Ok (Some e)) whole rest h none = ap (λ l. next_text t before l.items l.stop) (sym h) ∙ none
+  due_next before (Ok None) whole rest h none = refl
+  due_next before (Err (Some f)) whole rest h none = ap (λ l. next_text t before l.items l.stop) (sym h.0) ∙ none
+  due_next before (Err None) whole rest h none = refl
 
   -- an answer with which the text ends
   step_closes : (n : ℕ) (s : Result (List ℕ × Bool) C) (rest : Account C) (f : ItemFault C) → step_fault n s ≡ Some f → (put_step t n s rest ≡ told_stop t (faulty f)) × (step_text t n s ≡ t.last f)
@@ -204,7 +211,8 @@ module _ {S X C : Type 0} (r : Rules S X C) (t : Text X C) (a b c : Place S) (es
     same_rest = q.skips [] c.ending (CanFollow-none c.ending) ∙ ap (listing r q.at c.ending (lines_before answer c.taken)) (append-nil q.rest)
 
     -- the line before which all is written
-    stops_at : (s : StopsAt r a.settled t a.taken c.ending octets old) × (s.held ≡ mid) × (told_rest t s.items (listing r s.at c.ending s.number s.rest) ≡ told_rest t es next_list)
+    stops_at : (s : StopsAt r a.settled t a.taken c.ending octets old) × (s.held ≡ mid) × (told_rest t s.items (list_from c.ending s.line) ≡ told_rest t es next_list)
+        × (WantsFor t es answer → WantsMemory t c.ending s.line)
     unfolding octets next_list so_far
     stops_at = (
       record {
@@ -212,17 +220,23 @@ module _ {S X C : Type 0} (r : Rules S X C) (t : Text X C) (a b c : Place S) (es
         items = es;
         written = wrote_so_far;
         accepted = p.accepted;
-        number = lines_before answer c.taken;
-        at = q.at;
-        front = p.took.lines ++ q.skipped;
-        rest = q.rest;
-        parts = off_after a.held p.took.given p.took.lines b.held q.given q.skipped q.rest p.took.off q.lines.off;
-        starts = starts_after b.ending c.ending p.took.lines b.held q.given q.skipped q.rest p.took.starts q.source.only_open q.lines.off q.lines.starts;
-        few = q.lines.bounded;
-        earlier = listed ∙ ap (put_items es) same_rest;
+        line = record {
+          number = lines_before answer c.taken;
+          at = q.at;
+          front = p.took.lines ++ q.skipped;
+          rest = q.rest;
+          parts = off_after a.held p.took.given p.took.lines b.held q.given q.skipped q.rest p.took.off q.lines.off;
+          starts = starts_after b.ending c.ending p.took.lines b.held q.given q.skipped q.rest p.took.starts q.source.only_open q.lines.off q.lines.starts;
+          few = q.lines.bounded;
+          earlier = listed ∙ ap (put_items es) same_rest;
+        };
       },
       refl,
       sym (ap (told_rest t es) same_rest),
+      λ wants. elim wants [
+        | inl e ↦ inl (subst (λ x. OnlyKept r q.at c.ending (lines_before answer c.taken) q.rest x) e q.kept)
+        | inr due_some ↦ inr (λ none. due_some (due_next t es answer next_list _ tells_next (ap (λ l. next_text t es l.items l.stop) same_rest ∙ none)))
+      ],
     )
 
     Left : Ending → Type 0
@@ -233,18 +247,18 @@ module _ {S X C : Type 0} (r : Rules S X C) (t : Text X C) (a b c : Place S) (es
     left_by ending w = (p.took.given ++ q.given, gives_both r a b c es answer p.took q, w)
 
     -- the run stopped
-    stops_so : (ending : Ending) → Stops (due t es answer) (closes t es answer) ending mid new → Left ending
+    stops_so : (ending : Ending) → Stops (WantsFor t es answer) (due t es answer) (closes t es answer) ending mid new → Left ending
     stops_so ending (inl x) =
         let s = stops_at in
-        left_by ending (subst (λ y. WritesAfter r a.settled t a.taken y c.ending octets old new) (sym x.0) (s.0, s.1 ∙ sym x.1))
+        left_by ending (subst (λ y. WritesAfter r a.settled t a.taken y c.ending octets old new) (sym x.0) (s.0, s.3 x.1, s.1 ∙ sym x.2))
     stops_so ending (inr (inl x)) =
         let s = stops_at in
         let d = due_first t es answer next_list _ tells_next in
         let rest : AppendsFront mid new (told_rest t es next_list).text = subst (λ l. AppendsFront mid new l) (sym d.1) (AppendsFront-more mid new (due t es answer) d.0 x.1) in
         let whole : AppendsFront old new (whole_text t (listing r a.settled c.ending a.taken octets)) =
         subst (λ l. AppendsFront old new l) (all_text _ refl) (AppendsFront-append old mid new so_far _ wrote_so_far rest) in
-        let last : AppendsFront s.0.held new (told_rest t s.0.items (listing r s.0.at c.ending s.0.number s.0.rest)).text =
-        subst (λ h. AppendsFront h new (told_rest t s.0.items (listing r s.0.at c.ending s.0.number s.0.rest)).text) (sym s.1) (subst (λ o. AppendsFront mid new o.text) (sym s.2) rest) in
+        let last : AppendsFront s.0.held new (told_rest t s.0.items (list_from c.ending s.0.line)).text =
+        subst (λ h. AppendsFront h new (told_rest t s.0.items (list_from c.ending s.0.line)).text) (sym s.1) (subst (λ o. AppendsFront mid new o.text) (sym s.2) rest) in
         left_by ending (subst (λ y. WritesAfter r a.settled t a.taken y c.ending octets old new) (sym x.0) (whole, inr (s.0, last)))
     stops_so ending (inr (inr x)) =
         let f = x.0 in
@@ -254,7 +268,7 @@ module _ {S X C : Type 0} (r : Rules S X C) (t : Text X C) (a b c : Place S) (es
         subst (λ l. Appends old new l) (all_text _ (ap (λ o. o.text) d.0)) (Appends-append old mid new so_far (t.last f) wrote_so_far (subst (λ l. Appends mid new l) d.1 x.3)) in
         left_by ending (subst (λ y. WritesAfter r a.settled t a.taken y c.ending octets old new) (sym x.2) (by_fault r a.settled t a.taken c.ending octets old new f (f, stop, refl, text)))
 
-    pub stopped : (ending : Ending) → Stops (due t es answer) (closes t es answer) ending mid new → (given : List ℕ) × GivesOctets a.left c.left given × WritesAfter r a.settled t a.taken ending c.ending (a.held ++ given) old new
+    pub stopped : (ending : Ending) → Stops (WantsFor t es answer) (due t es answer) (closes t es answer) ending mid new → (given : List ℕ) × GivesOctets a.left c.left given × WritesAfter r a.settled t a.taken ending c.ending (a.held ++ given) old new
     unfolding Left
     stopped ending x = stops_so ending x
 

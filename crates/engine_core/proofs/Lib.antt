@@ -6,4 +6,5 @@ pub mod ReplayLemmas
 pub mod WatchLemmas
 pub mod PublishLemmas
 pub mod ImportLemmas
+pub mod NonEmpty
 pub mod WorkedExamples

@@ -27,7 +27,10 @@ use Rattle.script_core.specs.declared.script.ScriptCause.{ScriptCause}
 use Rattle.script_core.specs.declared.script.ScriptCause.TheVariants as cause
 use Rattle.script_core.specs.declared.script.ScriptItem.{ScriptItem}
 use Rattle.script_core.specs.declared.script.ScriptItem.TheVariants as item
+use Rattle.frame_core.specs.declared.line_rules.LineError.{LineError}
+use Rattle.frame_core.specs.declared.line_rules.LineError.TheVariants as line
 use Rattle.engine_core.specs.EngineStep.{Takes}
+use Rattle.engine_core.specs.EngineText.{step_text}
 use Rattle.engine_core.specs.PublishText.{IsCallText, IsPublishText, IsScriptSound, answer_text, item_of_act, item_of_call, items_of_lines, script_cause, script_of}
 use Rattle.engine_core.specs.PublishStep.{Progress, nothing, setting_up, calling, Holds, Runs, TakesCall, TakesItem, call_at, call_step, called, is_good, item_step, next_progress, progress_after, progress_from, publish_text, setup_cause, standing_from, text_unless_refused, unless_unsound, with_step}
 
@@ -236,6 +239,20 @@ module _ {A : Type 0} (p : Setup A) (calls : List Call) (sound : IsScriptSound p
         sym (append-nil old),
         stands,
       )
+
+-- a poll that gives a frame has a text
+pub polled_there : {A : Type 0} (p : Setup A) (calls : List Call) (m : ℕ) (octets : List ℕ) → IsScriptSound p → PublishesOctets p (calls ++ call m Polled ∷ []) (length calls) octets →
+    (n : ℕ) → step_text (publish_text {A = A}) n (call_step p calls (call m Polled)) ≡ [] → ⊥
+polled_there {A} p calls m octets sound published n none =
+    let c = call m Polled in
+    let same = answer_one p (trace_of_calls (calls ++ c ∷ [])) (length calls) (Some published.0) _ published.1 (answered p calls c sound) in
+    let h = ap (answer_text {A = A} (greatest_call_moment (calls ++ c ∷ []))) same ∙ none in cc
+
+-- a poll that is not taken leaves the item so
+pub poll_fails : {A : Type 0} (g : Progress A) (p : Setup A) (calls : List Call) (m : ℕ) (e : LineError ScriptCause) (old new : List ℕ) (s : PublisherStanding A) →
+    call_at g (call m Polled) ≡ call_step p calls (call m Polled) → TakesCall p calls (call m Polled) (Err e) old new s → TakesItem g (item.Poll m) (Err e) old new
+poll_fails g p calls m (line.Cause why) old new s same t = same ∙ t
+poll_fails {A} g p calls m (line.Memory x) old new s same t = λ n none. t n (ap (step_text (publish_text {A = A}) n) (sym same) ∙ none)
 
 -- an item was taken, and the engine stands after it
 pub publishes : {A : Type 0} (before : List (ℕ × ScriptItem A)) (n : ℕ) (i : ScriptItem A) (s : Stage A) (old new : List ℕ) → TakesItem (progress_after before) i (Ok s) old new →

@@ -20,6 +20,7 @@ use Rattle.engine_core.specs.EngineText.{Text, WritesAfter, told_after}
 use Rattle.engine_core.specs.declared.ending.Ending.TheVariants.{Memory}
 use Rattle.text_core.specs.EntryText.{entry_lines}
 use Rattle.engine_core.specs.ReplayText.{IsReplayText, events_of}
+use Rattle.engine_core.proofs.NonEmpty.{no_entry}
 use Rattle.engine_core.specs.ReplayStep.{kept_after, replay_text, state_after_list}
 
 state_push : {A : Type 0} (s : State A) (es : List (Event A)) (e : Event A) → state_after_list s (es ++ e ∷ []) ≡ step_state (state_after_list s es) (reading_of e)
@@ -79,28 +80,7 @@ replay_is blocks = record {
   last = λ f. refl;
 }
 
--- memory was refused before anything was read or written
-pub memory_first : {S X C : Type 0} (r : Rules S X C) (s : S) (t : Text X C) (z : InputEnd) (left old : Option (List ℕ)) → t.first ≡ [] →
-    (given : List ℕ) × GivesOctets left left given × WritesAfter r s t 0 Memory z given old old
-unfolding told_after
-memory_first r s t z left old none = (
-  [],
-  Gives-from_Consumes left left [] (Consumes-none left),
-  (
-    record {
-      held = old;
-      items = [];
-      written = subst (λ (l : List ℕ). Appends old old (l ++ [])) (sym none) (Appends-none old);
-      accepted = refl;
-      number = 0;
-      at = s;
-      front = [];
-      rest = [];
-      parts = refl;
-      starts = inl refl;
-      few = omega arith;
-      earlier = refl;
-    },
-    refl,
-  ),
-)
+-- where nothing is written of an event, it has no entry
+pub no_entries : {A : Type 0} (s : State A) (blocks : List (Block A)) (before : List (ℕ × Event A)) (n : ℕ) (e : Event A) → s ≡ kept_after blocks before →
+    entry_lines n (step_entries (kept_after blocks before) (reading_of e)) ≡ [] → step_entries s (reading_of e) ≡ []
+no_entries s blocks before n e stands none = ap (λ (x : State _). step_entries x (reading_of e)) stands ∙ no_entry n _ none

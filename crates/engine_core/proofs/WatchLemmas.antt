@@ -1,20 +1,26 @@
 -- The counts of a stream, event by event and ASDU by ASDU.
-use Rattle.std.proofs.Common.{◌≡◌, ℕ, suc, ◌+◌, ◌≤◌, min, add-zero, zero-add, List, [], ◌∷◌, ◌++◌, length, map, Bool, false, ◌||◌, Option, None, Ok, ap, ap₂, subst, sym, ◌∙◌, refl, append_assoc, arith}
+use Rattle.std.proofs.Common.{◌≡◌, ℕ, suc, ◌+◌, ◌≤◌, min, add-zero, zero-add, List, [], ◌∷◌, ◌++◌, length, map, Bool, false, ◌||◌, Option, None, Result, Ok, Err, ap, ap₂, subst, sym, ◌∙◌, refl, append_assoc, arith}
 use Rattle.std.specs.List.{list_any}
 use Rattle.std.proofs.lemmas.List.{append-nil, length-append, length_push}
 use Rattle.std.proofs.lemmas.List.Folds.{list_any-append}
+use Rattle.ber_core.specs.declared.fault.Fault.{Fault}
 use Rattle.pdu_core.specs.declared.sampled.asdu.Asdu.{Asdu}
 use Rattle.pdu_core.specs.declared.sampled.view.AsduView.{AsduView}
 use Rattle.pdu_core.specs.declared.sampled.view.SvView.{SvView}
 use Rattle.pdu_core.specs.SampledViews.{asdu_of, asdus_left}
 use Rattle.frame_core.specs.declared.event.Event.{Event}
+use Rattle.frame_core.specs.declared.event.EventKind.{EventKind}
+use Rattle.frame_core.specs.declared.event.EventKind.TheVariants as kinds
+use Rattle.frame_core.specs.declared.frame.Frame.{Frame}
+use Rattle.frame_core.specs.FrameReading.{frame_at}
 use Rattle.subscribe_core.specs.declared.watch.Seen.{Seen}
 use Rattle.subscribe_core.specs.Watch.{AreSeen, last_by, seen_after, seen_all}
 use Rattle.subscribe_core.proofs.Counts.{none_last, none_seen, seen_from}
 use Rattle.engine_core.specs.EngineStep.{Takes}
 use Rattle.text_core.specs.SampleLine.{sample_line}
-use Rattle.engine_core.specs.WatchText.{IsWatchText, counts, counts_of, is_unexpected, sample_at, sample_lines, samples_from, samples_of, watched}
+use Rattle.engine_core.specs.WatchText.{IsWatchText, counts, counts_of, frame_watched, is_unexpected, sample_at, sample_lines, samples_from, samples_in, samples_of, samples_read, watched}
 use Rattle.engine_core.specs.WatchStep.{SamplesSaid, last_of, watch_text}
+use Rattle.engine_core.proofs.NonEmpty.{fault_there, no_sample}
 
 pub seen-append : (p : ℕ) (last : Option ℕ) (xs ys : List ℕ) → seen_all p last (xs ++ ys) ≡ seen_all p last xs ++ seen_all p (last_of p last xs) ys
 seen-append p last [] ys = refl
@@ -120,6 +126,16 @@ watches p q n id before event last after found old new stands same wrote finds k
       wrote,
       keeps ∙ last-push p id before (n, event) last stands ∙ ap (λ (k : ℕ). last_of k None (counts_of id (before ++ (n, event) ∷ []))) (sym same),
     )
+
+-- where nothing is written of an event, it has no sample
+pub no_samples : {A : Type 0} (p n : ℕ) (id : List ℕ) (last : Option ℕ) (k : EventKind A) → (watched n id k (seen_all p last (counts (samples_of id k)))).0 ≡ [] → samples_of id k ≡ []
+no_samples p n id last kinds.Clock none = refl
+no_samples p n id last (kinds.Mode on) none = refl
+no_samples p n id last (kinds.Frame octets) none = of_frame (frame_at octets) none
+  where
+    of_frame : (r : Result (Frame (Unit {0})) Fault) → (frame_watched n id r (seen_all p last (counts (samples_read id r)))).0 ≡ [] → samples_read id r ≡ []
+    of_frame (Ok f) none = no_sample n (samples_in id f.apdu) _ (seen-length p last (counts (samples_in id f.apdu)) ∙ counts-length (samples_in id f.apdu)) none
+    of_frame (Err f) none = absurd (fault_there n f none)
 
 map-push : {X Y : Type 0} (f : X → Y) (xs : List X) (x : X) → map f (xs ++ x ∷ []) ≡ map f xs ++ f x ∷ []
 map-push f [] x = refl

@@ -11,18 +11,13 @@ use Rattle.engine_core.specs.declared.ending.Ending.{Ending}
 use Rattle.engine_core.specs.declared.ending.Ending.TheVariants.{WriteFault, Memory}
 use Rattle.engine_core.specs.declared.engines.run.Next.{Next}
 use Rattle.engine_core.specs.declared.engines.run.Next.TheVariants as next
-use Rattle.engine_core.specs.EngineText.{Text, ending_at}
+use Rattle.engine_core.specs.EngineText.{Text, ending_at, step_text}
 
--- What an engine answers for an item after others, and appends to a line: its text, and then it stands after this item too; a refusal, or want of memory.
+-- What an engine answers for an item after others, and appends to a line: its text, and then it stands after this item too; a refusal; or want of memory, where there is something to write.
 abbrev pub Takes : {X C : Type 0} → Text X C → (List (ℕ × X) → Type 0) → List (ℕ × X) → ℕ × X → Result Bool (LineError C) → List ℕ → List ℕ → Type 0
 Takes t stands before e (Ok found) old new = (text : List ℕ) × (t.step before e ≡ Ok (text, found)) × (new ≡ old ++ text) × stands (before ++ e ∷ [])
 Takes t stands before e (Err (line.Cause why)) old new = t.step before e ≡ Err why
-Takes t stands before e (Err (line.Memory m)) old new = Unit {0}
-
--- the text that a step writes: that of its item, or the last one
-abbrev pub step_text : {X C : Type 0} → Text X C → ℕ → Result (List ℕ × Bool) C → List ℕ
-step_text t n (Ok s) = s.0
-step_text t n (Err why) = t.last (fault.Line n why)
+Takes t stands before e (Err (line.Memory m)) old new = step_text t e.0 (t.step before e) ≡ [] → ⊥
 
 -- the fault by which a step ends the text
 abbrev pub step_fault : {C : Type 0} → ℕ → Result (List ℕ × Bool) C → Option (ItemFault C)
@@ -43,10 +38,14 @@ closes t before (Ok None) = None
 closes t before (Err (Some f)) = Some f
 closes t before (Err None) = None
 
--- The run stops: memory was refused and nothing written, or the writer failed at a front of the text, or the text was written and ends by a fault.
-abbrev pub Stops : {C : Type 0} → List ℕ → Option (ItemFault C) → Ending → Option (List ℕ) → Option (List ℕ) → Type 0
-Stops {C = C} text closing ending old new =
-    ((ending ≡ Memory) × (new ≡ old))
+-- memory is wanted by the answer itself, or for the text that it asks for
+abbrev pub WantsFor : {X C : Type 0} → Text X C → List (ℕ × X) → Answer X C → Type 0
+WantsFor t before answer = (answer ≡ Err None) ⊎ (due t before answer ≡ [] → ⊥)
+
+-- The run stops: memory was wanted and refused, and nothing written; or the writer failed at a front of the text; or the text was written and ends by a fault.
+abbrev pub Stops : {C : Type 0} → Type 0 → List ℕ → Option (ItemFault C) → Ending → Option (List ℕ) → Option (List ℕ) → Type 0
+Stops {C = C} wants text closing ending old new =
+    ((ending ≡ Memory) × wants × (new ≡ old))
     ⊎ (((ending ≡ WriteFault) × AppendsFront old new text)
     ⊎ ((f : ItemFault C) × (closing ≡ Some f) × (ending ≡ ending_at f) × Appends old new text))
 
@@ -55,7 +54,7 @@ abbrev pub StepWrites : {X C : Type 0} → Text X C → (List (ℕ × X) → Typ
 StepWrites {X = X} t stands before answer (next.Wrote found) old new =
     (e : ℕ × X) × (text : List ℕ) × (answer ≡ Ok (Some e)) × (t.step before e ≡ Ok (text, found)) × Appends old new text × stands (before ++ e ∷ [])
 StepWrites t stands before answer next.Ended old new = (answer ≡ Ok None) × (new ≡ old)
-StepWrites t stands before answer (next.Stop ending) old new = Stops (due t before answer) (closes t before answer) ending old new
+StepWrites t stands before answer (next.Stop ending) old new = Stops (WantsFor t before answer) (due t before answer) (closes t before answer) ending old new
 
 -- whether the run stops, by such an ending
 abbrev pub stops_by : (Ending → Bool) → Next → Bool

@@ -1,5 +1,5 @@
 -- What an engine over a list of items writes: a text for each item, which may speak of all items before it, and a last one where the list has a fault or an item is refused.
-use Rattle.std.specs.Prelude.{◌≡◌, ◌≤◌, ◌⊎◌, ◌||◌, ℕ, Bool, true, false, List, [], ◌∷◌, ◌++◌, length, Option, Result, Ok, Err}
+use Rattle.std.specs.Prelude.{◌≡◌, ◌≤◌, ◌⊎◌, ◌||◌, ℕ, Bool, true, false, List, [], ◌∷◌, ◌++◌, length, Option, None, Result, Ok, Err}
 use Rattle.std.specs.Io.KnownBytes.{Appends}
 use Rattle.frame_core.specs.declared.device.InputEnd.{InputEnd}
 use Rattle.frame_core.specs.declared.device.InputEnd.TheVariants.{Open}
@@ -10,6 +10,7 @@ use Rattle.frame_core.specs.declared.line_rules.ItemFault.TheVariants as fault
 use Rattle.frame_core.specs.Device.{AppendsFront}
 use Rattle.frame_core.specs.Lines.{Stop, StartsLine, finished, unfinished, faulty}
 use Rattle.frame_core.specs.Items.{Rules, Listing, listing, put_items}
+use Rattle.frame_core.specs.ItemReader.{OnlyKept}
 use Rattle.engine_core.specs.declared.ending.Ending.{Ending}
 use Rattle.engine_core.specs.declared.ending.Ending.TheVariants.{Done, Findings, InputFault, ReadFault, WriteFault, Memory}
 
@@ -33,6 +34,16 @@ abbrev pub last_text : {X C : Type 0} → Text X C → Stop (ItemFault C) → Li
 last_text t finished = []
 last_text t unfinished = []
 last_text t (faulty f) = t.last f
+
+-- the text that a step writes: that of its item, or the last one where it is refused
+abbrev pub step_text : {X C : Type 0} → Text X C → ℕ → Result (List ℕ × Bool) C → List ℕ
+step_text t n (Ok s) = s.0
+step_text t n (Err why) = t.last (fault.Line n why)
+
+-- what is written next, after these items: the text of the first of those that follow, or the last one
+abbrev pub next_text : {X C : Type 0} → Text X C → List (ℕ × X) → List (ℕ × X) → Stop (ItemFault C) → List ℕ
+next_text t before [] stop = last_text t stop
+next_text t before (e ∷ es) stop = step_text t e.0 (t.step before e)
 
 -- no item before this stop
 abbrev pub told_stop : {X C : Type 0} → Text X C → Stop (ItemFault C) → Account C
@@ -74,12 +85,8 @@ abbrev pub ending_at : {C : Type 0} → ItemFault C → Ending
 ending_at (fault.Lines f) = ending_of f.cause
 ending_at (fault.Line n why) = InputFault
 
--- A run stopped at a line, with n lines before the text, which settled s: what stands written by then is the text of the items of all earlier lines, none of which was refused. From the start of that line on at most 8,192 of the octets given stand, and they read as the lines after `number` others that settled `at`.
-pub record StopsAt {S X C : Type 0} (r : Rules S X C) (s : S) (t : Text X C) (n : ℕ) (z : InputEnd) (input : List ℕ) (old : Option (List ℕ)) : Type 0 where
-  pub held : Option (List ℕ)
-  pub items : List (ℕ × X)
-  pub written : Appends old held (t.first ++ (told_after t [] items unfinished).text)
-  pub accepted : (told_after t [] items unfinished).stop ≡ unfinished
+-- A line of the octets given, with n lines before them, which settled s: before it stand the lines of these items. From its start on at most 8,192 octets stand, and they read as the lines after `number` others that settled `at`.
+pub record AtLine {S X C : Type 0} (r : Rules S X C) (s : S) (n : ℕ) (z : InputEnd) (input : List ℕ) (items : List (ℕ × X)) : Type 0 where
   pub number : ℕ
   pub at : S
   pub front : List ℕ
@@ -88,6 +95,23 @@ pub record StopsAt {S X C : Type 0} (r : Rules S X C) (s : S) (t : Text X C) (n 
   pub starts : StartsLine z front rest
   pub few : length rest ≤ 8192
   pub earlier : listing r s z n input ≡ put_items items (listing r at z number rest)
+
+-- A run stopped at a line: what stands written by then is the text of the items of all earlier lines, none of which was refused.
+pub record StopsAt {S X C : Type 0} (r : Rules S X C) (s : S) (t : Text X C) (n : ℕ) (z : InputEnd) (input : List ℕ) (old : Option (List ℕ)) : Type 0 where
+  pub held : Option (List ℕ)
+  pub items : List (ℕ × X)
+  pub written : Appends old held (t.first ++ (told_after t [] items unfinished).text)
+  pub accepted : (told_after t [] items unfinished).stop ≡ unfinished
+  pub line : AtLine r s n z input items
+
+-- what is listed from the line on
+abbrev pub list_from : {S X C : Type 0} {r : Rules S X C} {s : S} {n : ℕ} {input : List ℕ} {items : List (ℕ × X)} → (z : InputEnd) → AtLine r s n z input items → Listing X C
+list_from {r = r} z l = listing r l.at z l.number l.rest
+
+-- Memory is wanted for the line: for what it gives to keep, or for what is to be written next.
+abbrev pub WantsMemory : {S X C : Type 0} {r : Rules S X C} {s : S} {n : ℕ} {input : List ℕ} {items : List (ℕ × X)} → Text X C → (z : InputEnd) → AtLine r s n z input items → Type 0
+WantsMemory {r = r} {items = items} t z l =
+    OnlyKept r l.at z l.number l.rest (Err None) ⊎ (next_text t items (list_from z l).items (list_from z l).stop ≡ [] → ⊥)
 
 -- there is a fault, and the whole text was written
 abbrev pub EndsByFault : {X C : Type 0} → Text X C → Ending → Listing X C → Option (List ℕ) → Option (List ℕ) → Type 0
@@ -101,15 +125,15 @@ EndsWell t found l old new = ((told t l).stop ≡ finished) × ((told t l).found
 abbrev pub IsUntouched : InputEnd → InputEnd → List ℕ → Type 0
 IsUntouched before after given = (after ≡ before) × (given ≡ [])
 
--- What a run of an open reader leaves written of a text that follows n lines, which settled s: the whole text at Done, Findings, InputFault and ReadFault; a front of it at WriteFault, where the reader is untouched or the run stopped at some line; at Memory the text of the items before some line.
+-- What a run of an open reader leaves written of a text that follows n lines, which settled s: the whole text at Done, Findings, InputFault and ReadFault; a front of it at WriteFault, where the reader is untouched or the run stopped at some line; at Memory the text of the items before a line for which memory is wanted.
 abbrev pub WritesAfter : {S X C : Type 0} → Rules S X C → S → Text X C → ℕ → Ending → InputEnd → List ℕ → Option (List ℕ) → Option (List ℕ) → Type 0
 WritesAfter r s t n Done z input old new = EndsWell t false (listing r s z n input) old new
 WritesAfter r s t n Findings z input old new = EndsWell t true (listing r s z n input) old new
 WritesAfter r s t n InputFault z input old new = EndsByFault t InputFault (listing r s z n input) old new
 WritesAfter r s t n ReadFault z input old new = EndsByFault t ReadFault (listing r s z n input) old new
 WritesAfter r s t n WriteFault z input old new = AppendsFront old new (whole_text t (listing r s z n input))
-    × (IsUntouched Open z input ⊎ ((p : StopsAt r s t n z input old) × AppendsFront p.held new (told_rest t p.items (listing r p.at z p.number p.rest)).text))
-WritesAfter r s t n Memory z input old new = (p : StopsAt r s t n z input old) × (p.held ≡ new)
+    × (IsUntouched Open z input ⊎ ((p : StopsAt r s t n z input old) × AppendsFront p.held new (told_rest t p.items (list_from z p.line)).text))
+WritesAfter r s t n Memory z input old new = (p : StopsAt r s t n z input old) × WantsMemory t z p.line × (p.held ≡ new)
 
 -- what a run leaves written of an input, with the ending that its reader tells
 abbrev pub Writes : {S X C : Type 0} → Rules S X C → S → Text X C → Ending → InputEnd → List ℕ → Option (List ℕ) → Option (List ℕ) → Type 0

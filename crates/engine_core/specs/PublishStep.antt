@@ -17,7 +17,7 @@ use Rattle.script_core.specs.declared.script.ScriptCause.{ScriptCause}
 use Rattle.script_core.specs.declared.script.ScriptCause.TheVariants as cause
 use Rattle.script_core.specs.declared.script.ScriptItem.{ScriptItem}
 use Rattle.script_core.specs.declared.script.ScriptItem.TheVariants as item
-use Rattle.engine_core.specs.EngineText.{Text}
+use Rattle.engine_core.specs.EngineText.{Text, step_text}
 use Rattle.engine_core.specs.PublishText.{IsScriptSound, answer_text, items_of_lines, script_cause}
 use Rattle.text_core.specs.ScriptLine.{script_line}
 
@@ -127,13 +127,13 @@ Holds _ _ = ⊥
 abbrev pub TakesItem : {A : Type 0} → Progress A → ScriptItem A → Result (Stage A) (LineError ScriptCause) → List ℕ → List ℕ → Type 0
 TakesItem g i (Ok s) old new = (text : List ℕ) × (item_step i g ≡ Ok (text, false)) × (new ≡ old ++ text) × Holds s (next_progress i g)
 TakesItem g i (Err (line.Cause why)) old new = item_step i g ≡ Err why
-TakesItem g i (Err (line.Memory e)) old new = Unit {0}
+TakesItem {A} g i (Err (line.Memory e)) old new = (n : ℕ) → step_text (publish_text {A = A}) n (item_step i g) ≡ [] → ⊥
 
 -- a call was taken after these, or refused
 abbrev pub TakesCall : {A : Type 0} → Setup A → List Call → Call → Result (Unit {0}) (LineError ScriptCause) → List ℕ → List ℕ → PublisherStanding A → Type 0
 TakesCall p calls c (Ok u) old new s = (text : List ℕ) × (call_step p calls c ≡ Ok (text, false)) × (new ≡ old ++ text) × PublisherStandsAfter p (calls ++ c ∷ []) s
 TakesCall p calls c (Err (line.Cause why)) old new s = call_step p calls c ≡ Err why
-TakesCall p calls c (Err (line.Memory e)) old new s = Unit {0}
+TakesCall {A} p calls c (Err (line.Memory e)) old new s = (n : ℕ) → step_text (publish_text {A = A}) n (call_step p calls c) ≡ [] → ⊥
 
 -- the publisher that runs after this, or why none does
 abbrev pub Runs : {A : Type 0} → Progress A → Result (PublisherStanding A) ScriptCause → Type 0

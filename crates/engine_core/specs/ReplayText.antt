@@ -39,8 +39,13 @@ abbrev pub ReplayRefuses : {A : Type 0} → List (Block A) → Ending → InputE
 ReplayRefuses blocks ending z given old new =
     (i : ℕ) × IsFirstTwice blocks i × IsUntouched Open z given × (LeavesRefused (twice_line i) ending old new ⊎ ((ending ≡ Memory) × (new ≡ old)))
 
+-- the blocks are apart, but memory is refused for what a subscriber of them keeps: the reader is untouched, and nothing is written
+abbrev pub ReplayKeepsNone : {A : Type 0} → List (Block A) → Ending → InputEnd → List ℕ → Option (List ℕ) → Option (List ℕ) → Type 0
+ReplayKeepsNone blocks ending z given old new = (ending ≡ Memory) × AreApart blocks × (blocks ≡ [] → ⊥) × IsUntouched Open z given × (new ≡ old)
+
 -- what a replay of these blocks leaves written of an input
 abbrev pub ReplayWrites : {A : Type 0} → List (Block A) → Ending → InputEnd → List ℕ → Option (List ℕ) → Option (List ℕ) → Type 0
 ReplayWrites {A = A} blocks ending z given old new =
     ReplayRefuses blocks ending z given old new
+    ⊎ ReplayKeepsNone blocks ending z given old new
     ⊎ (AreApart blocks × ((t : Text (Event A) ListCause) × IsReplayText blocks t × Writes event_rules First t ending z given old new))

@@ -1,5 +1,5 @@
 //! The lines of a subscriber's entries.
-ghost use Rattle.std.specs.Prelude.{◌≡◌, ◌++◌, OnOk, codes};
+ghost use Rattle.std.specs.Prelude.{◌≡◌, ◌++◌, [], IsOk, OnOk, codes};
 ghost use Rattle.subscribe_core.specs.declared.entry.Entry.TheVariants.{Refused};
 ghost use Rattle.text_core.specs.EntryText.{entry_head, entry_line, entry_lines, pair_line, pair_text};
 ghost use Rattle.text_core.specs.ValueText.{members_text, time_text};
@@ -151,7 +151,8 @@ pub fn put_entries<A: Allocator>(
     number: u64,
     entries: &[Entry<A>],
 ) -> Result<(), AllocError>
-    ensures { OnOk result (out.new.items ≡ out.old.items ++ entry_lines number entries.now) }
+    ensures text { OnOk result (out.new.items ≡ out.old.items ++ entry_lines number entries.now) }
+    ensures quiet { entries.now ≡ [] → IsOk result }
 {
     for entry in entries {
         put_entry(out, number, entry)?;

@@ -1,5 +1,5 @@
 //! `check`: a line for each note on a frame.
-ghost use Rattle.std.specs.Prelude.{◌≡◌, ◌++◌, ℕ, List, false, ⊤, OnOk, MatchResult, Ok};
+ghost use Rattle.std.specs.Prelude.{◌≡◌, ◌++◌, [], ℕ, List, true, false, ⊤, IsOk, OnOk, MatchResult, Ok};
 ghost use Rattle.frame_core.specs.declared.device.InputEnd.{InputEnd};
 ghost use Rattle.frame_core.specs.declared.event_lines.EventLines.TheVariants.{First};
 ghost use Rattle.frame_core.specs.Device.{GivesOctets};
@@ -59,7 +59,8 @@ fn put_note<A: Allocator>(
     number: u64,
     word: &[u8],
 ) -> Result<(), AllocError>
-    ensures { OnOk result (line.new.items ≡ line.old.items ++ note_unless holds number word.now) }
+    ensures text { OnOk result (line.new.items ≡ line.old.items ++ note_unless holds number word.now) }
+    ensures quiet { holds ≡ true → IsOk result }
 {
     if holds {
         return Ok(());
@@ -74,7 +75,8 @@ fn put_notes<A: Allocator>(
     number: u64,
     octets: &[u8],
 ) -> Result<(), AllocError>
-    ensures { OnOk result (line.new.items ≡ line.old.items ++ octets_notes number octets.now) }
+    ensures text { OnOk result (line.new.items ≡ line.old.items ++ octets_notes number octets.now) }
+    ensures quiet { octets_notes number octets.now ≡ [] → IsOk result }
 {
     match view_frame(octets) {
         Err(fault) => put_fault_line(line, number, fault),
@@ -101,9 +103,10 @@ fn put_event_notes<A: Allocator>(
     number: u64,
     kind: &EventKind<A>,
 ) -> Result<bool, AllocError>
-    ensures { MatchResult result
+    ensures noted { MatchResult result
         (λ found. (line.new.items ≡ line.old.items ++ notes number kind.now) × (found ≡ has_text (notes number kind.now)))
         (λ _. Unit {0}) }
+    ensures quiet { notes number kind.now ≡ [] → IsOk result }
 {
     let EventKind::Frame(octets) = kind else {
         return Ok(false);

@@ -1,6 +1,6 @@
 //! The run of an engine over a list: a line is asked for once the text of the line before stands
 //! written.
-ghost use Rattle.std.specs.Prelude.{◌≡◌, ◌++◌, ℕ, List, [], Some, None, Ok, false, OnOk, if◌then◌else◌};
+ghost use Rattle.std.specs.Prelude.{◌≡◌, ◌++◌, ℕ, List, [], Some, None, Ok, false, IsOk, OnOk, if◌then◌else◌};
 ghost use Rattle.frame_core.specs.declared.device.InputEnd.{InputEnd};
 ghost use Rattle.frame_core.specs.Device.{GivesOctets};
 ghost use Rattle.frame_core.specs.ItemReader.{Answer, AnswersItem, item_place};
@@ -28,7 +28,7 @@ pub trait Engine<A: Allocator> {
     ghost stands: { Self → List (ℕ × Self.Item) → Type 0 };
 
     /// Appends the text of the next item, and answers whether the item is a finding; or why it is
-    /// refused.
+    /// refused. Memory is wanted for a text alone: an item that writes nothing asks for none.
     fn put_item(
         &mut self,
         line: &mut Vec<u8, A>,
@@ -45,7 +45,8 @@ pub trait Engine<A: Allocator> {
         line: &mut Vec<u8, A>,
         fault: &ItemFault<Self::Cause>,
     ) -> Result<(), AllocError>
-        ensures { OnOk result (line.new.items ≡ line.old.items ++ (text self.now).last fault.now) };
+        ensures text { OnOk result (line.new.items ≡ line.old.items ++ (text self.now).last fault.now) }
+        ensures quiet { (text self.now).last fault.now ≡ [] → IsOk result };
 }
 
 /// How a run goes on after an answer of the reader.
@@ -87,7 +88,7 @@ fn answer_fault<A: Allocator, E: Engine<A>, W: Sink>(
     writer: &mut W,
 ) -> Ending
     requires { W.failed writer.old ≡ false }
-    ensures stops { Stops ((E.text engine.now).last fault.now) (Some fault.now) result (W.contents writer.old) (W.contents writer.new) }
+    ensures stops { Stops ((E.text engine.now).last fault.now ≡ [] → ⊥) ((E.text engine.now).last fault.now) (Some fault.now) result (W.contents writer.old) (W.contents writer.new) }
     ensures fails { W.failed writer.new ≡ is_write_fault result }
 {
     line.clear();

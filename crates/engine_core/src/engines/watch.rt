@@ -1,5 +1,5 @@
 //! `watch`: what the counter of a stream of samples does.
-ghost use Rattle.std.specs.Prelude.{◌≡◌, ◌++◌, ℕ, List, None, false, MatchResult};
+ghost use Rattle.std.specs.Prelude.{◌≡◌, ◌++◌, [], ℕ, List, None, false, IsOk, MatchResult};
 ghost use Rattle.frame_core.specs.declared.device.InputEnd.{InputEnd};
 ghost use Rattle.frame_core.specs.declared.event.Event.{Event as SpecEvent};
 ghost use Rattle.frame_core.specs.declared.event_lines.EventLines.TheVariants.{First};
@@ -46,6 +46,7 @@ fn put_asdu<A: Allocator>(
     ensures said { MatchResult result
         (λ found. SamplesSaid watch.old.period number watch.old.last (sample_at position id.now (asdu_of {A = Unit {0}} asdu.now)) line.old.items line.new.items found watch.new.last)
         (λ _. Unit {0}) }
+    ensures quiet { sample_at position id.now (asdu_of {A = Unit {0}} asdu.now) ≡ [] → IsOk result }
     ensures period { watch.new.period ≡ watch.old.period }
 {
     if asdu.sv_id != id {
@@ -67,6 +68,7 @@ fn put_asdus<A: Allocator>(
     ensures said { MatchResult result
         (λ found. SamplesSaid watch.old.period number watch.old.last (samples_from 0 id.now (asdus_left {A = Unit {0}} sampled.now.asdus)) line.old.items line.new.items found watch.new.last)
         (λ _. Unit {0}) }
+    ensures quiet { samples_from 0 id.now (asdus_left {A = Unit {0}} sampled.now.asdus) ≡ [] → IsOk result }
     ensures period { watch.new.period ≡ watch.old.period }
 {
     let count = sampled.count as u64;
@@ -92,6 +94,7 @@ fn put_event<A: Allocator>(
         × (found ≡ (watched number id.now kind.now (seen_all watch.old.period watch.old.last (counts (samples_of id.now kind.now)))).1)
         × (watch.new.last ≡ last_of watch.old.period watch.old.last (counts (samples_of id.now kind.now))))
         (λ _. Unit {0}) }
+    ensures quiet { (watched number id.now kind.now (seen_all watch.old.period watch.old.last (counts (samples_of id.now kind.now)))).0 ≡ [] → IsOk result }
     ensures period { watch.new.period ≡ watch.old.period }
 {
     let EventKind::Frame(octets) = kind else {

@@ -1,6 +1,6 @@
 use Rattle.std.proofs.Common.{List, subst, sym, ℕ, ◌++◌, ◌∷◌, [], length}
 use Rattle.publish_core.specs.Run.{Polled, PublishesOctets, call}
-use Rattle.engine_core.proofs.PublishLemmas.{polled_none, polled_one}
+use Rattle.engine_core.proofs.PublishLemmas.{polled_none, polled_one, polled_there}
 use Rattle.engine_core.proofs.engines.publish.put_poll.Goals as goal
 
 pub returns-in_default : goal.returns-in_default
@@ -14,3 +14,8 @@ returns-in-Ok g c = λ p calls sound stands.
     polled_one p calls sound c.args.line.now.items c.put_frame_event.new.out.items c.poll.new.self c.args.moment c.moment.result c.as_slice.result.now
     (subst (λ (octets : List ℕ). PublishesOctets p more (length calls) octets) (sym c.as_slice.ensures.value) (c.in-Some.ensures.published p calls stands))
     after (c.moment.ensures p more after) c.in-Ok.ensures
+
+pub returns-in-Err : goal.returns-in-Err
+returns-in-Err g c = λ p calls sound stands.
+    polled_there p calls c.args.moment c.as_slice.result.now sound
+    (subst (λ (octets : List ℕ). PublishesOctets p (calls ++ call c.args.moment Polled ∷ []) (length calls) octets) (sym c.as_slice.ensures.value) (c.in-Some.ensures.published p calls stands))

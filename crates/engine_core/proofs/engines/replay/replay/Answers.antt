@@ -7,7 +7,7 @@ use Rattle.subscribe_core.specs.Standing.{State}
 use Rattle.engine_core.specs.EngineText.{LeavesRefused, Writes}
 use Rattle.engine_core.specs.ReplayText.{twice_line}
 use Rattle.engine_core.specs.ReplayStep.{replay_text}
-use Rattle.engine_core.proofs.ReplayLemmas.{memory_first, replay_is}
+use Rattle.engine_core.proofs.ReplayLemmas.{replay_is}
 use Rattle.engine_core.proofs.engines.replay.replay.Goals as goal
 
 pub returns-in-Ok-clause-text : goal.returns-in-Ok-clause-text
@@ -16,14 +16,14 @@ returns-in-Ok-clause-text g c =
     let same = ap (λ (s : State g.row.A.Denot). s.blocks) c.in-Ok.ensures.fresh in (
       r.0,
       r.1,
-      inr (
+      inr (inr (
         c.in-Ok.ensures.apart,
         (
           replay_text c.args.blocks.items,
           replay_is c.args.blocks.items,
           subst (λ (bs : List (Block g.row.A.Denot)). Writes event_rules First (replay_text bs) c.run.result.0 (g.R.Source.ending c.run.result.1) r.0 (g.W.Sink.contents c.args.writer.now) (g.W.Sink.contents c.run.new.writer)) same r.2,
         ),
-      ),
+      )),
     )
 
 pub returns-in-Ok-put_position-clause-text : goal.returns-in-Ok-put_position-clause-text
@@ -50,6 +50,8 @@ returns-in-Err-SameBlockTwice-clause-text g c =
 
 pub returns-clause-text : goal.returns-clause-text
 returns-clause-text g c =
-    let apart = rw c.in-Err-Memory.field-0-is at c.in-Err-Memory.ensures.fault in
-    let m = memory_first event_rules First (replay_text c.args.blocks.items) (g.R.Source.ending c.args.reader) (g.R.Source.left c.args.reader) (g.W.Sink.contents c.args.writer.now) refl in
-    (m.0, m.1, inr (apart, (replay_text c.args.blocks.items, replay_is c.args.blocks.items, m.2)))
+    let some = rw c.in-Err-Memory.field-0-is at c.in-Err-Memory.ensures.fault in (
+      [],
+      Gives-from_Consumes _ _ [] (Consumes-none (g.R.Source.left c.args.reader)),
+      inr (inl (refl, some.0, some.1, (c.requires.open, refl), refl)),
+    )
