@@ -164,7 +164,8 @@ impl<A: Allocator> Engine<A> for CheckText {
 /// gave: whole at `Done`, `Findings`, `InputFault` and `ReadFault`, a front of it at `WriteFault`,
 /// and whole lines of it at `Memory`. At `Memory`, and at `WriteFault` if anything was read, the
 /// lines of all earlier events stand written, and at most 8,192 of the octets given stand from the
-/// start of the line on at which the run stopped.
+/// start of the line on at which the run stopped. `Memory` is for a frame or a line to be written,
+/// never for the clock, a mode or the list's end.
 pub fn check<A: Allocator + Copy, R: Source, W: Sink>(
     alloc: A,
     reader: R,

@@ -206,7 +206,9 @@ impl<A: Allocator> Engine<A> for Publishing<A> {
 /// The reader is Open and the writer has not failed. The text is that of the octets that the reader
 /// gave: whole at `Done`, `InputFault` and `ReadFault`, a front of it at `WriteFault`, and the line
 /// `V2` with the lines of the earlier calls at `Memory`. At `Memory` and `WriteFault` at most 8,192
-/// of the octets given stand from the start of the line on at which the run stopped.
+/// of the octets given stand from the start of the line on at which the run stopped. `Memory` is for
+/// a control line, a change or a line to be written, never for a step, for a poll that gives no frame
+/// or for the script's end.
 pub fn publish<A: Allocator + Copy, R: Source, W: Sink>(
     alloc: A,
     reader: R,
