@@ -1,6 +1,7 @@
 pub mod PlainTexts
 pub mod WrittenLists
 pub mod ScriptOrder
+pub mod WrittenOctets
 pub mod OneText
 pub mod ScriptSizes
 pub mod ScriptLimits

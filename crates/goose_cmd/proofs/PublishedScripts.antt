@@ -2,24 +2,30 @@
 use Rattle.std.proofs.Common.{◌≡◌, ℕ, zero, suc, ◌+◌, ◌<◌, ◌≤◌, max, take, Bool, false, Option, Result, Some, None, List, [], ◌∷◌, ◌++◌, length, map, slice_get, option_map, Ok, inl, inr, ap, ap₂, subst, sym, ◌∙◌, refl, arith, append_assoc}
 use Rattle.std.proofs.Math.Seq.{take-append_seam}
 use Rattle.std.proofs.lemmas.List.{append-nil, length-append, length_push, map-append}
+use Rattle.std.proofs.lemmas.List.Elements.{All-from_get_or}
 use Rattle.std.proofs.lemmas.Option.{none-some}
 use Rattle.std.specs.List.{flat_map}
+use Rattle.ber_core.specs.Length.{AreOctets}
 use Rattle.frame_core.specs.declared.frame.Frame.{Frame}
 use Rattle.frame_core.specs.EventLine.{event_text}
 use Rattle.frame_core.specs.Items.{Listing}
 use Rattle.frame_core.specs.Lines.{faulty, finished}
+use Rattle.frame_core.specs.Written.{written_frame}
 use Rattle.publish_core.specs.declared.fault.PublishFault.{PublishFault}
 use Rattle.publish_core.specs.declared.table.Step.{Step}
 use Rattle.publish_core.specs.Frames.{Change, Setup, setup}
 use Rattle.publish_core.specs.Refusal.{Accepts, Refuses, next_state}
 use Rattle.publish_core.specs.Run.{Act, Call, Changed, IsAnswer, Polled, greatest_call_moment, trace_of_calls}
+use Rattle.publish_core.specs.Numbers.{state_number}
 use Rattle.publish_core.specs.Table.{AreSteps}
+use Rattle.publish_core.proofs.GivesOne.{carried}
 use Rattle.publish_core.proofs.Judged.{changes_are_judged}
 use Rattle.publish_core.proofs.Runs.{answer_one, answers_stay}
 use Rattle.publish_core.proofs.Whole.{greatest-push}
 use Rattle.subscribe_core.proofs.Traces.{get_middle}
 use Rattle.exchange_laws.specs.PublishedList.{IsWholeRun, Sent, one_entry_each, published_events, sent_from, with_frame}
 use Rattle.exchange_laws.specs.Stems.{AreAccepted}
+use Rattle.exchange_laws.proofs.WrittenForms.{change_accepted}
 use Rattle.script_core.specs.declared.script.ScriptCause.{ScriptCause}
 use Rattle.script_core.specs.declared.script.ScriptItem.{ScriptItem}
 use Rattle.script_core.specs.declared.script.ScriptItem.TheVariants as item
@@ -27,9 +33,10 @@ use Rattle.engine_core.specs.EngineText.{Account, Text, put_step, told, told_aft
 use Rattle.goose_cmd.specs.PublishedReplay.{PublishedTextsReplay, SaysRun, ScriptsGiveLists, script_of_text}
 use Rattle.engine_core.specs.PublishText.{IsCallText, IsPublishText, IsRefused, IsScriptSound, IsTaken, answer_text, item_of_call, items_of_lines, script_of}
 use Rattle.engine_core.proofs.PublishLemmas.{items-push}
-use Rattle.goose_cmd.specs.ListText.{ReplayGives}
-use Rattle.goose_cmd.proofs.ScriptLimits.{script_moments, script_room, script_sizes}
+use Rattle.goose_cmd.specs.ListText.{ReplayGives, SendsOctets}
+use Rattle.goose_cmd.proofs.ScriptLimits.{SaysOctets, script_moments, script_octets, script_room, script_sizes}
 use Rattle.goose_cmd.proofs.ScriptOrder.{script_sound}
+use Rattle.goose_cmd.proofs.WrittenOctets.{frame_octets}
 use Rattle.goose_cmd.proofs.WrittenLists.{published_lists_replay}
 
 -- the frames of the calls that are left, as they are written
@@ -253,12 +260,31 @@ sent_count m (c ∷ cs) [] = omega arith
 sent_count m (c ∷ cs) (a ∷ answers) =
     omega (arith, with_count (max m c.moment) c.act a (sent_from (max m c.moment) cs answers), sent_count (max m c.moment) cs answers)
 
+-- what is sent is octets where each frame is
+octets_sent : {A : Type 0} (m : ℕ) (act : Act) (a : Option (Frame A)) (rest : List (Sent A)) → ((f : Frame A) → a ≡ Some f → AreOctets (written_frame f)) → SendsOctets rest → SendsOctets (with_frame m act a rest)
+octets_sent m act None rest each more = more
+octets_sent m act (Some f) rest each more = (All-from_get_or (λ (x : ℕ). x < 256) (written_frame f) 0 (λ i below. each f refl i), more)
+
+all_octets_sent : {A : Type 0} (m : ℕ) (calls : List Call) (answers : List (Option (Frame A))) → ((i : ℕ) (f : Frame A) → slice_get answers i ≡ Some (Some f) → AreOctets (written_frame f)) → SendsOctets (sent_from m calls answers)
+all_octets_sent m [] answers each = tt
+all_octets_sent m (c ∷ cs) [] each = tt
+all_octets_sent m (c ∷ cs) (a ∷ answers) each =
+    octets_sent (max m c.moment) c.act a (sent_from (max m c.moment) cs answers) (λ f e. each 0 f (ap (λ (o : Option _). Some o) e)) (all_octets_sent (max m c.moment) cs answers (λ i. each (suc i)))
+
+-- the frame that a call gives is written as octets where its change is
+answer_octets : {A : Type 0} (p : Setup A) (calls : List Call) (i : ℕ) (f : Frame A) → SaysOctets p calls → AreAccepted p calls → IsAnswer p (trace_of_calls calls) i (Some f) → AreOctets (written_frame f)
+answer_octets {A} p calls i f octets accepted w =
+    let at = carried w.3 in
+    let spelled = (change_accepted p calls at.0 w.0 w.2 accepted at.2).spelled in
+    subst (λ (g : Frame A). AreOctets (written_frame g)) (sym w.4) (frame_octets p (state_number p.first w.0) w.1 w.2 octets.to octets.from spelled (octets.values at.0 w.2 at.2.act))
+
 pub published_texts_replay : {A B : Type 0} → PublishedTextsReplay A B
-published_texts_replay {A} {B} p block calls answers text t r run says is whole octets replay =
+published_texts_replay {A} {B} p block calls answers text t r run says is whole replay =
     let sound : IsScriptSound p = script_sound p calls text says in
     let accepted : AreAccepted p calls = changes_accepted B p t is sound calls (script_of_text text) says whole in
     let listed = scripts_give_lists B p calls answers (script_of_text text) t sound accepted run.are_answers says is in
     let room : length (sent_from 0 calls answers) < 1000000 = omega (arith, sent_count 0 calls answers, script_room p calls text says) in
+    let octets : SendsOctets (sent_from 0 calls answers) = all_octets_sent 0 calls answers (λ i f at. answer_octets p calls i f (script_octets p calls text says) accepted (run.are_answers.1 i (Some f) at)) in
     let all : IsWholeRun p block calls answers = record {
       own = run.own;
       held = script_sizes p calls text says;

@@ -1,6 +1,6 @@
--- The limits that the lines of a script keep: their moments have at most 18 digits, their fields have their sizes, and there are no more items than lines.
-use Rattle.std.proofs.Common.{◌≡◌, ℕ, suc, ◌+◌, ◌*◌, ◌^◌, ◌<◌, ◌≤◌, Bool, true, false, ◌&&◌, Option, Some, None, List, [], ◌∷◌, ◌++◌, length, map, Result, Ok, Err, ap, subst, refl, arith}
-use Rattle.std.specs.Prelude.{◌==◌, nat_le, nat_lt, codes}
+-- The limits that the lines of a script keep: their moments have at most 18 digits, their fields have their sizes, the values of changes are written as octets, and there are no more items than lines.
+use Rattle.std.proofs.Common.{◌≡◌, ℕ, zero, suc, ◌+◌, ◌*◌, ◌^◌, ◌<◌, ◌≤◌, Bool, true, false, ◌&&◌, Option, Some, None, List, [], ◌∷◌, ◌++◌, length, map, Result, Ok, Err, ap, subst, refl, arith}
+use Rattle.std.specs.Prelude.{◌==◌, nat_le, nat_lt, codes, IfOk, IfSome}
 use Rattle.std.specs.Char.{is_ascii_digit}
 use Rattle.std.specs.List.{list_all}
 use Rattle.std.specs.Str.{bytes_eq}
@@ -9,9 +9,11 @@ use Rattle.std.proofs.lemmas.Bool.{leb-true}
 use Rattle.std.proofs.lemmas.Bool.Decides.{nat_tests}
 use Rattle.std.proofs.lemmas.List.{length-append, length-map}
 use Rattle.std.proofs.lemmas.Str.Parse.{digits_value_short}
+use Rattle.ber_core.specs.Length.{AreOctets}
 use Rattle.ber_core.specs.declared.fault.Fault.{Fault}
 use Rattle.mms_data.specs.Data.{Data}
 use Rattle.mms_data.specs.Reading.{members_at}
+use Rattle.mms_data.specs.Written.{written_all}
 use Rattle.mms_data.specs.declared.time.UtcTime.{UtcTime}
 use Rattle.frame_core.specs.declared.device.InputEnd.{InputEnd}
 use Rattle.frame_core.specs.declared.device.InputEnd.TheVariants.{Open, End, Failed}
@@ -24,8 +26,8 @@ use Rattle.frame_core.specs.Items.{Listing, items_said, put_said}
 use Rattle.frame_core.specs.Lines.{Reading, Stop, fault_at, line_judged, pieces, put_line, reading, reading_at_end, reading_of_pieces, reading_of_rest, without_cr}
 use Rattle.frame_core.proofs.MomentDigits.{digits_test}
 use Rattle.publish_core.specs.declared.table.Step.{Step}
-use Rattle.publish_core.specs.Frames.{Setup}
-use Rattle.publish_core.specs.Run.{Act, Call, Changed, Polled}
+use Rattle.publish_core.specs.Frames.{Change, Setup}
+use Rattle.publish_core.specs.Run.{Act, Call, Changed, Polled, trace_of_calls}
 use Rattle.exchange_laws.specs.Stems.{AreHeld}
 use Rattle.script_core.specs.Commas.{comma_fields}
 use Rattle.script_core.specs.declared.script.ScriptCause.{ScriptCause}
@@ -40,7 +42,8 @@ use Rattle.engine_core.specs.PublishText.{item_of_act, item_of_call, items_of_li
 use Rattle.goose_cmd.specs.ListText.{MomentsAreShort}
 use Rattle.goose_cmd.specs.PublishedReplay.{SaysRun, script_of_text}
 use Rattle.goose_cmd.proofs.ScriptOrder.{either}
-use Rattle.goose_cmd.proofs.ScriptSizes.{ControlIsHeld, LiveBelow, LivesBelow, SaysSizes, control_sizes, setup_held, steps_low}
+use Rattle.goose_cmd.proofs.WrittenOctets.{read_octets}
+use Rattle.goose_cmd.proofs.ScriptSizes.{ControlIsHeld, LiveBelow, LivesBelow, SaysSizes, all_are_octets, control_sizes, setup_held, steps_low}
 
 -- ---- moments
 
@@ -67,11 +70,11 @@ moment_short unit digits =
 
 -- ---- what a line says
 
--- the moment of a change or a poll has at most 18 digits, and what is set up has its sizes
+-- the moment of a change or a poll has at most 18 digits, what is set up has its sizes, and values are written as octets
 abbrev KeepsLimits : {A : Type 0} → ScriptItem A → Type 0
 KeepsLimits (item.Control control first) = ControlIsHeld control
 KeepsLimits (item.Step s) = s.live_ms ≤ 4294967295
-KeepsLimits (item.Change moment t values) = moment < 10 ^ 18
+KeepsLimits (item.Change moment t values) = (moment < 10 ^ 18) × AreOctets (written_all values)
 KeepsLimits (item.Poll moment) = moment < 10 ^ 18
 
 abbrev AllKeep : {A : Type 0} → List (ScriptItem A) → Type 0
@@ -94,7 +97,7 @@ module _ (A : Type 0) where
       either (l.numbers.first == 0) _ _ (Said {A = A}) (λ none. tt) (λ some.
       let rev : l.numbers.conf_rev ≤ 4294967295 = k.conf_rev in
       let count : l.numbers.entries ≤ 4294967295 = k.entries in
-      record { to = k.to; from = k.from; tag = k.tag; app_id = k.app_id; conf_rev = omega (arith, rev); entries = omega (arith, count) })
+      record { to = k.to; from = k.from; to_octets = k.to_octets; from_octets = k.from_octets; tag = k.tag; app_id = k.app_id; conf_rev = omega (arith, rev); entries = omega (arith, count) })
   control_short (part.Steps n) o k = tt
   control_short part.Calls o k = tt
 
@@ -110,15 +113,15 @@ module _ (A : Type 0) where
   call_short None (Err why) c = tt
   call_short None (Ok i) c = c
 
-  change_short_by : (m : Option ℕ) (t : Option UtcTime) (o : Option (List ℕ)) → IsShort m → Called {A = A} (change_said_by m t o)
-  change_short_by None t o s = tt
-  change_short_by (Some m) None o s = tt
-  change_short_by (Some m) (Some t) None s = tt
-  change_short_by (Some m) (Some t) (Some o) s = by_values (members_at 16 0 o)
+  change_short_by : (m : Option ℕ) (t : Option UtcTime) (o : Option (List ℕ)) → IsShort m → IfSome o AreOctets → Called {A = A} (change_said_by m t o)
+  change_short_by None t o s w = tt
+  change_short_by (Some m) None o s w = tt
+  change_short_by (Some m) (Some t) None s w = tt
+  change_short_by (Some m) (Some t) (Some o) s w = by_values (members_at 16 0 o) (read_octets 16 0 o w)
     where
-      by_values : (r : Result (List Data) Fault) → Called {A = A} (change_to m t r)
-      by_values (Ok values) = s
-      by_values (Err f) = tt
+      by_values : (r : Result (List Data) Fault) → IfOk r (λ values. AreOctets (written_all values)) → Called {A = A} (change_to m t r)
+      by_values (Ok values) written = (s, written)
+      by_values (Err f) written = tt
 
   poll_short_by : (m : Option ℕ) → IsShort m → Called {A = A} (poll_of m)
   poll_short_by None s = tt
@@ -128,7 +131,7 @@ module _ (A : Type 0) where
   change_short unit q [] = tt
   change_short unit q (m ∷ []) = tt
   change_short unit q (m ∷ t ∷ []) = tt
-  change_short unit q (m ∷ t ∷ o ∷ []) = call_short (too_early q) (change_said_by (moment_of unit m) (time_in t) (all_octets_in o)) (change_short_by (moment_of unit m) (time_in t) (all_octets_in o) (moment_short unit m))
+  change_short unit q (m ∷ t ∷ o ∷ []) = call_short (too_early q) (change_said_by (moment_of unit m) (time_in t) (all_octets_in o)) (change_short_by (moment_of unit m) (time_in t) (all_octets_in o) (moment_short unit m) (all_are_octets o))
   change_short unit q (m ∷ t ∷ o ∷ x ∷ more) = tt
 
   poll_short : (unit : MomentUnit) (q : ScriptPart) (fields : List (List ℕ)) → Said {A = A} (poll_said unit q fields)
@@ -231,12 +234,21 @@ behind_steps [] items w = w
 behind_steps (s ∷ steps) items w = behind_steps steps items w.1
 
 act_short : (A : Type 0) (m : ℕ) (act : Act) → KeepsLimits {A = A} (item_of_act m act) → m < 10 ^ 18
-act_short A m (Changed change) w = w
+act_short A m (Changed change) w = w.0
 act_short A m Polled w = w
 
 calls_short : (A : Type 0) (calls : List Call) → AllKeep (map (item_of_call {A = A}) calls) → MomentsAreShort calls
 calls_short A [] w = tt
 calls_short A (c ∷ calls) w = (act_short A c.moment c.act w.0, calls_short A calls w.1)
+
+values_octets : (A : Type 0) (calls : List Call) → AllKeep (map (item_of_call {A = A}) calls) → (i : ℕ) (change : Change) → (trace_of_calls calls).act i ≡ Some (Changed change) → AreOctets (written_all change.values)
+values_octets A [] w zero change at = absurd cc
+values_octets A [] w (suc i) change at = absurd cc
+values_octets A (c ∷ calls) w zero change at = (subst (λ (act : Act). KeepsLimits {A = A} (item_of_act c.moment act)) here w.0).1
+  where
+    here : c.act ≡ Changed change
+    here = cc
+values_octets A (c ∷ calls) w (suc i) change at = values_octets A calls w.1 i change at
 
 -- what the text of a script says keeps the limits
 says_limits : {A : Type 0} (p : Setup A) (calls : List Call) (text : List ℕ) → SaysRun p calls (script_of_text text) → AllKeep (script_of p calls)
@@ -249,3 +261,14 @@ script_moments {A} p calls text says = calls_short A calls (behind_steps p.table
 -- its fields have their sizes
 pub script_sizes : {A : Type 0} (p : Setup A) (calls : List Call) (text : List ℕ) → SaysRun p calls (script_of_text text) → AreHeld p
 script_sizes p calls text says = let w = says_limits p calls text says in setup_held p w.0 (at_steps p.table (map item_of_call calls) w.1)
+
+-- its addresses are octets, and the values of each change are written as octets
+pub record SaysOctets {A : Type 0} (p : Setup A) (calls : List Call) : Type 0 where
+  pub to : AreOctets p.control.destination
+  pub from : AreOctets p.control.source
+  pub values : (i : ℕ) (change : Change) → (trace_of_calls calls).act i ≡ Some (Changed change) → AreOctets (written_all change.values)
+
+pub script_octets : {A : Type 0} (p : Setup A) (calls : List Call) (text : List ℕ) → SaysRun p calls (script_of_text text) → SaysOctets p calls
+script_octets {A} p calls text says =
+    let w = says_limits p calls text says in
+    record { to = w.0.to_octets; from = w.0.from_octets; values = values_octets A calls (behind_steps p.table (map item_of_call calls) w.1) }

@@ -1,7 +1,8 @@
--- The fields that the lines of a script set up have the sizes that the types of the code give them.
+-- The fields that the lines of a script set up have the sizes that the types of the code give them, and those written in digits of hexadecimal are octets.
 use Rattle.std.proofs.Common.{◌≡◌, ℕ, zero, suc, ◌+◌, ◌*◌, ◌^◌, ◌<◌, ◌≤◌, Bool, true, ◌&&◌, Option, Some, None, List, [], ◌∷◌, length, Result, Ok, Err, refl, arith}
-use Rattle.std.specs.Prelude.{◌==◌, ◌-◌, ◌%◌, ◌/◌, nat_le, option_map}
+use Rattle.std.specs.Prelude.{◌==◌, ◌-◌, ◌%◌, ◌/◌, nat_le, option_map, IfSome}
 use Rattle.std.proofs.lemmas.Bool.{and_parts, eqb-true, leb-true}
+use Rattle.ber_core.specs.Length.{AreOctets}
 use Rattle.hex.specs.Hex.{decode_pairs, digit_or_error, hex_digit_value, ◌>>=◌}
 use Rattle.hex.specs.declared.error.FromHexError.{FromHexError}
 use Rattle.frame_core.specs.EventLine.{decoded}
@@ -14,9 +15,10 @@ use Rattle.publish_core.specs.Table.{step_at}
 use Rattle.exchange_laws.specs.Stems.{AreHeld}
 use Rattle.script_core.specs.declared.script_control.Numbers.{Numbers}
 use Rattle.script_core.specs.Commas.{number_by, octets_in, text_in, word_in}
-use Rattle.script_core.specs.Script.{ControlLine, control_of, control_with, flag_in, numbers_with, step_said_by, step_with, tag_in}
+use Rattle.script_core.specs.Script.{ControlLine, all_octets_in, control_of, control_with, flag_in, numbers_with, step_said_by, step_with, tag_in}
 use Rattle.frame_core.specs.Decimal.{decimal_of}
 use Rattle.goose_cmd.proofs.ScriptOrder.{Below, below, either}
+use Rattle.goose_cmd.proofs.WrittenOctets.{cons_octets, no_octets}
 
 -- ---- hexadecimal digits
 
@@ -33,41 +35,44 @@ digit_low c =
     within : (a b d : ℕ) → (nat_le a c && nat_le c b) ≡ true → (a ≤ c → c ≤ b → c - d < 16) → c - d < 16
     within a b d e f = let p = and_parts (nat_le a c) (nat_le c b) e in f (leb-true a c p.0) (leb-true c b p.1)
 
-abbrev EachOctet : List ℕ → Type 0
-EachOctet [] = Unit {0}
-EachOctet (x ∷ xs) = (x < 256) × EachOctet xs
+-- octets, by two digits each
+abbrev ArePairs : Result (List ℕ) FromHexError → ℕ → Type 0
+ArePairs (Ok octets) digits = (2 * length octets ≡ digits) × AreOctets octets
+ArePairs (Err e) digits = Unit {0}
 
--- two digits each
-abbrev AreOctets : Result (List ℕ) FromHexError → ℕ → Type 0
-AreOctets (Ok octets) digits = (2 * length octets ≡ digits) × EachOctet octets
-AreOctets (Err e) digits = Unit {0}
-
-pair_octets : (h l i : ℕ) (a b : Option ℕ) (r : Result (List ℕ) FromHexError) (n : ℕ) → IsDigit a → IsDigit b → AreOctets r n →
-    AreOctets ((digit_or_error h i a >>= λ x. digit_or_error l (i + 1) b >>= λ y. Ok (x * 16 + y)) >>= λ octet. r >>= λ octets. Ok (octet ∷ octets)) (suc (suc n))
+pair_octets : (h l i : ℕ) (a b : Option ℕ) (r : Result (List ℕ) FromHexError) (n : ℕ) → IsDigit a → IsDigit b → ArePairs r n →
+    ArePairs ((digit_or_error h i a >>= λ x. digit_or_error l (i + 1) b >>= λ y. Ok (x * 16 + y)) >>= λ octet. r >>= λ octets. Ok (octet ∷ octets)) (suc (suc n))
 pair_octets h l i None b r n p q w = tt
 pair_octets h l i (Some x) None r n p q w = tt
 pair_octets h l i (Some x) (Some y) (Err e) n p q w = tt
-pair_octets h l i (Some x) (Some y) (Ok octets) n p q w = (let same = w.0 in omega (arith, same), (omega (arith, p, q), w.1))
+pair_octets h l i (Some x) (Some y) (Ok octets) n p q w = (let same = w.0 in omega (arith, same), cons_octets (x * 16 + y) octets (omega (arith, p, q)) w.1)
 
-pairs_octets : (i : ℕ) (digits : List ℕ) → AreOctets (decode_pairs i digits) (length digits)
+pairs_octets : (i : ℕ) (digits : List ℕ) → ArePairs (decode_pairs i digits) (length digits)
 unfolding decode_pairs
-pairs_octets i [] = (refl, tt)
+pairs_octets i [] = (refl, no_octets)
 pairs_octets i (d ∷ []) = tt
 pairs_octets i (h ∷ l ∷ rest) = pair_octets h l i (hex_digit_value h) (hex_digit_value l) (decode_pairs (i + 2) rest) (length rest) (digit_low h) (digit_low l) (pairs_octets (i + 2) rest)
 
 -- so many octets
 abbrev Sized : ℕ → Option (List ℕ) → Type 0
 Sized n None = Unit {0}
-Sized n (Some octets) = (length octets ≡ n) × EachOctet octets
+Sized n (Some octets) = (length octets ≡ n) × AreOctets octets
 
 octets_sized : (n : ℕ) (digits : List ℕ) → Sized n (octets_in n digits)
 octets_sized n digits =
     either (length digits % 2 == 1) _ _ (λ (r : Result (List ℕ) FromHexError). Sized n (decoded r)) (λ odd. tt)
     (λ even. either (length digits / 2 == n) _ _ (λ (r : Result (List ℕ) FromHexError). Sized n (decoded r)) (λ half. by_pairs (decode_pairs 0 digits) (pairs_octets 0 digits) (eqb-true (length digits / 2) n half)) (λ other. tt))
   where
-    by_pairs : (r : Result (List ℕ) FromHexError) → AreOctets r (length digits) → length digits / 2 ≡ n → Sized n (decoded r)
+    by_pairs : (r : Result (List ℕ) FromHexError) → ArePairs r (length digits) → length digits / 2 ≡ n → Sized n (decoded r)
     by_pairs (Ok octets) w half = (let twice = w.0 in omega (arith, twice, half), w.1)
     by_pairs (Err e) w half = tt
+
+pub all_are_octets : (digits : List ℕ) → IfSome (all_octets_in digits) AreOctets
+all_are_octets digits = either (length digits % 2 == 1) _ _ (λ (r : Result (List ℕ) FromHexError). IfSome (decoded r) AreOctets) (λ odd. tt) (λ even. by_pairs (decode_pairs 0 digits) (pairs_octets 0 digits))
+  where
+    by_pairs : (r : Result (List ℕ) FromHexError) → ArePairs r (length digits) → IfSome (decoded r) AreOctets
+    by_pairs (Ok octets) w = w.1
+    by_pairs (Err e) w = tt
 
 -- ---- fields
 
@@ -79,7 +84,7 @@ word_by : (number : List ℕ → ℕ) → ((x y : ℕ) → x < 256 → y < 256 �
 word_by number low None w = tt
 word_by number low (Some []) w = absurd (let none = w.0 in omega (arith, none))
 word_by number low (Some (x ∷ [])) w = absurd (let one = w.0 in omega (arith, one))
-word_by number low (Some (x ∷ y ∷ [])) w = low x y w.1.0 w.1.1.0
+word_by number low (Some (x ∷ y ∷ [])) w = low x y (w.1 0) (w.1 1)
 word_by number low (Some (x ∷ y ∷ z ∷ rest)) w = absurd (let more = w.0 in omega (arith, more))
 
 word_low : (digits : List ℕ) → IsWord (word_in digits)
@@ -114,6 +119,8 @@ numbers_low (Some a) (Some b) (Some c) (Some d) (Some f) p q = (p, q)
 pub record ControlIsHeld {A : Type 0} (control : Control A) : Type 0 where
   pub to : length control.destination ≡ 6
   pub from : length control.source ≡ 6
+  pub to_octets : AreOctets control.destination
+  pub from_octets : AreOctets control.source
   pub tag : TagIsHeld control.tag
   pub app_id : control.app_id < 65536
   pub conf_rev : control.conf_rev < 2 ^ 32
@@ -122,6 +129,8 @@ pub record ControlIsHeld {A : Type 0} (control : Control A) : Type 0 where
 pub record LineIsHeld (l : ControlLine) : Type 0 where
   pub to : length l.destination ≡ 6
   pub from : length l.source ≡ 6
+  pub to_octets : AreOctets l.destination
+  pub from_octets : AreOctets l.source
   pub tag : TagIsHeld l.tag
   pub app_id : l.app_id < 65536
   pub conf_rev : l.numbers.conf_rev ≤ 4294967295
@@ -142,7 +151,7 @@ line_sizes (Some a) (Some b) (Some c) (Some d) (Some f) None h n p q r s k = tt
 line_sizes (Some a) (Some b) (Some c) (Some d) (Some f) (Some g) None n p q r s k = tt
 line_sizes (Some a) (Some b) (Some c) (Some d) (Some f) (Some g) (Some h) None p q r s k = tt
 line_sizes (Some a) (Some b) (Some c) (Some d) (Some f) (Some g) (Some h) (Some n) p q r s k =
-    record { to = p.0; from = q.0; tag = r; app_id = s; conf_rev = k.0; entries = k.1 }
+    record { to = p.0; from = q.0; to_octets = p.1; from_octets = q.1; tag = r; app_id = s; conf_rev = k.0; entries = k.1 }
 
 pub control_sizes : (fields : List (List ℕ)) → SaysSizes (control_of fields)
 control_sizes [] = tt

@@ -16,7 +16,7 @@ use Rattle.script_core.specs.declared.script.ScriptItem.{ScriptItem}
 use Rattle.script_core.specs.declared.script.ScriptLines.TheVariants.{First}
 use Rattle.script_core.specs.Script.{script_rules}
 use Rattle.engine_core.specs.EngineText.{Text, whole_text, told}
-use Rattle.goose_cmd.specs.ListText.{ReplayGives, SendsOctets, list_text}
+use Rattle.goose_cmd.specs.ListText.{ReplayGives, list_text}
 use Rattle.engine_core.specs.PublishText.{IsPublishText, IsScriptSound, items_of_lines, script_of}
 use Rattle.engine_core.specs.ReplayText.{IsReplayText}
 
@@ -48,6 +48,5 @@ pub record CanBeFollowed {A B : Type 0} (p : Setup A) (block : Block B) (calls :
 abbrev pub PublishedTextsReplay : Type 0 → Type 0 → Type 0
 PublishedTextsReplay A B =
     (p : Setup A) (block : Block B) (calls : List Call) (answers : List (Option (Frame A))) (text : List ℕ) (t : Text (ScriptItem A) ScriptCause) (r : Text (Event B) ListCause) →
-    CanBeFollowed p block calls answers → SaysRun p calls (script_of_text text) → IsPublishText t → (told t (script_of_text text)).stop ≡ finished →
-    SendsOctets (sent_from 0 calls answers) → IsReplayText (block ∷ []) r →
+    CanBeFollowed p block calls answers → SaysRun p calls (script_of_text text) → IsPublishText t → (told t (script_of_text text)).stop ≡ finished → IsReplayText (block ∷ []) r →
     ReplayGives r (whole_text t (script_of_text text)) (one_entry_each (sent_from 0 calls answers))

@@ -66,9 +66,9 @@ pub fn published_lists_replay<P: Allocator, S: Allocator>()
 /// What `publish` writes of a script whose changes are accepted is the list of the frames that its calls give. Where it
 /// writes the text of a script to its end, a replay of that with the publisher's own block gives one line for each frame:
 /// an action for that of a change, a renewal for that of a poll, and nothing else. The control is neither simulated nor in
-/// commissioning, the status numbers don't wrap, each frame comes in the lifetime of the one before, and the frames are
-/// octets. That each change was accepted, that the fields have their sizes, and that the frames and their moments can stand in
-/// a list and are not too many, follows from the text.
+/// commissioning, the status numbers don't wrap, and each frame comes in the lifetime of the one before. That each change was
+/// accepted, that the fields have their sizes, and that the frames are octets, can stand in a list with their moments and are
+/// not too many, follows from the text.
 pub fn published_texts_replay<P: Allocator, S: Allocator>()
     ensures list { ScriptsGiveLists P S }
     ensures replay { PublishedTextsReplay P S }
