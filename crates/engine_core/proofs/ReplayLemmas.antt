@@ -1,12 +1,7 @@
 -- A subscriber that is handed the events of a list one by one, and the text that follows.
-use Rattle.std.proofs.Common.{◌≡◌, ℕ, List, [], ◌∷◌, ◌++◌, length, false, Option, Ok, ap, subst, sym, ◌∙◌, refl, inl, append_assoc, arith}
-use Rattle.std.specs.Io.KnownBytes.{Appends}
+use Rattle.std.proofs.Common.{◌≡◌, ℕ, List, [], ◌∷◌, ◌++◌, length, false, Ok, ap, subst, sym, ◌∙◌, refl, append_assoc}
 use Rattle.std.proofs.lemmas.List.{append-nil, length-replicate}
-use Rattle.frame_core.specs.declared.device.InputEnd.{InputEnd}
 use Rattle.frame_core.specs.declared.event.Event.{Event}
-use Rattle.frame_core.specs.Device.{GivesOctets}
-use Rattle.frame_core.specs.Items.{Rules}
-use Rattle.frame_core.proofs.Devices.{Appends-none, Consumes-none, Gives-from_Consumes}
 use Rattle.subscribe_core.specs.declared.block.Block.{Block}
 use Rattle.subscribe_core.specs.declared.entry.Entry.{Entry}
 use Rattle.subscribe_core.specs.Content.{reading_of}
@@ -16,8 +11,6 @@ use Rattle.subscribe_core.specs.Steps.{step_entries, step_state}
 use Rattle.subscribe_core.proofs.Readings.{is_read}
 use Rattle.subscribe_core.proofs.Runs.{entries_step, fresh_stands, registers_length, stands_step}
 use Rattle.engine_core.specs.EngineStep.{Takes}
-use Rattle.engine_core.specs.EngineText.{Text, WritesAfter, told_after}
-use Rattle.engine_core.specs.declared.ending.Ending.TheVariants.{Memory}
 use Rattle.text_core.specs.EntryText.{entry_lines}
 use Rattle.engine_core.specs.ReplayText.{IsReplayText, events_of}
 use Rattle.engine_core.proofs.NonEmpty.{no_entry}
