@@ -1,4 +1,4 @@
-//! The named fields of a line. Each call appends to `out`.
+//! The named fields of a line. Each call appends to `out`. Inlined, so that a name is written without a call.
 ghost use Rattle.std.specs.Prelude.{◌≡◌, ◌++◌, OnOk};
 ghost use Rattle.std.specs.Fmt.{decimal};
 ghost use Rattle.hex.specs.Hex.{encode_lower};
@@ -12,6 +12,7 @@ use mms_data::UtcTime;
 use std::alloc::{AllocError, Allocator};
 
 /// Appends a name and a number in decimal.
+#[inline(always)]
 pub fn put_number<A: Allocator>(
     out: &mut Vec<u8, A>,
     name: &[u8],
@@ -24,6 +25,7 @@ pub fn put_number<A: Allocator>(
 }
 
 /// Appends a name and a number in four hexadecimal digits.
+#[inline(always)]
 pub fn put_digits<A: Allocator>(
     out: &mut Vec<u8, A>,
     name: &[u8],
@@ -36,6 +38,7 @@ pub fn put_digits<A: Allocator>(
 }
 
 /// Appends a name and a text.
+#[inline(always)]
 pub fn put_text<A: Allocator>(
     out: &mut Vec<u8, A>,
     name: &[u8],
@@ -48,6 +51,7 @@ pub fn put_text<A: Allocator>(
 }
 
 /// Appends a name and a truth value.
+#[inline(always)]
 pub fn put_boolean<A: Allocator>(
     out: &mut Vec<u8, A>,
     name: &[u8],
@@ -60,6 +64,7 @@ pub fn put_boolean<A: Allocator>(
 }
 
 /// Appends a name and a text that may be absent.
+#[inline(always)]
 pub fn put_optional<A: Allocator>(
     out: &mut Vec<u8, A>,
     name: &[u8],
@@ -75,6 +80,7 @@ pub fn put_optional<A: Allocator>(
 }
 
 /// Appends a name and a number that may be absent.
+#[inline(always)]
 pub fn put_number_if<A: Allocator>(
     out: &mut Vec<u8, A>,
     name: &[u8],
@@ -90,6 +96,7 @@ pub fn put_number_if<A: Allocator>(
 }
 
 /// Appends a name and a moment that may be absent.
+#[inline(always)]
 pub fn put_time_if<A: Allocator>(
     out: &mut Vec<u8, A>,
     name: &[u8],
@@ -105,6 +112,7 @@ pub fn put_time_if<A: Allocator>(
 }
 
 /// Appends a name and octets in lower case hexadecimal.
+#[inline(always)]
 pub fn put_octets<A: Allocator>(
     out: &mut Vec<u8, A>,
     name: &[u8],
@@ -117,6 +125,7 @@ pub fn put_octets<A: Allocator>(
 }
 
 /// Appends a name and octets that may be absent.
+#[inline(always)]
 pub fn put_octets_if<A: Allocator>(
     out: &mut Vec<u8, A>,
     name: &[u8],

@@ -1,5 +1,5 @@
 //! The small texts of which lines are made. Each call appends to `out`.
-ghost use Rattle.std.specs.Prelude.{◌≡◌, ◌<◌, ◌*◌, ◌++◌, OnOk, slice_index, true, IsTrue};
+ghost use Rattle.std.specs.Prelude.{◌≡◌, ◌<◌, ◌*◌, ◌+◌, ◌/◌, ◌%◌, ◌++◌, ◌∷◌, [], OnOk, slice_index, true, IsTrue};
 ghost use Rattle.std.specs.List.{flat_map};
 ghost use Rattle.std.specs.Fmt.{decimal, signed_decimal};
 ghost use Rattle.hex.specs.Hex.{encode_lower, lower_digits};
@@ -63,27 +63,59 @@ pub fn put_hexadecimal<A: Allocator>(out: &mut Vec<u8, A>, octets: &[u8]) -> Res
     }
 }
 
+// The four hexadecimal digits of a number.
+#[tactic(auto, unfolding(hex::specs::Hex::encode_with))]
+fn hexadecimal_digits(number: u16) -> [u8; 4]
+    ensures { result ≡ four_digits number }
+{
+    let [high, low] = [(number / 256) as u8, (number % 256) as u8];
+    [
+        hexadecimal_digit(high / 16),
+        hexadecimal_digit(high % 16),
+        hexadecimal_digit(low / 16),
+        hexadecimal_digit(low % 16),
+    ]
+}
+
 /// Appends a number in four hexadecimal digits.
 pub fn put_four_digits<A: Allocator>(out: &mut Vec<u8, A>, number: u16) -> Result<(), AllocError>
     ensures { OnOk result (out.new.items ≡ out.old.items ++ four_digits number) }
 {
-    put_hexadecimal(out, &[(number / 256) as u8, (number % 256) as u8])
+    out.extend_from_slice(&hexadecimal_digits(number))
+}
+
+// The four bits of a number below 16 as digits, the most significant first.
+fn four_bits(number: u8) -> [u8; 4]
+    requires { number < 16 }
+    ensures { result ≡ (48 + number / 8 % 2) ∷ (48 + number / 4 % 2) ∷ (48 + number / 2 % 2) ∷ (48 + number % 2) ∷ [] }
+{
+    match number {
+        0 => *b"0000",
+        1 => *b"0001",
+        2 => *b"0010",
+        3 => *b"0011",
+        4 => *b"0100",
+        5 => *b"0101",
+        6 => *b"0110",
+        7 => *b"0111",
+        8 => *b"1000",
+        9 => *b"1001",
+        10 => *b"1010",
+        11 => *b"1011",
+        12 => *b"1100",
+        13 => *b"1101",
+        14 => *b"1110",
+        _ => *b"1111",
+    }
 }
 
 // The eight bits of an octet as digits, the most significant first.
 fn bit_digits(octet: u8) -> [u8; 8]
     ensures { result ≡ octet_bits octet }
 {
-    [
-        b'0' + octet / 128 % 2,
-        b'0' + octet / 64 % 2,
-        b'0' + octet / 32 % 2,
-        b'0' + octet / 16 % 2,
-        b'0' + octet / 8 % 2,
-        b'0' + octet / 4 % 2,
-        b'0' + octet / 2 % 2,
-        b'0' + octet % 2,
-    ]
+    let [a, b, c, d] = four_bits(octet / 16);
+    let [e, f, g, h] = four_bits(octet % 16);
+    [a, b, c, d, e, f, g, h]
 }
 
 /// Appends the bits of octets without the last `unused` ones.
@@ -103,16 +135,33 @@ pub fn put_bits<A: Allocator>(
     Ok(())
 }
 
-// Whether no octet of a text is written after a backslash.
+// Whether no octet of a text is written after a backslash. The octets are passed eight at a time, which the compiler
+// looks at together.
 fn is_plain(text: &[u8]) -> bool
     ensures { IsTrue result → flat_map escaped text.now ≡ text.now }
 {
-    for octet in text {
-        if *octet == b'"' || *octet == b'\\' {
+    let mut others = text;
+    'eights: while 8 <= others.len() {
+        let (eight, rest) = others.split_at(8);
+        if !are_plain(eight) {
             return false;
         }
+        others = rest;
     }
-    true
+    are_plain(others)
+}
+
+// Whether none of these octets is. It looks at each, also behind one that is.
+#[inline(always)]
+fn are_plain(octets: &[u8]) -> bool
+    ensures { IsTrue result → flat_map escaped octets.now ≡ octets.now }
+{
+    let mut plain = true;
+    for octet in octets {
+        plain &= *octet != b'"';
+        plain &= *octet != b'\\';
+    }
+    plain
 }
 
 // Appends the octets of a text, a quotation mark and a backslash after a backslash.

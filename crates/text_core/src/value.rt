@@ -24,7 +24,8 @@ fn put_bit_view<A: Allocator>(out: &mut Vec<u8, A>, bits: BitView<'_>) -> Result
     put_bits(out, bits.unused, bits.octets)
 }
 
-/// Appends the text of a value.
+/// Appends the text of a value. Inlined, so that a member is told apart by its kind without another call.
+#[inline(always)]
 #[tactic(auto, using(crate::proofs::ValueLemmas::item_texts_items_of))]
 #[cycle(texts)]
 pub fn put_view<A: Allocator>(out: &mut Vec<u8, A>, view: &View<'_>) -> Result<(), AllocError>
