@@ -1,5 +1,7 @@
 -- Octets that are visible, one after the other.
-use Rattle.std.proofs.Common.{◌≡◌, ℕ, zero, suc, ◌+◌, ◌<◌, true, false, List, [], ◌∷◌, length, drop, slice_index, Ok, refl, arith}
+use Rattle.std.proofs.Common.{◌≡◌, ℕ, zero, suc, ◌+◌, ◌≤◌, ◌<◌, true, false, List, [], ◌∷◌, length, take, drop, slice_index, Ok, ap, refl, sym, ◌∙◌, arith}
+use Rattle.std.proofs.lemmas.Bool.{and_parts}
+use Rattle.std.specs.List.{list_all}
 use Rattle.ber_core.specs.Reading.{refused}
 use Rattle.ber_core.specs.declared.fault.Cause.TheVariants as causes
 use Rattle.ber_core.specs.ContentsReading.{all_visible_at, is_visible}
@@ -22,3 +24,13 @@ visible_end [] from zero h = refl
 visible_end [] from (suc i) h = absurd (omega arith)
 visible_end (x ∷ xs) from zero h = absurd (omega arith)
 visible_end (x ∷ xs) from (suc i) h = visible_end xs from i (omega arith)
+
+-- octets behind visible ones
+pub visible_past : (n : ℕ) (o : List ℕ) (from : ℕ) → n ≤ length o → list_all is_visible (take n o) ≡ true → all_visible_at (from + n) (drop n o) ≡ all_visible_at from o
+unfolding all_visible_at
+visible_past zero o from h v = let e : from + 0 ≡ from = omega arith in ap (λ m. all_visible_at m o) e
+visible_past (suc n) [] from h v = absurd (omega arith)
+visible_past (suc n) (x ∷ xs) from h v =
+    let e : from + suc n ≡ from + 1 + n = omega arith in
+    let both = and_parts (is_visible x) (list_all is_visible (take n xs)) v in
+    ap (λ m. all_visible_at m (drop n xs)) e ∙ visible_past n xs (from + 1) (omega arith) both.1 ∙ sym (visible_on (x ∷ xs) from 0 (omega arith) both.0)

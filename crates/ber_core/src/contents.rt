@@ -1,6 +1,7 @@
 //! The contents of one element: a boolean, an integer, a visible text, octets of a stated count.
 
-ghost use Rattle.std.specs.Prelude.{◌≡◌, ◌≤◌, ◌<◌, ◌+◌, ◌^◌, ◌≤ℤ◌, ℤ, Bool, List, ℕ, Ok, Err, length, IfOk, IfErr, IsOk};
+ghost use Rattle.std.specs.Prelude.{◌≡◌, ◌≤◌, ◌<◌, ◌+◌, ◌-◌, ◌^◌, ◌≤ℤ◌, ℤ, Bool, List, ℕ, Ok, Err, length, IfOk, IfErr, IsOk};
+ghost use Rattle.std.specs.List.{list_all};
 ghost use Rattle.ber_core.specs.Contents.{AreVisible, SpellsBoolean, BooleanFault, SpellsInteger, IntegerFault, SpellsVisible, VisibleFault, SpellsCounted, CountedFault, IsContents};
 ghost use Rattle.ber_core.specs.ContentsReading.{all_visible_at, boolean_at, counted_at, integer_at, is_visible, visible_at};
 ghost use Rattle.ber_core.specs.Element.{contents_of};
@@ -168,12 +169,42 @@ fn each_visible(octets: &[u8], from: usize) -> Result<(), Fault>
     requires { from + length octets.now < 2 ^ 64 }
     ensures exact { result ≡ all_visible_at from octets.now }
 {
-    for i in 0..octets.len() {
-        if !is_visible_octet(octets[i]) {
-            return Err(Cause::NotVisible.at(from + i));
+    let others = behind_eights(octets);
+    let first = from + (octets.len() - others.len());
+    for i in 0..others.len() {
+        if !is_visible_octet(others[i]) {
+            return Err(Cause::NotVisible.at(first + i));
         }
     }
     Ok(())
+}
+
+// What stands behind the visible octets that are passed eight at a time, which the compiler looks at together.
+fn behind_eights(octets: &[u8]) -> &[u8]
+    ensures fewer { length result.now ≤ length octets.now }
+    ensures same { (from : ℕ) → all_visible_at (from + (length octets.now - length result.now)) result.now ≡ all_visible_at from octets.now }
+{
+    let mut others = octets;
+    'eights: while 8 <= others.len() {
+        let (eight, rest) = others.split_at(8);
+        if !are_visible(eight) {
+            return others;
+        }
+        others = rest;
+    }
+    others
+}
+
+// Whether each of the octets is visible. It looks at each, also behind one that is not.
+#[inline(always)]
+fn are_visible(octets: &[u8]) -> bool
+    ensures { result ≡ list_all is_visible octets.now }
+{
+    let mut good = true;
+    for octet in octets {
+        good &= is_visible_octet(*octet);
+    }
+    good
 }
 
 // Whether an octet is visible.

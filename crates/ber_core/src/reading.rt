@@ -152,7 +152,9 @@ pub(crate) fn any_integer(contents: &[u8], at: usize) -> Result<i128, Fault>
     ensures { result ≡ any_integer_at at contents.now }
 {
     match contents.len() {
-        count @ 1..=9 => Ok(BigEndian::read_int128(contents, count)),
+        1 => Ok(BigEndian::read_int(contents, 1) as i128),
+        count @ 2..=8 => Ok(BigEndian::read_int(contents, count) as i128),
+        9 => Ok(BigEndian::read_int128(contents, 9)),
         _ => Err(Cause::IntegerLength.at(at + 1)),
     }
 }

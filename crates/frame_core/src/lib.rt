@@ -49,6 +49,7 @@ pub use crate::event_lines::{EventLines, MomentUnit};
 pub use crate::frame::{Apdu, Frame};
 pub use crate::frame_view::{ApduView, FrameView};
 pub use crate::goose_encoding::{GooseFrame, encode_goose};
+pub use crate::hexadecimal::{hexadecimal_digit, write_digits};
 pub use crate::item_reader::{ItemError, ItemReader};
 pub use crate::line_reader::LineReader;
 pub use crate::line_rules::{ItemFault, LineError, LineRules};

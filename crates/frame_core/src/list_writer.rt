@@ -9,6 +9,7 @@ ghost use Rattle.frame_core.specs.declared.event.EventKind.TheVariants.{Frame, C
 
 use crate::device::Sink;
 use crate::event::{Event, EventKind};
+use crate::hexadecimal::write_digits;
 use crate::whole_write::{WriteFault, put_all};
 use arrayvec::ArrayVec;
 use itoa::Buffer;
@@ -23,6 +24,9 @@ const LAST_MOMENT: u64 = 999_999_999_999_999_999;
 /// The most octets of a frame in a list.
 const LONGEST_FRAME: usize = 2000;
 
+/// What stands where digits are about to be written.
+const BLANK: [u8; 2 * LONGEST_FRAME] = [0; 2 * LONGEST_FRAME];
+
 /// Appends octets in hexadecimal.
 fn push_hex(line: &mut ArrayVec<u8, LONGEST>, octets: &[u8])
     requires size { length octets.now ≤ 2000 }
@@ -30,30 +34,27 @@ fn push_hex(line: &mut ArrayVec<u8, LONGEST>, octets: &[u8])
     ensures items { line.new.items ≡ line.old.items ++ encode_lower octets.now }
     ensures size { array_vec_len line.new ≡ array_vec_len line.old + 2 * length octets.now }
 {
-    let mut digits = [0u8; 2 * LONGEST_FRAME];
-    let size = 2 * octets.len();
-    let part = &mut digits[..size];
-    let encoded = hex::encode_to_slice(octets, part);
-    encoded.unwrap();
-    line.try_extend_from_slice(&digits[..size]).unwrap();
+    let start = line.len();
+    line.try_extend_from_slice(&BLANK[..2 * octets.len()])
+        .unwrap();
+    let _fits = write_digits(octets, &mut line.as_mut_slice()[start..]);
 }
 
-/// The line of a frame.
+/// Makes the line of a frame in an empty one.
 #[tactic(auto, using(crate::proofs::Decimals::decimal_short))]
-fn listed_frame(moment: u64, frame: &[u8]) -> ArrayVec<u8, LONGEST>
+fn list_frame(line: &mut ArrayVec<u8, LONGEST>, moment: u64, frame: &[u8])
+    requires empty { line.old.items ≡ [] }
     requires moment { moment < 10 ^ 18 }
     requires frame { length frame.now ≤ 2000 }
-    ensures { result.items ≡ codes "F " ++ decimal moment ++ codes " " ++ encode_lower frame.now ++ 10 ∷ [] }
+    ensures { line.new.items ≡ codes "F " ++ decimal moment ++ codes " " ++ encode_lower frame.now ++ 10 ∷ [] }
 {
-    let mut line = ArrayVec::new();
     line.push(b'F');
     line.push(b' ');
     line.try_extend_from_slice(Buffer::new().format(moment).as_bytes())
         .unwrap();
     line.push(b' ');
-    push_hex(&mut line, frame);
+    push_hex(line, frame);
     line.push(b'\n');
-    line
 }
 
 /// The line of a clock moment.
@@ -160,5 +161,7 @@ pub fn write_frame<W: Sink>(writer: &mut W, moment: u64, frame: &[u8]) -> Result
     if frame.len() > LONGEST_FRAME {
         return Err(WriteFault::NotListable);
     }
-    put_all(writer, listed_frame(moment, frame).as_slice())
+    let mut line = ArrayVec::new();
+    list_frame(&mut line, moment, frame);
+    put_all(writer, line.as_slice())
 }

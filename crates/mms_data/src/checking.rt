@@ -65,10 +65,19 @@ fn pass_member(octets: &[u8], at: usize, end: usize, depth: u8) -> Result<usize,
     if depth == 0 {
         return Err(Cause::TooDeep.at(at));
     }
-    let kind = member_kind(&octets[at..end], at)?;
-    let header = header(octets, at, end)?;
-    check_contents(octets, &header, kind, depth - 1)?;
-    Ok(header.contents_to)
+    // The header is read first, so that the contents are judged where the kind is told; but a fault of the kind comes
+    // before one of the header.
+    match header(octets, at, end) {
+        Ok(header) => {
+            let kind = member_kind(&octets[at..end], at)?;
+            check_contents(octets, &header, kind, depth - 1)?;
+            Ok(header.contents_to)
+        }
+        Err(fault) => {
+            let _kind = member_kind(&octets[at..end], at)?;
+            Err(fault)
+        }
+    }
 }
 
 // Whether the contents behind the header are those of a value of the kind.

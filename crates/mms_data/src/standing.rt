@@ -44,17 +44,17 @@ fn behind_written(octets: &[u8], depth: u8) -> Option<&[u8]>
     ensures spelled { IfSome result (λ next. AreMembers depth next.now) }
     ensures fewer { IfSome result (λ next. length next.now < length octets.now) }
 {
-    let Ok(kind) = member_kind(octets, 0) else {
-        unreachable!()
-    };
     let Ok(header) = header(octets, 0, octets.len()) else {
         unreachable!()
     };
     let contents = &octets[header.contents_from..header.contents_to];
-    if header.contents_from != header_length(contents.len()) {
+    let Ok(kind) = member_kind(octets, 0) else {
+        unreachable!()
+    };
+    if !are_contents_written(kind, contents, depth - 1) {
         return None;
     }
-    if !are_contents_written(kind, contents, depth - 1) {
+    if header.contents_from != header_length(contents.len()) {
         return None;
     }
     Some(&octets[header.contents_to..])

@@ -140,6 +140,8 @@ impl<'a> Iterator for Members<'a> {
 
     ghost remaining = { item_count left };
 
+    // Inlined, so that the view of a member is not put together where its kind alone is asked for.
+    #[inline(always)]
     fn next(&mut self) -> Option<View<'a>> {
         if self.octets.is_empty() {
             return None;

@@ -1,10 +1,11 @@
 //! The small texts of which lines are made. Each call appends to `out`.
-ghost use Rattle.std.specs.Prelude.{◌≡◌, ◌<◌, ◌*◌, ◌+◌, ◌/◌, ◌%◌, ◌++◌, ◌∷◌, [], OnOk, slice_index, true, IsTrue};
+ghost use Rattle.std.specs.Prelude.{◌≡◌, ◌<◌, ◌+◌, ◌/◌, ◌%◌, ◌++◌, ◌∷◌, [], OnOk, IsTrue};
 ghost use Rattle.std.specs.List.{flat_map};
 ghost use Rattle.std.specs.Fmt.{decimal, signed_decimal};
-ghost use Rattle.hex.specs.Hex.{encode_lower, lower_digits};
+ghost use Rattle.hex.specs.Hex.{encode_lower};
 ghost use Rattle.text_core.specs.Pieces.{octet_bits, bits_text, escaped, quoted, boolean_text, four_digits};
 
+use frame_core::{hexadecimal_digit, write_digits};
 use itoa::Buffer;
 use std::alloc::{AllocError, Allocator};
 
@@ -20,33 +21,6 @@ pub fn put_signed<A: Allocator>(out: &mut Vec<u8, A>, integer: i64) -> Result<()
     ensures { OnOk result (out.new.items ≡ out.old.items ++ signed_decimal integer) }
 {
     out.extend_from_slice(Buffer::new().format(integer).as_bytes())
-}
-
-// The hexadecimal digit of a number below 16.
-fn hexadecimal_digit(number: u8) -> u8
-    requires { number < 16 }
-    ensures { result ≡ slice_index lower_digits number }
-{
-    if number < 10 {
-        b'0' + number
-    } else {
-        b'a' + (number - 10)
-    }
-}
-
-// Writes octets in lower case hexadecimal over these digits, if they are two for each octet, and answers whether. No
-// step hangs on another one, so that the compiler takes several at once.
-fn write_digits(octets: &[u8], digits: &mut [u8]) -> bool
-    ensures { result ≡ true → digits.new ≡ encode_lower octets.now }
-{
-    if digits.len() % 2 != 0 || digits.len() / 2 != octets.len() {
-        return false;
-    }
-    for at in 0..octets.len() {
-        digits[2 * at] = hexadecimal_digit(octets[at] / 16);
-        digits[2 * at + 1] = hexadecimal_digit(octets[at] % 16);
-    }
-    true
 }
 
 /// Appends octets in lower case hexadecimal.

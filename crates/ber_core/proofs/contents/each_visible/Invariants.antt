@@ -3,4 +3,4 @@ use Rattle.ber_core.specs.ContentsReading.{all_visible_at}
 use Rattle.ber_core.proofs.contents.each_visible.Given as goal
 
 abbrev pub invariant-loop-i : goal.invariant-loop-i
-invariant-loop-i l = all_visible_at (l.from + l.i) (drop l.i l.octets) ≡ all_visible_at l.from l.octets
+invariant-loop-i l = all_visible_at (l.first + l.i) (drop l.i l.others) ≡ all_visible_at l.from l.octets

@@ -41,28 +41,28 @@ are_written-returns t c =
     let none : length c.members.others.now ≡ 0 = search rules in
     (λ _. c.members.invariant.kept (none_stand c.args.depth c.members.others.now none), λ _. refl)
 
-pub behind_written-unreachable-requires : goal.behind_written-unreachable-requires
-behind_written-unreachable-requires t c = front_known c.args.depth c.args.octets.now c.requires.few c.requires.some c.requires.spelled c.in_default.field-0 (sym c.in_default.is ∙ c.member_kind.ensures)
+pub behind_written-unreachable-requires-in_default-member_kind : goal.behind_written-unreachable-requires-in_default-member_kind
+behind_written-unreachable-requires-in_default-member_kind t c = front_known c.args.depth c.args.octets.now c.requires.few c.requires.some c.requires.spelled c.in_default-member_kind.field-0 (sym c.in_default-member_kind.is ∙ c.member_kind.ensures)
 
-pub behind_written-unreachable-requires-in_default-header : goal.behind_written-unreachable-requires-in_default-header
-behind_written-unreachable-requires-in_default-header t c = front_reads c.args.depth c.args.octets.now c.requires.few c.requires.some c.requires.spelled c.in_default-header.field-0 (sym c.in_default-header.is ∙ c.header.ensures.exact)
+pub behind_written-unreachable-requires : goal.behind_written-unreachable-requires
+behind_written-unreachable-requires t c = front_reads c.args.depth c.args.octets.now c.requires.few c.requires.some c.requires.spelled c.in_default.field-0 (sym c.in_default.is ∙ c.header.ensures.exact)
 
 pub behind_written-header_length-requires : goal.behind_written-header_length-requires
 behind_written-header_length-requires t c =
     let o = c.args.octets.now in
     let small : AreOctets o = λ i. search rules in
-    let s = stands_here o c.in-Ok.kind c.in-Ok-header.header c.in-Ok.ensures c.in-Ok-header.ensures.exact in
-    few_contents o c.in-Ok.kind c.in-Ok-header.header small s
+    let s = stands_here o c.in-Ok-member_kind.kind c.in-Ok.header c.in-Ok-member_kind.ensures c.in-Ok.ensures.exact in
+    few_contents o c.in-Ok-member_kind.kind c.in-Ok.header small s
 
 pub behind_written-returns-then-header-header_length-clause-none : goal.behind_written-returns-then-header-header_length-clause-none
 behind_written-returns-then-header-header_length-clause-none t c = λ _ e.
     let o = c.args.octets.now in
     let k = c.args.depth in
-    let kind = c.in-Ok.kind in
-    let h = c.in-Ok-header.header in
+    let kind = c.in-Ok-member_kind.kind in
+    let h = c.in-Ok.header in
     let small : AreOctets o = λ i. search rules in
-    let s = stands_here o kind h c.in-Ok.ensures c.in-Ok-header.ensures.exact in
-    let f = front k o c.requires.few c.requires.some c.requires.spelled kind h c.in-Ok.ensures c.in-Ok-header.ensures.exact in
+    let s = stands_here o kind h c.in-Ok-member_kind.ensures c.in-Ok.ensures.exact in
+    let f = front k o c.requires.few c.requires.some c.requires.spelled kind h c.in-Ok-member_kind.ensures c.in-Ok.ensures.exact in
     let short = (whole_again k o kind h c.requires.few small s f e).0 in
     c.if-header-header_length.true (short ∙ sym c.header_length.ensures.exact)
 
@@ -71,8 +71,8 @@ behind_written-overflow_sub-depth t c = front_some c.args.depth c.args.octets.no
 
 pub behind_written-are_contents_written-requires : goal.behind_written-are_contents_written-requires
 behind_written-are_contents_written-requires t c =
-    let h = c.in-Ok-header.header in
-    let f = front c.args.depth c.args.octets.now c.requires.few c.requires.some c.requires.spelled c.in-Ok.kind h c.in-Ok.ensures c.in-Ok-header.ensures.exact in
+    let h = c.in-Ok.header in
+    let f = front c.args.depth c.args.octets.now c.requires.few c.requires.some c.requires.spelled c.in-Ok-member_kind.kind h c.in-Ok-member_kind.ensures c.in-Ok.ensures.exact in
     let low = f.some_levels in
     (search rules, (omega (arith, c.requires.few), (h, f.value, f.contents)))
 
@@ -80,11 +80,11 @@ pub behind_written-returns-then-not-are_contents_written-clause-none : goal.behi
 behind_written-returns-then-not-are_contents_written-clause-none t c = λ _ e.
     let o = c.args.octets.now in
     let k = c.args.depth in
-    let kind = c.in-Ok.kind in
-    let h = c.in-Ok-header.header in
+    let kind = c.in-Ok-member_kind.kind in
+    let h = c.in-Ok.header in
     let small : AreOctets o = λ i. search rules in
-    let s = stands_here o kind h c.in-Ok.ensures c.in-Ok-header.ensures.exact in
-    let f = front k o c.requires.few c.requires.some c.requires.spelled kind h c.in-Ok.ensures c.in-Ok-header.ensures.exact in
+    let s = stands_here o kind h c.in-Ok-member_kind.ensures c.in-Ok.ensures.exact in
+    let f = front k o c.requires.few c.requires.some c.requires.spelled kind h c.in-Ok-member_kind.ensures c.in-Ok.ensures.exact in
     let same = (whole_again k o kind h c.requires.few small s f e).1 in
     let yes = (c.are_contents_written.ensures h f.value f.contents).1 same in
     let no = c.if-not-are_contents_written.true in
@@ -94,11 +94,11 @@ pub behind_written-returns-clause-behind : goal.behind_written-returns-clause-be
 behind_written-returns-clause-behind t c =
     let o = c.args.octets.now in
     let k = c.args.depth in
-    let kind = c.in-Ok.kind in
-    let h = c.in-Ok-header.header in
+    let kind = c.in-Ok-member_kind.kind in
+    let h = c.in-Ok.header in
     let small : AreOctets o = λ i. search rules in
-    let s = stands_here o kind h c.in-Ok.ensures c.in-Ok-header.ensures.exact in
-    let f = front k o c.requires.few c.requires.some c.requires.spelled kind h c.in-Ok.ensures c.in-Ok-header.ensures.exact in
+    let s = stands_here o kind h c.in-Ok-member_kind.ensures c.in-Ok.ensures.exact in
+    let f = front k o c.requires.few c.requires.some c.requires.spelled kind h c.in-Ok-member_kind.ensures c.in-Ok.ensures.exact in
     let short : h.contents_from ≡ header_size (length (contents_here o h)) = search rules in
     let yes = c.if-not-are_contents_written.false in
     let same = (c.are_contents_written.ensures h f.value f.contents).0 yes in
@@ -106,5 +106,5 @@ behind_written-returns-clause-behind t c =
 
 pub behind_written-returns-clause-spelled : goal.behind_written-returns-clause-spelled
 behind_written-returns-clause-spelled t c =
-    let f = front c.args.depth c.args.octets.now c.requires.few c.requires.some c.requires.spelled c.in-Ok.kind c.in-Ok-header.header c.in-Ok.ensures c.in-Ok-header.ensures.exact in
+    let f = front c.args.depth c.args.octets.now c.requires.few c.requires.some c.requires.spelled c.in-Ok-member_kind.kind c.in-Ok.header c.in-Ok-member_kind.ensures c.in-Ok.ensures.exact in
     f.others

@@ -1,6 +1,6 @@
 use Rattle.std.proofs.Common.{◌≡◌, ◌*◌, ◌≤◌, ◌++◌, take, drop, length}
 use Rattle.hex.specs.Hex.{encode_lower}
-use Rattle.text_core.proofs.pieces.write_digits.Given as goal
+use Rattle.frame_core.proofs.hexadecimal.write_digits.Given as goal
 
 abbrev pub invariant-loop-at : goal.invariant-loop-at
 invariant-loop-at l = record {

@@ -1,7 +1,7 @@
-use Rattle.std.proofs.Common.{arith, rules}
+use Rattle.std.proofs.Common.{refl, arith, rules}
 use Rattle.hex.specs.Hex.{lower_digits}
 use Rattle.hex.proofs.Pairs.{encode_step, encode_done}
-use Rattle.text_core.proofs.pieces.write_digits.Goals as goal
+use Rattle.frame_core.proofs.hexadecimal.write_digits.Goals as goal
 
 pub loop-at-preserved : goal.loop-at-preserved
 loop-at-preserved c = record {
@@ -14,5 +14,8 @@ loop-at-preserved c = record {
 }
 
 pub returns : goal.returns
-returns c = λ all.
-    encode_done lower_digits c.args.octets.now c.loop-at.digits c.loop-at.at (omega (arith, c.loop-at.invariant.end, c.loop-at-test.false)) c.loop-at.invariant.sized c.loop-at.invariant.written
+returns c = record {
+  room = (λ _. omega (arith, c.if-digits-ne0.false, c.if-digits-octets.false), λ _. refl);
+  written = λ all.
+      encode_done lower_digits c.args.octets.now c.loop-at.digits c.loop-at.at (omega (arith, c.loop-at.invariant.end, c.loop-at-test.false)) c.loop-at.invariant.sized c.loop-at.invariant.written;
+}
