@@ -1,9 +1,12 @@
 pub mod PlainTexts
-pub mod WrittenLists
 pub mod ScriptOrder
+pub mod CommentLines
+pub mod WrittenLists
 pub mod WrittenOctets
 pub mod OneText
 pub mod ScriptSizes
 pub mod ScriptLimits
+pub mod ScriptRuns
 pub mod PublishedScripts
+pub mod PublishedTexts
 pub mod WorkedExamples

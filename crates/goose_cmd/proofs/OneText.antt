@@ -108,7 +108,7 @@ watch_texts_are_one period id t u l is other =
 
 module _ {A : Type 0} (p : Setup A) (calls : List Call) (steps : AreSteps p.table) where
   -- a call is not both taken and refused
-  not_both : (act : Act) (why : PublishFault) → IsTaken p calls act → IsRefused p calls act why → ⊥
+  pub not_both : (act : Act) (why : PublishFault) → IsTaken p calls act → IsRefused p calls act why → ⊥
   not_both (Changed c) why taken refused =
       let judged = changes_are_judged p.control p.table (next_state p calls) c steps in
       none-some why (judged.2 None taken ∙ sym (judged.2 (Some why) refused))

@@ -217,13 +217,14 @@ reading_few z text = let w = pieces_few z 0 (pieces text) (omega arith) in omega
 
 -- ---- the calls of a script
 
--- the text of a script says fewer calls than a list can have lines
-pub script_room : {A : Type 0} (p : Setup A) (calls : List Call) (text : List ℕ) → SaysRun p calls (script_of_text text) → length calls < 1000000
+-- the text of a script says no more items than a list can have lines
+pub script_room : {A : Type 0} (p : Setup A) (calls : List Call) (text : List ℕ) → SaysRun p calls (script_of_text text) → 1 + length p.table + length calls ≤ 1000000
 script_room {A} p calls text says =
     let most : length (script_of_text {A = A} text).items ≤ 1000000 = let a = lines_count A First 0 (reading End 0 text).lines (reading End 0 text).stop in let b = reading_few End text in omega (arith, a, b) in
-    let same : length (items_of_lines (script_of_text {A = A} text).items) ≡ length (script_of p calls) = ap length says.items in
-    let steps : List (ScriptItem A) = map item.Step p.table in
-    omega (arith, most, same, length-map (script_of_text {A = A} text).items (λ (e : ℕ × ScriptItem A). e.1), length-append steps (map item_of_call calls), length-map calls (item_of_call {A = A}))
+    let same : length (items_of_lines (script_of_text {A = A} text).items) ≡ length (script_of p (calls ++ says.left)) = ap length says.items in
+    let step : Step → ScriptItem A = λ s. item.Step s in
+    let steps : List (ScriptItem A) = map step p.table in
+    omega (arith, most, same, length-map (script_of_text {A = A} text).items (λ (e : ℕ × ScriptItem A). e.1), length-append steps (map item_of_call (calls ++ says.left)), length-map p.table step, length-map (calls ++ says.left) (item_of_call {A = A}), length-append calls says.left)
 
 at_steps : {A : Type 0} (steps : List Step) (items : List (ScriptItem A)) → AllKeep (map item.Step steps ++ items) → LiveBelow steps
 at_steps [] items w = tt
@@ -250,9 +251,16 @@ values_octets A (c ∷ calls) w zero change at = (subst (λ (act : Act). KeepsLi
     here = cc
 values_octets A (c ∷ calls) w (suc i) change at = values_octets A calls w.1 i change at
 
+first_keep : (A : Type 0) (steps : List Step) (calls left : List Call) → AllKeep (map item.Step steps ++ map (item_of_call {A = A}) (calls ++ left)) → AllKeep (map item.Step steps ++ map (item_of_call {A = A}) calls)
+first_keep A [] [] left w = tt
+first_keep A [] (c ∷ calls) left w = (w.0, first_keep A [] calls left w.1)
+first_keep A (s ∷ steps) calls left w = (w.0, first_keep A steps calls left w.1)
+
 -- what the text of a script says keeps the limits
 says_limits : {A : Type 0} (p : Setup A) (calls : List Call) (text : List ℕ) → SaysRun p calls (script_of_text text) → AllKeep (script_of p calls)
-says_limits {A} p calls text says = subst AllKeep says.items (lines_short A First 0 (reading End 0 text).lines (reading End 0 text).stop)
+says_limits {A} p calls text says =
+    let w = subst AllKeep says.items (lines_short A First 0 (reading End 0 text).lines (reading End 0 text).stop) in
+    (w.0, first_keep A p.table calls says.left w.1)
 
 -- its moments have at most 18 digits
 pub script_moments : {A : Type 0} (p : Setup A) (calls : List Call) (text : List ℕ) → SaysRun p calls (script_of_text text) → MomentsAreShort calls

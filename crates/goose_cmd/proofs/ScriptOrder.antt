@@ -1,6 +1,6 @@
 -- Before each item of a script stands what must.
-use Rattle.std.proofs.Common.{◌≡◌, ℕ, ◌+◌, ◌<◌, ◌≤◌, List, [], ◌∷◌, ◌++◌, length, map, Bool, true, false, Option, Some, None, Result, Ok, Err, ap, ap₂, subst, sym, ◌∙◌, refl, append_assoc, arith}
-use Rattle.std.specs.Prelude.{◌==◌, nat_le, nat_lt, option_and_then, if◌then◌else◌, codes}
+use Rattle.std.proofs.Common.{inl, inr, ◌≡◌, ℕ, ◌+◌, ◌<◌, ◌≤◌, List, [], ◌∷◌, ◌++◌, length, map, Bool, true, false, Option, Some, None, Result, Ok, Err, ap, ap₂, subst, sym, ◌∙◌, refl, append_assoc, arith}
+use Rattle.std.specs.Prelude.{◌⊎◌, ◌==◌, nat_le, nat_lt, option_and_then, if◌then◌else◌, codes}
 use Rattle.std.specs.List.{list_all}
 use Rattle.std.specs.Str.{bytes_eq}
 use Rattle.std.proofs.lemmas.Bool.{and_from, and_parts, eqb-false, leb-true, ltb-true}
@@ -16,14 +16,15 @@ use Rattle.frame_core.specs.declared.list_fault.ListFault.{ListFault}
 use Rattle.frame_core.specs.declared.vlan_tag.VlanTag.{VlanTag}
 use Rattle.frame_core.specs.Decimal.{decimal_of}
 use Rattle.frame_core.specs.EventLine.{is_version, moment_of}
-use Rattle.frame_core.specs.Items.{Listing, close, items_said, missing, put_said}
-use Rattle.frame_core.specs.Lines.{Stop, finished, unfinished, faulty, reading}
+use Rattle.frame_core.specs.declared.line_rules.ItemFault.{ItemFault}
+use Rattle.frame_core.specs.declared.line_rules.ItemFault.TheVariants as fault
+use Rattle.frame_core.specs.Items.{Listing, close, items_said, put_said, stops}
+use Rattle.frame_core.specs.Lines.{Stop, faulty, reading}
 use Rattle.publish_core.specs.declared.table.Step.{Step}
 use Rattle.publish_core.specs.Frames.{Setup, change, setup}
 use Rattle.publish_core.specs.Run.{Act, Call, Changed, Polled, call}
 use Rattle.publish_core.specs.Table.{AreSteps}
 use Rattle.script_core.specs.declared.script.ScriptCause.{ScriptCause}
-use Rattle.script_core.specs.declared.script.ScriptCause.TheVariants as cause
 use Rattle.script_core.specs.declared.script.ScriptItem.{ScriptItem}
 use Rattle.script_core.specs.declared.script.ScriptItem.TheVariants as item
 use Rattle.script_core.specs.declared.script.ScriptLines.{ScriptLines}
@@ -32,11 +33,11 @@ use Rattle.script_core.specs.declared.script.ScriptPart.{ScriptPart}
 use Rattle.script_core.specs.declared.script.ScriptPart.TheVariants as part
 use Rattle.script_core.specs.declared.script_control.Numbers.{Numbers}
 use Rattle.script_core.specs.Commas.{at_most_32_bits, comma_fields, number_by, octets_in, text_in, word_in}
-use Rattle.script_core.specs.Script.{ControlLine, all_said, block_of_line, call_said, change_said_by, change_said, change_to, control_of, control_said, control_with, flag_in, line_said, all_octets_in, numbers_with, poll_of, poll_said, script_lacks, script_rules, script_said, settled, step_said_by, step_said, tag_in, time_in, too_early}
+use Rattle.script_core.specs.Script.{ControlLine, all_said, block_of_line, call_said, change_said_by, change_said, change_to, control_of, control_said, control_with, flag_in, line_said, all_octets_in, numbers_with, poll_of, poll_said, script_rules, script_said, settled, step_said_by, step_said, tag_in, time_in, too_early}
 use Rattle.engine_core.specs.PublishStep.{is_good, with_step}
 use Rattle.engine_core.specs.PublishText.{IsScriptSound, ScriptsAreInOrder, StandsBefore, item_of_act, item_of_call, items_of_lines, script_of}
 use Rattle.engine_core.proofs.PublishLemmas.{good_each}
-use Rattle.goose_cmd.specs.PublishedReplay.{SaysRun, script_of_text}
+use Rattle.goose_cmd.specs.PublishedReplay.{script_of_text}
 
 -- ---- scripts that grow
 
@@ -328,47 +329,48 @@ lines_in_order s before n (l ∷ lines) stop h =
 pub scripts_in_order : {A : Type 0} → ScriptsAreInOrder A
 scripts_in_order z text before more e is = lines_in_order First [] 0 (reading z 0 text).lines (reading z 0 text).stop refl before more e is
 
--- ---- where a script ends
+-- ---- whole scripts, wherever they stop
 
--- what a listing behind these items leaves settled, if it is read to its end: nothing is missing
-abbrev EndsSettled : {A : Type 0} → List (ScriptItem A) → Listing (ScriptItem A) ScriptCause → Type 0
-EndsSettled before l = l.stop ≡ finished → (s : ScriptLines) × SettlesAll before s (before ++ items_of_lines l.items) × (script_lacks s ≡ None)
+-- what a listing behind these items leaves settled
+abbrev LeavesSettled : {A : Type 0} → List (ScriptItem A) → Listing (ScriptItem A) ScriptCause → Type 0
+LeavesSettled before l = (s : ScriptLines) × SettlesAll before s (before ++ items_of_lines l.items)
 
-missing_none : (n : ℕ) (o : Option ScriptCause) → missing n o ≡ finished → o ≡ None
-missing_none n None e = refl
-missing_none n (Some why) e = absurd cc
+nothing_more : {A : Type 0} (before : List (ScriptItem A)) (s : ScriptLines) (stop : Stop (ItemFault ScriptCause)) → SettlesAll before s before → LeavesSettled before (stops stop)
+nothing_more before s stop h = (s, subst (λ (b : List (ScriptItem _)). SettlesAll before s b) (sym (append-nil before)) h)
 
-nothing_lacks : (A : Type 0) (s : ScriptLines) (n : ℕ) (stop : Stop ListFault) → close (script_rules {A = A}) s n stop ≡ finished → script_lacks s ≡ None
-nothing_lacks A s n finished e = missing_none n (script_lacks s) e
-nothing_lacks A s n unfinished e = absurd cc
-nothing_lacks A s n (faulty f) e = absurd cc
+put_settled : {A : Type 0} (before : List (ScriptItem A)) (s : ScriptLines) (n : ℕ) (r : Result (Option (ScriptItem A) × ScriptLines) ScriptCause) (rest : ScriptLines → Listing (ScriptItem A) ScriptCause) →
+    SettlesAll before s before → ((t : ScriptLines) (items : List (ScriptItem A)) → SettlesAll before t items → LeavesSettled items (rest t)) → GoesOn before r → LeavesSettled before (put_said n r rest)
+put_settled before s n (Ok (None, t)) rest h go g = go t before g
+put_settled {A} before s n (Ok (Some i, t)) rest h go g =
+    let w = go t (before ++ i ∷ []) g.1 in
+    (w.0, subst (λ (b : List (ScriptItem A)). SettlesAll before w.0 b) (append_assoc before (i ∷ []) (items_of_lines (rest t).items)) w.1)
+put_settled before s n (Err why) rest h go g = nothing_more before s (faulty (fault.Line (n + 1) why)) h
 
-put_settled : {A : Type 0} (before : List (ScriptItem A)) (n : ℕ) (r : Result (Option (ScriptItem A) × ScriptLines) ScriptCause) (rest : ScriptLines → Listing (ScriptItem A) ScriptCause) →
-    ((s : ScriptLines) (items : List (ScriptItem A)) → SettlesAll before s items → EndsSettled items (rest s)) → GoesOn before r → EndsSettled before (put_said n r rest)
-put_settled before n (Ok (None, s)) rest go g = go s before g
-put_settled {A} before n (Ok (Some i, s)) rest go g = λ e.
-    let w = go s (before ++ i ∷ []) g.1 e in
-    (w.0, subst (λ (b : List (ScriptItem A)). SettlesAll before w.0 b) (append_assoc before (i ∷ []) (items_of_lines (rest s).items)) w.1, w.2)
-put_settled before n (Err why) rest go g = λ e. absurd cc
-
-lines_settled : {A : Type 0} (s : ScriptLines) (before : List (ScriptItem A)) (n : ℕ) (lines : List (List ℕ)) (stop : Stop ListFault) → SettlesAll before s before → EndsSettled before (items_said script_rules s n lines stop)
+lines_settled : {A : Type 0} (s : ScriptLines) (before : List (ScriptItem A)) (n : ℕ) (lines : List (List ℕ)) (stop : Stop ListFault) → SettlesAll before s before → LeavesSettled before (items_said script_rules s n lines stop)
 unfolding items_said
-lines_settled {A} s before n [] stop h = λ e. (s, subst (λ (b : List (ScriptItem A)). SettlesAll before s b) (sym (append-nil before)) h, nothing_lacks A s n stop e)
+lines_settled {A} s before n [] stop h = nothing_more before s (close (script_rules {A = A}) s n stop) h
 lines_settled s before n (l ∷ lines) stop h =
-    put_settled before n (script_said s l) (λ t. items_said script_rules t (n + 1) lines stop) (λ t items g. lines_settled t items (n + 1) lines stop g) (good_said before s l h)
+    put_settled before s n (script_said s l) (λ t. items_said script_rules t (n + 1) lines stop) h (λ t items g. lines_settled t items (n + 1) lines stop g) (good_said before s l h)
 
-not_none : (n : ℕ) → too_early (part.Steps n) ≡ None → (n == 0) ≡ false
-not_none n e = by_test (n == 0) e
-  where
-    by_test : (b : Bool) → (if b then Some cause.StepCount else None) ≡ None → b ≡ false
-    by_test true h = absurd cc
-    by_test false h = refl
+-- a publisher that a script sets up: its steps are no more than a table has, and where it is called it can be set up
+pub record IsSetUp {A : Type 0} (p : Setup A) (calls : List Call) : Type 0 where
+  pub few : length p.table ≤ 16
+  pub sound : (calls ≡ []) ⊎ IsScriptSound p
 
-calls_at_end : {A : Type 0} (items : List (ScriptItem A)) (s : ScriptLines) → SettlesAll items s items → script_lacks s ≡ None → HasCalls items
-calls_at_end items First h e = absurd cc
-calls_at_end items (After unit part.Control) h e = absurd cc
-calls_at_end items (After unit (part.Steps n)) h e = has_calls items n h (not_none n e)
-calls_at_end items (After unit part.Calls) h e = h
+-- the items of a script are none, or the script of a publisher and its calls
+abbrev pub AreOfScript : {A : Type 0} → List (ScriptItem A) → Type 0
+AreOfScript {A} items = (items ≡ []) ⊎ ((p : Setup A) × (calls : List Call) × (items ≡ script_of p calls) × IsSetUp p calls)
+
+settled_items : {A : Type 0} (items : List (ScriptItem A)) (s : ScriptLines) → SettlesAll items s items → AreOfScript items
+settled_items items First h = inl h
+settled_items items (After unit part.Control) h = inl h
+settled_items items (After unit (part.Steps n)) h = inr (h.p, [], h.items, record { few = subst (λ (k : ℕ). k ≤ 16) (sym h.count) h.room; sound = inl refl })
+settled_items items (After unit part.Calls) h = inr (h.0, h.1, h.2, record { few = h.3.steps.most; sound = inr h.3 })
+
+pub script_items : {A : Type 0} (text : List ℕ) → AreOfScript (items_of_lines (script_of_text {A = A} text).items)
+script_items {A} text =
+    let w = lines_settled {A = A} First [] 0 (reading End 0 text).lines (reading End 0 text).stop refl in
+    settled_items (items_of_lines (script_of_text {A = A} text).items) w.0 w.1
 
 not_step : (A : Type 0) (m : ℕ) (a : Act) (s : Step) → item_of_act {A = A} m a ≡ item.Step s → ⊥
 not_step A m (Changed change) s e = absurd cc
@@ -386,19 +388,36 @@ same_table A (s ∷ steps) (o ∷ others) calls more e = ap₂ (λ (x : Step) (l
     here : s ≡ o
     here = cc
 
-sound_as : {A : Type 0} (p q : Setup A) (calls more : List Call) → script_of p calls ≡ script_of q more → IsScriptSound q → IsScriptSound p
-sound_as {A} p q calls more e sound = record {
-  steps = subst AreSteps (sym (same_table A p.table q.table calls more (same_tail _ _ _ _ e))) sound.steps;
-  some = subst (λ (n : ℕ). 0 < n) (sym first) sound.some;
-  most = subst (λ (n : ℕ). n ≤ 4294967295) (sym first) sound.most;
-}
+-- behind a table no calls stand where none do
+no_calls : (A : Type 0) (steps others : List Step) (calls : List Call) → map item.Step steps ++ map (item_of_call {A = A}) calls ≡ map item.Step others ++ map item_of_call [] → calls ≡ []
+no_calls A [] [] [] e = refl
+no_calls A [] [] (c ∷ calls) e = absurd cc
+no_calls A [] (s ∷ others) [] e = refl
+no_calls A [] (s ∷ others) (c ∷ calls) e = absurd (not_step A c.moment c.act s (same_head _ _ _ _ e))
+no_calls A (s ∷ steps) [] calls e = absurd cc
+no_calls A (s ∷ steps) (o ∷ others) calls e = no_calls A steps others calls (same_tail _ _ _ _ e)
+
+set_up_as : {A : Type 0} (p q : Setup A) (calls more : List Call) → script_of p calls ≡ script_of q more → IsSetUp q more → IsSetUp p calls
+set_up_as {A} p q calls more e w = record { few = subst (λ (steps : List Step). length steps ≤ 16) (sym table) w.few; sound = by_calls w.sound }
   where
+    table : p.table ≡ q.table
+    table = same_table A p.table q.table calls more (same_tail _ _ _ _ e)
+
     first : p.first ≡ q.first
     first = cc
 
--- a script that is read to its end sets up a publisher
-pub script_sound : {A : Type 0} (p : Setup A) (calls : List Call) (text : List ℕ) → SaysRun p calls (script_of_text text) → IsScriptSound p
-script_sound {A} p calls text says =
-    let w = lines_settled {A = A} First [] 0 (reading End 0 text).lines (reading End 0 text).stop refl says.whole in
-    let h = calls_at_end (items_of_lines (script_of_text {A = A} text).items) w.0 w.1 w.2 in
-    sound_as p h.0 calls h.1 (sym says.items ∙ h.2) h.3
+    by_calls : (more ≡ []) ⊎ IsScriptSound q → (calls ≡ []) ⊎ IsScriptSound p
+    by_calls (inl none) = inl (no_calls A p.table q.table calls (same_tail _ _ _ _ e ∙ ap (λ (l : List Call). map item.Step q.table ++ map item_of_call l) none))
+    by_calls (inr sound) = inr (record {
+      steps = subst AreSteps (sym table) sound.steps;
+      some = subst (λ (n : ℕ). 0 < n) (sym first) sound.some;
+      most = subst (λ (n : ℕ). n ≤ 4294967295) (sym first) sound.most;
+    })
+
+-- a script sets up the publisher that it calls
+pub script_set_up : {A : Type 0} (p : Setup A) (calls : List Call) (text : List ℕ) → items_of_lines (script_of_text text).items ≡ script_of p calls → IsSetUp p calls
+script_set_up {A} p calls text is = by_items (script_items text)
+  where
+    by_items : AreOfScript (items_of_lines (script_of_text {A = A} text).items) → IsSetUp p calls
+    by_items (inl none) = absurd (none_left [] (map item.Step p.table ++ map item_of_call calls) (item.Control p.control p.first) (sym none ∙ is))
+    by_items (inr w) = set_up_as p w.0 calls w.1 (sym is ∙ w.2) w.3

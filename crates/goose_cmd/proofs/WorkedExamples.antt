@@ -1,5 +1,5 @@
 -- Written lists, scripts with what `publish` writes of them, and the watch over a counter, computed: a wrong definition does not check.
-use Rattle.std.proofs.Common.{◌≡◌, ℕ, true, List, [], ◌∷◌, ◌++◌, None, refl}
+use Rattle.std.proofs.Common.{◌≡◌, ℕ, zero, suc, true, false, List, [], ◌∷◌, ◌++◌, length, None, Some, refl, arith}
 use Rattle.std.specs.Prelude.{codes}
 use Rattle.std.specs.Fmt.{digits}
 use Rattle.hex.specs.Hex.{decode_pairs, encode_with}
@@ -20,7 +20,10 @@ use Rattle.subscribe_core.specs.Watch.{seen_all}
 use Rattle.engine_core.specs.EngineText.{told_after, whole_text}
 use Rattle.engine_core.specs.PublishStep.{publish_text}
 use Rattle.goose_cmd.specs.ListText.{lines_from, list_of_text, list_text}
-use Rattle.goose_cmd.specs.PublishedReplay.{script_of_text}
+use Rattle.publish_core.specs.Frames.{Change, Setup, change, setup}
+use Rattle.publish_core.specs.Run.{Changed, Polled, call, trace_of_calls}
+use Rattle.publish_core.specs.declared.fault.PublishFault.TheVariants as publish
+use Rattle.goose_cmd.specs.PublishedReplay.{SaysRun, script_of_text}
 
 -- ---- written lists
 
@@ -70,3 +73,58 @@ pub record AreScripts : Type 0 where
 pub scripts : AreScripts
 unfolding reading items_said decode_pairs encode_with digits told_after members_at members_with member_at member_with kind_at header_at length_at simple_at boolean_at all_visible_at written_element short_length short_integer integer_size
 scripts = record { none = refl; no_change = refl; sent = refl; entries_differ = refl }
+
+-- ---- scripts that stop before their end
+
+-- a change that is accepted, one without values, which is refused, and a poll behind it
+abbrev refusing : List ℕ
+refusing = front ++ codes "change,0,0000000000000000,8301ff\nchange,7,0000000000000000,\npoll,9\n"
+
+abbrev one_frame : List ℕ
+one_frame = codes "V2\nF 0 010ccd01000102000000000188b80001003500000000612b800147810207d0820144840800000000000000008501018601008701008801018901008a0101ab038301ff\n"
+
+pub record AreStopped : Type 0 where
+  pub refused : published refusing ≡ one_frame ++ codes "# 5 script EntriesDiffer\n"
+  pub faulty : published (front ++ codes "change,0,0000000000000000,8301ff\nchange\npoll,9\n") ≡ one_frame ++ codes "# 5 script ScriptForm\n"
+  pub bad_members : published (front ++ codes "change,0,0000000000000000,8301\n") ≡ codes "V2\n# 4 script Members 1 LengthPastEnd\n"
+  -- the last line is a comment, by which a list says nothing
+  pub comment : list_of_text {A = Unit {0}} (one_frame ++ codes "# 5 script EntriesDiffer\n") ≡ list_of_text one_frame
+
+pub stopped : AreStopped
+unfolding reading items_said decode_pairs encode_with digits told_after members_at members_with member_at member_with kind_at header_at length_at simple_at boolean_at all_visible_at written_element short_length short_integer integer_size
+stopped = record { refused = refl; faulty = refl; bad_members = refl; comment = refl }
+
+-- what such a script says: the run up to the change that is refused, which has no value where the control has one
+abbrev one_boolean : Setup (Unit {0})
+one_boolean = setup (record {
+  destination = 0x01 ∷ 0x0c ∷ 0xcd ∷ 0x01 ∷ 0x00 ∷ 0x01 ∷ [];
+  source = 0x02 ∷ 0x00 ∷ 0x00 ∷ 0x00 ∷ 0x00 ∷ 0x01 ∷ [];
+  tag = None;
+  app_id = 1;
+  gocb_ref = codes "G";
+  dat_set = codes "D";
+  go_id = None;
+  conf_rev = 1;
+  entries = 1;
+  simulation = false;
+  nds_com = false;
+}) (record { wait_ms = 10; live_ms = 2000 } ∷ record { wait_ms = 1000; live_ms = 3000 } ∷ []) 1
+
+abbrev no_value : Change
+no_value = change (record { seconds = 0; fraction = 0; quality = 0 }) []
+
+pub one_poll : SaysRun one_boolean (call 5000 Polled ∷ []) (script_of_text (front ++ codes "poll,5\nchange,7,0000000000000000,\npoll,9\n"))
+unfolding reading items_said decode_pairs digits members_at members_with
+one_poll = record {
+  left = call 7000 (Changed no_value) ∷ call 9000 Polled ∷ [];
+  items = refl;
+  accepted = λ i handed_in at. absurd (polled_alone i handed_in at);
+  stops = (publish.EntriesDiffer, λ same. absurd (none_is_one same));
+}
+  where
+    none_is_one : length no_value.values ≡ one_boolean.control.entries → ⊥
+    none_is_one same = absurd (omega (arith, same))
+
+    polled_alone : (i : ℕ) (handed_in : Change) → (trace_of_calls (call 5000 Polled ∷ [])).act i ≡ Some (Changed handed_in) → ⊥
+    polled_alone zero handed_in at = absurd cc
+    polled_alone (suc i) handed_in at = absurd cc

@@ -2,14 +2,14 @@
 use Rattle.std.proofs.Common.{◌≡◌, ℕ, suc, ◌+◌, ◌^◌, ◌<◌, ◌≤◌, max, false, inl, inr, Option, Some, None, List, [], ◌∷◌, ◌++◌, length, slice_get, Ok, ap, ap₂, subst, sym, ◌∙◌, refl, arith, append_assoc}
 use Rattle.std.specs.List.{flat_map}
 use Rattle.std.proofs.lemmas.Bool.{cases_lt}
-use Rattle.std.proofs.lemmas.List.{length_push}
+use Rattle.std.proofs.lemmas.List.{append-nil, length_push}
 use Rattle.frame_core.specs.declared.device.InputEnd.TheVariants.{End}
 use Rattle.frame_core.specs.declared.event.Event.{Event}
 use Rattle.frame_core.specs.declared.event_lines.EventLines.TheVariants.{After}
 use Rattle.frame_core.specs.declared.event_lines.MomentUnit.TheVariants.{Microseconds}
 use Rattle.frame_core.specs.declared.list_fault.ListCause.{ListCause}
 use Rattle.frame_core.specs.EventLine.{event_rules, event_text}
-use Rattle.frame_core.specs.Items.{Listing, items_in, items_said, listing, put_item}
+use Rattle.frame_core.specs.Items.{Listing, items_in, items_said, listing, put_item, stops}
 use Rattle.frame_core.specs.Lines.{finished}
 use Rattle.frame_core.specs.Written.{written_frame}
 use Rattle.frame_core.specs.declared.frame.Frame.{Frame}
@@ -21,17 +21,17 @@ use Rattle.publish_core.specs.Run.{Act, Call, IsAnswer, trace_of_calls}
 use Rattle.publish_core.proofs.GivesOne.{carried}
 use Rattle.subscribe_core.specs.declared.block.Block.{Block}
 use Rattle.subscribe_core.specs.declared.entry.Entry.{Entry}
-use Rattle.subscribe_core.specs.Entries.{AreEntriesAt}
+use Rattle.subscribe_core.specs.Entries.{AreEntries, AreEntriesAt}
 use Rattle.subscribe_core.specs.Standing.{AreApart}
 use Rattle.subscribe_core.proofs.Runs.{entries_are_one, entries_stay}
-use Rattle.exchange_laws.specs.PublishedList.{Sent, one_entry_each, published_events, sent_from, with_frame}
+use Rattle.exchange_laws.specs.PublishedList.{IsWholeRun, Sent, one_entry_each, published_events, sent_from, with_frame}
 use Rattle.exchange_laws.specs.Stems.{AreAccepted, AreHeld}
 use Rattle.exchange_laws.proofs.OneFrame.{one_apart}
 use Rattle.exchange_laws.proofs.PublishedLists.{whole_runs_replay}
 use Rattle.exchange_laws.proofs.WrittenForms.{change_accepted}
 use Rattle.engine_core.specs.EngineText.{Account, Text, put_step, told_after}
 use Rattle.text_core.specs.EntryText.{entry_lines}
-use Rattle.goose_cmd.specs.ListText.{CanBeListed, MomentsAreShort, PublishedListsReplay, SendsOctets, WrittenListsReplay, lines_from, list_of_text, list_text}
+use Rattle.goose_cmd.specs.ListText.{CanBeListed, MomentsAreShort, PublishedListsReplay, ReplayGives, SendsOctets, WrittenListsReplay, lines_from, list_of_text, list_text}
 use Rattle.engine_core.specs.ReplayText.{IsReplayText, events_of}
 use Rattle.engine_core.proofs.ReplayLemmas.{events_push}
 
@@ -43,18 +43,24 @@ numbered n (e ∷ es) = (n, e) ∷ numbered (n + 1) es
 abbrev whole : {A : Type 0} → ℕ → List (Event A) → Listing (Event A) ListCause
 whole n events = record { items = numbered n events; stop = finished }
 
-nothing_listed : (A : Type 0) (n : ℕ) → listing (event_rules {A = A}) (After Microseconds) End n [] ≡ whole (n + 1) []
+-- the end of a list, of which the lines behind n others say nothing
+abbrev pub EndsList : Type 0 → ℕ → List ℕ → Type 0
+EndsList A n end = listing (event_rules {A = A}) (After Microseconds) End n end ≡ stops finished
+
+pub nothing_ends : (A : Type 0) (n : ℕ) → EndsList A n []
 unfolding items_said
-nothing_listed A n = ap (items_in (event_rules {A = A}) (After Microseconds) n) (reading-end n)
+nothing_ends A n = ap (items_in (event_rules {A = A}) (After Microseconds) n) (reading-end n)
 
-all_listed : {A : Type 0} (n : ℕ) (events : List (Event A)) → CanBeListed events → n + length events ≤ 1000000 → listing event_rules (After Microseconds) End n (flat_map event_text events) ≡ whole (n + 1) events
-all_listed {A} n [] w room = nothing_listed A n
-all_listed {A} n (e ∷ es) w room =
-    written-first e w.0.0 w.0.1 End n (flat_map event_text es) (omega arith) ∙
-    ap (put_item (n + 1, e)) (all_listed (n + 1) es w.1 (omega arith))
+all_listed : {A : Type 0} (n : ℕ) (events : List (Event A)) (end : List ℕ) → CanBeListed events → n + length events ≤ 1000000 → EndsList A (n + length events) end → listing event_rules (After Microseconds) End n (flat_map event_text events ++ end) ≡ whole (n + 1) events
+all_listed {A} n [] end w room ends = let same : n + 0 ≡ n = omega arith in subst (λ (m : ℕ). EndsList A m end) same ends
+all_listed {A} n (e ∷ es) end w room ends =
+    let same : n + suc (length es) ≡ n + 1 + length es = omega arith in
+    ap (listing (event_rules {A = A}) (After Microseconds) End n) (append_assoc (event_text e) (flat_map event_text es) end) ∙
+    written-first e w.0.0 w.0.1 End n (flat_map event_text es ++ end) (omega arith) ∙
+    ap (put_item (n + 1, e)) (all_listed (n + 1) es end w.1 (omega arith) (subst (λ (m : ℕ). EndsList A m end) same ends))
 
-list_is : {A : Type 0} (events : List (Event A)) → CanBeListed events → length events < 1000000 → list_of_text (list_text events) ≡ whole 2 events
-list_is {A} events w room = version-first A End (flat_map event_text events) ∙ all_listed 1 events w (omega arith)
+list_is : {A : Type 0} (events : List (Event A)) (end : List ℕ) → CanBeListed events → length events < 1000000 → EndsList A (1 + length events) end → list_of_text (list_text events ++ end) ≡ whole 2 events
+list_is {A} events end w room ends = version-first A End (flat_map event_text events ++ end) ∙ all_listed 1 events end w (omega arith) ends
 
 -- the step of an event is the lines of the entries that the whole list has there
 step_is : {A : Type 0} (blocks : List (Block A)) (t : Text (Event A) ListCause) → AreApart blocks → IsReplayText blocks t → (before : List (ℕ × Event A)) (n : ℕ) (e : Event A) (es : List (Event A)) (x : List (Entry A)) → AreEntriesAt blocks (events_of before ++ e ∷ es) (length (events_of before)) x → t.step before (n, e) ≡ Ok (entry_lines n x, false)
@@ -98,8 +104,10 @@ lines_are {A} blocks t apart is before n (e ∷ es) (x ∷ rest) size each =
         subst (λ (j : ℕ). AreEntriesAt blocks (events_of next ++ es) j y) (more i)
         (subst (λ (l : List (Event A)). AreEntriesAt blocks l (length (events_of before) + suc i) y) same (each (suc i) y at))
 
-pub written_lists_replay : {A : Type 0} → WrittenListsReplay A
-written_lists_replay {A} blocks events entries t apart can room are is = (
+-- a list that is written and ended so is replayed by the lines of the entries
+pub ended_lists_replay : {A : Type 0} (blocks : List (Block A)) (events : List (Event A)) (entries : List (List (Entry A))) (end : List ℕ) (t : Text (Event A) ListCause) →
+    AreApart blocks → CanBeListed events → length events < 1000000 → AreEntries blocks events entries → IsReplayText blocks t → EndsList A (1 + length events) end → ReplayGives t (list_text events ++ end) entries
+ended_lists_replay {A} blocks events entries end t apart can room are is ends = (
   ap₂ (λ (a : List ℕ) (o : Account ListCause). a ++ o.text) is.first told_is,
   ap (λ (o : Account ListCause). o.stop) told_is,
 )
@@ -107,10 +115,14 @@ written_lists_replay {A} blocks events entries t apart can room are is = (
     at : (i : ℕ) (x : List (Entry A)) → slice_get entries i ≡ Some x → AreEntriesAt blocks events (0 + i) x
     at i x here = let none : i ≡ 0 + i = omega arith in subst (λ (j : ℕ). AreEntriesAt blocks events j x) none (are.each i x here)
 
-    told_is : told_after t [] (list_of_text {A = A} (list_text events)).items (list_of_text {A = A} (list_text events)).stop ≡ lines_told 2 entries
+    told_is : told_after t [] (list_of_text {A = A} (list_text events ++ end)).items (list_of_text {A = A} (list_text events ++ end)).stop ≡ lines_told 2 entries
     told_is =
-        ap (λ (l : Listing (Event A) ListCause). told_after t [] l.items l.stop) (list_is events can room) ∙
+        ap (λ (l : Listing (Event A) ListCause). told_after t [] l.items l.stop) (list_is events end can room ends) ∙
         lines_are blocks t apart is [] 2 events entries are.sizes at
+
+pub written_lists_replay : {A : Type 0} → WrittenListsReplay A
+written_lists_replay {A} blocks events entries t apart can room are is =
+    subst (λ (text : List ℕ). ReplayGives t text entries) (append-nil (list_text events)) (ended_lists_replay blocks events entries [] t apart can room are is (nothing_ends A (1 + length events)))
 
 -- ---- the frames that are sent can stand in a list
 
@@ -151,8 +163,18 @@ events_counted : {A : Type 0} (B : Type 0) (sent : List (Sent A)) → length (pu
 events_counted B [] = refl
 events_counted B (s ∷ sent) = ap suc (events_counted B sent)
 
-pub published_lists_replay : {A B : Type 0} → PublishedListsReplay A B
-published_lists_replay {A} {B} p block calls answers t run short octets room is =
-    written_lists_replay (block ∷ []) (published_events (sent_from 0 calls answers)) (one_entry_each (sent_from 0 calls answers)) t (one_apart block)
+-- the list of a publisher's whole run, ended so
+pub ended_runs_replay : {A B : Type 0} (p : Setup A) (block : Block B) (calls : List Call) (answers : List (Option (Frame A))) (end : List ℕ) (t : Text (Event B) ListCause) →
+    IsWholeRun p block calls answers → MomentsAreShort calls → SendsOctets (sent_from 0 calls answers) → length (sent_from 0 calls answers) < 1000000 → IsReplayText (block ∷ []) t →
+    EndsList B (1 + length (sent_from 0 calls answers)) end → ReplayGives t (list_text (published_events {B = B} (sent_from 0 calls answers)) ++ end) (one_entry_each (sent_from 0 calls answers))
+ended_runs_replay {A} {B} p block calls answers end t run short octets room is ends =
+    ended_lists_replay (block ∷ []) (published_events (sent_from 0 calls answers)) (one_entry_each (sent_from 0 calls answers)) end t (one_apart block)
     (sent_can B 0 calls answers (omega arith) short (λ i f at. answer_size p calls i f run.held run.accepted (run.are_answers.1 i (Some f) at)) octets)
     (omega (arith, room, events_counted B (sent_from 0 calls answers))) (whole_runs_replay p block calls answers run (omega arith)) is
+    (subst (λ (n : ℕ). EndsList B (1 + n) end) (sym (events_counted B (sent_from 0 calls answers))) ends)
+
+pub published_lists_replay : {A B : Type 0} → PublishedListsReplay A B
+published_lists_replay {A} {B} p block calls answers t run short octets room is =
+    let sent = sent_from 0 calls answers in
+    subst (λ (text : List ℕ). ReplayGives t text (one_entry_each sent)) (append-nil (list_text (published_events {B = B} sent)))
+    (ended_runs_replay p block calls answers [] t run short octets room is (nothing_ends B (1 + length sent)))

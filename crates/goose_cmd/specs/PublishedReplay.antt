@@ -1,11 +1,14 @@
--- What `publish` writes of a script that is read to its end, and what the replay of that writes.
-use Rattle.std.specs.Prelude.{◌≡◌, ℕ, List, [], ◌∷◌, Option}
+-- What `publish` writes of a script, and what the replay of that writes.
+use Rattle.std.specs.Prelude.{◌≡◌, ◌⊎◌, ℕ, List, [], ◌∷◌, ◌++◌, length, slice_get, Option, Some, ⊤}
 use Rattle.frame_core.specs.declared.device.InputEnd.TheVariants.{End}
 use Rattle.frame_core.specs.declared.event.Event.{Event}
 use Rattle.frame_core.specs.declared.frame.Frame.{Frame}
 use Rattle.frame_core.specs.declared.list_fault.ListCause.{ListCause}
+use Rattle.frame_core.specs.declared.line_rules.ItemFault.{ItemFault}
+use Rattle.frame_core.specs.declared.line_rules.ItemFault.TheVariants as fault
 use Rattle.frame_core.specs.Items.{Listing, listing}
-use Rattle.frame_core.specs.Lines.{finished}
+use Rattle.frame_core.specs.Lines.{Stop, faulty}
+use Rattle.publish_core.specs.declared.fault.PublishFault.{PublishFault}
 use Rattle.publish_core.specs.Frames.{Setup}
 use Rattle.publish_core.specs.Run.{AreAnswers, Call, NoWrap}
 use Rattle.subscribe_core.specs.declared.block.Block.{Block}
@@ -15,26 +18,45 @@ use Rattle.script_core.specs.declared.script.ScriptCause.{ScriptCause}
 use Rattle.script_core.specs.declared.script.ScriptItem.{ScriptItem}
 use Rattle.script_core.specs.declared.script.ScriptLines.TheVariants.{First}
 use Rattle.script_core.specs.Script.{script_rules}
-use Rattle.engine_core.specs.EngineText.{Text, whole_text, told}
+use Rattle.engine_core.specs.EngineText.{Text, last_text, told, whole_text}
 use Rattle.goose_cmd.specs.ListText.{ReplayGives, list_text}
-use Rattle.engine_core.specs.PublishText.{IsPublishText, IsScriptSound, items_of_lines, script_of}
+use Rattle.engine_core.specs.PublishText.{IsPublishText, IsRefused, IsScriptSound, item_of_call, items_of_lines, script_cause, script_of}
 use Rattle.engine_core.specs.ReplayText.{IsReplayText}
-
--- a script that is read to its end says these calls of a publisher
-pub record SaysRun {A : Type 0} (p : Setup A) (calls : List Call) (script : Listing (ScriptItem A) ScriptCause) : Type 0 where
-  pub items : items_of_lines script.items ≡ script_of p calls
-  pub whole : script.stop ≡ finished
 
 -- what the whole text of a script says
 abbrev pub script_of_text : {A : Type 0} → List ℕ → Listing (ScriptItem A) ScriptCause
 script_of_text text = listing script_rules First End 0 text
 
--- Of a script whose changes are accepted `publish` writes the list of the frames that its calls give, to the script's end.
+-- behind these calls a run stops: no call is left, or the first that is left is a change that is refused
+abbrev pub StopsBehind : {A : Type 0} → Setup A → List Call → List Call → Type 0
+StopsBehind p calls [] = ⊤
+StopsBehind p calls (c ∷ more) = (why : PublishFault) × IsRefused p calls c.act why
+
+-- A script says these calls of a publisher up to its end, to a fault, or to the first change that is refused.
+pub record SaysRun {A : Type 0} (p : Setup A) (calls : List Call) (script : Listing (ScriptItem A) ScriptCause) : Type 0 where
+  pub left : List Call
+  pub items : items_of_lines script.items ≡ script_of p (calls ++ left)
+  pub accepted : AreAccepted p calls
+  pub stops : StopsBehind p calls left
+
+-- where the text of such a script stops: as the script does, or at the line of the change that is refused
+abbrev pub TellsStop : {A : Type 0} → Setup A → List Call → List Call → Listing (ScriptItem A) ScriptCause → Stop (ItemFault ScriptCause) → Type 0
+TellsStop p calls [] script stop = stop ≡ script.stop
+TellsStop p calls (c ∷ more) script stop =
+    (n : ℕ) × (why : PublishFault) × (slice_get script.items (length (script_of p calls)) ≡ Some (n, item_of_call c)) × IsRefused p calls c.act why
+    × (stop ≡ faulty (fault.Line n (script_cause why)))
+
+-- Of a script that says a run `publish` writes the list of the frames that its calls give, and how it stops.
 abbrev pub ScriptsGiveLists : Type 0 → Type 0 → Type 0
 ScriptsGiveLists A B =
     (p : Setup A) (calls : List Call) (answers : List (Option (Frame A))) (script : Listing (ScriptItem A) ScriptCause) (t : Text (ScriptItem A) ScriptCause) →
-    IsScriptSound p → AreAccepted p calls → AreAnswers p calls answers → SaysRun p calls script → IsPublishText t →
-    (whole_text t script ≡ list_text (published_events {B = B} (sent_from 0 calls answers))) × ((told t script).stop ≡ finished)
+    IsScriptSound p → AreAnswers p calls answers → (says : SaysRun p calls script) → IsPublishText t →
+    (whole_text t script ≡ list_text (published_events {B = B} (sent_from 0 calls answers)) ++ last_text t (told t script).stop) × TellsStop p calls says.left script (told t script).stop
+
+-- the text of a script says nothing of a publisher, or a run of one
+abbrev pub ScriptsSayRuns : Type 0 → Type 0
+ScriptsSayRuns A =
+    (text : List ℕ) → (items_of_lines (script_of_text {A = A} text).items ≡ []) ⊎ ((p : Setup A) × (calls : List Call) × SaysRun p calls (script_of_text text))
 
 -- A run that the publisher's own block can follow: the status numbers don't wrap, and each frame comes in the lifetime of the one before.
 pub record CanBeFollowed {A B : Type 0} (p : Setup A) (block : Block B) (calls : List Call) (answers : List (Option (Frame A))) : Type 0 where
@@ -43,10 +65,10 @@ pub record CanBeFollowed {A B : Type 0} (p : Setup A) (block : Block B) (calls :
   pub are_answers : AreAnswers p calls answers
   pub in_time : InTime (sent_from 0 calls answers)
 
--- What `publish` writes of the text of a script to its end is replayed with the publisher's own block by one line for each
--- frame: an action for a change's, a renewal for a poll's, and nothing else.
+-- What `publish` writes of the text of a script is replayed with the publisher's own block by one line for each frame: an
+-- action for a change's, a renewal for a poll's, and nothing else.
 abbrev pub PublishedTextsReplay : Type 0 → Type 0 → Type 0
 PublishedTextsReplay A B =
     (p : Setup A) (block : Block B) (calls : List Call) (answers : List (Option (Frame A))) (text : List ℕ) (t : Text (ScriptItem A) ScriptCause) (r : Text (Event B) ListCause) →
-    CanBeFollowed p block calls answers → SaysRun p calls (script_of_text text) → IsPublishText t → (told t (script_of_text text)).stop ≡ finished → IsReplayText (block ∷ []) r →
+    CanBeFollowed p block calls answers → SaysRun p calls (script_of_text text) → IsPublishText t → IsReplayText (block ∷ []) r →
     ReplayGives r (whole_text t (script_of_text text)) (one_entry_each (sent_from 0 calls answers))

@@ -6,7 +6,7 @@ ghost use Rattle.engine_core.specs.EngineText.{IsPlain, Text, last_text, whole_t
 ghost use Rattle.goose_cmd.specs.ListText.{PublishedListsReplay, WrittenListsReplay};
 ghost use Rattle.goose_cmd.specs.OneText.{PublishTextsAreOne, ReplayTextsAreOne, WatchTextsAreOne};
 ghost use Rattle.engine_core.specs.PublishText.{ScriptsAreInOrder};
-ghost use Rattle.goose_cmd.specs.PublishedReplay.{PublishedTextsReplay, ScriptsGiveLists};
+ghost use Rattle.goose_cmd.specs.PublishedReplay.{PublishedTextsReplay, ScriptsGiveLists, ScriptsSayRuns};
 
 pub use exchange_laws::laws::{
     actions_carry_what_was_published, changes_are_acted_on_in_order,
@@ -63,13 +63,15 @@ pub fn published_lists_replay<P: Allocator, S: Allocator>()
     ensures { PublishedListsReplay P S }
 {}
 
-/// What `publish` writes of a script whose changes are accepted is the list of the frames that its calls give. Where it
-/// writes the text of a script to its end, a replay of that with the publisher's own block gives one line for each frame:
-/// an action for that of a change, a renewal for that of a poll, and nothing else. The control is neither simulated nor in
-/// commissioning, the status numbers don't wrap, and each frame comes in the lifetime of the one before. That each change was
-/// accepted, that the fields have their sizes, and that the frames are octets, can stand in a list with their moments and are
-/// not too many, follows from the text.
+/// The text of a script says nothing of a publisher, or a run of one: the calls up to its end, to a fault, or to the first
+/// change that is refused. What `publish` writes of it is the list of the frames that these calls give, and the line of
+/// the fault or of the refused change, if there is one. A replay of that with the publisher's own block gives one line for
+/// each frame: an action for that of a change, a renewal for that of a poll, and nothing else. The control is neither
+/// simulated nor in commissioning, the status numbers don't wrap, and each frame comes in the lifetime of the one before.
+/// That the fields have their sizes, and that the frames are octets, can stand in a list with their moments and are not too
+/// many, follows from the text.
 pub fn published_texts_replay<P: Allocator, S: Allocator>()
+    ensures run { ScriptsSayRuns P }
     ensures list { ScriptsGiveLists P S }
     ensures replay { PublishedTextsReplay P S }
 {}

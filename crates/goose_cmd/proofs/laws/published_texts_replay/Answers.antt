@@ -1,5 +1,10 @@
-use Rattle.goose_cmd.proofs.PublishedScripts.{published_texts_replay, scripts_give_lists}
+use Rattle.goose_cmd.proofs.PublishedScripts.{scripts_give_lists}
+use Rattle.goose_cmd.proofs.PublishedTexts.{published_texts_replay}
+use Rattle.goose_cmd.proofs.ScriptRuns.{scripts_say_runs}
 use Rattle.goose_cmd.proofs.laws.published_texts_replay.Goals as goal
+
+pub returns-clause-run : goal.returns-clause-run
+returns-clause-run g c = scripts_say_runs
 
 pub returns-clause-list : goal.returns-clause-list
 returns-clause-list g c = scripts_give_lists _
