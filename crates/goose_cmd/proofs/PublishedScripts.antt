@@ -21,12 +21,15 @@ use Rattle.exchange_laws.specs.Stems.{AreAccepted}
 use Rattle.script_core.specs.declared.script.ScriptCause.{ScriptCause}
 use Rattle.script_core.specs.declared.script.ScriptItem.{ScriptItem}
 use Rattle.script_core.specs.declared.script.ScriptItem.TheVariants as item
-use Rattle.engine_core.specs.EngineText.{Account, Text, last_text, put_step, told, told_after}
+use Rattle.engine_core.specs.EngineText.{Account, Text, last_text, put_step, told, told_after, told_stop}
 use Rattle.goose_cmd.specs.PublishedReplay.{ScriptsGiveLists, StopsBehind, TellsStop}
 use Rattle.engine_core.specs.PublishText.{IsCallText, IsPublishText, IsScriptSound, IsTaken, answer_text, item_of_call, items_of_lines, script_cause, script_of}
 use Rattle.engine_core.proofs.PublishLemmas.{items-push}
 use Rattle.goose_cmd.specs.ListText.{list_text}
+use Rattle.std.specs.Prelude.{◌⊎◌}
+use Rattle.goose_cmd.specs.PublishedReplay.{script_of_text}
 use Rattle.goose_cmd.proofs.OneText.{not_both}
+use Rattle.goose_cmd.proofs.ScriptOrder.{IsSetUp, script_set_up}
 
 -- the frames of the calls that are left, as they are written
 abbrev sent_text : {A : Type 0} → Type 0 → List (Sent A) → List ℕ
@@ -44,7 +47,7 @@ act_taken p calls (Changed change) accepted = accepted change refl
 act_taken p calls Polled accepted = tt
 
 -- of these items the control line and the steps wrote nothing, and these calls are left
-abbrev pub CallsLeft : {A : Type 0} → Setup A → Text (ScriptItem A) ScriptCause → List Call → Listing (ScriptItem A) ScriptCause → Account ScriptCause → Type 0
+abbrev CallsLeft : {A : Type 0} → Setup A → Text (ScriptItem A) ScriptCause → List Call → Listing (ScriptItem A) ScriptCause → Account ScriptCause → Type 0
 CallsLeft {A} p t calls script told_is =
     (before : List (ℕ × ScriptItem A)) × (es : List (ℕ × ScriptItem A)) × (before ++ es ≡ script.items) × (items_of_lines before ≡ script_of p []) × (items_of_lines es ≡ map item_of_call calls) ×
     (told_is ≡ told_after t before es script.stop)
@@ -105,7 +108,7 @@ module _ {A : Type 0} (B : Type 0) (p : Setup A) (t : Text (ScriptItem A) Script
           (sym (map-append item.Step done (s ∷ [])) ∙ sym (append-nil (map item.Step (done ++ s ∷ []))))))
 
   -- so do the control line and all steps
-  pub script_left : (calls : List Call) (es : List (ℕ × ScriptItem A)) (script : Listing (ScriptItem A) ScriptCause) → length p.table ≤ 16 → es ≡ script.items → items_of_lines es ≡ script_of p calls → CallsLeft p t calls script (told_after t [] es script.stop)
+  script_left : (calls : List Call) (es : List (ℕ × ScriptItem A)) (script : Listing (ScriptItem A) ScriptCause) → length p.table ≤ 16 → es ≡ script.items → items_of_lines es ≡ script_of p calls → CallsLeft p t calls script (told_after t [] es script.stop)
   unfolding told_after
   script_left calls [] script few parts left = absurd cc
   script_left calls (e ∷ es) script few parts left =
@@ -212,23 +215,51 @@ module _ {A : Type 0} (B : Type 0) (p : Setup A) (t : Text (ScriptItem A) Script
         subst (λ (l : List Call). TellsStop p l left script w.0) (sym same) w.2,
       )
 
+-- where no call is left, what the script stops by is told
+none_told : {A : Type 0} (t : Text (ScriptItem A) ScriptCause) (before es : List (ℕ × ScriptItem A)) (stop : Stop (ItemFault ScriptCause)) → items_of_lines es ≡ [] → told_after t before es stop ≡ told_stop t stop
+unfolding told_after
+none_told t before [] stop none = refl
+none_told t before (e ∷ es) stop none = absurd cc
+
+pub no_front : {X : Type 0} (xs ys : List X) → xs ++ ys ≡ [] → xs ≡ []
+no_front [] ys e = refl
+no_front (x ∷ xs) ys e = absurd cc
+
+no_back : {X : Type 0} (xs ys : List X) → xs ++ ys ≡ [] → ys ≡ []
+no_back [] ys e = e
+no_back (x ∷ xs) ys e = absurd cc
+
 pub scripts_give_lists : {A : Type 0} (B : Type 0) → ScriptsGiveLists A B
-scripts_give_lists {A} B p calls answers script t sound are says is = (
+scripts_give_lists {A} B p calls answers z text t are says is = (
   ap₂ (λ (a : List ℕ) (o : Account ScriptCause). a ++ o.text) is.first told_is ∙ ap (λ (stop : Stop (ItemFault ScriptCause)). list_text (published_events {B = B} (sent_from 0 calls answers)) ++ last_text t stop) (sym stop_is),
-  subst (λ (stop : Stop (ItemFault ScriptCause)). TellsStop p calls says.left script stop) (sym stop_is) w.2,
+  subst (TellsStop p calls says.left script) (sym stop_is) ends.2,
 )
   where
-    left : CallsLeft p t (calls ++ says.left) script (told t script)
-    left = script_left B p t is (calls ++ says.left) script.items script sound.steps.most refl says.items
+    script : Listing (ScriptItem A) ScriptCause
+    script = script_of_text z text
 
-    w : (stop : Stop (ItemFault ScriptCause)) × (told_after t left.0 left.1 script.stop ≡ sent_told B t (sent_from 0 calls answers) stop) × TellsStop p calls says.left script stop
-    w =
+    set_up : IsSetUp p (calls ++ says.left)
+    set_up = script_set_up p (calls ++ says.left) z text says.items
+
+    left : CallsLeft p t (calls ++ says.left) script (told t script)
+    left = script_left B p t is (calls ++ says.left) script.items script set_up.few refl says.items
+
+    by_setup : (calls ++ says.left ≡ []) ⊎ IsScriptSound p → Stops B p t is calls says.left left.0 left.1 script (sent_from 0 calls answers)
+    by_setup (inl none) = (
+      script.stop,
+      none_told t left.0 left.1 script.stop (left.4 ∙ ap (map item_of_call) none) ∙ ap (λ (cs : List Call). sent_told B t (sent_from 0 cs answers) script.stop) (sym (no_front calls says.left none)),
+      subst (λ (more : List Call). TellsStop p calls more script script.stop) (sym (no_back calls says.left none)) refl,
+    )
+    by_setup (inr sound) =
         calls_told B p t is calls [] says.left answers left.0 left.1 script sound left.2 left.3 left.4 are.0 says.accepted (λ i a at.
         let none : i ≡ 0 + i = omega arith in
         subst (λ (j : ℕ). IsAnswer p (trace_of_calls calls) j a) none (are.1 i a at)) says.stops
 
-    told_is : told t script ≡ sent_told B t (sent_from 0 calls answers) w.0
-    told_is = left.5 ∙ w.1
+    ends : Stops B p t is calls says.left left.0 left.1 script (sent_from 0 calls answers)
+    ends = by_setup set_up.sound
 
-    stop_is : (told t script).stop ≡ w.0
+    told_is : told t script ≡ sent_told B t (sent_from 0 calls answers) ends.0
+    told_is = left.5 ∙ ends.1
+
+    stop_is : (told t script).stop ≡ ends.0
     stop_is = ap (λ (o : Account ScriptCause). o.stop) told_is

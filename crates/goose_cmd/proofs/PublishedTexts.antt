@@ -1,5 +1,5 @@
 -- The replay of what `publish` writes of a script's text.
-use Rattle.std.proofs.Common.{◌≡◌, ℕ, zero, suc, ◌+◌, ◌<◌, ◌≤◌, max, Option, Some, None, List, [], ◌∷◌, ◌++◌, length, slice_get, inl, inr, ap, ap₂, subst, sym, ◌∙◌, refl, arith}
+use Rattle.std.proofs.Common.{◌≡◌, ℕ, zero, suc, ◌+◌, ◌<◌, ◌≤◌, max, Option, Some, None, List, [], ◌∷◌, ◌++◌, length, slice_get, inl, inr, ap, subst, sym, ◌∙◌, refl, arith}
 use Rattle.std.proofs.lemmas.List.Elements.{All-from_get_or}
 use Rattle.std.specs.Prelude.{◌⊎◌}
 use Rattle.ber_core.specs.Length.{AreOctets}
@@ -7,7 +7,6 @@ use Rattle.frame_core.specs.declared.frame.Frame.{Frame}
 use Rattle.frame_core.specs.declared.event.Event.{Event}
 use Rattle.frame_core.specs.declared.line_rules.ItemFault.{ItemFault}
 use Rattle.frame_core.specs.declared.list_fault.ListCause.{ListCause}
-use Rattle.frame_core.specs.Items.{Listing}
 use Rattle.frame_core.specs.Lines.{Stop, faulty, finished, unfinished}
 use Rattle.frame_core.specs.Written.{written_frame}
 use Rattle.publish_core.specs.Frames.{Setup}
@@ -22,18 +21,18 @@ use Rattle.exchange_laws.proofs.OneFrame.{one_apart}
 use Rattle.exchange_laws.proofs.WrittenForms.{change_accepted}
 use Rattle.script_core.specs.declared.script.ScriptCause.{ScriptCause}
 use Rattle.script_core.specs.declared.script.ScriptItem.{ScriptItem}
-use Rattle.engine_core.specs.EngineText.{Account, Text, last_text, told, told_after, told_stop, whole_text}
+use Rattle.engine_core.specs.EngineText.{Text, last_text, told}
 use Rattle.engine_core.specs.ReplayText.{IsReplayText}
 use Rattle.text_core.specs.ScriptLine.{script_line}
 use Rattle.goose_cmd.specs.PublishedReplay.{PublishedTextsReplay, script_of_text}
-use Rattle.engine_core.specs.PublishText.{IsPublishText, IsScriptSound, items_of_lines, script_of}
+use Rattle.engine_core.specs.PublishText.{IsPublishText, IsScriptSound}
 use Rattle.goose_cmd.specs.ListText.{ReplayGives, SendsOctets, list_text}
 use Rattle.goose_cmd.proofs.ScriptLimits.{SaysOctets, script_moments, script_octets, script_room, script_sizes}
 use Rattle.goose_cmd.proofs.CommentLines.{comment_listed, script_comment}
-use Rattle.goose_cmd.proofs.ScriptOrder.{IsSetUp, script_set_up}
+use Rattle.goose_cmd.proofs.ScriptOrder.{script_set_up}
 use Rattle.goose_cmd.proofs.WrittenOctets.{frame_octets}
 use Rattle.goose_cmd.proofs.WrittenLists.{EndsList, ended_lists_replay, ended_runs_replay, nothing_ends}
-use Rattle.goose_cmd.proofs.PublishedScripts.{script_left, scripts_give_lists}
+use Rattle.goose_cmd.proofs.PublishedScripts.{no_front, scripts_give_lists}
 
 with_count : {A : Type 0} (m : ℕ) (act : Act) (a : Option (Frame A)) (rest : List (Sent A)) → length (with_frame m act a rest) ≤ suc (length rest)
 with_count m act None rest = omega arith
@@ -70,52 +69,34 @@ how_it_ends {A} {B} t n finished is room = nothing_ends B n
 how_it_ends {A} {B} t n unfinished is room = nothing_ends B n
 how_it_ends {A} {B} t n (faulty f) is room = subst (EndsList B n) (sym (is.last f)) (comment_listed n (script_line f) (script_comment f) room ∙ nothing_ends B (n + 1))
 
-no_front : {X : Type 0} (xs ys : List X) → xs ++ ys ≡ [] → xs ≡ []
-no_front [] ys e = refl
-no_front (x ∷ xs) ys e = absurd cc
-
-none_told : {A : Type 0} (t : Text (ScriptItem A) ScriptCause) (before es : List (ℕ × ScriptItem A)) (stop : Stop (ItemFault ScriptCause)) → items_of_lines es ≡ [] → told_after t before es stop ≡ told_stop t stop
-unfolding told_after
-none_told t before [] stop none = refl
-none_told t before (e ∷ es) stop none = absurd cc
-
--- a script without calls gives a list without events
-silent_replays : {A B : Type 0} (p : Setup A) (block : Block B) (script : Listing (ScriptItem A) ScriptCause) (t : Text (ScriptItem A) ScriptCause) (r : Text (Event B) ListCause) →
-    length p.table ≤ 16 → items_of_lines script.items ≡ script_of p [] → IsPublishText t → IsReplayText (block ∷ []) r → ReplayGives r (whole_text t script) []
-silent_replays {A} {B} p block script t r few says is replay =
-    subst (λ (written : List ℕ). ReplayGives r written []) (sym whole)
-    (ended_lists_replay (block ∷ []) [] [] (last_text t script.stop) r (one_apart block) tt (omega arith) (record { sizes = refl; each = λ i es at. absurd (nothing_at i es at) }) replay (how_it_ends t 1 script.stop is (omega arith)))
+-- a list without events says nothing
+nothing_replays : {B : Type 0} (block : Block B) (end : List ℕ) (r : Text (Event B) ListCause) → IsReplayText (block ∷ []) r → EndsList B 1 end → ReplayGives r (list_text {A = B} [] ++ end) []
+nothing_replays {B} block end r replay ends =
+    ended_lists_replay (block ∷ []) [] [] end r (one_apart block) tt (omega arith) (record { sizes = refl; each = λ i es at. absurd (nothing_at i es at) }) replay ends
   where
     nothing_at : (i : ℕ) (es : List (Entry B)) → slice_get [] i ≡ Some es → ⊥
     nothing_at zero es at = absurd cc
     nothing_at (suc i) es at = absurd cc
 
-    whole : whole_text t script ≡ list_text (published_events {A = A} {B = B} []) ++ last_text t script.stop
-    whole =
-        let left = script_left B p t is [] script.items script few refl says in
-        ap₂ (λ (a : List ℕ) (o : Account ScriptCause). a ++ o.text) is.first (left.5 ∙ none_told t left.0 left.1 script.stop left.4)
-
 pub published_texts_replay : {A B : Type 0} → PublishedTextsReplay A B
-published_texts_replay {A} {B} p block calls answers text t r run says is replay = by_setup set_up.sound
+published_texts_replay {A} {B} p block calls answers z text t r run says is replay =
+    subst (λ (written : List ℕ). ReplayGives r written (one_entry_each (sent_from 0 calls answers))) (sym (scripts_give_lists B p calls answers z text t run.are_answers says is).0)
+    (by_setup (script_set_up p (calls ++ says.left) z text says.items).sound)
   where
-    script : Listing (ScriptItem A) ScriptCause
-    script = script_of_text text
+    stop : Stop (ItemFault ScriptCause)
+    stop = (told t (script_of_text z text)).stop
 
-    set_up : IsSetUp p (calls ++ says.left)
-    set_up = script_set_up p (calls ++ says.left) text says.items
-
-    by_setup : (calls ++ says.left ≡ []) ⊎ IsScriptSound p → ReplayGives r (whole_text t script) (one_entry_each (sent_from 0 calls answers))
+    by_setup : (calls ++ says.left ≡ []) ⊎ IsScriptSound p → ReplayGives r (list_text (published_events {B = B} (sent_from 0 calls answers)) ++ last_text t stop) (one_entry_each (sent_from 0 calls answers))
     by_setup (inl none) =
-        subst (λ (cs : List Call). ReplayGives r (whole_text t script) (one_entry_each (sent_from 0 cs answers))) (sym (no_front calls says.left none))
-        (silent_replays p block script t r set_up.few (says.items ∙ ap (script_of p) none) is replay)
+        subst (λ (cs : List Call). ReplayGives r (list_text (published_events {B = B} (sent_from 0 cs answers)) ++ last_text t stop) (one_entry_each (sent_from 0 cs answers))) (sym (no_front calls says.left none))
+        (nothing_replays block (last_text t stop) r replay (how_it_ends t 1 stop is (omega arith)))
     by_setup (inr sound) =
-        let listed = scripts_give_lists B p calls answers script t sound run.are_answers says is in
         let some : 1 ≤ length p.table = sound.steps.some in
-        let room : 1 + length (sent_from 0 calls answers) < 1000000 = omega (arith, some, sent_count 0 calls answers, script_room p calls text says) in
-        let octets : SendsOctets (sent_from 0 calls answers) = all_octets_sent 0 calls answers (λ i f at. answer_octets p calls i f (script_octets p calls text says) says.accepted (run.are_answers.1 i (Some f) at)) in
+        let room : 1 + length (sent_from 0 calls answers) < 1000000 = omega (arith, some, sent_count 0 calls answers, script_room p calls z text says) in
+        let octets : SendsOctets (sent_from 0 calls answers) = all_octets_sent 0 calls answers (λ i f at. answer_octets p calls i f (script_octets p calls z text says) says.accepted (run.are_answers.1 i (Some f) at)) in
         let all : IsWholeRun p block calls answers = record {
           own = run.own;
-          held = script_sizes p calls text says;
+          held = script_sizes p calls z text says;
           steps = sound.steps;
           some = sound.some;
           most = sound.most;
@@ -124,5 +105,4 @@ published_texts_replay {A} {B} p block calls answers text t r run says is replay
           are_answers = run.are_answers;
           in_time = run.in_time;
         } in
-        subst (λ (written : List ℕ). ReplayGives r written (one_entry_each (sent_from 0 calls answers))) (sym listed.0)
-        (ended_runs_replay p block calls answers (last_text t (told t script).stop) r all (script_moments p calls text says) octets (omega arith) replay (how_it_ends t (1 + length (sent_from 0 calls answers)) (told t script).stop is room))
+        ended_runs_replay p block calls answers (last_text t stop) r all (script_moments p calls z text says) octets (omega arith) replay (how_it_ends t (1 + length (sent_from 0 calls answers)) stop is room)

@@ -218,13 +218,13 @@ reading_few z text = let w = pieces_few z 0 (pieces text) (omega arith) in omega
 -- ---- the calls of a script
 
 -- the text of a script says no more items than a list can have lines
-pub script_room : {A : Type 0} (p : Setup A) (calls : List Call) (text : List ℕ) → SaysRun p calls (script_of_text text) → 1 + length p.table + length calls ≤ 1000000
-script_room {A} p calls text says =
-    let most : length (script_of_text {A = A} text).items ≤ 1000000 = let a = lines_count A First 0 (reading End 0 text).lines (reading End 0 text).stop in let b = reading_few End text in omega (arith, a, b) in
-    let same : length (items_of_lines (script_of_text {A = A} text).items) ≡ length (script_of p (calls ++ says.left)) = ap length says.items in
+pub script_room : {A : Type 0} (p : Setup A) (calls : List Call) (z : InputEnd) (text : List ℕ) → SaysRun p calls (script_of_text z text) → 1 + length p.table + length calls ≤ 1000000
+script_room {A} p calls z text says =
+    let most : length (script_of_text {A = A} z text).items ≤ 1000000 = let a = lines_count A First 0 (reading z 0 text).lines (reading z 0 text).stop in let b = reading_few z text in omega (arith, a, b) in
+    let same : length (items_of_lines (script_of_text {A = A} z text).items) ≡ length (script_of p (calls ++ says.left)) = ap length says.items in
     let step : Step → ScriptItem A = λ s. item.Step s in
     let steps : List (ScriptItem A) = map step p.table in
-    omega (arith, most, same, length-map (script_of_text {A = A} text).items (λ (e : ℕ × ScriptItem A). e.1), length-append steps (map item_of_call (calls ++ says.left)), length-map p.table step, length-map (calls ++ says.left) (item_of_call {A = A}), length-append calls says.left)
+    omega (arith, most, same, length-map (script_of_text {A = A} z text).items (λ (e : ℕ × ScriptItem A). e.1), length-append steps (map item_of_call (calls ++ says.left)), length-map p.table step, length-map (calls ++ says.left) (item_of_call {A = A}), length-append calls says.left)
 
 at_steps : {A : Type 0} (steps : List Step) (items : List (ScriptItem A)) → AllKeep (map item.Step steps ++ items) → LiveBelow steps
 at_steps [] items w = tt
@@ -257,18 +257,18 @@ first_keep A [] (c ∷ calls) left w = (w.0, first_keep A [] calls left w.1)
 first_keep A (s ∷ steps) calls left w = (w.0, first_keep A steps calls left w.1)
 
 -- what the text of a script says keeps the limits
-says_limits : {A : Type 0} (p : Setup A) (calls : List Call) (text : List ℕ) → SaysRun p calls (script_of_text text) → AllKeep (script_of p calls)
-says_limits {A} p calls text says =
-    let w = subst AllKeep says.items (lines_short A First 0 (reading End 0 text).lines (reading End 0 text).stop) in
+says_limits : {A : Type 0} (p : Setup A) (calls : List Call) (z : InputEnd) (text : List ℕ) → SaysRun p calls (script_of_text z text) → AllKeep (script_of p calls)
+says_limits {A} p calls z text says =
+    let w = subst AllKeep says.items (lines_short A First 0 (reading z 0 text).lines (reading z 0 text).stop) in
     (w.0, first_keep A p.table calls says.left w.1)
 
 -- its moments have at most 18 digits
-pub script_moments : {A : Type 0} (p : Setup A) (calls : List Call) (text : List ℕ) → SaysRun p calls (script_of_text text) → MomentsAreShort calls
-script_moments {A} p calls text says = calls_short A calls (behind_steps p.table (map item_of_call calls) (says_limits p calls text says).1)
+pub script_moments : {A : Type 0} (p : Setup A) (calls : List Call) (z : InputEnd) (text : List ℕ) → SaysRun p calls (script_of_text z text) → MomentsAreShort calls
+script_moments {A} p calls z text says = calls_short A calls (behind_steps p.table (map item_of_call calls) (says_limits p calls z text says).1)
 
 -- its fields have their sizes
-pub script_sizes : {A : Type 0} (p : Setup A) (calls : List Call) (text : List ℕ) → SaysRun p calls (script_of_text text) → AreHeld p
-script_sizes p calls text says = let w = says_limits p calls text says in setup_held p w.0 (at_steps p.table (map item_of_call calls) w.1)
+pub script_sizes : {A : Type 0} (p : Setup A) (calls : List Call) (z : InputEnd) (text : List ℕ) → SaysRun p calls (script_of_text z text) → AreHeld p
+script_sizes p calls z text says = let w = says_limits p calls z text says in setup_held p w.0 (at_steps p.table (map item_of_call calls) w.1)
 
 -- its addresses are octets, and the values of each change are written as octets
 pub record SaysOctets {A : Type 0} (p : Setup A) (calls : List Call) : Type 0 where
@@ -276,7 +276,7 @@ pub record SaysOctets {A : Type 0} (p : Setup A) (calls : List Call) : Type 0 wh
   pub from : AreOctets p.control.source
   pub values : (i : ℕ) (change : Change) → (trace_of_calls calls).act i ≡ Some (Changed change) → AreOctets (written_all change.values)
 
-pub script_octets : {A : Type 0} (p : Setup A) (calls : List Call) (text : List ℕ) → SaysRun p calls (script_of_text text) → SaysOctets p calls
-script_octets {A} p calls text says =
-    let w = says_limits p calls text says in
+pub script_octets : {A : Type 0} (p : Setup A) (calls : List Call) (z : InputEnd) (text : List ℕ) → SaysRun p calls (script_of_text z text) → SaysOctets p calls
+script_octets {A} p calls z text says =
+    let w = says_limits p calls z text says in
     record { to = w.0.to_octets; from = w.0.from_octets; values = values_octets A calls (behind_steps p.table (map item_of_call calls) w.1) }

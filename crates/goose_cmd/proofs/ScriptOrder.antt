@@ -9,7 +9,7 @@ use Rattle.ber_core.specs.declared.fault.Fault.{Fault}
 use Rattle.mms_data.specs.Data.{Data}
 use Rattle.mms_data.specs.Reading.{members_at}
 use Rattle.mms_data.specs.declared.time.UtcTime.{UtcTime}
-use Rattle.frame_core.specs.declared.device.InputEnd.TheVariants.{End}
+use Rattle.frame_core.specs.declared.device.InputEnd.{InputEnd}
 use Rattle.frame_core.specs.declared.event_lines.MomentUnit.{MomentUnit}
 use Rattle.frame_core.specs.declared.event_lines.MomentUnit.TheVariants.{Milliseconds}
 use Rattle.frame_core.specs.declared.list_fault.ListFault.{ListFault}
@@ -367,10 +367,10 @@ settled_items items (After unit part.Control) h = inl h
 settled_items items (After unit (part.Steps n)) h = inr (h.p, [], h.items, record { few = subst (λ (k : ℕ). k ≤ 16) (sym h.count) h.room; sound = inl refl })
 settled_items items (After unit part.Calls) h = inr (h.0, h.1, h.2, record { few = h.3.steps.most; sound = inr h.3 })
 
-pub script_items : {A : Type 0} (text : List ℕ) → AreOfScript (items_of_lines (script_of_text {A = A} text).items)
-script_items {A} text =
-    let w = lines_settled {A = A} First [] 0 (reading End 0 text).lines (reading End 0 text).stop refl in
-    settled_items (items_of_lines (script_of_text {A = A} text).items) w.0 w.1
+pub script_items : {A : Type 0} (z : InputEnd) (text : List ℕ) → AreOfScript (items_of_lines (script_of_text {A = A} z text).items)
+script_items {A} z text =
+    let w = lines_settled {A = A} First [] 0 (reading z 0 text).lines (reading z 0 text).stop refl in
+    settled_items (items_of_lines (script_of_text {A = A} z text).items) w.0 w.1
 
 not_step : (A : Type 0) (m : ℕ) (a : Act) (s : Step) → item_of_act {A = A} m a ≡ item.Step s → ⊥
 not_step A m (Changed change) s e = absurd cc
@@ -415,9 +415,9 @@ set_up_as {A} p q calls more e w = record { few = subst (λ (steps : List Step).
     })
 
 -- a script sets up the publisher that it calls
-pub script_set_up : {A : Type 0} (p : Setup A) (calls : List Call) (text : List ℕ) → items_of_lines (script_of_text text).items ≡ script_of p calls → IsSetUp p calls
-script_set_up {A} p calls text is = by_items (script_items text)
+pub script_set_up : {A : Type 0} (p : Setup A) (calls : List Call) (z : InputEnd) (text : List ℕ) → items_of_lines (script_of_text z text).items ≡ script_of p calls → IsSetUp p calls
+script_set_up {A} p calls z text is = by_items (script_items z text)
   where
-    by_items : AreOfScript (items_of_lines (script_of_text {A = A} text).items) → IsSetUp p calls
+    by_items : AreOfScript (items_of_lines (script_of_text {A = A} z text).items) → IsSetUp p calls
     by_items (inl none) = absurd (none_left [] (map item.Step p.table ++ map item_of_call calls) (item.Control p.control p.first) (sym none ∙ is))
     by_items (inr w) = set_up_as p w.0 calls w.1 (sym is ∙ w.2) w.3

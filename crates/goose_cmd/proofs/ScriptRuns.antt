@@ -2,6 +2,7 @@
 use Rattle.std.proofs.Common.{◌≡◌, ℕ, zero, suc, take, Option, Some, None, List, [], ◌∷◌, ◌++◌, slice_get, option_map, inl, inr, ap, subst, sym, ◌∙◌, refl, append_assoc}
 use Rattle.std.proofs.lemmas.List.{append-nil}
 use Rattle.std.specs.Prelude.{◌⊎◌}
+use Rattle.frame_core.specs.declared.device.InputEnd.{InputEnd}
 use Rattle.publish_core.specs.declared.fault.PublishFault.{PublishFault}
 use Rattle.publish_core.specs.Frames.{Change, Setup}
 use Rattle.publish_core.specs.Refusal.{Accepts, next_state}
@@ -57,20 +58,20 @@ up_to_refused : {A : Type 0} (p : Setup A) → AreSteps p.table → (cs done : L
 up_to_refused p steps [] done = ([], [], refl, tt, tt)
 up_to_refused p steps (c ∷ cs) done = call_judged p steps done cs c (up_to_refused p steps cs (done ++ c ∷ []))
 
-abbrev SomeRun : (A : Type 0) → List ℕ → Type 0
-SomeRun A text = (p : Setup A) × (calls : List Call) × SaysRun p calls (script_of_text text)
+abbrev SomeRun : (A : Type 0) → InputEnd → List ℕ → Type 0
+SomeRun A z text = (p : Setup A) × (calls : List Call) × SaysRun p calls (script_of_text z text)
 
 -- each script says the run of a publisher, or nothing of one
 pub scripts_say_runs : {A : Type 0} → ScriptsSayRuns A
-scripts_say_runs {A} text = by_items (script_items text)
+scripts_say_runs {A} z text = by_items (script_items z text)
   where
-    by_setup : (p : Setup A) (calls : List Call) → items_of_lines (script_of_text text).items ≡ script_of p calls → (calls ≡ []) ⊎ IsScriptSound p → SomeRun A text
+    by_setup : (p : Setup A) (calls : List Call) → items_of_lines (script_of_text z text).items ≡ script_of p calls → (calls ≡ []) ⊎ IsScriptSound p → SomeRun A z text
     by_setup p calls is (inl none) =
         (p, [], record { left = []; items = is ∙ ap (script_of p) none; accepted = λ i change at. all_accepted p [] [] tt i change at; stops = tt })
     by_setup p calls is (inr sound) =
         let w = up_to_refused p sound.steps calls [] in
         (p, w.0, record { left = w.1; items = is ∙ ap (script_of p) w.2; accepted = all_accepted p w.0 [] w.3; stops = w.4 })
 
-    by_items : AreOfScript (items_of_lines (script_of_text {A = A} text).items) → (items_of_lines (script_of_text {A = A} text).items ≡ []) ⊎ SomeRun A text
+    by_items : AreOfScript (items_of_lines (script_of_text {A = A} z text).items) → (items_of_lines (script_of_text {A = A} z text).items ≡ []) ⊎ SomeRun A z text
     by_items (inl none) = inl none
     by_items (inr w) = inr (by_setup w.0 w.1 w.2 w.3.sound)

@@ -9,21 +9,24 @@ use Rattle.ber_core.specs.Written.{integer_size, short_integer, short_length, wr
 use Rattle.mms_data.specs.ContentsReading.{simple_at}
 use Rattle.mms_data.specs.Kinds.{kind_at}
 use Rattle.mms_data.specs.Reading.{member_at, member_with, members_at, members_with}
+use Rattle.frame_core.specs.declared.device.InputEnd.TheVariants.{End}
 use Rattle.frame_core.specs.declared.event.Event.{Event}
 use Rattle.frame_core.specs.declared.event.EventKind.TheVariants.{Clock, Mode}
-use Rattle.frame_core.specs.Items.{items_said}
+use Rattle.frame_core.specs.Items.{Listing, items_said}
 use Rattle.frame_core.specs.Lines.{finished, reading}
 use Rattle.subscribe_core.specs.declared.entry.Entry.{Entry}
 use Rattle.subscribe_core.specs.declared.entry.Entry.TheVariants.{Expired, NotSubscribed}
 use Rattle.subscribe_core.specs.declared.watch.Seen.TheVariants.{First, Next, Skipped, Same, Late, OutOfRange}
 use Rattle.subscribe_core.specs.Watch.{seen_all}
-use Rattle.engine_core.specs.EngineText.{told_after, whole_text}
+use Rattle.script_core.specs.declared.script.ScriptCause.{ScriptCause}
+use Rattle.script_core.specs.declared.script.ScriptItem.{ScriptItem}
+use Rattle.engine_core.specs.EngineText.{told, told_after, whole_text}
 use Rattle.engine_core.specs.PublishStep.{publish_text}
 use Rattle.goose_cmd.specs.ListText.{lines_from, list_of_text, list_text}
 use Rattle.publish_core.specs.Frames.{Change, Setup, change, setup}
-use Rattle.publish_core.specs.Run.{Changed, Polled, call, trace_of_calls}
+use Rattle.publish_core.specs.Run.{Call, Changed, Polled, call, trace_of_calls}
 use Rattle.publish_core.specs.declared.fault.PublishFault.TheVariants as publish
-use Rattle.goose_cmd.specs.PublishedReplay.{SaysRun, script_of_text}
+use Rattle.goose_cmd.specs.PublishedReplay.{SaysRun, TellsStop, script_of_text}
 
 -- ---- written lists
 
@@ -60,7 +63,7 @@ abbrev front : List ℕ
 front = codes "control,010ccd010001,020000000001,,0001,G,D,,1,1,0,0,1\nstep,10,2000\nstep,1000,3000\n"
 
 abbrev published : List ℕ → List ℕ
-published script = whole_text (publish_text {A = Unit {0}}) (script_of_text script)
+published script = whole_text (publish_text {A = Unit {0}}) (script_of_text End script)
 
 pub record AreScripts : Type 0 where
   pub none : published [] ≡ codes "V2\n# 1 script ScriptForm\n"
@@ -113,13 +116,23 @@ one_boolean = setup (record {
 abbrev no_value : Change
 no_value = change (record { seconds = 0; fraction = 0; quality = 0 }) []
 
-pub one_poll : SaysRun one_boolean (call 5000 Polled ∷ []) (script_of_text (front ++ codes "poll,5\nchange,7,0000000000000000,\npoll,9\n"))
-unfolding reading items_said decode_pairs digits members_at members_with
-one_poll = record {
-  left = call 7000 (Changed no_value) ∷ call 9000 Polled ∷ [];
-  items = refl;
-  accepted = λ i handed_in at. absurd (polled_alone i handed_in at);
-  stops = (publish.EntriesDiffer, λ same. absurd (none_is_one same));
+abbrev polled_once : Listing (ScriptItem (Unit {0})) ScriptCause
+polled_once = script_of_text End (front ++ codes "poll,5\nchange,7,0000000000000000,\npoll,9\n")
+
+pub record IsPolledOnce (left : List Call) : Type 0 where
+  pub says : SaysRun one_boolean (call 5000 Polled ∷ []) polled_once
+  pub ends : TellsStop one_boolean (call 5000 Polled ∷ []) left polled_once (told publish_text polled_once).stop
+
+pub is_polled_once : IsPolledOnce (call 7000 (Changed no_value) ∷ call 9000 Polled ∷ [])
+unfolding reading items_said decode_pairs digits told_after members_at members_with
+is_polled_once = record {
+  says = record {
+    left = call 7000 (Changed no_value) ∷ call 9000 Polled ∷ [];
+    items = refl;
+    accepted = λ i handed_in at. absurd (polled_alone i handed_in at);
+    stops = (publish.EntriesDiffer, λ same. absurd (none_is_one same));
+  };
+  ends = (5, publish.EntriesDiffer, refl, λ same. absurd (none_is_one same), refl);
 }
   where
     none_is_one : length no_value.values ≡ one_boolean.control.entries → ⊥

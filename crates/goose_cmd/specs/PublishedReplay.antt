@@ -1,6 +1,6 @@
 -- What `publish` writes of a script, and what the replay of that writes.
 use Rattle.std.specs.Prelude.{◌≡◌, ◌⊎◌, ℕ, List, [], ◌∷◌, ◌++◌, length, slice_get, Option, Some, ⊤}
-use Rattle.frame_core.specs.declared.device.InputEnd.TheVariants.{End}
+use Rattle.frame_core.specs.declared.device.InputEnd.{InputEnd}
 use Rattle.frame_core.specs.declared.event.Event.{Event}
 use Rattle.frame_core.specs.declared.frame.Frame.{Frame}
 use Rattle.frame_core.specs.declared.list_fault.ListCause.{ListCause}
@@ -20,12 +20,12 @@ use Rattle.script_core.specs.declared.script.ScriptLines.TheVariants.{First}
 use Rattle.script_core.specs.Script.{script_rules}
 use Rattle.engine_core.specs.EngineText.{Text, last_text, told, whole_text}
 use Rattle.goose_cmd.specs.ListText.{ReplayGives, list_text}
-use Rattle.engine_core.specs.PublishText.{IsPublishText, IsRefused, IsScriptSound, item_of_call, items_of_lines, script_cause, script_of}
+use Rattle.engine_core.specs.PublishText.{IsPublishText, IsRefused, item_of_call, items_of_lines, script_cause, script_of}
 use Rattle.engine_core.specs.ReplayText.{IsReplayText}
 
--- what the whole text of a script says
-abbrev pub script_of_text : {A : Type 0} → List ℕ → Listing (ScriptItem A) ScriptCause
-script_of_text text = listing script_rules First End 0 text
+-- what the text of a script says, whose input ends so
+abbrev pub script_of_text : {A : Type 0} → InputEnd → List ℕ → Listing (ScriptItem A) ScriptCause
+script_of_text z text = listing script_rules First z 0 text
 
 -- behind these calls a run stops: no call is left, or the first that is left is a change that is refused
 abbrev pub StopsBehind : {A : Type 0} → Setup A → List Call → List Call → Type 0
@@ -46,17 +46,18 @@ TellsStop p calls (c ∷ more) script stop =
     (n : ℕ) × (why : PublishFault) × (slice_get script.items (length (script_of p calls)) ≡ Some (n, item_of_call c)) × IsRefused p calls c.act why
     × (stop ≡ faulty (fault.Line n (script_cause why)))
 
--- Of a script that says a run `publish` writes the list of the frames that its calls give, and how it stops.
+-- Of the text of a script, which says a run, `publish` writes the list of the frames that its calls give, and how it stops.
 abbrev pub ScriptsGiveLists : Type 0 → Type 0 → Type 0
 ScriptsGiveLists A B =
-    (p : Setup A) (calls : List Call) (answers : List (Option (Frame A))) (script : Listing (ScriptItem A) ScriptCause) (t : Text (ScriptItem A) ScriptCause) →
-    IsScriptSound p → AreAnswers p calls answers → (says : SaysRun p calls script) → IsPublishText t →
-    (whole_text t script ≡ list_text (published_events {B = B} (sent_from 0 calls answers)) ++ last_text t (told t script).stop) × TellsStop p calls says.left script (told t script).stop
+    (p : Setup A) (calls : List Call) (answers : List (Option (Frame A))) (z : InputEnd) (text : List ℕ) (t : Text (ScriptItem A) ScriptCause) →
+    AreAnswers p calls answers → (says : SaysRun p calls (script_of_text z text)) → IsPublishText t →
+    (whole_text t (script_of_text z text) ≡ list_text (published_events {B = B} (sent_from 0 calls answers)) ++ last_text t (told t (script_of_text z text)).stop)
+    × TellsStop p calls says.left (script_of_text z text) (told t (script_of_text z text)).stop
 
 -- the text of a script says nothing of a publisher, or a run of one
 abbrev pub ScriptsSayRuns : Type 0 → Type 0
 ScriptsSayRuns A =
-    (text : List ℕ) → (items_of_lines (script_of_text {A = A} text).items ≡ []) ⊎ ((p : Setup A) × (calls : List Call) × SaysRun p calls (script_of_text text))
+    (z : InputEnd) (text : List ℕ) → (items_of_lines (script_of_text {A = A} z text).items ≡ []) ⊎ ((p : Setup A) × (calls : List Call) × SaysRun p calls (script_of_text z text))
 
 -- A run that the publisher's own block can follow: the status numbers don't wrap, and each frame comes in the lifetime of the one before.
 pub record CanBeFollowed {A B : Type 0} (p : Setup A) (block : Block B) (calls : List Call) (answers : List (Option (Frame A))) : Type 0 where
@@ -69,6 +70,6 @@ pub record CanBeFollowed {A B : Type 0} (p : Setup A) (block : Block B) (calls :
 -- action for a change's, a renewal for a poll's, and nothing else.
 abbrev pub PublishedTextsReplay : Type 0 → Type 0 → Type 0
 PublishedTextsReplay A B =
-    (p : Setup A) (block : Block B) (calls : List Call) (answers : List (Option (Frame A))) (text : List ℕ) (t : Text (ScriptItem A) ScriptCause) (r : Text (Event B) ListCause) →
-    CanBeFollowed p block calls answers → SaysRun p calls (script_of_text text) → IsPublishText t → IsReplayText (block ∷ []) r →
-    ReplayGives r (whole_text t (script_of_text text)) (one_entry_each (sent_from 0 calls answers))
+    (p : Setup A) (block : Block B) (calls : List Call) (answers : List (Option (Frame A))) (z : InputEnd) (text : List ℕ) (t : Text (ScriptItem A) ScriptCause) (r : Text (Event B) ListCause) →
+    CanBeFollowed p block calls answers → SaysRun p calls (script_of_text z text) → IsPublishText t → IsReplayText (block ∷ []) r →
+    ReplayGives r (whole_text t (script_of_text z text)) (one_entry_each (sent_from 0 calls answers))

@@ -63,13 +63,13 @@ pub fn published_lists_replay<P: Allocator, S: Allocator>()
     ensures { PublishedListsReplay P S }
 {}
 
-/// The text of a script says nothing of a publisher, or a run of one: the calls up to its end, to a fault, or to the first
-/// change that is refused. What `publish` writes of it is the list of the frames that these calls give, and the line of
-/// the fault or of the refused change, if there is one. A replay of that with the publisher's own block gives one line for
-/// each frame: an action for that of a change, a renewal for that of a poll, and nothing else. The control is neither
-/// simulated nor in commissioning, the status numbers don't wrap, and each frame comes in the lifetime of the one before.
-/// That the fields have their sizes, and that the frames are octets, can stand in a list with their moments and are not too
-/// many, follows from the text.
+/// The text of a script, however its input ends, says nothing of a publisher, or a run of one: the calls up to its end, to a
+/// fault, or to the first change that is refused. What `publish` writes of it is the list of the frames that these calls
+/// give, and the line of the fault or of the refused change, if there is one. A replay of that with the publisher's own
+/// block gives one line for each frame: an action for that of a change, a renewal for that of a poll, and nothing else. The
+/// control is neither simulated nor in commissioning, the status numbers don't wrap, and each frame comes in the lifetime of
+/// the one before. That the fields have their sizes, and that the frames are octets, can stand in a list with their moments
+/// and are not too many, follows from the text.
 pub fn published_texts_replay<P: Allocator, S: Allocator>()
     ensures run { ScriptsSayRuns P }
     ensures list { ScriptsGiveLists P S }
