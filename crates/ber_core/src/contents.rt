@@ -164,7 +164,8 @@ pub fn check_visible(octets: &[u8], from: usize) -> Result<(), Fault>
     each_visible(octets, from)
 }
 
-// The same, as reading from left to right gives it.
+// The same, as reading from left to right gives it. Never inlined, so that readers of texts are small enough to be.
+#[inline(never)]
 fn each_visible(octets: &[u8], from: usize) -> Result<(), Fault>
     requires { from + length octets.now < 2 ^ 64 }
     ensures exact { result ≡ all_visible_at from octets.now }

@@ -41,7 +41,8 @@ pub fn there(octets: &[u8], at: usize, end: usize, identifier: u8) -> Result<Opt
     read_there(octets, at, end, identifier)
 }
 
-// The element, as reading gives it.
+// The element, as reading gives it. Inlined, so that its header is not put together in memory for each field.
+#[inline(always)]
 #[tactic(auto, unfolding(crate::specs::FieldReading::there_at))]
 fn read_there(octets: &[u8], at: usize, end: usize, identifier: u8) -> Result<Option<Header>, Fault>
     requires ordered { at ≤ end }

@@ -109,6 +109,7 @@ impl<'a> Members<'a> {
     }
 
     // The first member, and those behind it.
+    #[inline(always)]
     fn split(self) -> (View<'a>, Members<'a>)
         requires { 0 < length self.octets.now }
         ensures first { left self.entry ≡ meaning result.0 ∷ left result.1 }

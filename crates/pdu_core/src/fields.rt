@@ -1,4 +1,5 @@
-// The fields of an APDU, kind by kind: the value of each, and the place behind it.
+// The fields of an APDU, kind by kind: the value of each, and the place behind it. Inlined, so that no answer is put
+// together in memory for each field.
 
 ghost use Rattle.std.specs.Prelude.{◌≡◌, ◌<◌, ◌≤◌, length, IfOk, Some, None, false};
 ghost use Rattle.ber_core.specs.FieldReading.{field_as};
@@ -52,6 +53,7 @@ fn entries<'a>(octets: &'a [u8], header: &Header) -> Result<CountedMembers<'a>, 
 }
 
 /// A text that is always there.
+#[inline(always)]
 pub fn text_field<'a>(
     octets: &'a [u8],
     at: usize,
@@ -69,6 +71,7 @@ pub fn text_field<'a>(
 }
 
 /// A text that may be absent.
+#[inline(always)]
 pub fn text_if_there<'a>(
     octets: &'a [u8],
     at: usize,
@@ -88,6 +91,7 @@ pub fn text_if_there<'a>(
 }
 
 /// A number that is always there.
+#[inline(always)]
 pub fn number_field(
     octets: &[u8],
     at: usize,
@@ -104,6 +108,7 @@ pub fn number_field(
 }
 
 /// A time that is always there.
+#[inline(always)]
 pub fn time_field(
     octets: &[u8],
     at: usize,
@@ -120,6 +125,7 @@ pub fn time_field(
 }
 
 /// A boolean whose absence means false.
+#[inline(always)]
 pub fn flag_if_there(
     octets: &[u8],
     at: usize,
@@ -138,6 +144,7 @@ pub fn flag_if_there(
 }
 
 /// Members of Data that are always there.
+#[inline(always)]
 pub fn members_field<'a>(
     octets: &'a [u8],
     at: usize,

@@ -1,4 +1,5 @@
 // The fields of an ASDU that GOOSE has no like of, kind by kind: the value of each, and the place behind it.
+// Inlined as those of a GOOSE APDU are.
 
 ghost use Rattle.std.specs.Prelude.{◌≡◌, ◌<◌, ◌≤◌, length, IfOk, Some};
 ghost use Rattle.ber_core.specs.Element.{contents_of};
@@ -68,6 +69,7 @@ fn few_octets<'a>(octets: &'a [u8], header: &Header) -> Result<&'a [u8], Fault>
 }
 
 /// A number of two octets that is always there.
+#[inline(always)]
 pub fn two_octets_field(
     octets: &[u8],
     at: usize,
@@ -84,6 +86,7 @@ pub fn two_octets_field(
 }
 
 /// A number of two octets that may be absent.
+#[inline(always)]
 pub fn two_octets_if_there(
     octets: &[u8],
     at: usize,
@@ -102,6 +105,7 @@ pub fn two_octets_if_there(
 }
 
 /// A number of four octets that is always there.
+#[inline(always)]
 pub fn four_octets_field(
     octets: &[u8],
     at: usize,
@@ -118,6 +122,7 @@ pub fn four_octets_field(
 }
 
 /// A number of one octet that is always there.
+#[inline(always)]
 pub fn one_octet_field(
     octets: &[u8],
     at: usize,
@@ -134,6 +139,7 @@ pub fn one_octet_field(
 }
 
 /// A time that may be absent.
+#[inline(always)]
 pub fn time_if_there(
     octets: &[u8],
     at: usize,
@@ -152,6 +158,7 @@ pub fn time_if_there(
 }
 
 /// Octets that are always there, of any count.
+#[inline(always)]
 pub fn raw_field<'a>(
     octets: &'a [u8],
     at: usize,
@@ -170,6 +177,7 @@ pub fn raw_field<'a>(
 }
 
 /// One to sixteen octets that may be absent.
+#[inline(always)]
 pub fn few_if_there<'a>(
     octets: &'a [u8],
     at: usize,
