@@ -1,6 +1,6 @@
 //! The fields of a sequence, one after the other (ISO/IEC 8825-1, 8.9): the element that may or must stand
 //! at a place, and the sequence's end. What its contents spell is read by `contents` or by the crate whose
-//! sequence it is.
+//! sequence it is. Inlined, so that no header is put together in memory for each field.
 
 ghost use Rattle.std.specs.Prelude.{◌≡◌, ◌≤◌, ◌<◌, ◌↔◌, Ok, Err, Some, None, length, slice_range, IfOk, IfErr, IfSome};
 ghost use Rattle.ber_core.specs.Faults.{fault_of};
@@ -20,6 +20,7 @@ use crate::reading::header;
 /// # Errors
 ///
 /// Those of the element's length, as `header` has them.
+#[inline(always)]
 pub fn there(octets: &[u8], at: usize, end: usize, identifier: u8) -> Result<Option<Header>, Fault>
     requires ordered { at ≤ end }
     requires inside { end ≤ length octets.now }
@@ -41,7 +42,7 @@ pub fn there(octets: &[u8], at: usize, end: usize, identifier: u8) -> Result<Opt
     read_there(octets, at, end, identifier)
 }
 
-// The element, as reading gives it. Inlined, so that its header is not put together in memory for each field.
+// The element, as reading gives it.
 #[inline(always)]
 #[tactic(auto, unfolding(crate::specs::FieldReading::there_at))]
 fn read_there(octets: &[u8], at: usize, end: usize, identifier: u8) -> Result<Option<Header>, Fault>
@@ -85,6 +86,7 @@ fn absent(octets: &[u8], at: usize, end: usize) -> Fault
 ///
 /// At `at`: `ElementMissing` where the region ends there, `HighTag` or `UnexpectedTag` where another
 /// identifier stands there. Otherwise those of the element's length, as `header` has them.
+#[inline(always)]
 pub fn required(octets: &[u8], at: usize, end: usize, identifier: u8) -> Result<Header, Fault>
     requires ordered { at ≤ end }
     requires inside { end ≤ length octets.now }
@@ -105,6 +107,7 @@ pub fn required(octets: &[u8], at: usize, end: usize, identifier: u8) -> Result<
 }
 
 // The element, as reading gives it.
+#[inline(always)]
 #[tactic(auto, unfolding(crate::specs::FieldReading::required_at))]
 fn read_required(octets: &[u8], at: usize, end: usize, identifier: u8) -> Result<Header, Fault>
     requires ordered { at ≤ end }

@@ -82,6 +82,7 @@ impl<'a> Members<'a> {
     }
 
     // What the contents behind this header are.
+    #[inline(always)]
     fn view(contents: &'a [u8], header: &Header, kind: Kind, depth: u8) -> View<'a>
         requires few { depth ≤ 16 }
         requires begins { header.now.at < header.now.contents_from }

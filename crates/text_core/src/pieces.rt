@@ -125,17 +125,19 @@ fn is_plain(text: &[u8]) -> bool
     are_plain(others)
 }
 
-// Whether none of these octets is. It looks at each, also behind one that is.
+// Whether none of these octets is. It looks at each, also behind one that is, for one sign and for the other apart, so
+// that the compiler compares several octets at once.
 #[inline(always)]
 fn are_plain(octets: &[u8]) -> bool
     ensures { IsTrue result → flat_map escaped octets.now ≡ octets.now }
 {
-    let mut plain = true;
+    let mut without_marks = true;
+    let mut without_backslashes = true;
     for octet in octets {
-        plain &= *octet != b'"';
-        plain &= *octet != b'\\';
+        without_marks &= *octet != b'"';
+        without_backslashes &= *octet != b'\\';
     }
-    plain
+    without_marks && without_backslashes
 }
 
 // Appends the octets of a text, a quotation mark and a backslash after a backslash.
