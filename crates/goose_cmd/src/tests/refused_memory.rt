@@ -1,6 +1,6 @@
 //! Where memory is refused, at each growth in turn: whole lines of the earlier events stand written.
 
-use crate::{Ending, check, rewrite, show};
+use crate::{Ending, check, rewrite, show, watch};
 use refusing_alloc::RefusingAlloc;
 use std::test::Fail;
 use test_devices::{NEVER, sink_of, source_of};
@@ -101,4 +101,22 @@ fn check_where_each_growth_is_refused(rt: HostRuntime) -> Result<(), Fail> {
         lines_stood |= !sink.octets.is_empty();
     }
     Err("each run was refused memory".into())
+}
+
+// A clock moment, the mode, a comment and the list's end, of which `check` and `watch` write nothing.
+const QUIET: &[u8] = b"V2\nC 1\nM 2 on\n# nothing\nC 3\n";
+
+#[test]
+fn what_writes_nothing_asks_for_no_memory(rt: HostRuntime) -> Result<(), Fail> {
+    let alloc = RefusingAlloc::new(rt.alloc(), 0);
+    let mut sink = sink_of(rt.alloc(), 16, NEVER);
+    let (ending, _source) = check(&alloc, source_of(QUIET, 4096, NEVER), &mut sink);
+    assert_eq!(rt; ending, Ending::Done);
+    let (ending, _source) = watch(&alloc, source_of(QUIET, 4096, NEVER), 2, b"MU", &mut sink);
+    assert_eq!(rt; ending, Ending::Done);
+    let (ending, _source) = show(&alloc, source_of(b"# nothing\n", 4096, NEVER), &mut sink);
+    assert_eq!(rt; ending, Ending::Done);
+    assert!(rt; sink.octets.is_empty());
+    assert!(rt; !alloc.has_refused());
+    Ok(())
 }
