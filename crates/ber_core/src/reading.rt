@@ -1,4 +1,4 @@
-// Headers and integers, read from a slice.
+// Headers and integers, read from a slice. A header of one length octet is read without a call.
 
 ghost use Rattle.std.specs.Prelude.{◌≡◌, ◌≤◌, ◌<◌, ◌+◌, ◌^◌, ◌⊎◌, ℤ, Ok, Err, length, slice_range, IfOk, IfErr};
 ghost use Rattle.ber_core.specs.ContentsReading.{any_integer_at};
@@ -19,6 +19,7 @@ use byteorder::{BigEndian, ByteOrder};
 /// # Errors
 ///
 /// `Ends`, `HighTag`, `Indefinite`, `LengthForm` or `LengthPastEnd`, at the place of the octet at fault.
+#[inline(always)]
 #[tactic(auto, unfolding(crate::specs::Reading::header_at))]
 pub fn header(octets: &[u8], at: usize, end: usize) -> Result<Header, Fault>
     requires ordered { at ≤ end }
@@ -40,6 +41,7 @@ pub fn header(octets: &[u8], at: usize, end: usize) -> Result<Header, Fault>
 }
 
 // The header, as reading from left to right gives it.
+#[inline(always)]
 #[tactic(auto, unfolding(crate::specs::Reading::header_at))]
 fn read_header(octets: &[u8], at: usize, end: usize) -> Result<Header, Fault>
     requires ordered { at ≤ end }
@@ -59,6 +61,7 @@ fn read_header(octets: &[u8], at: usize, end: usize) -> Result<Header, Fault>
 }
 
 // The header of an identifier that stands at `at`, with the length that follows it.
+#[inline(always)]
 #[tactic(auto, unfolding(crate::specs::Reading::length_at))]
 fn with_length(at: usize, identifier: u8, octets: &[u8]) -> Result<Header, Fault>
     requires { at + 1 + length octets.now < 2 ^ 64 }
@@ -81,7 +84,8 @@ fn with_length(at: usize, identifier: u8, octets: &[u8]) -> Result<Header, Fault
     }
 }
 
-// The same where the first `count` of the octets spell the length.
+// The same where the first `count` of the octets spell the length. Never inlined, as few lengths are so long.
+#[inline(never)]
 #[tactic(auto, unfolding(crate::specs::Reading::counted_length_at))]
 fn with_counted_length(
     at: usize,
