@@ -159,19 +159,6 @@ def no_program(tree):
 # Crates, two of which stand on the same one, and one of which the program does not stand on.
 CRATES = "low: std\nother: low\nbeside: low std\nhigh: low other beside\napart: low\ngoose: high\n"
 
-# A crate of those two that waits for the other one to begin, and is not proved where that does not begin for some seconds.
-WAITS = """case "$PWD" in
-*/other | */beside)
-    touch "$RUNS.${PWD##*/}"
-    for turn in 1 2 3 4 5 6 7 8 9 10; do
-        if [ -e "$RUNS.other" ] && [ -e "$RUNS.beside" ]; then exit 0; fi
-        sleep 1
-    done
-    exit 1
-    ;;
-esac"""
-
-
 def with_crates(tree):
     """The tree, with five crates below the program or beside it."""
     tree.put("crates.txt", CRATES)
@@ -187,15 +174,8 @@ def lowest_first(tree):
     wrote, said, status = with_crates(tree).build()
     yield "output", (tree.program(), "", 0), (wrote, said, status)
     runs = [line.removeprefix(f"{tree.top / 'crates'}/") for line in tree.runs.read_text().splitlines()]
-    yield "the runs, alone", ["low lib ", "high lib ", "goose run -- show given"], runs[:1] + runs[3:]
-    yield "the runs, side by side", ["beside lib ", "other lib "], sorted(runs[1:3])
+    yield "the runs", ["low lib ", "other lib ", "beside lib ", "high lib ", "goose run -- show given"], runs
     yield "files left behind", ["build.lock", "build.log"], sorted(it.name for it in (tree.top / "out").iterdir())
-
-
-def side_by_side(tree):
-    """Crates that do not stand on one another are proved at the same time."""
-    wrote, said, status = with_crates(tree).build()
-    yield "output", (tree.program(), "", 0), (wrote, said, status)
 
 
 def unproved_crate(tree):
@@ -227,6 +207,5 @@ def cases():
     yield Builds("a stored run that writes something else", other_output, wrote="another line\n")
     yield Builds("a build that leaves no program", no_program, early=f"printf '{STORED.rstrip()}\\n'; exit 0")
     yield Builds("the crates below are proved lowest first", lowest_first)
-    yield Builds("crates that do not stand on one another", side_by_side, early=WAITS)
     yield Builds("a crate that is not proved", unproved_crate, early='case "$PWD" in */other) echo "no proof" >&2; exit 1 ;; esac')
     yield Builds("what is handed on", handed_on)
