@@ -1,5 +1,5 @@
 -- The line of an event: what a line says, and the one line that is written.
-use Rattle.std.specs.Prelude.{◌≡◌, ℕ, ◌*◌, ◌^◌, ◌%◌, ◌<◌, ◌≤◌, List, [], ◌∷◌, ◌++◌, length, Option, Some, None, Result, Ok, Err, Bool, true, false, ◌==◌, ◌&&◌, nat_le, nat_lt, if◌then◌else◌, codes}
+use Rattle.std.specs.Prelude.{◌≡◌, ℕ, ◌*◌, ◌^◌, ◌<◌, ◌≤◌, List, [], ◌∷◌, ◌++◌, length, Option, Some, None, is_some, Result, Ok, Err, Bool, true, false, ◌==◌, ◌&&◌, nat_le, nat_lt, if◌then◌else◌, codes}
 use Rattle.std.specs.List.{All}
 use Rattle.frame_core.specs.Cuts.{cut_at}
 use Rattle.frame_core.specs.Decimal.{is_decimal}
@@ -49,10 +49,6 @@ decoded (Err e) = None
 abbrev pub frame_octets_by : List ℕ → Option (List ℕ)
 frame_octets_by digits = if nat_lt 0 (length digits) && nat_le (length digits) 4000 then decoded (decode_of digits) else None
 
--- as many digits as can write the octets of a frame
-abbrev pub is_hex_count : ℕ → Bool
-is_hex_count n = nat_lt 0 n && nat_le n 4000 && (n % 2 == 0)
-
 -- the clock at a moment
 abbrev pub clock_event : {A : Type 0} → Option ℕ → Result (Option (Event A)) ListCause
 clock_event None = Err Moment
@@ -83,9 +79,9 @@ event_of_fields unit ((c ∷ []) ∷ (m ∷ ms) ∷ (h ∷ hs) ∷ []) =
     if c == 70 then frame_event (moment_of unit (m ∷ ms)) (frame_octets_by (h ∷ hs)) else (if c == 77 then mode_event (moment_of unit (m ∷ ms)) (mode_of (h ∷ hs)) else Err LineForm)
 event_of_fields unit _ = Err LineForm
 
--- whether the fields give something to keep: those of a frame, with a moment and a count of digits that can write octets
+-- whether the fields give something to keep: those of a frame, with a moment and digits that write octets
 abbrev pub fields_keep : MomentUnit → List (List ℕ) → Bool
-fields_keep unit ((c ∷ []) ∷ (m ∷ ms) ∷ (h ∷ hs) ∷ []) = c == 70 && (is_moment unit (m ∷ ms) && is_hex_count (length (h ∷ hs)))
+fields_keep unit ((c ∷ []) ∷ (m ∷ ms) ∷ (h ∷ hs) ∷ []) = c == 70 && (is_moment unit (m ∷ ms) && is_some (frame_octets_by (h ∷ hs)))
 fields_keep unit _ = false
 
 -- what a line says: nothing where it is empty or begins with `#`, else an event, or why it says none

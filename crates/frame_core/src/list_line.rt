@@ -1,18 +1,17 @@
 //! One line of a list: the event that it says.
-ghost use Rattle.std.specs.Prelude.{◌≡◌, ◌&&◌, true, ◌<◌, length, ◌∷◌, []};
-ghost use Rattle.frame_core.specs.EventLine.{event_of, event_of_fields, fields, fields_keep, frame_event, is_hex_count, is_moment, mode_of, moment_of, frame_octets_by};
+ghost use Rattle.std.specs.Prelude.{◌≡◌, ◌&&◌, true, ◌<◌, is_some, length, ◌∷◌, []};
+ghost use Rattle.frame_core.specs.EventLine.{event_of, event_of_fields, fields, fields_keep, frame_event, is_moment, mode_of, moment_of, frame_octets_by};
 ghost use Rattle.frame_core.specs.LineAnswer.{Answers, fields_after};
 
 use crate::cutting::cut_first;
 use crate::decimal::decimal_in;
 use crate::event::{Event, EventKind};
 use crate::event_lines::MomentUnit;
-use crate::hexadecimal::octets_in;
+use crate::hexadecimal::read_digits;
 use crate::line_rules::LineError;
 use crate::list_fault::ListCause;
-use hex::FromHexError;
 use mms_data::Octets;
-use std::alloc::{AllocError, Allocator};
+use std::alloc::Allocator;
 
 /// The most digits of a moment in milliseconds.
 const MOST_MILLISECOND_DIGITS: usize = 15;
@@ -118,7 +117,7 @@ fn frame_of<A: Allocator + Copy>(
     moment: &[u8],
     digits: &[u8],
 ) -> Result<Option<Event<A>>, LineError<ListCause>>
-    ensures { Answers result (frame_event (moment_of unit moment.now) (frame_octets_by digits.now)) (is_moment unit moment.now && is_hex_count (length digits.now)) }
+    ensures { Answers result (frame_event (moment_of unit moment.now) (frame_octets_by digits.now)) (is_moment unit moment.now && is_some (frame_octets_by digits.now)) }
 {
     let Some(moment) = moment_in(unit, moment) else {
         return Err(LineError::Cause(ListCause::Moment));
@@ -126,13 +125,17 @@ fn frame_of<A: Allocator + Copy>(
     if digits.is_empty() || digits.len() > MOST_HEX_DIGITS || digits.len() % 2 != 0 {
         return Err(LineError::Cause(ListCause::Hex));
     }
-    match octets_in(alloc, digits) {
+    let mut room = [0; MOST_HEX_DIGITS / 2];
+    let octets = &mut room[..digits.len() / 2];
+    if !read_digits(digits, octets) {
+        return Err(LineError::Cause(ListCause::Hex));
+    }
+    match Octets::try_from_slice(alloc, octets) {
         Ok(octets) => Ok(Some(Event {
             moment,
-            kind: EventKind::Frame(Octets::from(octets)),
+            kind: EventKind::Frame(octets),
         })),
-        Err(FromHexError::OutOfMemory) => Err(LineError::Memory(AllocError)),
-        Err(_) => Err(LineError::Cause(ListCause::Hex)),
+        Err(error) => Err(LineError::Memory(error)),
     }
 }
 

@@ -1,17 +1,20 @@
--- Lines of a script with more fields than they may have, and the members that a change hands in.
-use Rattle.std.proofs.Common.{◌≡◌, ℕ, ◌∷◌, List, length, Option, Some, None, Ok, Err, true, refl, sym, ap, ◌∙◌, arith, Bor}
+-- Lines of a script with more fields than they may have, the members that a change hands in, and which of them are kept.
+use Rattle.std.proofs.Common.{◌≡◌, ℕ, ◌∷◌, List, length, Option, Some, None, Ok, Err, true, refl, sym, ap, ◌∙◌, subst, arith, Bor}
 use Rattle.std.proofs.lemmas.Grind.{common_steps}
-use Rattle.std.specs.Prelude.{is_some, slice_range}
+use Rattle.std.specs.Prelude.{[], Result, IsOk, is_ok, is_some, slice_range}
 use Rattle.ber_core.specs.declared.fault.Fault.{Fault}
 use Rattle.mms_data.specs.Data.{Data}
 use Rattle.mms_data.specs.Reading.{members_at}
+use Rattle.mms_data.specs.declared.fault.ReadFault.{ReadFault}
+use Rattle.mms_data.specs.declared.fault.ReadFault.TheVariants as read
 use Rattle.mms_data.specs.Spelling.{FaultIn, SpellsAll}
 use Rattle.mms_data.proofs.Again.{all_again}
+use Rattle.mms_data.proofs.Wrong.{all_wrong}
 use Rattle.mms_data.proofs.WrongAgain.{all_wrong_again}
 use Rattle.frame_core.specs.Cuts.{cut_at, parts_after}
 use Rattle.frame_core.specs.declared.event_lines.MomentUnit.{MomentUnit}
 use Rattle.frame_core.proofs.Cuts.{cut_some}
-use Rattle.script_core.specs.Script.{change_said, poll_said}
+use Rattle.script_core.specs.Script.{change_said, octets_keep, poll_said}
 use Rattle.script_core.specs.declared.script.ScriptCause.TheVariants as cause
 use Rattle.script_core.specs.declared.script.ScriptPart.{ScriptPart}
 
@@ -31,3 +34,16 @@ members_read o ds s = ap (members_at 16 0) (sym (whole o)) ∙ all_again 16 1 re
 
 pub members_fault : (o : List ℕ) (f : Fault) → FaultIn f 1 0 (slice_range o 0 (length o)) → members_at 16 0 o ≡ Err f
 members_fault o f w = ap (members_at 16 0) (sym (whole o)) ∙ all_wrong_again 16 1 f refl 0 (slice_range o 0 (length o)) w
+
+faultless : (r : Result (List Data) Fault) → ((f : Fault) → r ≡ Err f → is_ok r ≡ true) → is_ok r ≡ true
+faultless (Ok ds) none = refl
+faultless (Err f) none = none f refl
+
+-- members for which memory is wanted have no fault, and there are some
+pub members_kept : {V : Type 0} (o : List ℕ) (answer : Result V ReadFault) (m : _) → answer ≡ Err (read.Memory m)
+    → ((f : Fault) → FaultIn f 1 0 (slice_range o 0 (length o)) → answer ≡ Err (read.Fault f)) → (0 ≡ length o → IsOk answer) → octets_keep o ≡ true
+members_kept [] answer m e fault none = let ok = subst IsOk e (none refl) in absurd (cc)
+members_kept (b ∷ bs) answer m e fault none =
+    faultless (members_at 16 0 (b ∷ bs)) (λ f wrong.
+    let there = fault f (subst (FaultIn f 1 0) (sym (whole (b ∷ bs))) (all_wrong 16 1 f refl 0 (b ∷ bs) wrong)) in
+    absurd (cc))

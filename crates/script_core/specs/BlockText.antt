@@ -1,5 +1,5 @@
 -- A control block as a text: six fields that commas divide.
-use Rattle.std.specs.Prelude.{◌≡◌, ℕ, true, List, [], ◌∷◌, Option, Some, None, is_some, Result, Ok, Err}
+use Rattle.std.specs.Prelude.{◌≡◌, ℕ, Bool, true, false, List, [], ◌∷◌, Option, Some, None, Result, Ok, Err}
 use Rattle.subscribe_core.specs.declared.block.Block.{Block}
 use Rattle.script_core.specs.declared.block_text.BlockError.{BlockError}
 use Rattle.script_core.specs.declared.block_text.BlockError.TheVariants as refused
@@ -9,6 +9,11 @@ use Rattle.script_core.specs.Commas.{comma_fields, number_by, text_in, word_in}
 abbrev pub go_id_of : List ℕ → Option (List ℕ)
 go_id_of [] = None
 go_id_of (c ∷ cs) = Some (c ∷ cs)
+
+-- whether the texts of a control block have something to keep in memory: gocbRef, datSet, and goID where there is one
+abbrev pub texts_keep : List ℕ → List ℕ → Option (List ℕ) → Bool
+texts_keep [] [] None = false
+texts_keep _ _ _ = true
 
 -- a block of these fields, where each of them says something
 abbrev pub block_with : {A : Type 0} → Option ℕ → Option (List ℕ) → Option (List ℕ) → Option (List ℕ) → Option ℕ → Option ℕ → Option (Block A)
@@ -26,8 +31,13 @@ block_of _ = None
 abbrev pub block_in : {A : Type 0} → List ℕ → Option (Block A)
 block_in text = block_of (comma_fields text)
 
--- the answer is the block that the text says, or that it says none, or memory was wanted for its texts
+-- whether a text says a block that has something to keep
+abbrev pub block_keeps : {A : Type 0} → Option (Block A) → Bool
+block_keeps None = false
+block_keeps (Some b) = texts_keep b.gocb_ref b.dat_set b.go_id
+
+-- the answer is the block that the text says, or that it says none, or memory was wanted where it has something to keep
 abbrev pub AnswersBlock : {A : Type 0} → Result (Block A) BlockError → Option (Block A) → Type 0
 AnswersBlock (Ok block) said = said ≡ Some block
 AnswersBlock (Err refused.BlockForm) said = said ≡ None
-AnswersBlock (Err (refused.Memory e)) said = is_some said ≡ true
+AnswersBlock (Err (refused.Memory e)) said = block_keeps said ≡ true

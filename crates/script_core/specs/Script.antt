@@ -1,6 +1,6 @@
 -- A script of `publish` (profile): the control line, then the lines of the steps, then changes and polls. Fields are divided
 -- by commas.
-use Rattle.std.specs.Prelude.{◌≡◌, ℕ, ◌+◌, ◌%◌, ◌==◌, ◌&&◌, Bool, true, false, nat_lt, List, [], ◌∷◌, length, Option, Some, None, is_none, is_some, option_map, Result, Ok, Err, is_ok, if◌then◌else◌, codes}
+use Rattle.std.specs.Prelude.{◌≡◌, ℕ, ◌+◌, ◌==◌, ◌&&◌, ◌||◌, Bool, true, false, nat_lt, List, [], ◌∷◌, length, Option, Some, None, is_none, option_map, Result, Ok, Err, is_ok, if◌then◌else◌, codes}
 use Rattle.std.specs.Str.{bytes_eq}
 use Rattle.hex.specs.Hex.{decode_of}
 use Rattle.ber_core.specs.declared.fault.Fault.{Fault}
@@ -17,7 +17,7 @@ use Rattle.frame_core.specs.declared.event_lines.MomentUnit.TheVariants.{Millise
 use Rattle.frame_core.specs.declared.vlan_tag.VlanTag.{VlanTag}
 use Rattle.publish_core.specs.declared.control.Control.{Control}
 use Rattle.publish_core.specs.declared.table.Step.{Step}
-use Rattle.script_core.specs.BlockText.{go_id_of}
+use Rattle.script_core.specs.BlockText.{go_id_of, texts_keep}
 use Rattle.script_core.specs.Commas.{comma_fields, number_by, octets_in, text_in, word_in}
 use Rattle.script_core.specs.declared.script_control.Numbers.{Numbers}
 use Rattle.script_core.specs.declared.script.ScriptCause.{ScriptCause}
@@ -190,15 +190,35 @@ script_lacks (After unit part.Control) = Some cause.ScriptForm
 script_lacks (After unit (part.Steps n)) = if n == 0 then Some cause.StepCount else None
 script_lacks (After unit part.Calls) = None
 
--- ---- what has something to keep in memory: a control line that is good, and a change whose digits are judged
+-- ---- what has something to keep in memory: a good control line with a text, and a good change with members
+
+-- a control line that is good
+abbrev pub control_keeps : ScriptPart → Option ControlLine → Bool
+control_keeps part.Control (Some l) = if l.numbers.first == 0 then false else texts_keep l.gocb_ref l.dat_set l.go_id
+control_keeps _ _ = false
+
+-- the octets of members that are good, if there are any
+abbrev pub octets_keep : List ℕ → Bool
+octets_keep [] = false
+octets_keep (o ∷ os) = is_ok (members_at 16 0 (o ∷ os))
+
+-- the digits of such members; of more digits than a line of a list can have nothing is said
+abbrev pub digits_keep : List ℕ → Option (List ℕ) → Bool
+digits_keep digits None = nat_lt 4096 (length digits)
+digits_keep digits (Some octets) = nat_lt 4096 (length digits) || octets_keep octets
+
+-- the members of a change whose moments are good
+abbrev pub members_keep : Option ℕ → Option UtcTime → List ℕ → Bool
+members_keep (Some moment) (Some t) digits = digits_keep digits (all_octets_in digits)
+members_keep _ _ digits = false
 
 abbrev pub change_keeps : MomentUnit → ScriptPart → List (List ℕ) → Bool
-change_keeps unit p (moment ∷ t ∷ members ∷ []) = is_none (too_early p) && (is_some (moment_of unit moment) && (is_some (time_in t) && (length members % 2 == 0)))
+change_keeps unit p (moment ∷ t ∷ members ∷ []) = is_none (too_early p) && members_keep (moment_of unit moment) (time_in t) members
 change_keeps unit p _ = false
 
 abbrev pub part_keeps : MomentUnit → ScriptPart → List ℕ → List (List ℕ) → Bool
 part_keeps unit p name fields =
-    if bytes_eq name (codes "control") then is_ok (control_said {A = Unit {0}} p (control_of fields))
+    if bytes_eq name (codes "control") then control_keeps p (control_of fields)
     else (if bytes_eq name (codes "change") then change_keeps unit p fields else false)
 
 abbrev pub all_keep : MomentUnit → ScriptPart → List (List ℕ) → Bool

@@ -1,6 +1,7 @@
 -- What the fields of a control line say, where they stand.
-use Rattle.std.specs.Prelude.{ℕ, List, [], ◌∷◌, Option, None, option_map}
+use Rattle.std.specs.Prelude.{ℕ, Bool, List, [], ◌∷◌, Option, None, option_map}
 use Rattle.std.specs.Borrow.{Bor}
+use Rattle.script_core.specs.BlockText.{texts_keep}
 use Rattle.script_core.specs.Commas.{number_by}
 use Rattle.script_core.specs.Script.{ControlLine, flag_in, numbers_with}
 use Rattle.script_core.specs.declared.script_control.ControlView.{ControlView}
@@ -17,6 +18,10 @@ control_seen v = record {
   go_id = option_map (λ (t : Bor (List ℕ)). t.now) v.go_id;
   numbers = v.numbers;
 }
+
+-- whether the texts of a control line have something to keep in memory
+abbrev pub view_keeps : ControlView → Bool
+view_keeps v = texts_keep v.gocb_ref.now v.dat_set.now (option_map (λ (t : Bor (List ℕ)). t.now) v.go_id)
 
 -- the numbers that the last five fields of a control line say
 abbrev pub numbers_in : List (List ℕ) → Option Numbers

@@ -1,6 +1,6 @@
 //! Control blocks by a text of six fields.
-ghost use Rattle.std.specs.Prelude.{◌≡◌, ◌∷◌, [], option_map, IfOk};
-ghost use Rattle.script_core.specs.BlockText.{AnswersBlock, block_in, block_of};
+ghost use Rattle.std.specs.Prelude.{◌≡◌, ◌∷◌, [], true, option_map, IfOk, IfErr, Some};
+ghost use Rattle.script_core.specs.BlockText.{AnswersBlock, block_in, block_keeps, block_of};
 ghost use Rattle.script_core.specs.BlockView.{block_seen};
 
 use crate::commas::{fields_of, number_of, text_of, word_of};
@@ -75,7 +75,8 @@ fn view_block(text: &[u8]) -> Option<BlockView<'_>>
 
 // The block that a view stands for, in memory of its own.
 fn owned<A: Allocator + Copy>(alloc: A, view: BlockView<'_>) -> Result<Block<A>, AllocError>
-    ensures { IfOk result (λ block. block ≡ block_seen view.entry) }
+    ensures block { IfOk result (λ block. block ≡ block_seen view.entry) }
+    ensures keeps { IfErr result (λ _. block_keeps {A = Unit {0}} (Some (block_seen view.entry)) ≡ true) }
 {
     let gocb_ref = Octets::try_from_slice(alloc, view.gocb_ref)?;
     let dat_set = Octets::try_from_slice(alloc, view.dat_set)?;
@@ -98,8 +99,8 @@ fn owned<A: Allocator + Copy>(alloc: A, view: BlockView<'_>) -> Result<Block<A>,
 ///
 /// # Errors
 ///
-/// `BlockForm` exactly where the text says no block; `Memory` where memory is refused for the texts of
-/// one.
+/// `BlockForm` exactly where the text says no block; `Memory` where memory is refused for the texts of one, of which some
+/// has an octet.
 pub fn read_block<A: Allocator + Copy>(alloc: A, text: &str) -> Result<Block<A>, BlockError>
     ensures { AnswersBlock result (block_in text.now) }
 {

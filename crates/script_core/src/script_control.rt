@@ -1,9 +1,9 @@
 //! The control line of a script, and the lines of its steps.
-ghost use Rattle.std.specs.Prelude.{◌≡◌, option_map, IfOk, is_ok};
+ghost use Rattle.std.specs.Prelude.{◌≡◌, true, option_map, IfOk, IfErr};
 ghost use Rattle.frame_core.specs.Cuts.{parts_after};
 ghost use Rattle.script_core.specs.Commas.{number_by, octets_in, text_in, word_in};
-ghost use Rattle.script_core.specs.Script.{AnswersScriptLine, block_of_line, control_of, control_said, control_with, flag_in, numbers_with, step_said_by, step_said, tag_in};
-ghost use Rattle.script_core.specs.ScriptView.{control_seen, numbers_in};
+ghost use Rattle.script_core.specs.Script.{AnswersScriptLine, block_of_line, control_keeps, control_of, control_said, control_with, flag_in, numbers_with, step_said_by, step_said, tag_in};
+ghost use Rattle.script_core.specs.ScriptView.{control_seen, numbers_in, view_keeps};
 
 use crate::commas::{fields_of, number_of, text_of, word_of};
 use crate::script::{ScriptCause, ScriptItem, ScriptPart};
@@ -132,7 +132,8 @@ fn view_fields<'a>(
 
 // The control block that a view stands for, in memory of its own.
 fn owned<A: Allocator + Copy>(alloc: A, view: ControlView<'_>) -> Result<Control<A>, AllocError>
-    ensures { IfOk result (λ control. control ≡ block_of_line (control_seen view.entry)) }
+    ensures control { IfOk result (λ control. control ≡ block_of_line (control_seen view.entry)) }
+    ensures keeps { IfErr result (λ _. view_keeps view.entry ≡ true) }
 {
     let gocb_ref = Octets::try_from_slice(alloc, view.gocb_ref)?;
     let dat_set = Octets::try_from_slice(alloc, view.dat_set)?;
@@ -199,7 +200,7 @@ pub fn control_in<A: Allocator + Copy>(
     part: ScriptPart,
     fields: Option<&[u8]>,
 ) -> Result<(Option<ScriptItem<A>>, ScriptPart), LineError<ScriptCause>>
-    ensures { AnswersScriptLine result (control_said part (control_of (parts_after 44 fields.entry))) (is_ok (control_said {A = Unit {0}} part (control_of (parts_after 44 fields.entry)))) }
+    ensures { AnswersScriptLine result (control_said part (control_of (parts_after 44 fields.entry))) (control_keeps part (control_of (parts_after 44 fields.entry))) }
 {
     let ScriptPart::Control = part else {
         return Err(LineError::Cause(ScriptCause::ScriptForm));

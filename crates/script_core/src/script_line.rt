@@ -1,15 +1,14 @@
 //! One line of a script: what it says.
-ghost use Rattle.std.specs.Prelude.{◌≡◌, ◌&&◌, ◌%◌, ◌==◌, Ok, is_some, length, true};
+ghost use Rattle.std.specs.Prelude.{◌≡◌, Some};
 ghost use Rattle.frame_core.specs.Cuts.{parts_after};
 ghost use Rattle.frame_core.specs.EventLine.{moment_of};
 ghost use Rattle.script_core.specs.Commas.{comma_fields};
-ghost use Rattle.script_core.specs.Script.{AnswersScriptLine, all_keep, all_said, change_keeps, change_said_by, change_said, part_keeps, fields_said, line_keeps, line_said, all_octets_in, poll_said, time_in, too_early};
+ghost use Rattle.script_core.specs.Script.{AnswersScriptLine, all_keep, all_said, change_keeps, members_keep, octets_keep, change_said_by, change_said, part_keeps, fields_said, line_keeps, line_said, all_octets_in, poll_said, time_in, too_early};
 
 use crate::script::{ScriptCause, ScriptItem, ScriptPart};
 use crate::script_control::{control_in, step_in};
 use byteorder::{BigEndian, ByteOrder};
 use frame_core::{LineError, MomentUnit, cut_first, moment_in};
-use hex::FromHexError;
 use mms_data::{ReadFault, UtcTime, ValueList, read_members};
 use std::alloc::{AllocError, Allocator};
 
@@ -64,6 +63,9 @@ fn time_of(digits: &[u8]) -> Option<UtcTime>
     }
 }
 
+// The most octets of a change's members: a line of a list has two digits for each, and at most 4,096 octets.
+const MOST_OCTETS: usize = 2048;
+
 // The values that octets spell, as a change at these moments.
 fn values_in<A: Allocator + Copy>(
     alloc: A,
@@ -71,7 +73,7 @@ fn values_in<A: Allocator + Copy>(
     t: UtcTime,
     octets: &[u8],
 ) -> Result<ScriptItem<A>, LineError<ScriptCause>>
-    ensures { AnswersScriptLine result (change_said_by (Some moment) (Some t) (Some octets.now)) true }
+    ensures { AnswersScriptLine result (change_said_by (Some moment) (Some t) (Some octets.now)) (octets_keep octets.now) }
 {
     match read_members(alloc, octets, 0, octets.len(), 1) {
         Ok(values) => Ok(ScriptItem::Change(moment, t, ValueList::from(values))),
@@ -88,7 +90,7 @@ fn change_of_fields<A: Allocator + Copy>(
     t: &[u8],
     members: &[u8],
 ) -> Result<ScriptItem<A>, LineError<ScriptCause>>
-    ensures { AnswersScriptLine result (change_said_by (moment_of unit moment.now) (time_in t.now) (all_octets_in members.now)) (is_some (moment_of unit moment.now) && (is_some (time_in t.now) && (length members.now % 2 == 0))) }
+    ensures { AnswersScriptLine result (change_said_by (moment_of unit moment.now) (time_in t.now) (all_octets_in members.now)) (members_keep (moment_of unit moment.now) (time_in t.now) members.now) }
 {
     let Some(moment) = moment_in(unit, moment) else {
         return Err(LineError::Cause(ScriptCause::Moment));
@@ -96,12 +98,14 @@ fn change_of_fields<A: Allocator + Copy>(
     let Some(t) = time_of(t) else {
         return Err(LineError::Cause(ScriptCause::Hex));
     };
-    if members.len() % 2 != 0 {
-        return Err(LineError::Cause(ScriptCause::Hex));
+    // No line of a list has more digits than there is room for here.
+    if members.len() / 2 > MOST_OCTETS {
+        return Err(LineError::Memory(AllocError));
     }
-    match hex::decode(alloc, members) {
-        Ok(octets) => values_in(alloc, moment, t, octets.as_slice()),
-        Err(FromHexError::OutOfMemory) => Err(LineError::Memory(AllocError)),
+    let mut room = [0; MOST_OCTETS];
+    let octets = &mut room[..members.len() / 2];
+    match hex::decode_to_slice(members, octets) {
+        Ok(()) => values_in(alloc, moment, t, octets),
         Err(_) => Err(LineError::Cause(ScriptCause::Hex)),
     }
 }
