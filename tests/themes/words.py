@@ -15,6 +15,21 @@ UNITS = {
     "--help": b"Moments in lists and scripts are microseconds where the first line is V2, else milliseconds",
     "import": b"Moments in the output are microseconds, whatever the capture has",
 }
+# What help says of status 1, at each command that can end with it.
+FOUND = {
+    "--help": b"1 something was found", "check": b"1 a line was written for some frame",
+    "rewrite": b"1 some frame was written with its own octets", "watch": b"1 some line says another word",
+    "import": b"1 a record was left out",
+}
+# What standard error says behind the message of the parser, by what that says: what would have been right.
+RIGHT = {
+    b"unrecognized subcommand": b"\nThe commands are show, check, rewrite, replay, publish, watch and import; ",
+    b"unexpected argument": b"\nA list, script or capture is read from standard input: goose COMMAND < FILE; ",
+    b"invalid value": b"\nN is a whole number from 2 to 65536: ",
+    b"requires a subcommand": b"\n  [subcommands: show, check, rewrite, replay, publish, watch, import]\n",
+    b"word of the command line": b" must be a text in UTF-8, ",
+    b"required arguments were not provided": b"\nUsage: goose ",
+}
 # What standard error says of a text that is no control block, behind its position.
 BLOCK_FORM = b"A BLOCK is APPID,gocbRef,datSet,goID,confRev,entries, for example '0001,IED1LD/LLN0$GO$gcb,IED1LD/LLN0$ds,,1,2'\n"
 
@@ -60,11 +75,14 @@ class Begins(Case):
         parts += [UNITS.get(self.words[0], b"Moments in the input are microseconds where its first line is V2, else milliseconds")]
         if self.words[0] == "check":
             parts += [b"not-written is a note and no error: the frame is good"]
-        return why + [f"help lacks {part!r}" for part in parts if part not in wrote]
+        found = FOUND.get(self.words[0], b"Exit status: 0 done, 2 wrong arguments")
+        why += [f"help tells {other!r}" for other in FOUND.values() if other != found and other in wrote]
+        return why + [f"help lacks {part!r}" for part in [*parts, found] if part not in wrote]
 
 
 class Refuses(Case):
-    """Words that are no command: a message on standard error that names the word, nothing written, status 2."""
+    """Words that are no command: a message on standard error that names the word and says what would have been right,
+    nothing written, status 2."""
 
     def __init__(self, words, named):
         super().__init__(f"refuses {words}", words, b"X\n")
@@ -75,7 +93,10 @@ class Refuses(Case):
         why = [] if status == 2 else [f"ended with status {status}"]
         why += ["standard output is not empty"] if wrote else []
         is_told = complained.startswith(b"error: ") and self.named in complained
-        return why + ([] if is_told else [f"standard error does not name {self.named!r}: {clipped(complained)!r}"])
+        why += [] if is_told else [f"standard error does not name {self.named!r}: {clipped(complained)!r}"]
+        right = [advice for mistake, advice in RIGHT.items() if mistake in complained]
+        is_right = any(advice in complained for advice in right)
+        return why + ([] if is_right else [f"standard error does not say what would be right: {clipped(complained)!r}"])
 
 
 class SaysBlockForm(Case):

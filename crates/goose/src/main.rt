@@ -6,6 +6,7 @@
 ghost use Rattle.std.specs.Prelude.{IfOk};
 ghost use Rattle.words_core.specs.CommandLine.{HasPeriod, said};
 
+use clap::error::ErrorKind as WordsErrorKind;
 use frame_core::{FromRead, ToWrite};
 use goose_cmd::{
     Ending, Task, WordsError, check, import, publish, read_words, replay, rewrite, show, status,
@@ -18,6 +19,33 @@ use std::{env, io};
 // What standard error says of a control block that can't be read, behind its position.
 const BLOCK_FORM: &str =
     "A BLOCK is APPID,gocbRef,datSet,goID,confRev,entries, for example '0001,IED1LD/LLN0$GO$gcb,IED1LD/LLN0$ds,,1,2'";
+
+// What standard error says behind the parser's own message: what would have been right, where that message leaves it open.
+fn advice(kind: WordsErrorKind) -> Option<&'static str> {
+    match kind {
+        WordsErrorKind::InvalidSubcommand => Some(
+            "The commands are show, check, rewrite, replay, publish, watch and import; goose --help says what each does",
+        ),
+        WordsErrorKind::UnknownArgument => Some(
+            "A list, script or capture is read from standard input: goose COMMAND < FILE; goose COMMAND --help says which words a command takes",
+        ),
+        WordsErrorKind::ValueValidation => {
+            Some("N is a whole number from 2 to 65536: how many samples smpCnt counts in a second")
+        }
+        _ => None,
+    }
+}
+
+// Says what the parser says of the words, and answers the exit status.
+fn answer_words(rt: &HostRuntime, error: &clap::Error) -> u8 {
+    if error.print(rt).is_err() {
+        return status(&Ending::WriteFault);
+    }
+    if let Some(text) = advice(error.kind()) {
+        let _ = rt.eprintln(text);
+    }
+    error.exit_code() as u8
+}
 
 // The words as texts, or the exit status where they can't be had.
 fn texts_of(rt: &HostRuntime) -> Result<Vec<String>, u8> {
@@ -82,10 +110,7 @@ fn run(rt: &HostRuntime, task: Task) -> u8
 fn answer(rt: &HostRuntime, texts: &[String]) -> u8 {
     match task_of(rt, texts) {
         Ok(task) => run(rt, task),
-        Err(WordsError::Words(error)) => match error.print(rt) {
-            Ok(()) => error.exit_code() as u8,
-            Err(_) => status(&Ending::WriteFault),
-        },
+        Err(WordsError::Words(error)) => answer_words(rt, &error),
         Err(WordsError::Block(position)) => {
             let _ = eprintln!(rt; "block {position} BlockForm");
             let _ = rt.eprintln(BLOCK_FORM);
@@ -108,7 +133,9 @@ fn main(rt: HostRuntime) -> ExitCode {
     let code = match texts_of(&rt) {
         Ok(texts) => answer(&rt, texts.as_slice()),
         Err(2) => {
-            let _ = rt.eprintln("error: a word of the command line is no text (UTF-8)");
+            let _ = rt.eprintln(
+                "error: each word of the command line must be a text in UTF-8, and some word is none",
+            );
             2
         }
         Err(status) => status,

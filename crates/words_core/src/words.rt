@@ -1,4 +1,4 @@
-//! The command line of the program `goose`. The parser of words, `clap`, is named here alone.
+//! The command line of the program `goose`. The parser of words, `clap`, is called here alone.
 ghost use Rattle.std.specs.Prelude.{◌≡◌, ◌≢◌, ℕ, true, false, codes, option_map, Some, [], IfOk, IfErr, Err, Ok, option_and_then};
 ghost use Rattle.clap.specs.Words.{all_of, app_of, found_of, kind_of, new_app, rows_of, rule_of, subcommand_rows_of, takes, with_subcommand};
 ghost use Rattle.clap.specs.Walk.{texts};
@@ -51,13 +51,25 @@ pub enum WordsError {
     Memory,
 }
 
-// What each subcommand's help ends with.
-const MORE: &str =
-    "Moments in the input are microseconds where its first line is V2, else milliseconds; in the output they are always microseconds.\nExit status: 0 done, 1 something was found, 2 wrong arguments, 3 an error in the input, 4 a device failed while reading or writing, 5 out of memory.\nMore: docs/FORMATS.md, man docs/goose.1";
+// What the help of `show` and of `publish` ends with: they find nothing to be told by a status.
+const SHOW_MORE: &str =
+    "Moments in the input are microseconds where its first line is V2, else milliseconds; in the output they are always microseconds.\nExit status: 0 done, 2 wrong arguments, 3 an error in the input, 4 a device failed while reading or writing, 5 out of memory.\nMore: docs/FORMATS.md, man docs/goose.1";
 
-// What the help of `check` ends with besides: an encoding is no error.
+// What the help of `check` ends with: an encoding is no error.
 const CHECK_MORE: &str =
     "A line fault is an error of the frame. A line not-written is a note and no error: the frame is good, but encoded otherwise than rewrite would write it. A line destination is a note too: the frame is sent to another address than the standards recommend.\n\nMoments in the input are microseconds where its first line is V2, else milliseconds.\nExit status: 0 nothing to note, 1 a line was written for some frame, 2 wrong arguments, 3 an error in the input, 4 a device failed while reading or writing, 5 out of memory.\nMore: docs/FORMATS.md, man docs/goose.1";
+
+// What the help of `rewrite` ends with.
+const REWRITE_MORE: &str =
+    "Moments in the input are microseconds where its first line is V2, else milliseconds; in the output they are always microseconds.\nExit status: 0 done, 1 some frame was written with its own octets, 2 wrong arguments, 3 an error in the input, 4 a device failed while reading or writing, 5 out of memory.\nMore: docs/FORMATS.md, man docs/goose.1";
+
+// What the help of `replay` ends with.
+const REPLAY_MORE: &str =
+    "Moments in the input are microseconds where its first line is V2, else milliseconds.\nExit status: 0 done, 2 wrong arguments, 3 an error in the input, or two blocks have one APPID and gocbRef, 4 a device failed while reading or writing, 5 out of memory.\nMore: docs/FORMATS.md, man docs/goose.1";
+
+// What the help of `watch` ends with.
+const WATCH_MORE: &str =
+    "Moments in the input are microseconds where its first line is V2, else milliseconds.\nExit status: 0 each line says first or next, 1 some line says another word, 2 wrong arguments, 3 an error in the input, 4 a device failed while reading or writing, 5 out of memory.\nMore: docs/FORMATS.md, man docs/goose.1";
 
 // What the help of `import` ends with: a capture has a unit of its own.
 const IMPORT_MORE: &str =
@@ -114,7 +126,7 @@ fn with_replay<'a>(alloc: Global, program: Command<'a>) -> Result<Command<'a>, A
 {
     let replay = Command::new(alloc, "replay")
         .before_help("Example: goose replay 0001,G,D,,1,1 < examples/repeated_frames.list")
-        .after_help(MORE)
+        .after_help(REPLAY_MORE)
         .about("Shows what a device that subscribes to control blocks makes of each frame")
         .arg(block_words(alloc))?;
     program.subcommand(replay)
@@ -153,7 +165,7 @@ fn with_watch<'a>(alloc: Global, program: Command<'a>) -> Result<Command<'a>, Al
 {
     let watch = Command::new(alloc, "watch")
         .before_help("Example: goose watch --period 4000 --id MU01 < examples/sample_counts.list")
-        .after_help(MORE)
+        .after_help(WATCH_MORE)
         .about("Shows each sample of one stream, and whether its count is the next one")
         .arg(period_option(alloc))?
         .arg(id_option(alloc))?;
@@ -171,7 +183,7 @@ fn command<'a>(alloc: Global) -> Result<Command<'a>, AllocError>
         "show",
         "Shows each event on one line: every field of a frame, or its first error",
         "Example: goose show < examples/one_frame.list",
-        MORE,
+        SHOW_MORE,
     )?;
     let program = with_plain(
         alloc,
@@ -187,7 +199,7 @@ fn command<'a>(alloc: Global) -> Result<Command<'a>, AllocError>
         "rewrite",
         "Writes the list again, each good frame in its canonical encoding",
         "Example: goose rewrite < examples/long_lengths.list",
-        MORE,
+        REWRITE_MORE,
     )?;
     let program = with_replay(alloc, program)?;
     let program = with_plain(
@@ -196,7 +208,7 @@ fn command<'a>(alloc: Global) -> Result<Command<'a>, AllocError>
         "publish",
         "Reads a script and writes the list of frames that a publisher sends",
         "Example: goose publish < examples/publisher.script",
-        MORE,
+        SHOW_MORE,
     )?;
     let program = with_watch(alloc, program)?;
     with_plain(
