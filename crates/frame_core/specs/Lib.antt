@@ -21,5 +21,6 @@ pub mod GooseFrame
 pub mod FrameFault
 pub mod FrameReading
 pub mod Written
+pub mod WrittenTest
 pub mod Laws
 pub mod Decimal

@@ -1,5 +1,5 @@
 -- One event of a list, and a run of steps: the entries of the whole list.
-use Rattle.std.proofs.Common.{◌≡◌, ℕ, zero, suc, ◌+◌, inl, max, Bool, List, [], ◌∷◌, ◌++◌, length, map, Some, slice_get, replicate, sym, refl, ap, ◌∙◌, subst, arith, append_assoc, append-nil}
+use Rattle.std.proofs.Common.{◌≡◌, ℕ, zero, suc, ◌+◌, inl, max, Bool, List, [], ◌∷◌, ◌++◌, length, map, Some, slice_get, replicate, sym, refl, ap, ◌∙◌, subst, arith, append_assoc}
 use Rattle.std.proofs.lemmas.Option.{none-some, same_Some}
 use Rattle.std.proofs.lemmas.List.{length-replicate, length_push}
 use Rattle.frame_core.specs.declared.event.Event.{Event}
@@ -15,7 +15,7 @@ use Rattle.subscribe_core.specs.Sight.{trace_of_block}
 use Rattle.subscribe_core.specs.Standing.{State, StandsAfterRead, StandsAfter, fresh_state, idle}
 use Rattle.subscribe_core.specs.Steps.{registers_by, step_entries, step_state, state_after, run_events}
 use Rattle.subscribe_core.proofs.Alone.{read_entries_are_one, read_blocks_are_alone}
-use Rattle.subscribe_core.proofs.Readings.{all_read, is_read, reads_one, read_append, read_length}
+use Rattle.subscribe_core.proofs.Readings.{all_read, reads_one, read_append, read_length}
 use Rattle.subscribe_core.proofs.Stay.{read_entries_stay}
 use Rattle.subscribe_core.proofs.Whole.{step_ok}
 
@@ -124,21 +124,6 @@ entries_exist blocks events = runs_are_whole blocks events
 
 -- what is kept after events
 
-pub kept_blocks : {A : Type 0} (es : List EventRead) (s : State A) → (state_after s es).blocks ≡ s.blocks
-kept_blocks [] s = refl
-kept_blocks (e ∷ es) s = kept_blocks es (step_state s e)
-
-pub kept_sizes : {A : Type 0} (es : List EventRead) (s : State A) → length s.registers ≡ length s.blocks → length (state_after s es).registers ≡ length (state_after s es).blocks
-kept_sizes [] s same = same
-kept_sizes (e ∷ es) s same = kept_sizes es (step_state s e) (registers_length (max s.moment e.moment) s.mode e.content s.blocks s.registers same)
-
 pub state_push : {A : Type 0} (es : List EventRead) (e : EventRead) (s : State A) → state_after s (es ++ e ∷ []) ≡ step_state (state_after s es) e
 state_push [] e s = refl
 state_push (x ∷ es) e s = state_push es e (step_state s x)
-
-stands_from : {A : Type 0} (es before : List (Event A)) (s : State A) → length s.registers ≡ length s.blocks → StandsAfter before s → StandsAfter (before ++ es) (state_after s (map reading_of es))
-stands_from [] before s same w = subst (λ (l : List (Event _)). StandsAfter l s) (sym (append-nil before)) w
-stands_from (e ∷ es) before s same w =
-    subst (λ (l : List (Event _)). StandsAfter l (state_after (step_state s (reading_of e)) (map reading_of es))) (append_assoc before (e ∷ []) es)
-    (stands_from es (before ++ e ∷ []) (step_state s (reading_of e)) (registers_length (max s.moment e.moment) s.mode (reading_of e).content s.blocks s.registers same)
-    (stands_step before e (reading_of e) s (is_read e) same w))
