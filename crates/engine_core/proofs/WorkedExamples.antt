@@ -64,6 +64,21 @@ pub lists : AreLists
 unfolding reading items_said decode_pairs encode_with digits told_after frame_at envelope_judged envelope_at
 lists = record { shown = refl; rewritten = refl; checked = refl; none_shown = refl; none_rewritten = refl; none_checked = refl; show_finds = refl; rewrite_finds = refl; check_finds = refl; clock_is_none = refl }
 
+-- the list examples/one_frame.list: `show` of it as docs/FORMATS.md has it, and its octets stand written
+abbrev one_frame : List ℕ
+one_frame = codes "# A frame of a publisher G: status number 1, sequence number 0, one boolean.\nF 0 010ccd01000102000000000188b80001003500000000612b800147810207d0820144840800000000000000008501018601008701008801018901008a0101ab038301ff\n"
+
+pub record IsOneFrame : Type 0 where
+  pub shown : written show_text one_frame
+      ≡ codes "2 goose 010ccd010001 020000000001 tag=- appid=0001 r1=0000 r2=0000 ref=\"G\" live=2000 set=\"D\" id=- t=0000000000000000 st=1 sq=0 sim=false rev=1 com=false {true} trailer=-\n"
+  pub rewritten : written rewrite_text one_frame
+      ≡ codes "V2\nF 0 010ccd01000102000000000188b80001003500000000612b800147810207d0820144840800000000000000008501018601008701008801018901008a0101ab038301ff\n"
+  pub checked : written check_text one_frame ≡ []
+
+frame_shown : IsOneFrame
+unfolding reading items_said decode_pairs encode_with digits told_after frame_at envelope_judged envelope_at goose_at required_at there_at header_at length_at number_in members_in integer_at any_integer_at boolean_at all_visible_at utc_at members_at members_with member_at member_with kind_at simple_at written_element short_length short_integer integer_size
+frame_shown = record { shown = refl; rewritten = refl; checked = refl }
+
 -- ---- notes on a frame
 
 -- a frame of GOOSE behind its destination, whose one member is true, and this octet says so

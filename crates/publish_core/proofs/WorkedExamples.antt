@@ -1,10 +1,16 @@
--- A few numbers, and what short lists of calls give, computed.
-use Rattle.std.proofs.Common.{◌≡◌, ℕ, false, Option, None, Some, List, [], ◌∷◌, refl}
-use Rattle.mms_data.specs.Data.{simple, unsigned}
+-- A few numbers, what short lists of calls give, and why changes are refused, computed.
+use Rattle.std.proofs.Common.{◌≡◌, ℕ, ◌-◌, ◌^◌, false, true, Option, None, Some, List, [], ◌∷◌, refl}
+use Rattle.std.specs.Prelude.{replicate}
+use Rattle.ber_core.specs.ContentsReading.{all_visible_at}
+use Rattle.ber_core.specs.Written.{integer_size, short_integer, short_length, written_element}
+use Rattle.mms_data.specs.Data.{Data, boolean, octets, simple, unsigned}
 use Rattle.frame_core.specs.declared.frame.Frame.{Frame}
 use Rattle.publish_core.specs.declared.control.Control.{Control}
+use Rattle.publish_core.specs.declared.fault.PublishFault.{PublishFault}
+use Rattle.publish_core.specs.declared.fault.PublishFault.TheVariants as faults
 use Rattle.publish_core.specs.declared.table.Step.{Step}
 use Rattle.publish_core.specs.Frames.{change, frame_with, setup}
+use Rattle.publish_core.specs.Judgement.{refusal}
 use Rattle.publish_core.specs.Numbers.{number_behind, sequence_number, state_number}
 use Rattle.publish_core.specs.Run.{Call, Changed, Polled, call}
 use Rattle.publish_core.specs.Step.{fresh_publisher, run_calls}
@@ -65,3 +71,22 @@ retransmissions = refl
 next_state : given (say 20000 5 ∷ say 20001 6 ∷ ask 3 ∷ ask 30001 ∷ [])
     ≡ sent 20000 5 4294967295 0 2000 ∷ sent 20001 6 1 0 2000 ∷ None ∷ sent 20001 6 1 1 3000 ∷ []
 next_state = refl
+
+-- why the change to these values is refused, if it is
+abbrev refused_for : List Data → Option PublishFault
+refused_for values = refusal control steps 1 (change (record { seconds = 0; fraction = 0; quality = 0 }) values)
+
+-- 1,438 octets are the most with which every frame fits. With one more the first frame still does; its retransmissions with
+-- the sequence number 4294967295, which is written in four octets more, do not.
+pub record AreRefused : Type 0 where
+  pub accepted : refused_for (simple (boolean true) ∷ []) ≡ None
+  pub no_value : refused_for [] ≡ Some faults.EntriesDiffer
+  pub two_values : refused_for (simple (boolean true) ∷ simple (boolean true) ∷ []) ≡ Some faults.EntriesDiffer
+  pub too_great : refused_for (simple (unsigned (2 ^ 64)) ∷ []) ≡ Some faults.NotSpellable
+  pub greatest : refused_for (simple (unsigned (2 ^ 64 - 1)) ∷ []) ≡ None
+  pub longest : refused_for (simple (octets (replicate 1438 0)) ∷ []) ≡ None
+  pub too_long : refused_for (simple (octets (replicate 1439 0)) ∷ []) ≡ Some faults.WouldNotFit
+
+are_refused : AreRefused
+unfolding all_visible_at written_element short_length short_integer integer_size
+are_refused = record { accepted = refl; no_value = refl; two_values = refl; too_great = refl; greatest = refl; longest = refl; too_long = refl }

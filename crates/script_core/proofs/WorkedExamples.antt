@@ -2,6 +2,13 @@
 use Rattle.std.proofs.Common.{◌≡◌, false, true, None, Some, [], ◌∷◌, Ok, Err, refl}
 use Rattle.std.specs.Prelude.{codes}
 use Rattle.hex.specs.Hex.{decode_pairs}
+use Rattle.ber_core.specs.ContentsReading.{all_visible_at, boolean_at}
+use Rattle.ber_core.specs.Reading.{header_at, length_at}
+use Rattle.ber_core.specs.declared.fault.Cause.TheVariants as causes
+use Rattle.mms_data.specs.ContentsReading.{simple_at}
+use Rattle.mms_data.specs.Data.{boolean, simple}
+use Rattle.mms_data.specs.Kinds.{kind_at}
+use Rattle.mms_data.specs.Reading.{member_at, member_with, members_at, members_with}
 use Rattle.frame_core.specs.declared.event_lines.MomentUnit.TheVariants.{Milliseconds, Microseconds}
 use Rattle.script_core.specs.BlockText.{block_in}
 use Rattle.script_core.specs.Commas.{number_by, text_in, word_in}
@@ -58,3 +65,36 @@ pub record AreLines : Type 0 where
 lines : AreLines
 unfolding decode_pairs
 lines = record { comment = refl; step = refl; no_wait = refl; short_life = refl; step_17 = refl; late_step = refl; poll = refl; fine_poll = refl; early_poll = refl; no_moment = refl; odd = refl; version = refl }
+
+-- the control line and a change of docs/FORMATS.md, each with what makes it a fault
+pub record AreKept : Type 0 where
+  pub control : script_said {A = Unit {0}} First (codes "control,010ccd010001,020000000001,,0001,G,D,,1,1,0,0,1")
+      ≡ Ok (
+        Some (item.Control (record {
+          destination = 0x01 ∷ 0x0c ∷ 0xcd ∷ 0x01 ∷ 0x00 ∷ 0x01 ∷ [];
+          source = 0x02 ∷ 0x00 ∷ 0x00 ∷ 0x00 ∷ 0x00 ∷ 0x01 ∷ [];
+          tag = None;
+          app_id = 1;
+          gocb_ref = codes "G";
+          dat_set = codes "D";
+          go_id = None;
+          conf_rev = 1;
+          entries = 1;
+          simulation = false;
+          nds_com = false;
+        }) 1),
+        After Milliseconds (part.Steps 0),
+      )
+  pub first_zero : line_said {A = Unit {0}} Milliseconds part.Control (codes "control,010ccd010001,020000000001,,0001,G,D,,1,1,0,0,0") ≡ Err cause.FirstState
+  pub field_less : line_said {A = Unit {0}} Milliseconds part.Control (codes "control,010ccd010001,020000000001,,0001,G,D,,1,1,0,0") ≡ Err cause.ScriptForm
+  pub second_control : line_said {A = Unit {0}} Milliseconds (part.Steps 0) (codes "control,010ccd010001,020000000001,,0001,G,D,,1,1,0,0,1") ≡ Err cause.ScriptForm
+  pub change : script_said {A = Unit {0}} (After Milliseconds part.Calls) (codes "change,1500,0000000000000000,830100")
+      ≡ Ok (Some (item.Change 1500000 (record { seconds = 0; fraction = 0; quality = 0 }) (simple (boolean false) ∷ [])), After Milliseconds part.Calls)
+  pub first_change : script_said {A = Unit {0}} (After Microseconds (part.Steps 2)) (codes "change,7,010203040506070a,8301ff830100")
+      ≡ Ok (Some (item.Change 7 (record { seconds = 0x01020304; fraction = 0x050607; quality = 0x0a }) (simple (boolean true) ∷ simple (boolean false) ∷ [])), After Microseconds part.Calls)
+  pub no_members : line_said {A = Unit {0}} Milliseconds part.Calls (codes "change,0,0000000000000000,") ≡ Ok (Some (item.Change 0 (record { seconds = 0; fraction = 0; quality = 0 }) []), part.Calls)
+  pub bad_members : line_said {A = Unit {0}} Milliseconds part.Calls (codes "change,0,0000000000000000,8301") ≡ Err (cause.Members (record { place = 1; cause = causes.LengthPastEnd }))
+
+kept : AreKept
+unfolding decode_pairs members_at members_with member_at member_with kind_at header_at length_at simple_at boolean_at all_visible_at
+kept = record { control = refl; first_zero = refl; field_less = refl; second_control = refl; change = refl; first_change = refl; no_members = refl; bad_members = refl }
