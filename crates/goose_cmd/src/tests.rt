@@ -12,6 +12,7 @@ mod publishing;
 mod refused_memory;
 mod replaying;
 mod rewriting;
+mod script_memory;
 mod scripts;
 mod showing;
 mod watching;

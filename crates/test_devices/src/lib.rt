@@ -150,9 +150,9 @@ impl Read for Endless {
 
 /// Takes nothing.
 #[derive(Drop)]
-pub struct Full;
+pub struct FullDisk;
 
-impl Write for Full {
+impl Write for FullDisk {
     fn write(&mut self, _buf: &[u8]) -> io::Result<usize> {
         Ok(0)
     }
@@ -181,9 +181,18 @@ impl Write for CountsLines {
     }
 }
 
-/// Fails at its first call alone: a second one would be answered.
+/// Kinds of failure after which others try again, and the one that says nothing.
+pub const KINDS: [io::ErrorKind; 4] = [
+    io::ErrorKind::Interrupted,
+    io::ErrorKind::WouldBlock,
+    io::ErrorKind::TimedOut,
+    io::ErrorKind::Other,
+];
+
+/// Fails with this kind at its first call alone: a second one would be answered.
 #[derive(Drop)]
 pub struct FailsOnce {
+    pub kind: io::ErrorKind,
     pub calls: u64,
 }
 
@@ -191,7 +200,7 @@ impl Read for FailsOnce {
     fn read(&mut self, buf: &mut [u8]) -> io::Result<usize> {
         self.calls = self.calls.saturating_add(1);
         if self.calls == 1 {
-            return Err(io::Error::from(io::ErrorKind::Interrupted));
+            return Err(io::Error::from(self.kind));
         }
         buf.fill(b'#');
         Ok(buf.len())
@@ -202,7 +211,7 @@ impl Write for FailsOnce {
     fn write(&mut self, buf: &[u8]) -> io::Result<usize> {
         self.calls = self.calls.saturating_add(1);
         if self.calls == 1 {
-            return Err(io::Error::from(io::ErrorKind::Interrupted));
+            return Err(io::Error::from(self.kind));
         }
         Ok(buf.len())
     }

@@ -141,7 +141,7 @@ fn octets(numbers: Numbers, place: usize, octet: u8) -> [u8; 67] {
 }
 
 /// Octets of a frame at a moment in milliseconds.
-pub fn frame_at<A: Allocator>(
+pub fn event_with_frame<A: Allocator>(
     alloc: A,
     moment: u32,
     octets: &[u8],
@@ -163,16 +163,16 @@ fn plain<A: Allocator>(moment: u32, kind: EventKind<A>) -> Event<A> {
 /// The event.
 pub fn event<A: Allocator>(alloc: A, given: Given) -> Result<Event<A>, AllocError> {
     match given {
-        Given::Goose(numbers) => frame_at(alloc, numbers.0, &octets(numbers, 67, 0)),
-        Given::Simulated(numbers) => frame_at(alloc, numbers.0, &octets(numbers, 52, 0xff)),
-        Given::Other(numbers) => frame_at(alloc, numbers.0, &octets(numbers, 15, 2)),
+        Given::Goose(numbers) => event_with_frame(alloc, numbers.0, &octets(numbers, 67, 0)),
+        Given::Simulated(numbers) => event_with_frame(alloc, numbers.0, &octets(numbers, 52, 0xff)),
+        Given::Other(numbers) => event_with_frame(alloc, numbers.0, &octets(numbers, 15, 2)),
         Given::Changed(moment, place, octet) => {
             let numbers = Numbers(moment, 1, 0, 2000);
-            frame_at(alloc, moment, &octets(numbers, place, octet))
+            event_with_frame(alloc, moment, &octets(numbers, place, octet))
         }
-        Given::LastState(moment) => frame_at(alloc, moment, &LAST_STATE),
-        Given::Sampled(moment) => frame_at(alloc, moment, &SAMPLED),
-        Given::Cut(moment) => frame_at(alloc, moment, &FRAME[..66]),
+        Given::LastState(moment) => event_with_frame(alloc, moment, &LAST_STATE),
+        Given::Sampled(moment) => event_with_frame(alloc, moment, &SAMPLED),
+        Given::Cut(moment) => event_with_frame(alloc, moment, &FRAME[..66]),
         Given::Clock(moment) => Ok(plain(moment, EventKind::Clock)),
         Given::Mode(moment, on) => Ok(plain(moment, EventKind::Mode(on))),
     }

@@ -59,6 +59,14 @@ fn memory_is_refused_for_the_texts_of_a_block(rt: HostRuntime) -> Result<(), Fai
             }
             Err(error) => assert!(rt; matches!(error, BlockError::Memory(_))),
         }
+        alloc.allow();
+        let Ok(block) = read_block(&alloc, "0001,G,D,I,1,1") else {
+            return Err("no block, though memory was granted".into());
+        };
+        assert_eq!(rt; block.gocb_ref.as_slice(), b"G".as_slice());
+        assert_eq!(rt; block.dat_set.as_slice(), b"D".as_slice());
+        let go_id = block.go_id.ok_or("no goID")?;
+        assert_eq!(rt; go_id.as_slice(), b"I".as_slice());
     }
     Err("each text was refused memory".into())
 }

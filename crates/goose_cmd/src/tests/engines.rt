@@ -1,4 +1,4 @@
-//! The seven engines, each with an input, and what it writes of it.
+//! The seven engines, each with inputs, and what it writes of them.
 ghost use Rattle.std.specs.Prelude.{◌≡◌, false};
 ghost use Rattle.frame_core.specs.declared.device.InputEnd.{InputEnd};
 
@@ -6,9 +6,9 @@ use crate::{Ending, check, import, publish, read_block, replay, rewrite, show, w
 use frame_core::{Sink, Source};
 use std::alloc::Allocator;
 
-/// An engine.
+/// An engine, and which input it is given: one without a fault of its lines, or, where a list ends by one, `FAULTY`.
 #[derive(Clone, Copy)]
-pub(super) enum Engine {
+pub(super) enum Example {
     Show,
     Rewrite,
     Check,
@@ -16,75 +16,111 @@ pub(super) enum Engine {
     Replay,
     Watch,
     Import,
+    FaultyShow,
+    FaultyRewrite,
+    FaultyCheck,
+    FaultyReplay,
+    FaultyWatch,
 }
 
 /// All of them.
-pub(super) const ENGINES: [Engine; 7] = [
-    Engine::Show,
-    Engine::Rewrite,
-    Engine::Check,
-    Engine::Publish,
-    Engine::Replay,
-    Engine::Watch,
-    Engine::Import,
+pub(super) const EXAMPLES: [Example; 12] = [
+    Example::Show,
+    Example::Rewrite,
+    Example::Check,
+    Example::Publish,
+    Example::Replay,
+    Example::Watch,
+    Example::Import,
+    Example::FaultyShow,
+    Example::FaultyRewrite,
+    Example::FaultyCheck,
+    Example::FaultyReplay,
+    Example::FaultyWatch,
 ];
 
-// Three frames: in written form, with a tag and a trailer, and with a wrong count of entries.
+// Four frames in written form: with a goID and members of many kinds, of which texts have quotes; with a tag and a trailer;
+// of Sampled Values, one ASDU of all fields and one of few; and with a wrong count of entries.
 const FRAMES: &[u8] =
-    b"F 0 010ccd01000102000000000188b80001003500000000612b800147810207d0820144840800000000000000008501018601008701008801018901008a0101ab038301ff\nF 1 010ccd0100010200000000018100800088b80001003500000000612b800147810207d0820144840800000000000000008501018601008701008801018901008a0101ab038301ff00000000\nF 2 010ccd01000102000000000188b80001003500000000612b800147810207d0820144840800000000000000008501018601008701008801018901008a0102ab038301ff\n";
+    b"F 0 010ccd01000102000000000188b80001005d000000006153800147810207d0820144830349225c840800000000000000008501018601008701008801018901008a0106ab268a046122625c840204a0a20ba1068501fb86010783010084010089009108600000018000000a\nF 1 010ccd0100010200000000018100800088b80001003500000000612b800147810207d0820144840800000000000000008501018601008701008801018901008a0101ab038301ff00000000\nF 2 010ccd04000102000000000188ba40000052000000006048800102a243302b80015381014482020f9e8304000000018408600000018000000a85010286020fa08702002a880100890107301480015382020f9e8304000000018501028702002a\nF 3 010ccd01000102000000000188b80001003500000000612b800147810207d0820144840800000000000000008501018601008701008801018901008a0102ab038301ff\n";
+
+// A list that ends by a fault: a frame with a boolean that is not in written form, one of Sampled Values, and an odd count
+// of digits.
+const FAULTY: &[u8] =
+    b"F 0 010ccd01000102000000000188b80001003500000000612b800147810207d0820144840800000000000000008501018601008701008801018901008a0101ab03830101\nF 1 010ccd04000102000000000188ba4000002800000000601e800101a2193017800153820200038304000000018501028702002a880100\nF 2 0\nC 3\n";
 
 // An input of more than one line, or record.
-pub(super) fn input_of(engine: Engine) -> &'static [u8] {
-    match engine {
-        Engine::Show | Engine::Rewrite => FRAMES,
-        Engine::Check => b"F 0 00\nC 1\nF 2 0000\n",
-        Engine::Publish => {
+pub(super) fn input_of(example: Example) -> &'static [u8] {
+    match example {
+        Example::Show | Example::Rewrite => FRAMES,
+        Example::Check => b"F 0 00\nC 1\nF 2 0000\n",
+        Example::Publish => {
             b"control,010ccd010001,020000000001,,0001,G,D,,1,1,0,0,1\nstep,10,2000\nstep,1000,3000\nchange,0,0000000000000000,8301ff\npoll,9\npoll,10\npoll,1009\npoll,1010\nchange,1500,0000000000000000,830100\n"
         }
-        Engine::Replay => {
-            b"F 0 010ccd01000102000000000188b80001003500000000612b800147810207d0820144840800000000000000008501018601008701008801018901008a0101ab038301ff\nF 1 010ccd01000102000000000188b80001003500000000612b800147810207d0820144840800000000000000008501018601008701008801018901008a0101ab038301ff\nF 2 010ccd01000102000000000188b80001003500000000612b800147810207d0820144840800000000000000008501038601008701008801018901008a0101ab038301ff\n"
+        Example::Replay => {
+            b"F 0 010ccd01000102000000000188b80001003500000000612b800147810207d0820144840800000000000000008501018601008701008801018901008a0101ab038301ff\nF 1 010ccd01000102000000000188b80001003500000000612b800147810207d0820144840800000000000000008501018601008701008801018901008a0101ab038301ff\nM 2 on\nF 3 010ccd01000102000000000188b80001003500000000612b800147810203e8820144840800000000000000008501018601008701ff8801018901008a0101ab038301ff\nF 4 010ccd01000102000000000188b80001003500000000612b800147810207d0820144840800000000000000008501038601008701008801018901008a0101ab038301ff\nM 5 off\nF 6 010ccd01000102000000000188b80001003500000000612b800147810207d0820144840800000000000000008501038601048701008801018901008a0101ab038301ff\nF 7 010ccd01000102000000000188b80001003500000000612b800147810207d0820144840800000000000000008501038601058701008801028901008a0101ab038301ff\nC 2006\nF 2007 010ccd04000102000000000188ba4000002800000000601e800101a2193017800153820200038304000000018501028702002a880100\nF 2008 00\n"
         }
-        Engine::Watch => {
+        Example::Watch => {
             b"F 0 010ccd04000102000000000188ba40000041000000006037800102a2323017800153820200038304000000018501028702002a8801003017800153820200048304000000018501028702002a880100\nF 1 010ccd04000102000000000188ba4000002800000000601e800101a2193017800153820200078304000000018501028702002a880100\n"
         }
-        Engine::Import => {
+        Example::Import => {
             b"\xd4\xc3\xb2\xa1\x02\x00\x04\x00\x00\x00\x00\x00\x00\x00\x00\x00\xff\xff\x00\x00\x01\x00\x00\x00\x00\x00\x00\x00\x00\x00\x00\x00\x00\x00\x00\x00\x00\x00\x00\x00\x05\x00\x00\x00\x06\x00\x00\x00\x03\x00\x00\x00\x09\x00\x00\x00\xaa\xbb\xcc"
         }
+        Example::FaultyShow
+        | Example::FaultyRewrite
+        | Example::FaultyCheck
+        | Example::FaultyReplay
+        | Example::FaultyWatch => FAULTY,
     }
 }
 
 // What the engine writes of its input.
-pub(super) fn text_of(engine: Engine) -> &'static [u8] {
-    match engine {
-        Engine::Show => {
-            b"1 goose 010ccd010001 020000000001 tag=- appid=0001 r1=0000 r2=0000 ref=\"G\" live=2000 set=\"D\" id=- t=0000000000000000 st=1 sq=0 sim=false rev=1 com=false {true} trailer=-\n2 goose 010ccd010001 020000000001 tag=8000 appid=0001 r1=0000 r2=0000 ref=\"G\" live=2000 set=\"D\" id=- t=0000000000000000 st=1 sq=0 sim=false rev=1 com=false {true} trailer=00000000\n3 fault 59 EntryCount\n"
+pub(super) fn text_of(example: Example) -> &'static [u8] {
+    match example {
+        Example::Show => {
+            b"1 goose 010ccd010001 020000000001 tag=- appid=0001 r1=0000 r2=0000 ref=\"G\" live=2000 set=\"D\" id=\"I\\\"\\\\\" t=0000000000000000 st=1 sq=0 sim=false rev=1 com=false {\"a\\\"b\\\\\" bits:1010 ([int:-5 uint:7] false) bits: oct: utc:600000018000000a} trailer=-\n2 goose 010ccd010001 020000000001 tag=8000 appid=0001 r1=0000 r2=0000 ref=\"G\" live=2000 set=\"D\" id=- t=0000000000000000 st=1 sq=0 sim=false rev=1 com=false {true} trailer=00000000\n3 sv 010ccd040001 020000000001 tag=- appid=4000 r1=0000 r2=0000 {(id=\"S\" set=\"D\" cnt=3998 rev=1 t=600000018000000a synch=2 rate=4000 sample=002a mod=00 f89=07) (id=\"S\" set=- cnt=3998 rev=1 t=- synch=2 rate=- sample=002a mod=- f89=-)} trailer=-\n4 fault 59 EntryCount\n"
         }
-        Engine::Rewrite => {
-            b"V2\nF 0 010ccd01000102000000000188b80001003500000000612b800147810207d0820144840800000000000000008501018601008701008801018901008a0101ab038301ff\nF 1000 010ccd0100010200000000018100800088b80001003500000000612b800147810207d0820144840800000000000000008501018601008701008801018901008a0101ab038301ff00000000\nF 2000 010ccd01000102000000000188b80001003500000000612b800147810207d0820144840800000000000000008501018601008701008801018901008a0102ab038301ff\n"
+        Example::Rewrite => {
+            b"V2\nF 0 010ccd01000102000000000188b80001005d000000006153800147810207d0820144830349225c840800000000000000008501018601008701008801018901008a0106ab268a046122625c840204a0a20ba1068501fb86010783010084010089009108600000018000000a\nF 1000 010ccd0100010200000000018100800088b80001003500000000612b800147810207d0820144840800000000000000008501018601008701008801018901008a0101ab038301ff00000000\nF 2000 010ccd04000102000000000188ba40000052000000006048800102a243302b80015381014482020f9e8304000000018408600000018000000a85010286020fa08702002a880100890107301480015382020f9e8304000000018501028702002a\nF 3000 010ccd01000102000000000188b80001003500000000612b800147810207d0820144840800000000000000008501018601008701008801018901008a0102ab038301ff\n"
         }
-        Engine::Check => b"1 fault 1 Truncated\n3 fault 2 Truncated\n",
-        Engine::Publish => {
+        Example::Check => b"1 fault 1 Truncated\n3 fault 2 Truncated\n",
+        Example::Publish => {
             b"V2\nF 0 010ccd01000102000000000188b80001003500000000612b800147810207d0820144840800000000000000008501018601008701008801018901008a0101ab038301ff\nF 10000 010ccd01000102000000000188b80001003500000000612b80014781020bb8820144840800000000000000008501018601018701008801018901008a0101ab038301ff\nF 1010000 010ccd01000102000000000188b80001003500000000612b80014781020bb8820144840800000000000000008501018601028701008801018901008a0101ab038301ff\nF 1500000 010ccd01000102000000000188b80001003500000000612b800147810207d0820144840800000000000000008501028601008701008801018901008a0101ab03830100\n"
         }
-        Engine::Replay => {
-            b"1 act 0 st=1 sq=0 t=0000000000000000 {true}\n2 repeated 0 st=1 sq=0\n3 act 0 st=3 sq=0 t=0000000000000000 {true}\n"
+        Example::Replay => {
+            b"1 act 0 st=1 sq=0 t=0000000000000000 {true}\n2 repeated 0 st=1 sq=0\n4 switched 0\n4 act 0 st=1 sq=0 t=0000000000000000 {true}\n5 refused 0 Simulated\n6 switched 0\n7 act 0 st=3 sq=4 t=0000000000000000 {true}\n8 refused 0 ConfRev\n9 expired 0\n10 sampled\n11 fault 1 Truncated\n"
         }
-        Engine::Watch => b"1 0 3 first\n1 1 4 next\n2 0 7 skipped 2\n",
-        Engine::Import => b"V2\n# record 1 of 0 octets left out\nF 5000006 aabbcc\n",
+        Example::Watch => b"1 0 3 first\n1 1 4 next\n2 0 7 skipped 2\n",
+        Example::Import => b"V2\n# record 1 of 0 octets left out\nF 5000006 aabbcc\n",
+        Example::FaultyShow => {
+            b"1 goose 010ccd010001 020000000001 tag=- appid=0001 r1=0000 r2=0000 ref=\"G\" live=2000 set=\"D\" id=- t=0000000000000000 st=1 sq=0 sim=false rev=1 com=false {true} trailer=-\n2 sv 010ccd040001 020000000001 tag=- appid=4000 r1=0000 r2=0000 {(id=\"S\" set=- cnt=3 rev=1 t=- synch=2 rate=- sample=002a mod=00 f89=-)} trailer=-\n3 list Hex\n"
+        }
+        Example::FaultyRewrite => {
+            b"V2\nF 0 010ccd01000102000000000188b80001003500000000612b800147810207d0820144840800000000000000008501018601008701008801018901008a0101ab038301ff\nF 1000 010ccd04000102000000000188ba4000002800000000601e800101a2193017800153820200038304000000018501028702002a880100\n# 3 list Hex\n"
+        }
+        Example::FaultyCheck => b"1 not-written\n3 list Hex\n",
+        Example::FaultyReplay => {
+            b"1 act 0 st=1 sq=0 t=0000000000000000 {true}\n2 sampled\n3 list Hex\n"
+        }
+        Example::FaultyWatch => b"2 0 3 first\n3 list Hex\n",
     }
 }
 
 // With what it ends then.
-pub(super) fn ending_of(engine: Engine) -> Ending {
-    match engine {
-        Engine::Show | Engine::Publish | Engine::Replay => Ending::Done,
-        _ => Ending::Findings,
+pub(super) fn ending_of(example: Example) -> Ending {
+    match example {
+        Example::Show | Example::Publish | Example::Replay => Ending::Done,
+        Example::Rewrite | Example::Check | Example::Watch | Example::Import => Ending::Findings,
+        _ => Ending::InputFault,
     }
 }
 
 // Whether its text begins with `V2`, which is written before anything is read.
-pub(super) fn begins_with_version(engine: Engine) -> bool {
-    matches!(engine, Engine::Rewrite | Engine::Publish | Engine::Import)
+pub(super) fn begins_with_version(example: Example) -> bool {
+    matches!(
+        example,
+        Example::Rewrite | Example::Publish | Example::Import | Example::FaultyRewrite
+    )
 }
 
 // Replays with one block. Want of memory for the block counts as the run's.
@@ -108,7 +144,7 @@ fn replay_one<A: Allocator + Copy, R: Source, W: Sink>(
 
 // Runs the engine.
 pub(super) fn run<A: Allocator + Copy, R: Source, W: Sink>(
-    engine: Engine,
+    example: Example,
     alloc: A,
     reader: R,
     writer: &mut W,
@@ -116,13 +152,13 @@ pub(super) fn run<A: Allocator + Copy, R: Source, W: Sink>(
     requires open { R.ending reader ≡ InputEnd.Open }
     requires works { W.failed writer.old ≡ false }
 {
-    match engine {
-        Engine::Show => show(alloc, reader, writer),
-        Engine::Rewrite => rewrite(alloc, reader, writer),
-        Engine::Check => check(alloc, reader, writer),
-        Engine::Publish => publish(alloc, reader, writer),
-        Engine::Replay => replay_one(alloc, reader, writer),
-        Engine::Watch => watch(alloc, reader, 9, b"S", writer),
-        Engine::Import => import(alloc, reader, writer),
+    match example {
+        Example::Show | Example::FaultyShow => show(alloc, reader, writer),
+        Example::Rewrite | Example::FaultyRewrite => rewrite(alloc, reader, writer),
+        Example::Check | Example::FaultyCheck => check(alloc, reader, writer),
+        Example::Publish => publish(alloc, reader, writer),
+        Example::Replay | Example::FaultyReplay => replay_one(alloc, reader, writer),
+        Example::Watch | Example::FaultyWatch => watch(alloc, reader, 9, b"S", writer),
+        Example::Import => import(alloc, reader, writer),
     }
 }

@@ -8,7 +8,7 @@ use std::io;
 use std::io::Read;
 use std::process::Abort;
 use std::test::Fail;
-use test_devices::{CountsLines, Endless, Full, NEVER, sink_of, source_of};
+use test_devices::{CountsLines, Endless, FullDisk, NEVER, sink_of, source_of};
 
 // A header, least significant octets first, of microseconds.
 const HEADER: &[u8; 48] = b"d4c3b2a1020004000000000000000000ffff000001000000";
@@ -258,7 +258,7 @@ fn each_write_that_fails(rt: HostRuntime) -> Result<(), Fail> {
 fn a_writer_that_takes_nothing(rt: HostRuntime) -> Result<(), Fail> {
     let octets = octets_of(rt.alloc(), &[HEADER, HEAD, FRAME])?;
     let source = source_of(octets.as_slice(), 4096, NEVER);
-    let (ending, source) = import(rt.alloc(), source, &mut ToWrite::new(Full));
+    let (ending, source) = import(rt.alloc(), source, &mut ToWrite::new(FullDisk));
     assert_eq!(rt; ending, Ending::WriteFault);
     // `V2` is written before anything is read.
     assert_eq!(rt; source.octets_left(), octets.len());

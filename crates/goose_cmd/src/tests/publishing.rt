@@ -6,7 +6,7 @@ use refusing_alloc::RefusingAlloc;
 use std::alloc::Global;
 use std::process::Abort;
 use std::test::Fail;
-use test_devices::{Full, NEVER, sink_of, source_of};
+use test_devices::{FullDisk, NEVER, sink_of, source_of};
 
 // Two steps, a change, polls before and at the ends of the waits, and a second change.
 const SCRIPT: &[u8] =
@@ -290,7 +290,7 @@ fn each_growth_that_is_refused(rt: HostRuntime) -> Result<(), Fail> {
 #[test]
 fn a_writer_that_takes_nothing(rt: HostRuntime) {
     let source = source_of(SCRIPT, 8192, NEVER);
-    let (ending, source) = publish(rt.alloc(), source, &mut ToWrite::new(Full));
+    let (ending, source) = publish(rt.alloc(), source, &mut ToWrite::new(FullDisk));
     assert_eq!(rt; ending, Ending::WriteFault);
     // `V2` is written before anything is read.
     assert_eq!(rt; source.octets_left(), SCRIPT.len());

@@ -106,6 +106,29 @@ fn a_cut_may_fit_the_field_length(rt: HostRuntime) {
 }
 
 #[test]
+fn a_cut_may_fit_both_lengths(rt: HostRuntime) -> Result<(), Fail> {
+    for (size, place, cause) in [
+        (24u8, 24, Cause::ElementMissing),
+        (25, 25, Cause::Ends),
+        (26, 25, Cause::LengthPastEnd),
+        (27, 27, Cause::ElementMissing),
+        (28, 28, Cause::Ends),
+        (50, 50, Cause::ElementMissing),
+        (53, 53, Cause::ElementMissing),
+        (62, 62, Cause::ElementMissing),
+        (64, 63, Cause::LengthPastEnd),
+        (65, 63, Cause::LengthPastEnd),
+        (66, 63, Cause::LengthPastEnd),
+    ] {
+        let frame = changed_twice(17, size.wrapping_sub(14), 23, size.wrapping_sub(24));
+        let cut = frame.get(..usize::from(size)).ok_or("a longer cut")?;
+        assert_eq!(rt; seen(cut), fault(place, cause), "at {size}");
+        assert_eq!(rt; read(rt.alloc(), cut), fault(place, cause), "at {size}");
+    }
+    Ok(())
+}
+
+#[test]
 fn each_cause_stands_at_its_place(rt: HostRuntime) {
     let cases = [
         (changed(24, 0x9f), 24, Cause::HighTag),

@@ -3,9 +3,9 @@
 ghost use Rattle.std.specs.Prelude.{◌<◌};
 
 use ber_core::{Cause, Fault};
-use frame_core::{decode, view_frame};
+use frame_core::{Frame, decode, encode, view_frame};
 use mms_data::ReadFault;
-use std::alloc::Global;
+use std::alloc::{Allocator, Global};
 use worked_frames::FRAME;
 
 /// `FRAME` with needlessly long lengths and status number: two octets for the APDU's length, four for stNum.
@@ -60,7 +60,7 @@ pub fn with_one_more(size: u8) -> [u8; 68] {
 }
 
 /// Sixteen arrays inside one another, and a boolean inside the last.
-const DEEP: [u8; 35] = [
+pub const DEEP: [u8; 35] = [
     0xa1, 0x21, 0xa1, 0x1f, 0xa1, 0x1d, 0xa1, 0x1b, 0xa1, 0x19, 0xa1, 0x17, 0xa1, 0x15, 0xa1, 0x13,
     0xa1, 0x11, 0xa1, 0x0f, 0xa1, 0x0d, 0xa1, 0x0b, 0xa1, 0x09, 0xa1, 0x07, 0xa1, 0x05, 0xa1, 0x03,
     0x83, 0x01, 0xff,
@@ -95,4 +95,12 @@ pub fn read(alloc: Global, octets: &[u8]) -> Result<(), Fault> {
 /// What is answered where the first fault is this one.
 pub fn fault(place: usize, cause: Cause) -> Result<(), Fault> {
     Err(cause.at(place))
+}
+
+/// Whether the frame's written form is these octets.
+pub fn is_written_as<A: Allocator>(frame: &Frame<A>, octets: &[u8]) -> bool {
+    match encode(frame) {
+        Ok(form) => form.as_slice() == octets,
+        Err(_) => false,
+    }
 }

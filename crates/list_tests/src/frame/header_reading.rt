@@ -89,6 +89,15 @@ fn a_field_length_of_1500_is_read_and_written(rt: HostRuntime) -> Result<(), Fai
     Ok(())
 }
 
+/// The frame with another field Length, and the APDU's length spelled so.
+fn with_length(length: u8, form: &[u8]) -> Result<ArrayVec<u8, 80>, Fail> {
+    let mut octets = ArrayVec::new();
+    octets.try_extend_from_slice(&changed(17, length)[..23])?;
+    octets.try_extend_from_slice(form)?;
+    octets.try_extend_from_slice(&FRAME[24..])?;
+    Ok(octets)
+}
+
 #[test]
 fn each_form_of_the_length_is_read(rt: HostRuntime) -> Result<(), Fail> {
     for (length, form) in [
@@ -98,10 +107,7 @@ fn each_form_of_the_length_is_read(rt: HostRuntime) -> Result<(), Fail> {
         (0x38, &[0x83, 0x00, 0x00, 0x2b]),
         (0x39, &[0x84, 0x00, 0x00, 0x00, 0x2b]),
     ] {
-        let mut octets = ArrayVec::<u8, 80>::new();
-        octets.try_extend_from_slice(&changed(17, length)[..23])?;
-        octets.try_extend_from_slice(form)?;
-        octets.try_extend_from_slice(&FRAME[24..])?;
+        let octets = with_length(length, form)?;
         is_told(&rt, rt.alloc(), octets.as_slice(), Ok(()));
         let frame = decode(rt.alloc(), octets.as_slice())?;
         assert_eq!(rt; encode(&frame)?.as_slice(), FRAME.as_slice());
@@ -114,5 +120,12 @@ fn each_form_of_the_length_is_read(rt: HostRuntime) -> Result<(), Fail> {
     ] {
         is_told(&rt, rt.alloc(), &changed(23, form), fault(23, cause));
     }
+    let five = with_length(0x3a, &[0x85, 0x00, 0x00, 0x00, 0x00, 0x2b])?;
+    is_told(
+        &rt,
+        rt.alloc(),
+        five.as_slice(),
+        fault(23, Cause::LengthForm),
+    );
     Ok(())
 }

@@ -3,7 +3,7 @@
 use frame_core::{FromRead, InputEnd, LineReader, ListCause, ListFault, Source};
 use std::process::Abort;
 use std::test::Fail;
-use test_devices::{Endless, FailsOnce, NEVER, source_of};
+use test_devices::{Endless, FailsOnce, KINDS, NEVER, source_of};
 
 #[test]
 fn lines_come_without_their_endings(rt: HostRuntime) -> Result<(), Fail> {
@@ -88,19 +88,21 @@ fn a_list_has_a_million_lines_at_most(rt: HostRuntime) -> Result<(), Fail> {
 
 #[test]
 fn a_read_that_failed_is_not_tried_again(rt: HostRuntime) -> Result<(), Fail> {
-    let mut device = FailsOnce { calls: 0 };
-    {
-        let mut reader = LineReader::new(FromRead::new(&mut device));
-        for _call in 0..3u8 {
-            assert_eq!(rt;
-                reader.next_line(),
-                Err(ListFault {
-                    line: 1,
-                    cause: ListCause::ReadFailed
-                })
-            );
+    for kind in KINDS {
+        let mut device = FailsOnce { kind, calls: 0 };
+        {
+            let mut reader = LineReader::new(FromRead::new(&mut device));
+            for _call in 0..3u8 {
+                assert_eq!(rt;
+                    reader.next_line(),
+                    Err(ListFault {
+                        line: 1,
+                        cause: ListCause::ReadFailed
+                    })
+                );
+            }
         }
+        assert_eq!(rt; device.calls, 1, "{kind:?}");
     }
-    assert_eq!(rt; device.calls, 1);
     Ok(())
 }

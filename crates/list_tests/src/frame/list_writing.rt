@@ -5,7 +5,7 @@ use mms_data::Octets;
 use std::alloc::Global;
 use std::process::Abort;
 use std::test::Fail;
-use test_devices::{FailsOnce, Full, NEVER, sink_of};
+use test_devices::{FailsOnce, FullDisk, KINDS, NEVER, sink_of};
 
 fn clock(moment: u64) -> Event<Global> {
     Event {
@@ -118,7 +118,7 @@ fn a_failed_write_leaves_a_front_of_the_line(rt: HostRuntime) -> Result<(), Fail
 
 #[test]
 fn a_writer_that_takes_nothing_is_a_fault(rt: HostRuntime) -> Result<(), Fail> {
-    let mut sink = ToWrite::new(Full);
+    let mut sink = ToWrite::new(FullDisk);
     assert_eq!(rt; put_all(&mut sink, b"x"), Err(WriteFault::WriteFailed));
     assert!(rt; sink.has_failed());
     Ok(())
@@ -126,12 +126,14 @@ fn a_writer_that_takes_nothing_is_a_fault(rt: HostRuntime) -> Result<(), Fail> {
 
 #[test]
 fn a_write_that_failed_is_not_tried_again(rt: HostRuntime) -> Result<(), Fail> {
-    let mut device = FailsOnce { calls: 0 };
-    {
-        let mut sink = ToWrite::new(&mut device);
-        assert_eq!(rt; put_all(&mut sink, b"C 1\n"), Err(WriteFault::WriteFailed));
-        assert!(rt; sink.has_failed());
+    for kind in KINDS {
+        let mut device = FailsOnce { kind, calls: 0 };
+        {
+            let mut sink = ToWrite::new(&mut device);
+            assert_eq!(rt; put_all(&mut sink, b"C 1\n"), Err(WriteFault::WriteFailed));
+            assert!(rt; sink.has_failed());
+        }
+        assert_eq!(rt; device.calls, 1, "{kind:?}");
     }
-    assert_eq!(rt; device.calls, 1);
     Ok(())
 }

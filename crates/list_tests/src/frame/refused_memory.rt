@@ -1,24 +1,14 @@
 //! Where memory is refused, at each growth in turn.
 
-use crate::frame::frames::TAGGED;
+use crate::frame::frames::{TAGGED, is_written_as};
 use crate::frame::sampled_frames::TAGGED_SAMPLED;
-use frame_core::{
-    Frame, ListError, ListReader, Source, ToWrite, decode, encode, view_frame, write_event,
-};
-use mms_data::ReadFault;
+use frame_core::{ListError, ListReader, Source, ToWrite, decode, view_frame, write_event};
+use mms_data::{Octets, ReadFault};
 use refusing_alloc::RefusingAlloc;
-use std::alloc::{Allocator, Global};
+use std::alloc::Global;
 use std::process::Abort;
 use std::test::Fail;
 use test_devices::{NEVER, source_of};
-
-/// Whether the frame's written form is these octets.
-fn is_written_as<A: Allocator>(frame: &Frame<A>, octets: &[u8]) -> bool {
-    match encode(frame) {
-        Ok(form) => form.as_slice() == octets,
-        Err(_) => false,
-    }
-}
 
 /// Whether the octets are decoded at once; else they are once memory is granted.
 fn is_decoded_at_once<H: Abort>(
@@ -225,5 +215,19 @@ fn growths_to_make_apdu<H: Abort>(rt: &H, memory: Global, octets: &[u8]) -> Resu
 fn to_apdu_where_each_growth_is_refused(rt: HostRuntime) -> Result<(), Fail> {
     assert!(rt; growths_to_make_apdu(&rt, rt.alloc(), &TAGGED)? > 2);
     assert!(rt; growths_to_make_apdu(&rt, rt.alloc(), &TAGGED_SAMPLED)? > 2);
+    Ok(())
+}
+
+#[test]
+fn octets_that_are_refused_are_granted_later(rt: HostRuntime) -> Result<(), Fail> {
+    let alloc = RefusingAlloc::new(rt.alloc(), 0);
+    assert!(rt; Octets::try_from_slice(&alloc, &TAGGED).is_err());
+    assert!(rt; Octets::try_from_slice(&alloc, &TAGGED).is_err());
+    alloc.allow();
+    let octets = Octets::try_from_slice(&alloc, &TAGGED)?;
+    assert_eq!(rt; octets.as_slice(), TAGGED.as_slice());
+    alloc.refuse_from(0);
+    assert!(rt; Octets::try_from_slice(&alloc, b"")?.as_slice().is_empty());
+    assert!(rt; !alloc.has_refused());
     Ok(())
 }

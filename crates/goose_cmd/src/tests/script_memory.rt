@@ -1,0 +1,127 @@
+//! The lines of a script where memory is refused, at each growth in turn: once it is granted, the same line is read again.
+
+use ber_core::Cause;
+use frame_core::{ItemError, ItemFault, ItemReader, Source};
+use mms_data::Value;
+use publish_core::Control;
+use refusing_alloc::RefusingAlloc;
+use script_core::{ScriptCause, ScriptItem, ScriptLines};
+use std::alloc::{Allocator, Global};
+use std::process::Abort;
+use std::test::Fail;
+use test_devices::{NEVER, source_of};
+
+// A script of each kind of line. The values of its first change are a boolean, two octets, and a structure of a boolean.
+const SCRIPT: &[u8] =
+    b"V2\n# a comment\ncontrol,010ccd010001,020000000001,,0001,G,D,I,1,3,0,0,7\nstep,10,2000\nchange,5,0000000000000000,8301ff89020102a203830100\npoll,6\nchange,7,0000000000000000,8300\n";
+
+// What the reader answers, as far as the answers differ here.
+#[derive(Clone, Copy, Debug, PartialEq, Eq)]
+enum Answer {
+    // The control line of `SCRIPT`, with the status number of its first state.
+    Control(u32),
+    Step(u32, u32),
+    // The first change of `SCRIPT`, at this moment.
+    Change(u64),
+    Poll(u64),
+    Fault(u64, ScriptCause),
+    Memory,
+    Other,
+}
+
+// Whether the values are those of the script's first change.
+fn are_values<A: Allocator>(values: &[Value<A>]) -> bool {
+    match values {
+        [
+            Value::Boolean(true),
+            Value::Octets(octets),
+            Value::Structure(inner),
+        ] => {
+            octets.as_slice() == [1, 2].as_slice()
+                && matches!(inner.as_slice(), [Value::Boolean(false)])
+        }
+        _ => false,
+    }
+}
+
+// Whether the control line has the texts of the script's.
+fn has_its_texts<A: Allocator>(control: &Control<A>) -> bool {
+    let has_its_id = match &control.go_id {
+        Some(id) => id.as_slice() == b"I".as_slice(),
+        None => false,
+    };
+    has_its_id
+        && control.gocb_ref.as_slice() == b"G".as_slice()
+        && control.dat_set.as_slice() == b"D".as_slice()
+}
+
+// What the item says.
+fn item_told<A: Allocator>(item: &ScriptItem<A>) -> Answer {
+    match item {
+        ScriptItem::Control(control, first) if has_its_texts(control) => Answer::Control(*first),
+        ScriptItem::Step(step) => Answer::Step(step.wait_ms, step.live_ms),
+        ScriptItem::Change(moment, _, values) if are_values(values.as_slice()) => {
+            Answer::Change(*moment)
+        }
+        ScriptItem::Poll(moment) => Answer::Poll(*moment),
+        _ => Answer::Other,
+    }
+}
+
+// The next answer.
+fn next_answer<S: Source>(
+    alloc: &RefusingAlloc<Global>,
+    script: &mut ItemReader<S, ScriptLines>,
+) -> Answer {
+    match script.next(alloc) {
+        Ok(Some(item)) => item_told(&item),
+        Err(ItemError::Fault(ItemFault::Line(number, cause))) => Answer::Fault(number, cause),
+        Err(ItemError::Memory(_)) => Answer::Memory,
+        _ => Answer::Other,
+    }
+}
+
+// The next answer where memory is granted at last: a refusal comes twice, and leaves the line's number.
+fn answer_at_last<R: Abort, S: Source>(
+    rt: &R,
+    alloc: &RefusingAlloc<Global>,
+    script: &mut ItemReader<S, ScriptLines>,
+) -> Answer {
+    let number = script.line_number();
+    let answer = next_answer(alloc, script);
+    if answer != Answer::Memory {
+        return answer;
+    }
+    assert!(rt; alloc.has_refused());
+    assert_eq!(rt; script.line_number(), number);
+    assert_eq!(rt; next_answer(alloc, script), Answer::Memory);
+    assert_eq!(rt; script.line_number(), number);
+    alloc.allow();
+    next_answer(alloc, script)
+}
+
+#[test]
+fn each_line_is_read_again(rt: HostRuntime) -> Result<(), Fail> {
+    let fault = Cause::BooleanLength.at(1);
+    for first_refused in 0..100usize {
+        let alloc = RefusingAlloc::new(rt.alloc(), first_refused);
+        let mut script = ItemReader::new(source_of(SCRIPT, 7, NEVER), ScriptLines::First);
+        for (answer, number) in [
+            (Answer::Control(7), 3),
+            (Answer::Step(10, 2000), 4),
+            (Answer::Change(5), 5),
+            (Answer::Poll(6), 6),
+            (Answer::Fault(7, ScriptCause::Members(fault)), 7),
+        ] {
+            let told = answer_at_last(&rt, &alloc, &mut script);
+            assert_eq!(rt; told, answer, "at {first_refused}");
+            assert_eq!(rt; script.line_number(), number, "at {first_refused}");
+        }
+        if !alloc.has_refused() {
+            // Three texts of the control line; of the change the octets, its values, one's octets and another's values.
+            assert!(rt; first_refused >= 7);
+            return Ok(());
+        }
+    }
+    Err("each script was refused memory".into())
+}
