@@ -1,6 +1,6 @@
 """The documents name what there is: modules and words of definitions, files and headings that are linked to; crates.txt
 names the crates that sources use. And they name all of it: each public definition and each public call with a contract
-has a row."""
+has a row, and the row each clause of the call that has a name."""
 import pathlib
 import re
 
@@ -14,8 +14,9 @@ PROGRAM = "goose"
 COMMENTS = {".rt": r"(?m)//.*$", ".antt": r"(?m)--.*$"}
 DECLARED = r"(?:(?:abbrev|unfoldable|opaque) +)*pub +(?:data +|record +)?([^\s:({]+)"
 OWNER = r"(?:pub |unsafe )?(trait|impl)(?:<.*?>)? (.* for )?(\w+)"
-# Of the calls of text_core docs/PROOFS.md says one sentence for all, and has no rows.
-WITHOUT_ROWS = {"text_core"}
+NAMED = r"\bensures\*? (\w+) \{"
+# Of the calls of text_core docs/PROOFS.md says one sentence for all, and has rows for those alone whose clauses have names.
+ROWS = {"text_core": NAMED}
 
 
 class Described:
@@ -53,26 +54,34 @@ def definitions(source):
 
 
 class Claimed:
-    """The calls of one crate that docs/PROOFS.md names stand in the files that it names, with the clauses that it names."""
+    """The calls of one crate that docs/PROOFS.md names stand in the files that it names. They have the clauses that it names,
+    and it names each clause that they have. Those of a call from another crate are named in that one's rows."""
 
     def __init__(self, crate, text):
         self.name, self.text = f"the clauses of {crate}", text
+        self.crate = TOP / "crates" / crate
 
     def why_wrong(self, _program):
         return [why for row in rows(self.text) for why in self.why_row_wrong(*row)]
 
     def why_row_wrong(self, calls, claims, _premise, files):
-        clauses = {}
+        stated, own = {}, set()
         for path in re.findall(r"\]\(([^)]*)\)", files):
-            for name, contract in contracts((PROOFS.parent / path).read_text()):
-                clauses.setdefault(name, set()).update(re.findall(r"ensures\*? (\w+) \{", contract))
-        for call in re.findall(r"`([\w:]+)`", calls):
-            name = call.split("::")[-1]
-            if name not in clauses and name not in ("FromRead", "ToWrite", "EventLines"):
+            file = (PROOFS.parent / path).resolve()
+            here = {}
+            for owner, name, contract in owned_contracts(file.read_text()):
+                here.setdefault((owner, name), set()).update(re.findall(NAMED, contract))
+            stated |= here
+            if file.is_relative_to(self.crate):
+                own |= set(here)
+        told = set(re.findall(r"`([a-z]\w*)`", claims))
+        for call, *names in named_calls(calls):
+            found = next((it for it in names if it in stated), None)
+            if found:
+                yield from (f"{call} has no clause {it}" for it in sorted(told - stated[found]))
+                yield from (f"no word on the clause {it} of {call}" for it in sorted(stated[found] - told) if found in own)
+            elif call not in ("FromRead", "ToWrite", "EventLines"):
                 yield f"there is no {call} in {files}"
-                continue
-            missing = [it for it in re.findall(r"`(\w+)`", claims) if it not in clauses.get(name, ()) and it.islower()]
-            yield from (f"{call} has no clause {it}" for it in missing)
 
 
 class Listed:
@@ -82,6 +91,7 @@ class Listed:
     def __init__(self, crate, text):
         self.name, self.text = f"the public calls of {crate}", text
         self.sources = TOP / "crates" / crate / "src"
+        self.contract = ROWS.get(crate, r"\b(?:requires|ensures)\b")
 
     def why_wrong(self, _program):
         named = {call for row in rows(self.text) for call in full_names(row[0])}
@@ -94,7 +104,7 @@ class Listed:
         for file in sorted(self.sources.rglob("*.rt")):
             for owner, name, contract in owned_contracts(file.read_text()):
                 call = f"{owner}::{name}" if owner in types else public.get((file, name))
-                if call and re.search(r"\b(?:requires|ensures)\b", contract):
+                if call and re.search(self.contract, contract):
                     yield call, file
 
 
@@ -110,6 +120,15 @@ def full_names(calls):
     for call in re.findall(r"`([\w:]+)`", calls):
         owner = call.rpartition("::")[0] or owner
         yield from (call, f"{owner}::{call}")
+
+
+def named_calls(calls):
+    """The calls in a cell, each with what it may be: a call of the owner named last, or one at the margin of a file."""
+    owner = ""
+    for call in re.findall(r"`([\w:]+)`", calls):
+        owner = call.rpartition("::")[0] or owner
+        name = call.split("::")[-1]
+        yield call, (owner, name), (None, name)
 
 
 def public_names(sources):
@@ -215,5 +234,4 @@ def cases():
             yield Described(crate, defined.get(crate, ""))
         if has_definitions or crate in proved:
             yield Claimed(crate, proved.get(crate, ""))
-            if crate not in WITHOUT_ROWS:
-                yield Listed(crate, proved.get(crate, ""))
+            yield Listed(crate, proved.get(crate, ""))
