@@ -21,7 +21,7 @@ FOUND = {
     "rewrite": b"1 some frame was written with its own octets", "watch": b"1 some line says another word",
     "import": b"1 a record was left out",
 }
-# What standard error says behind the message of the parser, by what that says: what would have been right.
+# What would have been right, by what the message of the parser says: it stands behind that, or that says it itself.
 RIGHT = {
     b"unrecognized subcommand": b"\nThe commands are show, check, rewrite, replay, publish, watch and import; ",
     b"unexpected argument": b"\nA list, script or capture is read from standard input: goose COMMAND < FILE; ",
@@ -29,6 +29,8 @@ RIGHT = {
     b"requires a subcommand": b"\n  [subcommands: show, check, rewrite, replay, publish, watch, import]\n",
     b"word of the command line": b" must be a text in UTF-8, ",
     b"required arguments were not provided": b"\nUsage: goose ",
+    b"a value is required": b" but none was supplied\n",
+    b"cannot be used multiple times": b" cannot be used multiple times\n",
 }
 # What standard error says of a text that is no control block, behind its position.
 BLOCK_FORM = b"A BLOCK is APPID,gocbRef,datSet,goID,confRev,entries, for example '0001,IED1LD/LLN0$GO$gcb,IED1LD/LLN0$ds,,1,2'\n"
