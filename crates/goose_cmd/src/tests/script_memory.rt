@@ -118,8 +118,8 @@ fn each_line_is_read_again(rt: HostRuntime) -> Result<(), Fail> {
             assert_eq!(rt; script.line_number(), number, "at {first_refused}");
         }
         if !alloc.has_refused() {
-            // Three texts of the control line; of the change the octets, its values, one's octets and another's values.
-            assert!(rt; first_refused >= 7);
+            // Three texts of the control line; of the change its values, one's octets and another's values.
+            assert!(rt; first_refused >= 6);
             return Ok(());
         }
     }

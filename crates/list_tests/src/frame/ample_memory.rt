@@ -46,7 +46,8 @@ const GO_ID: [u8; 3] = [0x83, 0x01, 0x49];
 /// The frame of one boolean, with this element of a goID, or none, and so many other members. Its lengths are written in
 /// one octet.
 fn goose(go_id: &[u8], entries: u8, members: &[u8]) -> Result<ArrayVec<u8, 160>, Fail> {
-    let fields = u8::try_from(40 + go_id.len() + members.len())?;
+    let size = go_id.len().saturating_add(members.len());
+    let fields = u8::try_from(size.saturating_add(40))?;
     let mut octets = ArrayVec::new();
     octets.try_extend_from_slice(&FRAME[..17])?;
     octets.try_push(fields.wrapping_add(10))?;
