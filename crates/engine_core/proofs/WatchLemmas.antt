@@ -1,5 +1,5 @@
 -- The counts of a stream, event by event and ASDU by ASDU.
-use Rattle.std.proofs.Common.{◌≡◌, ℕ, suc, ◌+◌, ◌≤◌, min, add-zero, zero-add, List, [], ◌∷◌, ◌++◌, length, map, Bool, false, ◌||◌, Option, None, Result, Ok, Err, ap, ap₂, subst, sym, ◌∙◌, refl, append_assoc, arith}
+use Rattle.std.proofs.Common.{◌≡◌, ℕ, suc, ◌+◌, ◌≤◌, min, add-zero, zero-add, List, [], ◌∷◌, ◌++◌, length, map, Bool, ◌||◌, Option, None, Result, Ok, Err, ap, ap₂, subst, sym, ◌∙◌, refl, append_assoc, arith}
 use Rattle.std.specs.List.{list_any}
 use Rattle.std.proofs.lemmas.List.{append-nil, length-append, length_push}
 use Rattle.std.proofs.lemmas.List.Folds.{list_any-append}

@@ -1,4 +1,4 @@
--- Written lists, scripts with what `publish` writes of them, and the watch over a counter, computed: a wrong definition does not check.
+-- Written lists, and scripts with what `publish` writes of them, computed: a wrong definition does not check.
 use Rattle.std.proofs.Common.{◌≡◌, ℕ, zero, suc, true, false, List, [], ◌∷◌, ◌++◌, length, None, Some, refl, arith}
 use Rattle.std.specs.Prelude.{codes}
 use Rattle.std.specs.Fmt.{digits}
@@ -16,8 +16,6 @@ use Rattle.frame_core.specs.Items.{Listing, items_said}
 use Rattle.frame_core.specs.Lines.{finished, reading}
 use Rattle.subscribe_core.specs.declared.entry.Entry.{Entry}
 use Rattle.subscribe_core.specs.declared.entry.Entry.TheVariants.{Expired, NotSubscribed}
-use Rattle.subscribe_core.specs.declared.watch.Seen.TheVariants.{First, Next, Skipped, Same, Late, OutOfRange}
-use Rattle.subscribe_core.specs.Watch.{seen_all}
 use Rattle.script_core.specs.declared.script.ScriptCause.{ScriptCause}
 use Rattle.script_core.specs.declared.script.ScriptItem.{ScriptItem}
 use Rattle.engine_core.specs.EngineText.{told, told_after, whole_text}
@@ -44,17 +42,6 @@ pub record AreLists : Type 0 where
 pub lists : AreLists
 unfolding reading items_said digits
 lists = record { written = refl; read = refl; replayed = refl }
-
--- ---- the watch
-
-pub record AreCounts : Type 0 where
-  pub half_a_second : seen_all 4000 None (3998 ∷ 3999 ∷ 0 ∷ 2 ∷ 1 ∷ 2 ∷ 4000 ∷ []) ≡ First ∷ Next ∷ Next ∷ Skipped 1 ∷ Late ∷ Same ∷ OutOfRange ∷ []
-  pub least_period : seen_all 2 None (0 ∷ 1 ∷ 0 ∷ []) ≡ First ∷ Next ∷ Next ∷ []
-  -- half the period is late, and one less is not
-  pub half : seen_all 8 None (0 ∷ 4 ∷ 3 ∷ []) ≡ First ∷ Late ∷ Skipped 2 ∷ []
-
-pub are_counts : AreCounts
-are_counts = record { half_a_second = refl; least_period = refl; half = refl }
 
 -- ---- scripts
 

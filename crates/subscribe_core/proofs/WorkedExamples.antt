@@ -1,4 +1,4 @@
--- A few lists of events with their entries, computed.
+-- A few lists of events with their entries, and counts of samples with their answers, computed.
 use Rattle.std.proofs.Common.{◌≡◌, ℕ, ◌*◌, ◌^◌, ◌-◌, Bool, true, false, None, List, [], ◌∷◌, refl}
 use Rattle.mms_data.specs.Data.{simple, boolean}
 use Rattle.pdu_core.specs.declared.goose.GoosePdu.{GoosePdu}
@@ -9,6 +9,8 @@ use Rattle.subscribe_core.specs.declared.entry.Reason.TheVariants.{ConfRev, Simu
 use Rattle.subscribe_core.specs.Reading.{OfGoose, OfClock, OfMode, EventRead}
 use Rattle.subscribe_core.specs.Standing.{fresh_state}
 use Rattle.subscribe_core.specs.Steps.{run_events}
+use Rattle.subscribe_core.specs.Watch.{seen_all}
+use Rattle.subscribe_core.specs.declared.watch.Seen.TheVariants.{First, Next, Skipped, Same, Late, OutOfRange}
 
 -- the APDU of control block G with data set D and one boolean
 abbrev apdu : Bool → ℕ → ℕ → ℕ → GoosePdu (Unit {0})
@@ -94,3 +96,14 @@ greatest_moment = refl
 recording : entries (block 1 1 ∷ []) (real 0 4 120 2000 ∷ real 1000 4 121 2000 ∷ real 1200 5 0 2000 ∷ real 1201 5 0 2000 ∷ real 1208 5 2 2000 ∷ real 1300 7 0 2000 ∷ real 1301 6 0 2000 ∷ real 1304 7 1 2000 ∷ clock 3400 ∷ real 4000 1 0 2000 ∷ mode 4500 true ∷ test 4600 1 0 2000 ∷ real 5000 1 1 2000 ∷ mode 5500 false ∷ real 6000 1 2 2000 ∷ [])
     ≡ (act 0 4 120 ∷ []) ∷ (says.Refreshed 0 4 121 ∷ []) ∷ (act 0 5 0 ∷ []) ∷ (says.Repeated 0 5 0 ∷ []) ∷ (says.Refreshed 0 5 2 ∷ []) ∷ (act 0 7 0 ∷ []) ∷ (says.Older 0 6 0 ∷ []) ∷ (says.Refreshed 0 7 1 ∷ []) ∷ (says.Expired 0 ∷ []) ∷ (act 0 1 0 ∷ []) ∷ [] ∷ (says.Switched 0 ∷ act 0 1 0 ∷ []) ∷ (says.Refused 0 Simulated ∷ []) ∷ (says.Switched 0 ∷ []) ∷ (act 0 1 2 ∷ []) ∷ []
 recording = refl
+
+-- ---- counts of samples
+
+pub record AreCounts : Type 0 where
+  pub half_a_second : seen_all 4000 None (3998 ∷ 3999 ∷ 0 ∷ 2 ∷ 1 ∷ 2 ∷ 4000 ∷ []) ≡ First ∷ Next ∷ Next ∷ Skipped 1 ∷ Late ∷ Same ∷ OutOfRange ∷ []
+  pub least_period : seen_all 2 None (0 ∷ 1 ∷ 0 ∷ []) ≡ First ∷ Next ∷ Next ∷ []
+  -- half the period is late, and one less is not
+  pub half : seen_all 8 None (0 ∷ 4 ∷ 3 ∷ []) ≡ First ∷ Late ∷ Skipped 2 ∷ []
+
+pub are_counts : AreCounts
+are_counts = record { half_a_second = refl; least_period = refl; half = refl }
