@@ -5,6 +5,7 @@ use frame_core::MomentUnit;
 use mms_data::{UtcTime, ValueList};
 use publish_core::{Control, Step};
 use std::alloc::Allocator;
+use thiserror::Error;
 
 /// What a line of a script says.
 #[derive(Drop)]
@@ -21,27 +22,37 @@ pub enum ScriptItem<A: Allocator> {
 
 /// Why a line of a script is refused, or what is missing at its end. Of several reasons for one line it is the first in
 /// this order.
-#[derive(Clone, Copy, Debug, PartialEq, Eq)]
+#[derive(Clone, Copy, Debug, PartialEq, Eq, Error)]
 pub enum ScriptCause {
     /// The line has no such form, or a wrong place.
+    #[error("the line is none that a script has there")]
     ScriptForm,
     /// The first status number is 0.
+    #[error("the first status number is 0")]
     FirstState,
     /// The step waits for nothing, or lives no longer than it waits.
+    #[error("the step waits for nothing, or lives no longer than it waits")]
     StepTimes,
     /// There are 16 steps before this one, or none before the first change or poll.
+    #[error("there are 16 steps before this one, or none before the first change or poll")]
     StepCount,
     /// The moment has no such digits.
+    #[error("the moment is not 1 to 15 decimal digits (1 to 18 after a first line V2)")]
     Moment,
     /// The moment of change or the members have no such digits.
+    #[error("the moment of change or the members are not written in hexadecimal digits")]
     Hex,
     /// The members have this fault, its place counted in their octets.
+    #[error("the members: {0}")]
     Members(Fault),
     /// The count of values is not the control's.
+    #[error("the count of values is not that of the control's entries")]
     EntriesDiffer,
     /// A value or a text has no spelling.
+    #[error("a value or a text has no spelling")]
     NotSpellable,
     /// A frame of the new state would be too long.
+    #[error("a frame of the new state would be too long")]
     WouldNotFit,
 }
 
