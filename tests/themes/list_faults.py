@@ -1,6 +1,6 @@
 """Each cause that ends a list, and which of two comes first."""
 from frames import WORKED, WORKED_LINE
-from harness import Case, end_list, listed, text
+from harness import Case, end_list, listed, relisted, text
 
 FRAME = WORKED.hex().encode()
 
@@ -64,6 +64,8 @@ def no_faults():
     yield Case("upper case and carriage returns", ["show"], b"C 1\r\nF 0 " + FRAME.upper() + b"\r",
                text(["1 clock 1000", f"2 {WORKED_LINE}"]))
     yield Case("2,000 octets", ["show"], listed(bytes(2000)), b"1 fault 1600 FrameTooLong\n")
+    every_size = [bytes(size) for size in range(1, 2001)]
+    yield Case("each count of octets that a frame's line can have", ["rewrite"], listed(*every_size), relisted(*every_size), 1)
 
 
 def rewriting():
