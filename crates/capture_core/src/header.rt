@@ -51,7 +51,7 @@ fn form_at(header: &[u8]) -> Option<CaptureForm>
 }
 
 // Whether a header of this order has version 2.4 and link type 1.
-fn is_good(order: OctetOrder, header: &[u8]) -> bool
+fn is_read_in(order: OctetOrder, header: &[u8]) -> bool
     requires { 24 ≤ length header.now }
     ensures { result ≡ is_read_in order header.now }
 {
@@ -67,7 +67,7 @@ fn judge(header: &[u8]) -> Option<CaptureForm>
 {
     match form_at(header) {
         Some(form) => {
-            if is_good(form.order, header) {
+            if is_read_in(form.order, header) {
                 Some(form)
             } else {
                 None

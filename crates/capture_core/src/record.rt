@@ -39,7 +39,7 @@ pub enum Captured {
 }
 
 // Microseconds of a fraction of a second.
-fn microseconds_in(unit: FractionUnit, fraction: u32) -> u64
+fn microseconds_of(unit: FractionUnit, fraction: u32) -> u64
     ensures value { result ≡ microseconds_of unit fraction }
     ensures short { result < 2 ^ 32 }
 {
@@ -57,7 +57,7 @@ fn moment_in(form: CaptureForm, head: &[u8]) -> u64
 {
     let seconds = long_at(form.order, head, 0) as u64;
     let fraction = long_at(form.order, head, 4);
-    seconds * 1_000_000 + microseconds_in(form.unit, fraction)
+    seconds * 1_000_000 + microseconds_of(form.unit, fraction)
 }
 
 // The answer where the source ended so many octets into the head of a record.

@@ -182,9 +182,9 @@ runs_first {A} (setting_up p) control first steps items (Err why) h e stands sou
 runs_first (calling p calls) control first steps items r h e stands sound fails = absurd h
 
 -- the line of a frame
-frame_line : {A : Type 0} (moment now : ℕ) (octets : List ℕ) (f : SentFrame A) → moment ≡ now → octets ≡ written_frame f →
+published_line : {A : Type 0} (moment now : ℕ) (octets : List ℕ) (f : SentFrame A) → moment ≡ now → octets ≡ written_frame f →
     codes "F " ++ decimal moment ++ codes " " ++ encode_lower octets ++ codes "\n" ≡ answer_text now (Some f)
-frame_line moment now octets f e h = rw (e, h) refl
+published_line moment now octets f e h = rw (e, h) refl
 
 -- a change was refused
 pub refused : {A : Type 0} (p : Setup A) (calls : List Call) (m : ℕ) (change : Change) (why : PublishFault) → IsScriptSound p → Refuses p calls change why → call_step p calls (call m (Changed change)) ≡ Err (script_cause why)
@@ -207,7 +207,7 @@ module _ {A : Type 0} (p : Setup A) (calls : List Call) (sound : IsScriptSound p
       let not_refused = sym (judged_only p.control p.table (next_state p calls) change sound.steps None accepted) in (
         answer_text time (Some published.0),
         ap (λ (o : Option PublishFault). text_unless_refused o (answer_text time held)) not_refused ∙ ap (λ (o : Option (SentFrame A)). Ok (answer_text time o, false)) (sym same),
-        wrote ∙ ap (λ (l : List ℕ). old ++ l) (frame_line moment time octets published.0 now published.2),
+        wrote ∙ ap (λ (l : List ℕ). old ++ l) (published_line moment time octets published.0 now published.2),
         stands,
       )
 
@@ -223,7 +223,7 @@ module _ {A : Type 0} (p : Setup A) (calls : List Call) (sound : IsScriptSound p
       let same = answer_one p (trace_of_calls (calls ++ c ∷ [])) (length calls) (Some published.0) held published.1 (answered p calls c sound) in (
         answer_text time (Some published.0),
         ap (λ (o : Option (SentFrame A)). Ok (answer_text time o, false)) (sym same),
-        wrote ∙ ap (λ (l : List ℕ). old ++ l) (frame_line moment time octets published.0 now published.2),
+        wrote ∙ ap (λ (l : List ℕ). old ++ l) (published_line moment time octets published.0 now published.2),
         stands,
       )
 

@@ -64,10 +64,6 @@ lines-append n (x ∷ xs) ys (a ∷ answers) others e =
     ap (λ (l : List ℕ). sample_line n x a ++ l) (lines-append n xs ys answers others (omega arith))
     ∙ sym (append_assoc (sample_line n x a) (sample_lines n xs answers) (sample_lines n ys others))
 
--- no sample
-pub said_none : (p n : ℕ) (last : Option ℕ) (text : List ℕ) → SamplesSaid p n last [] text text false last
-said_none p n last text = (sym (append-nil text), refl, refl)
-
 -- samples behind others
 pub said_after : (p n : ℕ) (last mid after : Option ℕ) (xs ys : List (ℕ × ℕ)) (a b c : List ℕ) (f g : Bool) → SamplesSaid p n last xs a b f mid → SamplesSaid p n mid ys b c g after
     → SamplesSaid p n last (xs ++ ys) a c (f || g) after

@@ -15,7 +15,7 @@ pub fn decimal_in(digits: &[u8], most: usize) -> Option<u64>
     if digits.is_empty() || digits.len() > most || !are_digits(digits) {
         return None;
     }
-    Some(number_of(digits))
+    Some(decimal_value(digits))
 }
 
 /// Whether these are decimal digits.
@@ -26,7 +26,7 @@ fn are_digits(octets: &[u8]) -> bool
 }
 
 /// The number that decimal digits write.
-fn number_of(digits: &[u8]) -> u64
+fn decimal_value(digits: &[u8]) -> u64
     requires digits { list_all is_ascii_digit digits.now ≡ true }
     requires short { length digits.now ≤ 18 }
     ensures { result ≡ digits_value 10 digits.now }

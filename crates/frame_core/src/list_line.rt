@@ -107,11 +107,11 @@ fn frame_in<A: Allocator + Copy>(
     if digits.is_empty() {
         return Err(LineError::Cause(ListCause::LineForm));
     }
-    frame_of(alloc, unit, moment, digits)
+    frame_event(alloc, unit, moment, digits)
 }
 
 /// The frame event of these two fields.
-fn frame_of<A: Allocator + Copy>(
+fn frame_event<A: Allocator + Copy>(
     alloc: A,
     unit: MomentUnit,
     moment: &[u8],

@@ -13,7 +13,7 @@ use mms_data::{Octets, UtcTime, are_spellable};
 use std::alloc::Allocator;
 
 // Whether the octets are all visible.
-pub(crate) fn is_visible(text: &[u8]) -> bool
+pub(crate) fn is_visible_text(text: &[u8]) -> bool
     ensures { IsTrue result ↔ AreVisible text.now }
 {
     match check_visible(text, 0) {
@@ -34,7 +34,7 @@ fn is_visible_there(text: Option<&[u8]>) -> bool
     ensures { IsTrue result ↔ IfSome (octets_if text.entry) AreVisible }
 {
     match text {
-        Some(text) => is_visible(text),
+        Some(text) => is_visible_text(text),
         None => true,
     }
 }
@@ -63,10 +63,10 @@ pub fn is_spellable<A: Allocator>(pdu: &GoosePdu<A>) -> bool
 pub fn are_spellable_parts<A: Allocator>(parts: &GooseParts<'_, A>) -> bool
     ensures { IsTrue result ↔ IsSpellableGoose (pdu_of_parts parts.now) }
 {
-    if !is_visible(parts.gocb_ref) {
+    if !is_visible_text(parts.gocb_ref) {
         return false;
     }
-    if !is_visible(parts.dat_set) {
+    if !is_visible_text(parts.dat_set) {
         return false;
     }
     if !is_visible_there(parts.go_id) {

@@ -29,7 +29,7 @@ fn simulation_bit(simulation: bool) -> u16
 }
 
 // The frame of a change with these numbers.
-fn frame_of<'a, A: Allocator>(
+fn frame_with<'a, A: Allocator>(
     control: &'a Control<A>,
     t: UtcTime,
     values: &'a ValueList<A>,
@@ -82,7 +82,7 @@ pub fn can_be_spelled<A: Allocator>(control: &Control<A>, t: UtcTime, values: &V
         live_ms: 0,
     };
     know_ranges(numbers, control.conf_rev, control.entries);
-    let frame = frame_of(control, t, values, numbers);
+    let frame = frame_with(control, t, values, numbers);
     are_spellable_parts(&frame.parts)
 }
 
@@ -98,7 +98,7 @@ pub fn is_too_long<A: Allocator>(
     ensures { IsTrue result ↔ IsTooLong (frame_with control.now (change t values.now) numbers.state numbers.sequence numbers.live_ms) }
 {
     know_ranges(numbers, control.conf_rev, control.entries);
-    encode_goose(&frame_of(control, t, values, numbers)).is_err()
+    encode_goose(&frame_with(control, t, values, numbers)).is_err()
 }
 
 // The octets of the frame with these numbers.
@@ -114,5 +114,5 @@ pub fn write_frame<A: Allocator>(
     ensures { result.items ≡ written_frame (frame_with control.now (change t values.now) numbers.state numbers.sequence numbers.live_ms) }
 {
     know_ranges(numbers, control.conf_rev, control.entries);
-    encode_goose(&frame_of(control, t, values, numbers)).unwrap()
+    encode_goose(&frame_with(control, t, values, numbers)).unwrap()
 }

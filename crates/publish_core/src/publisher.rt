@@ -68,7 +68,7 @@ fn next_number(number: u32) -> u32
 }
 
 // Whether the wait, in milliseconds, that began at a moment is over; moments are in microseconds.
-fn is_over(given: u64, wait_ms: u32, now: u64) -> bool
+fn wait_is_over(given: u64, wait_ms: u32, now: u64) -> bool
     ensures { IsTrue result ↔ (given + 1000 * wait_ms ≤ now) }
 {
     u128::from(given) + 1000 * u128::from(wait_ms) <= u128::from(now)
@@ -223,7 +223,7 @@ impl<A: Allocator> Publisher<A> {
             Some(last) => {
                 let steps = self.table.len();
                 let wait_ms = self.table.at(last.step).wait_ms;
-                if is_over(last.given, wait_ms, now) {
+                if wait_is_over(last.given, wait_ms, now) {
                     last.sequence = next_number(last.sequence);
                     last.step = (last.step + 1).min(steps - 1);
                     last.given = now;

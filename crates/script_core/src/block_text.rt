@@ -3,7 +3,7 @@ ghost use Rattle.std.specs.Prelude.{◌≡◌, ◌∷◌, [], true, option_map, 
 ghost use Rattle.script_core.specs.BlockText.{AnswersBlock, block_in, block_keeps, block_of};
 ghost use Rattle.script_core.specs.BlockView.{block_seen};
 
-use crate::commas::{fields_of, number_of, text_of, word_of};
+use crate::commas::{fields_of, number_by, text_in, word_in};
 use mms_data::Octets;
 use std::alloc::{AllocError, Allocator};
 use subscribe_core::Block;
@@ -44,12 +44,12 @@ fn view_fields<'a>(
 ) -> Option<BlockView<'a>>
     ensures { option_map block_seen result ≡ block_of {A = Unit {0}} (app_id.now ∷ gocb_ref.now ∷ dat_set.now ∷ go_id.now ∷ conf_rev.now ∷ entries.now ∷ []) }
 {
-    let app_id = word_of(app_id)?;
-    let gocb_ref = text_of(gocb_ref)?;
-    let dat_set = text_of(dat_set)?;
-    let go_id = text_of(go_id)?;
-    let conf_rev = number_of(conf_rev)?;
-    let entries = number_of(entries)?;
+    let app_id = word_in(app_id)?;
+    let gocb_ref = text_in(gocb_ref)?;
+    let dat_set = text_in(dat_set)?;
+    let go_id = text_in(go_id)?;
+    let conf_rev = number_by(conf_rev)?;
+    let entries = number_by(entries)?;
     Some(BlockView {
         app_id,
         gocb_ref,

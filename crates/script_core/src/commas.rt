@@ -29,7 +29,7 @@ pub fn fields_of(text: &[u8]) -> Option<ArrayVec<&[u8], MOST_FIELDS>>
 }
 
 /// A word by four hexadecimal digits.
-pub fn word_of(digits: &[u8]) -> Option<u16>
+pub fn word_in(digits: &[u8]) -> Option<u16>
     ensures { result ≡ word_in digits.now }
 {
     let mut octets = [0; 2];
@@ -40,7 +40,7 @@ pub fn word_of(digits: &[u8]) -> Option<u16>
 }
 
 /// A number of at most 4,294,967,295 by 1 to 10 decimal digits.
-pub fn number_of(digits: &[u8]) -> Option<u32>
+pub fn number_by(digits: &[u8]) -> Option<u32>
     ensures { result ≡ number_by digits.now }
 {
     let number = decimal_in(digits, 10)?;
@@ -66,7 +66,7 @@ fn are_visible(octets: &[u8]) -> bool
 }
 
 /// A text of octets from 20 to 7E.
-pub fn text_of(field: &[u8]) -> Option<&[u8]>
+pub fn text_in(field: &[u8]) -> Option<&[u8]>
     ensures { option_map (λ text. text.now) result ≡ text_in field.now }
 {
     if are_visible(field) {

@@ -5,7 +5,7 @@ ghost use Rattle.script_core.specs.Commas.{number_by, octets_in, text_in, word_i
 ghost use Rattle.script_core.specs.Script.{AnswersScriptLine, block_of_line, control_keeps, control_of, control_said, control_with, flag_in, numbers_with, step_said_by, step_said, tag_in};
 ghost use Rattle.script_core.specs.ScriptView.{control_seen, numbers_in, view_keeps};
 
-use crate::commas::{fields_of, number_of, text_of, word_of};
+use crate::commas::{fields_of, number_by, text_in, word_in};
 use crate::script::{ScriptCause, ScriptItem, ScriptPart};
 use frame_core::{LineError, VlanTag, cut_first};
 use mms_data::Octets;
@@ -55,7 +55,7 @@ fn tag_of(digits: &[u8]) -> Option<Option<VlanTag>>
 {
     match digits {
         [] => Some(None),
-        _ => match word_of(digits) {
+        _ => match word_in(digits) {
             Some(control) => Some(Some(VlanTag { control })),
             None => None,
         },
@@ -63,7 +63,7 @@ fn tag_of(digits: &[u8]) -> Option<Option<VlanTag>>
 }
 
 // A flag by the digit 0 or 1.
-fn flag_of(digits: &[u8]) -> Option<bool>
+fn flag_in(digits: &[u8]) -> Option<bool>
     ensures { result ≡ flag_in digits.now }
 {
     match digits {
@@ -83,11 +83,11 @@ fn numbers_of(
 ) -> Option<Numbers>
     ensures { result ≡ numbers_with (number_by conf_rev.now) (number_by entries.now) (flag_in simulation.now) (flag_in nds_com.now) (number_by first.now) }
 {
-    let conf_rev = number_of(conf_rev)?;
-    let entries = number_of(entries)?;
-    let simulation = flag_of(simulation)?;
-    let nds_com = flag_of(nds_com)?;
-    let first = number_of(first)?;
+    let conf_rev = number_by(conf_rev)?;
+    let entries = number_by(entries)?;
+    let simulation = flag_in(simulation)?;
+    let nds_com = flag_in(nds_com)?;
+    let first = number_by(first)?;
     Some(Numbers {
         conf_rev,
         entries,
@@ -113,10 +113,10 @@ fn view_fields<'a>(
     let destination = address_of(destination)?;
     let source = address_of(source)?;
     let tag = tag_of(tag)?;
-    let app_id = word_of(app_id)?;
-    let gocb_ref = text_of(gocb_ref)?;
-    let dat_set = text_of(dat_set)?;
-    let go_id = text_of(go_id)?;
+    let app_id = word_in(app_id)?;
+    let gocb_ref = text_in(gocb_ref)?;
+    let dat_set = text_in(dat_set)?;
+    let go_id = text_in(go_id)?;
     let numbers = numbers?;
     Some(ControlView {
         destination,
@@ -228,8 +228,8 @@ fn view_step(fields: Option<&[u8]>) -> Option<Step>
     let fields = fields_of(fields?)?;
     match fields.as_slice() {
         [wait, live] => {
-            let wait_ms = number_of(wait)?;
-            let live_ms = number_of(live)?;
+            let wait_ms = number_by(wait)?;
+            let live_ms = number_by(live)?;
             Some(Step { wait_ms, live_ms })
         }
         _ => None,

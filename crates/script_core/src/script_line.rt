@@ -49,7 +49,7 @@ pub fn poll_in<A: Allocator>(
 }
 
 // A moment of change by 16 hexadecimal digits.
-fn time_of(digits: &[u8]) -> Option<UtcTime>
+fn time_in(digits: &[u8]) -> Option<UtcTime>
     ensures { result ≡ time_in digits.now }
 {
     let mut octets = [0; 8];
@@ -95,7 +95,7 @@ fn change_of_fields<A: Allocator + Copy>(
     let Some(moment) = moment_in(unit, moment) else {
         return Err(LineError::Cause(ScriptCause::Moment));
     };
-    let Some(t) = time_of(t) else {
+    let Some(t) = time_in(t) else {
         return Err(LineError::Cause(ScriptCause::Hex));
     };
     // No line of a list has more digits than there is room for here.

@@ -13,7 +13,7 @@ use Rattle.subscribe_core.specs.Entries.{AreReadEntriesAt, AreEntriesAt, AreEntr
 use Rattle.subscribe_core.specs.Laws.{BlocksAreAlone, EntriesAreOne, EntriesStay, EntriesExist}
 use Rattle.subscribe_core.specs.Sight.{trace_of_block}
 use Rattle.subscribe_core.specs.Standing.{State, StandsAfterRead, StandsAfter, fresh_state, idle}
-use Rattle.subscribe_core.specs.Steps.{registers_by, step_entries, step_state, state_after, run_events}
+use Rattle.subscribe_core.specs.Steps.{registers_by, step_entries, step_state, run_events}
 use Rattle.subscribe_core.proofs.Alone.{read_entries_are_one, read_blocks_are_alone}
 use Rattle.subscribe_core.proofs.Readings.{all_read, reads_one, read_append, read_length}
 use Rattle.subscribe_core.proofs.Stay.{read_entries_stay}
@@ -121,9 +121,3 @@ entries_stay blocks events later i es a = (
 
 pub entries_exist : {A : Type 0} → EntriesExist A
 entries_exist blocks events = runs_are_whole blocks events
-
--- what is kept after events
-
-pub state_push : {A : Type 0} (es : List EventRead) (e : EventRead) (s : State A) → state_after s (es ++ e ∷ []) ≡ step_state (state_after s es) e
-state_push [] e s = refl
-state_push (x ∷ es) e s = state_push es e (step_state s x)

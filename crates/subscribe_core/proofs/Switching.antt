@@ -125,12 +125,6 @@ left_same A n rs r e flag =
     (ap (λ (y : Bool). if y then says.Switched n ∷ flagged_entries {A = A} (n + 1) (drop (suc n) rs) else flagged_entries (n + 1) (drop (suc n) rs)) flag ∙
     ap (λ (m : ℕ). flagged_entries {A = A} (n + 1) (drop m rs)) (sym next))
 
-past_end : (n : ℕ) (rs : List Register) → length rs ≤ n → drop n rs ≡ []
-past_end zero [] le = refl
-past_end zero (r ∷ rs) le = absurd (omega arith)
-past_end (suc n) [] le = refl
-past_end (suc n) (r ∷ rs) le = past_end n rs (omega arith)
-
 -- a change of the content that is read
 pub answer_as : {A : Type 0} (now : ℕ) (mode : Bool) (xs : List (Block A)) (rs : List Register) (k c : Content) (es : List (Entry A)) → c ≡ k
     → es ≡ switched_entries mode k 0 xs rs ++ said_of now mode xs rs k → es ≡ switched_entries mode c 0 xs rs ++ said_of now mode xs rs c

@@ -143,8 +143,3 @@ step_state s e =
 abbrev pub run_events : {A : Type 0} → State A → List EventRead → List (List (Entry A))
 run_events s [] = []
 run_events s (e ∷ es) = step_entries s e ∷ run_events (step_state s e) es
-
--- what is kept after events
-abbrev pub state_after : {A : Type 0} → State A → List EventRead → State A
-state_after s [] = s
-state_after s (e ∷ es) = state_after (step_state s e) es

@@ -386,7 +386,7 @@ impl<A: Allocator + Copy> Subscriber<A> {
     }
 
     // Takes one event, by what is kept. The reaches are counted on.
-    fn counted(&mut self, event: &Event<A>) -> Result<Vec<Entry<A>, A>, AllocError>
+    fn take_counted(&mut self, event: &Event<A>) -> Result<Vec<Entry<A>, A>, AllocError>
         ensures entries { IfOk result (λ entries. entries.items ≡ step_entries self.old.state (reading_of event.now)) }
         ensures state { OnOk result (self.new.state ≡ step_state self.old.state (reading_of event.now)) }
         ensures unchanged { OnErr result (self.new.state ≡ self.old.state) }
@@ -414,7 +414,7 @@ impl<A: Allocator + Copy> Subscriber<A> {
         ensures apart { AreApart self.old.state.blocks }
     {
         let before = self.count_from(0);
-        match self.counted(event) {
+        match self.take_counted(event) {
             Ok(entries) => Ok(entries),
             Err(e) => {
                 self.count_from(before);

@@ -46,19 +46,19 @@ IsAsked (Some (Ok t)) = HasPeriod t
 IsAsked (Some (Err i)) = Unit {0}
 
 -- the matches of a subcommand whose words have no fault ask for something
-abbrev Gives : Shape → Type 0
-Gives s = (words : List Text) → level_fault s [] nothing_held words false [] ≡ [] → IsAsked (task_asked (rows_at s words))
+abbrev AsksForSomething : Shape → Type 0
+AsksForSomething s = (words : List Text) → level_fault s [] nothing_held words false [] ≡ [] → IsAsked (task_asked (rows_at s words))
 
-abbrev EachGives : List Shape → Type 0
-EachGives [] = Unit {0}
-EachGives (s ∷ rest) = Gives s × EachGives rest
+abbrev EachAsks : List Shape → Type 0
+EachAsks [] = Unit {0}
+EachAsks (s ∷ rest) = AsksForSomething s × EachAsks rest
 
-found_gives : (p : Shape → Bool) (words : List Text) (xs : List Shape) → EachGives xs
+found_asks : (p : Shape → Bool) (words : List Text) (xs : List Shape) → EachAsks xs
     → is_some (option_map (λ s. rows_at s words) (find p xs)) ≡ true
     → option_map_or (λ s. level_fault s [] nothing_held words false []) (find p xs) [] ≡ []
     → IsAsked (option_and_then task_asked (option_map (λ s. rows_at s words) (find p xs)))
-found_gives p words [] all e f = cc
-found_gives p words (x ∷ xs) all e f = go (p x) refl (found_gives p words xs all.1)
+found_asks p words [] all e f = cc
+found_asks p words (x ∷ xs) all e f = go (p x) refl (found_asks p words xs all.1)
   where
     go : (b : Bool) → p x ≡ b
         → (is_some (option_map (λ s. rows_at s words) (find p xs)) ≡ true → option_map_or (λ s. level_fault s [] nothing_held words false []) (find p xs) [] ≡ []
@@ -67,10 +67,10 @@ found_gives p words (x ∷ xs) all e f = go (p x) refl (found_gives p words xs a
     go true t rest = rw t (all.0 words (rw t at f))
     go false t rest = rw t (rest (rw t at e) (rw t at f))
 
-entered_gives : (a : App) (stop : Option (Text × List Text)) → EachGives a.subs → is_some (entered a stop) ≡ true → entered_fault a stop ≡ []
+entered_gives : (a : App) (stop : Option (Text × List Text)) → EachAsks a.subs → is_some (entered a stop) ≡ true → entered_fault a stop ≡ []
     → IsAsked (option_and_then task_asked (entered a stop))
 entered_gives a None all e f = cc
-entered_gives a (Some p) all e f = found_gives _ p.1 a.subs all e f
+entered_gives a (Some p) all e f = found_asks _ p.1 a.subs all e f
 
 -- the name and the rows of the subcommand that was met
 met_rows : {Z : Type 0} (o : Option (Box SubCommand Z)) (name : Text) (rows : List Row) → option_map (λ b. (out-SubCommand (box_value b)).name.now) o ≡ Some name
@@ -99,7 +99,7 @@ replay_asked (Some texts) e = go (first_bad texts)
     go None = tt
     go (Some i) = tt
 
-plain_gives : (t : Asked) → is_plain t ≡ true → Gives (leaf (plain t).shape)
+plain_gives : (t : Asked) → is_plain t ≡ true → AsksForSomething (leaf (plain t).shape)
 plain_gives show e words f = tt
 plain_gives check e words f = tt
 plain_gives rewrite e words f = tt
@@ -108,15 +108,15 @@ plain_gives import e words f = tt
 plain_gives (replay blocks) e words f = absurd (true≢false (sym e))
 plain_gives (watch period id) e words f = absurd (true≢false (sym e))
 
-replay_gives : Gives (leaf replay_shape)
+replay_gives : AsksForSomething (leaf replay_shape)
 replay_gives words f =
     let rows = rows_after (leaf replay_shape).rules [] words in
     replay_asked (all_of (codes "BLOCK") rows) (given_row (codes "BLOCK") rows (wanted false false _ (level_checked (leaf replay_shape) [] nothing_held words false [] f)))
 
-watch_gives : Gives (leaf watch_shape)
+watch_gives : AsksForSomething (leaf watch_shape)
 watch_gives words f = let says = watch_says words f in rw says.2 says.3
 
-all_give : EachGives (built command_line).subs
+all_give : EachAsks (built command_line).subs
 all_give = (plain_gives show refl, (plain_gives check refl, (plain_gives rewrite refl, (replay_gives, (plain_gives publish refl, (watch_gives, (plain_gives import refl, tt)))))))
 
 -- words without a fault ask for something

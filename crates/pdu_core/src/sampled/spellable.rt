@@ -5,7 +5,7 @@ ghost use Rattle.pdu_core.specs.SampledSpellable.{AreFew, IsFixed, IsSpellableAs
 ghost use Rattle.mms_data.specs.Spellable.{IsTime};
 
 use crate::sampled::asdu::{Asdu, SvPdu};
-use crate::spellable::{is_visible, is_visible_if};
+use crate::spellable::{is_visible_if, is_visible_text};
 use mms_data::{Octets, UtcTime};
 use std::alloc::Allocator;
 
@@ -44,7 +44,7 @@ fn is_spellable_asdu<A: Allocator>(asdu: &Asdu<A>) -> bool
     ensures { IsTrue result ↔ IsSpellableAsdu asdu.now }
 {
     know_ranges(asdu.smp_cnt, asdu.conf_rev, asdu.smp_synch, asdu.smp_rate);
-    is_visible(asdu.sv_id.as_slice())
+    is_visible_text(asdu.sv_id.as_slice())
         && is_visible_if(&asdu.dat_set)
         && is_time_if(asdu.refr_tm)
         && are_few_if(&asdu.smp_mod)

@@ -47,7 +47,7 @@ pub struct Asdus<'a> {
 /// A savPdu (IEC 61850-9-2) where it stands.
 #[derive(Clone, Copy)]
 pub struct SvView<'a> {
-    /// The count of the ASDUs, 1 to 65535.
+    /// The count of the ASDUs that are left: 1 to 65535 in a view that was read.
     pub count: u16,
     /// The ASDUs.
     pub asdus: Asdus<'a>,

@@ -7,4 +7,4 @@ pub returns-clause-short : goal.returns-clause-short
 returns-clause-short c =
     let digits = sym c.are_digits.ensures ∙ c.if-not-are_digits.false in
     let small = digits_value_short digits_test c.args.digits.now c.args.most digits (omega arith) in
-    subst (λ (n : ℕ). n < 10 ^ c.args.most) (sym c.number_of.ensures) small
+    subst (λ (n : ℕ). n < 10 ^ c.args.most) (sym c.decimal_value.ensures) small

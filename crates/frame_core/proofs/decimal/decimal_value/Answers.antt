@@ -1,6 +1,6 @@
 use Rattle.std.proofs.Common.{arith, ◌+◌, ap, ◌∙◌, ◌*◌, ◌-◌, get_or}
 use Rattle.frame_core.proofs.MomentDigits.{value-more, value_short}
-use Rattle.frame_core.proofs.decimal.number_of.Goals as goal
+use Rattle.frame_core.proofs.decimal.decimal_value.Goals as goal
 
 pub overflow_mul-number : goal.overflow_mul-number
 overflow_mul-number c =

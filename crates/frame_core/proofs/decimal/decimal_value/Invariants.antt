@@ -1,6 +1,6 @@
 use Rattle.std.proofs.Common.{◌≡◌, ◌≤◌, take, length}
 use Rattle.std.specs.Str.Parse.{digits_value}
-use Rattle.frame_core.proofs.decimal.number_of.Given as goal
+use Rattle.frame_core.proofs.decimal.decimal_value.Given as goal
 
 abbrev pub invariant-loop-digit : goal.invariant-loop-digit
 invariant-loop-digit l = record {

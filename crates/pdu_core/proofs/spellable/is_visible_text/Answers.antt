@@ -1,6 +1,6 @@
 use Rattle.std.proofs.Common.{◌≡◌, true, false, refl, sym}
 use Rattle.pdu_core.proofs.Texts.{text_is, text_is_not}
-use Rattle.pdu_core.proofs.spellable.is_visible.Goals as goal
+use Rattle.pdu_core.proofs.spellable.is_visible_text.Goals as goal
 
 pub returns-in-Ok : goal.returns-in-Ok
 returns-in-Ok c = (λ _. text_is c.args.text.now tt (sym c.in-Ok.ensures.exact), λ _. refl)

@@ -8,7 +8,7 @@ use Rattle.subscribe_core.specs.Steps.{expired_entries, said_of, switched_entrie
 use Rattle.subscribe_core.specs.Content.{content_of}
 use Rattle.subscribe_core.proofs.Due.{expired_counted}
 use Rattle.subscribe_core.proofs.Quiet.{back_nil, front_nil}
-use Rattle.subscribe_core.proofs.subscriber.Subscriber.counted.Goals as goal
+use Rattle.subscribe_core.proofs.subscriber.Subscriber.take_counted.Goals as goal
 
 pub returns-in_err-entries-clause-quiet : goal.returns-in_err-entries-clause-quiet
 returns-in_err-entries-clause-quiet g c =
