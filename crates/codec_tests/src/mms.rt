@@ -34,28 +34,28 @@ fn bits_are_read_and_written(rt: HostRuntime) -> Result<(), Fail> {
     let [Value::Bits(bits)] = values.as_slice() else {
         return Err(Fail::from("no bits"));
     };
-    assert_eq!(rt; bits.unused, 3);
-    assert_eq!(rt; bits.octets.as_slice(), [0xff, 0xf8].as_slice());
+    assert!(rt; bits.unused == 3);
+    assert!(rt; bits.octets.as_slice() == [0xff, 0xf8].as_slice());
     let mut out = ArrayVec::<u8, 8>::new();
     for value in &values {
-        assert_eq!(rt; put_value(&mut out, value), Ok(()));
+        assert!(rt; put_value(&mut out, value) == Ok(()));
     }
-    assert_eq!(rt; out.as_slice(), [0x84, 3, 3, 0xff, 0xf8].as_slice());
+    assert!(rt; out.as_slice() == [0x84, 3, 3, 0xff, 0xf8].as_slice());
     Ok(())
 }
 
 #[test]
 fn a_view_is_its_value(rt: HostRuntime) -> Result<(), Fail> {
-    assert_eq!(rt; check_members(&BITS, 0, 5, 1), Ok(1));
+    assert!(rt; check_members(&BITS, 0, 5, 1) == Ok(1));
     check_members(&BITS, 0, 5, 1)?;
     let mut views = 0u8;
     for view in members(&BITS, 0, 5, 1) {
         let value = view.to_value(rt.alloc())?;
-        assert_eq!(rt; spelled_length(&value), Some(5));
+        assert!(rt; spelled_length(&value) == Some(5));
         assert!(rt; matches!(view, View::Bits(_)));
         views = views.saturating_add(1);
     }
-    assert_eq!(rt; views, 1);
+    assert!(rt; views == 1);
     Ok(())
 }
 
@@ -75,8 +75,8 @@ fn put_all<A: Allocator>(values: Vec<Value<A>, A>) -> Result<ArrayVec<u8, 64>, P
 #[test]
 fn each_kind_is_written_as_it_is_read(rt: HostRuntime) -> Result<(), Fail> {
     let values = read_members(rt.alloc(), &EACH_KIND, 0, 54, 1)?;
-    assert_eq!(rt; values.len(), 1);
-    assert_eq!(rt; put_all(values)?.as_slice(), EACH_KIND.as_slice());
+    assert!(rt; values.len() == 1);
+    assert!(rt; put_all(values)?.as_slice() == EACH_KIND.as_slice());
     Ok(())
 }
 
@@ -85,59 +85,56 @@ fn numbers_at_their_limits(rt: HostRuntime) -> Result<(), Fail> {
     let least = [0x85, 8, 0x80, 0, 0, 0, 0, 0, 0, 0];
     let values = read_members(rt.alloc(), &least, 0, 10, 1)?;
     assert!(rt; matches!(values.as_slice(), [Value::Integer(-9223372036854775808)]));
-    assert_eq!(rt; put_all(values)?.as_slice(), least.as_slice());
+    assert!(rt; put_all(values)?.as_slice() == least.as_slice());
     let most = [0x86, 9, 0, 0xff, 0xff, 0xff, 0xff, 0xff, 0xff, 0xff, 0xff];
     let values = read_members(rt.alloc(), &most, 0, 11, 1)?;
     assert!(rt; matches!(values.as_slice(), [Value::Unsigned(18446744073709551615)]));
-    assert_eq!(rt; put_all(values)?.as_slice(), most.as_slice());
+    assert!(rt; put_all(values)?.as_slice() == most.as_slice());
     let padded = [0x85, 4, 0, 0, 0, 5];
     let values = read_members(rt.alloc(), &padded, 0, 6, 1)?;
     assert!(rt; matches!(values.as_slice(), [Value::Integer(5)]));
-    assert_eq!(rt; put_all(values)?.as_slice(), [0x85, 1, 5].as_slice());
+    assert!(rt; put_all(values)?.as_slice() == [0x85, 1, 5].as_slice());
     Ok(())
 }
 
 #[test]
 fn faults_of_the_front(rt: HostRuntime) {
     let fault = |place, cause: Cause| Err(cause.at(place));
-    assert_eq!(rt; count(&[0x85]), fault(1, Cause::Ends));
-    assert_eq!(rt; count(&[0x85, 0x82, 1]), fault(3, Cause::Ends));
-    assert_eq!(rt; count(&[0x9f, 1, 0]), fault(0, Cause::HighTag));
-    assert_eq!(rt; count(&[0x85, 0x80]), fault(1, Cause::Indefinite));
-    assert_eq!(rt; count(&[0x85, 0x85]), fault(1, Cause::LengthForm));
-    assert_eq!(rt; count(&[0x85, 2, 0]), fault(1, Cause::LengthPastEnd));
-    assert_eq!(rt; count(&[0x88, 1, 0]), fault(0, Cause::UnexpectedTag));
-    assert_eq!(rt; count(&[0x83, 1, 0, 0x88]), fault(3, Cause::UnexpectedTag));
-    assert_eq!(rt;
-        count(&[0xa2, 3, 0x88, 1, 0xff]),
-        fault(2, Cause::UnexpectedTag)
-    );
-    assert_eq!(rt; count(&DEEP), fault(32, Cause::TooDeep));
-    assert_eq!(rt; check_members(&DEEP, 2, 35, 1), Ok(1));
+    assert!(rt; count(&[0x85]) == fault(1, Cause::Ends));
+    assert!(rt; count(&[0x85, 0x82, 1]) == fault(3, Cause::Ends));
+    assert!(rt; count(&[0x9f, 1, 0]) == fault(0, Cause::HighTag));
+    assert!(rt; count(&[0x85, 0x80]) == fault(1, Cause::Indefinite));
+    assert!(rt; count(&[0x85, 0x85]) == fault(1, Cause::LengthForm));
+    assert!(rt; count(&[0x85, 2, 0]) == fault(1, Cause::LengthPastEnd));
+    assert!(rt; count(&[0x88, 1, 0]) == fault(0, Cause::UnexpectedTag));
+    assert!(rt; count(&[0x83, 1, 0, 0x88]) == fault(3, Cause::UnexpectedTag));
+    assert!(rt; count(&[0xa2, 3, 0x88, 1, 0xff]) == fault(2, Cause::UnexpectedTag));
+    assert!(rt; count(&DEEP) == fault(32, Cause::TooDeep));
+    assert!(rt; check_members(&DEEP, 2, 35, 1) == Ok(1));
 }
 
 #[test]
 fn faults_of_contents(rt: HostRuntime) {
     let fault = |place, cause: Cause| Err(cause.at(place));
-    assert_eq!(rt; count(&[0x83, 2, 0, 0]), fault(1, Cause::BooleanLength));
-    assert_eq!(rt; count(&[0x84, 0]), fault(2, Cause::BitUnused));
-    assert_eq!(rt; count(&[0x84, 1, 1]), fault(2, Cause::BitUnused));
-    assert_eq!(rt; count(&[0x84, 2, 8, 0]), fault(2, Cause::BitUnused));
-    assert_eq!(rt; count(&[0x84, 1, 0]), Ok(1));
-    assert_eq!(rt; count(&[0x85, 0]), fault(1, Cause::IntegerLength));
+    assert!(rt; count(&[0x83, 2, 0, 0]) == fault(1, Cause::BooleanLength));
+    assert!(rt; count(&[0x84, 0]) == fault(2, Cause::BitUnused));
+    assert!(rt; count(&[0x84, 1, 1]) == fault(2, Cause::BitUnused));
+    assert!(rt; count(&[0x84, 2, 8, 0]) == fault(2, Cause::BitUnused));
+    assert!(rt; count(&[0x84, 1, 0]) == Ok(1));
+    assert!(rt; count(&[0x85, 0]) == fault(1, Cause::IntegerLength));
     let wide = [0x85, 9, 0, 0x80, 0, 0, 0, 0, 0, 0, 0];
-    assert_eq!(rt; count(&wide), fault(2, Cause::IntegerRange));
-    assert_eq!(rt; count(&[0x86, 1, 0xff]), fault(2, Cause::IntegerRange));
-    assert_eq!(rt; count(&[0x87, 0]), fault(1, Cause::FixedLength));
-    assert_eq!(rt; count(&[0x8c, 2, 0, 0]), fault(1, Cause::FixedLength));
-    assert_eq!(rt; count(&[0x91, 3, 0, 0, 0]), fault(1, Cause::FixedLength));
-    assert_eq!(rt; count(&[0x8a, 2, 0x41, 7]), fault(3, Cause::NotVisible));
+    assert!(rt; count(&wide) == fault(2, Cause::IntegerRange));
+    assert!(rt; count(&[0x86, 1, 0xff]) == fault(2, Cause::IntegerRange));
+    assert!(rt; count(&[0x87, 0]) == fault(1, Cause::FixedLength));
+    assert!(rt; count(&[0x8c, 2, 0, 0]) == fault(1, Cause::FixedLength));
+    assert!(rt; count(&[0x91, 3, 0, 0, 0]) == fault(1, Cause::FixedLength));
+    assert!(rt; count(&[0x8a, 2, 0x41, 7]) == fault(3, Cause::NotVisible));
 }
 
 #[test]
 fn reading_answers_the_fault(rt: HostRuntime) -> Result<(), Fail> {
     match read_members(rt.alloc(), &DEEP, 0, 35, 1) {
-        Err(ReadFault::Fault(fault)) => assert_eq!(rt; fault, Cause::TooDeep.at(32)),
+        Err(ReadFault::Fault(fault)) => assert!(rt; fault == Cause::TooDeep.at(32)),
         _ => return Err(Fail::from("no fault")),
     }
     Ok(())
@@ -148,14 +145,14 @@ fn what_is_not_written(rt: HostRuntime) -> Result<(), Fail> {
     let mut none = ArrayVec::<u8, 0>::new();
     let text = Value::Visible(Octets::from(vec![in rt.alloc(); 7]?));
     assert!(rt; !is_spellable(&text, 1));
-    assert_eq!(rt; put_value(&mut none, &text), Err(PutFault::NotSpellable));
+    assert!(rt; put_value(&mut none, &text) == Err(PutFault::NotSpellable));
     let mut two = ArrayVec::<u8, 2>::new();
     let yes = Value::Integer(5).try_copy(rt.alloc())?;
     assert!(rt; is_spellable(&yes, 16));
     assert!(rt; !is_spellable(&yes, 17));
-    assert_eq!(rt; put_value(&mut two, &yes), Err(PutFault::Full));
-    assert_eq!(rt; two.len(), 0);
-    assert_eq!(rt; spelled_length(&yes), Some(3));
+    assert!(rt; put_value(&mut two, &yes) == Err(PutFault::Full));
+    assert!(rt; two.len() == 0);
+    assert!(rt; spelled_length(&yes) == Some(3));
     Ok(())
 }
 
@@ -185,7 +182,7 @@ fn a_time_is_read(rt: HostRuntime) -> Result<(), Fail> {
         fraction: 0x80_0000,
         quality: 0x0a,
     };
-    assert_eq!(rt; utc::utc_time(&octets, &header(&octets, 0, 10)?), Ok(time));
+    assert!(rt; utc::utc_time(&octets, &header(&octets, 0, 10)?) == Ok(time));
     Ok(())
 }
 
@@ -205,9 +202,9 @@ fn octets_are_copied_and_given_back(rt: HostRuntime) -> Result<(), Fail> {
 #[test]
 fn a_written_form_of_65535_octets(rt: HostRuntime) -> Result<(), Fail> {
     let fits = Value::Octets(Octets::from(vec![in rt.alloc(); 0; 65531]?));
-    assert_eq!(rt; spelled_length(&fits), Some(65535));
+    assert!(rt; spelled_length(&fits) == Some(65535));
     let over = Value::Octets(Octets::from(vec![in rt.alloc(); 0; 65532]?));
-    assert_eq!(rt; spelled_length(&over), None);
+    assert!(rt; spelled_length(&over) == None);
     Ok(())
 }
 

@@ -61,14 +61,14 @@ fn fault(place: usize, octet: u8) -> Option<Fault>
 #[test]
 fn pdu_stands(rt: HostRuntime) -> Result<(), Fail> {
     let view = view_goose(&FRAME, 22, 67)?;
-    assert_eq!(rt; view.gocb_ref, b"G".as_slice());
-    assert_eq!(rt; view.live, 2000);
-    assert_eq!(rt; view.dat_set, b"D".as_slice());
+    assert!(rt; view.gocb_ref == b"G".as_slice());
+    assert!(rt; view.live == 2000);
+    assert!(rt; view.dat_set == b"D".as_slice());
     assert!(rt; view.go_id.is_none());
-    assert_eq!(rt; view.t, NO_TIME);
-    assert_eq!(rt; (view.st_num, view.sq_num, view.conf_rev), (1, 0, 1));
-    assert_eq!(rt; (view.simulation, view.nds_com), (false, false));
-    assert_eq!(rt; view.entries, 1);
+    assert!(rt; view.t == NO_TIME);
+    assert!(rt; (view.st_num, view.sq_num, view.conf_rev) == (1, 0, 1));
+    assert!(rt; (view.simulation, view.nds_com) == (false, false));
+    assert!(rt; view.entries == 1);
     let mut members = view.members;
     assert!(rt; matches!(members.next(), Some(View::Boolean(true))));
     assert!(rt; members.next().is_none());
@@ -77,41 +77,32 @@ fn pdu_stands(rt: HostRuntime) -> Result<(), Fail> {
 
 #[test]
 fn faults_at_their_places(rt: HostRuntime) {
-    assert_eq!(rt; fault(24, 0x9f), Some(Cause::HighTag.at(24)));
-    assert_eq!(rt; fault(23, 0x80), Some(Cause::Indefinite.at(23)));
-    assert_eq!(rt; fault(23, 0x85), Some(Cause::LengthForm.at(23)));
-    assert_eq!(rt; fault(23, 0x2c), Some(Cause::LengthPastEnd.at(23)));
-    assert_eq!(rt; fault(23, 0x2a), Some(Cause::LengthPastEnd.at(63)));
-    assert_eq!(rt; fault(45, 0x00), Some(Cause::IntegerLength.at(45)));
-    assert_eq!(rt; fault(22, 0x60), Some(Cause::UnexpectedTag.at(22)));
-    assert_eq!(rt; fault(64, 0x88), Some(Cause::UnexpectedTag.at(64)));
-    assert_eq!(rt; fault(51, 0x02), Some(Cause::BooleanLength.at(51)));
-    assert_eq!(rt; fault(46, 0xff), Some(Cause::IntegerRange.at(46)));
-    assert_eq!(rt; fault(35, 0x07), Some(Cause::FixedLength.at(35)));
-    assert_eq!(rt; fault(26, 0x07), Some(Cause::NotVisible.at(26)));
-    assert_eq!(rt; fault(61, 0x02), Some(Cause::EntryCount.at(59)));
+    assert!(rt; fault(24, 0x9f) == Some(Cause::HighTag.at(24)));
+    assert!(rt; fault(23, 0x80) == Some(Cause::Indefinite.at(23)));
+    assert!(rt; fault(23, 0x85) == Some(Cause::LengthForm.at(23)));
+    assert!(rt; fault(23, 0x2c) == Some(Cause::LengthPastEnd.at(23)));
+    assert!(rt; fault(23, 0x2a) == Some(Cause::LengthPastEnd.at(63)));
+    assert!(rt; fault(45, 0x00) == Some(Cause::IntegerLength.at(45)));
+    assert!(rt; fault(22, 0x60) == Some(Cause::UnexpectedTag.at(22)));
+    assert!(rt; fault(64, 0x88) == Some(Cause::UnexpectedTag.at(64)));
+    assert!(rt; fault(51, 0x02) == Some(Cause::BooleanLength.at(51)));
+    assert!(rt; fault(46, 0xff) == Some(Cause::IntegerRange.at(46)));
+    assert!(rt; fault(35, 0x07) == Some(Cause::FixedLength.at(35)));
+    assert!(rt; fault(26, 0x07) == Some(Cause::NotVisible.at(26)));
+    assert!(rt; fault(61, 0x02) == Some(Cause::EntryCount.at(59)));
     let mut cut = changed(23, 3);
-    assert_eq!(rt;
-        view_goose(&cut, 22, 27).err(),
-        Some(Cause::ElementMissing.at(27))
-    );
+    assert!(rt; view_goose(&cut, 22, 27).err() == Some(Cause::ElementMissing.at(27)));
     cut[23] = 0x82;
-    assert_eq!(rt; view_goose(&cut, 22, 24).err(), Some(Cause::Ends.at(24)));
+    assert!(rt; view_goose(&cut, 22, 24).err() == Some(Cause::Ends.at(24)));
 }
 
 #[test]
 fn octets_behind_are_extra(rt: HostRuntime) {
     let mut longer = [0; 68];
     longer[..67].copy_from_slice(&FRAME);
-    assert_eq!(rt;
-        view_goose(&longer, 22, 68).err(),
-        Some(Cause::ExtraOctets.at(67))
-    );
+    assert!(rt; view_goose(&longer, 22, 68).err() == Some(Cause::ExtraOctets.at(67)));
     longer[61] = 2;
-    assert_eq!(rt;
-        view_goose(&longer, 22, 68).err(),
-        Some(Cause::ExtraOctets.at(67))
-    );
+    assert!(rt; view_goose(&longer, 22, 68).err() == Some(Cause::ExtraOctets.at(67)));
 }
 
 // Whether the APDU that the octets spell is written as the frame has it.
@@ -180,11 +171,11 @@ const TIGHT: [u8; 106] = [
 fn each_kind_is_written_from_where_it_stands(rt: HostRuntime) -> Result<(), Fail> {
     let view = view_goose(&LOOSE, 0, 109)?;
     let mut out = ArrayVec::<u8, 106>::new();
-    assert_eq!(rt; put_goose_view(&mut out, &view), Ok(()));
-    assert_eq!(rt; out.as_slice(), TIGHT.as_slice());
+    assert!(rt; put_goose_view(&mut out, &view) == Ok(()));
+    assert!(rt; out.as_slice() == TIGHT.as_slice());
     let mut short = ArrayVec::<u8, 105>::new();
     assert!(rt; put_goose_view(&mut short, &view).is_err());
-    assert_eq!(rt; short.len(), 0);
+    assert!(rt; short.len() == 0);
     Ok(())
 }
 
@@ -241,11 +232,11 @@ fn a_text_that_may_be_absent_is_seen(rt: HostRuntime) -> Result<(), Fail> {
     let Some(there) = slice_if(&pdu.go_id) else {
         return Err(Fail::from("goID is absent"));
     };
-    assert_eq!(rt; there, b"I".as_slice());
+    assert!(rt; there == b"I".as_slice());
     let Some(part) = pdu.parts().go_id else {
         return Err(Fail::from("goID is absent in the parts"));
     };
-    assert_eq!(rt; part, b"I".as_slice());
+    assert!(rt; part == b"I".as_slice());
     let absent: Option<Octets<std::alloc::Global>> = None;
     assert!(rt; slice_if(&absent).is_none());
     Ok(())
@@ -256,16 +247,16 @@ fn pdu_fits_or_leaves_the_vector(rt: HostRuntime) -> Result<(), Fail> {
     let pdu = pdu_of(rt.alloc(), b"A", 0xff_ffff)?;
     assert!(rt; is_spellable(&pdu));
     let mut out = ArrayVec::<u8, 47>::new();
-    assert_eq!(rt; put_goose(&mut out, &pdu), Ok(()));
+    assert!(rt; put_goose(&mut out, &pdu) == Ok(()));
     let want = [
         0x61, 0x2d, 0x80, 0x01, 0x41, 0x81, 0x01, 0x01, 0x82, 0x00, 0x83, 0x01, 0x49, 0x84, 0x08,
         0x00, 0x00, 0x00, 0x01, 0xff, 0xff, 0xff, 0x02, 0x85, 0x02, 0x00, 0x80, 0x86, 0x01, 0x00,
         0x87, 0x01, 0xff, 0x88, 0x01, 0x01, 0x89, 0x01, 0x00, 0x8a, 0x01, 0x01, 0xab, 0x03, 0x83,
         0x01, 0x00,
     ];
-    assert_eq!(rt; out.as_slice(), want.as_slice());
+    assert!(rt; out.as_slice() == want.as_slice());
     let mut short = ArrayVec::<u8, 46>::new();
-    assert_eq!(rt; put_goose(&mut short, &pdu), Err(PutFault::Full));
-    assert_eq!(rt; short.len(), 0);
+    assert!(rt; put_goose(&mut short, &pdu) == Err(PutFault::Full));
+    assert!(rt; short.len() == 0);
     Ok(())
 }

@@ -138,14 +138,14 @@ fn comes_back<H: Abort, A: Allocator + Copy>(
 ) -> Result<(), Fail> {
     assert!(rt; is_spellable(value, 1));
     let mut out = ArrayVec::<u8, 4096>::new();
-    assert_eq!(rt; put_value(&mut out, value), Ok(()));
-    assert_eq!(rt; spelled_length(value), Some(out.len()));
+    assert!(rt; put_value(&mut out, value) == Ok(()));
+    assert!(rt; spelled_length(value) == Some(out.len()));
     let values = ValueList::from(read_members(alloc, out.as_slice(), 0, out.len(), 1)?);
-    assert_eq!(rt; values.as_slice().len(), 1);
+    assert!(rt; values.as_slice().len() == 1);
     assert!(rt; are_spellable(&values, 1));
     let mut again = ArrayVec::<u8, 4096>::new();
-    assert_eq!(rt; put_values(&mut again, &values), Ok(()));
-    assert_eq!(rt; again.as_slice(), out.as_slice());
+    assert!(rt; put_values(&mut again, &values) == Ok(()));
+    assert!(rt; again.as_slice() == out.as_slice());
     Ok(())
 }
 

@@ -12,13 +12,13 @@ use worked_frames::FRAME;
 #[test]
 fn recorded_pdu_is_read(rt: HostRuntime) -> Result<(), Fail> {
     let pdu = read_goose(rt.alloc(), &FRAME, 22, 67)?;
-    assert_eq!(rt; pdu.gocb_ref.as_slice(), b"G".as_slice());
-    assert_eq!(rt; pdu.live, 2000);
-    assert_eq!(rt; pdu.dat_set.as_slice(), b"D".as_slice());
+    assert!(rt; pdu.gocb_ref.as_slice() == b"G".as_slice());
+    assert!(rt; pdu.live == 2000);
+    assert!(rt; pdu.dat_set.as_slice() == b"D".as_slice());
     assert!(rt; pdu.go_id.is_none());
-    assert_eq!(rt; pdu.t, NO_TIME);
-    assert_eq!(rt; (pdu.st_num, pdu.sq_num, pdu.conf_rev), (1, 0, 1));
-    assert_eq!(rt; (pdu.simulation, pdu.nds_com), (false, false));
+    assert!(rt; pdu.t == NO_TIME);
+    assert!(rt; (pdu.st_num, pdu.sq_num, pdu.conf_rev) == (1, 0, 1));
+    assert!(rt; (pdu.simulation, pdu.nds_com) == (false, false));
     assert!(rt; matches!(pdu.members.as_slice(), [Value::Boolean(true)]));
     Ok(())
 }
@@ -27,11 +27,11 @@ fn recorded_pdu_is_read(rt: HostRuntime) -> Result<(), Fail> {
 fn recorded_pdu_fits_in_45_octets(rt: HostRuntime) -> Result<(), Fail> {
     let pdu = read_goose(rt.alloc(), &FRAME, 22, 67)?;
     let mut short = ArrayVec::<u8, 44>::new();
-    assert_eq!(rt; put_goose(&mut short, &pdu), Err(PutFault::Full));
-    assert_eq!(rt; short.len(), 0);
+    assert!(rt; put_goose(&mut short, &pdu) == Err(PutFault::Full));
+    assert!(rt; short.len() == 0);
     let mut exact = ArrayVec::<u8, 45>::new();
-    assert_eq!(rt; put_goose(&mut exact, &pdu), Ok(()));
-    assert_eq!(rt; exact.as_slice(), &FRAME[22..67]);
+    assert!(rt; put_goose(&mut exact, &pdu) == Ok(()));
+    assert!(rt; exact.as_slice() == &FRAME[22..67]);
     Ok(())
 }
 
@@ -45,19 +45,19 @@ const NAMED: [u8; 48] = [
 #[test]
 fn identifier_is_read_and_written(rt: HostRuntime) -> Result<(), Fail> {
     let view = view_goose(&NAMED, 0, 48)?;
-    assert_eq!(rt; view.go_id, Some(b"I".as_slice()));
+    assert!(rt; view.go_id == Some(b"I".as_slice()));
     let pdu = read_goose(rt.alloc(), &NAMED, 0, 48)?;
     assert!(rt; pdu.go_id.is_some());
     let mut out = ArrayVec::<u8, 48>::new();
-    assert_eq!(rt; put_goose(&mut out, &pdu), Ok(()));
-    assert_eq!(rt; out.as_slice(), NAMED.as_slice());
+    assert!(rt; put_goose(&mut out, &pdu) == Ok(()));
+    assert!(rt; out.as_slice() == NAMED.as_slice());
     Ok(())
 }
 
 #[test]
 fn absent_booleans_are_false(rt: HostRuntime) -> Result<(), Fail> {
     let view = view_goose(&SHORT, 0, 39)?;
-    assert_eq!(rt; (view.simulation, view.nds_com), (false, false));
+    assert!(rt; (view.simulation, view.nds_com) == (false, false));
     Ok(())
 }
 
@@ -67,36 +67,30 @@ fn wrong_count_is_told(rt: HostRuntime) {
         Err(ReadFault::Fault(fault)) => Some(fault),
         _ => None,
     };
-    assert_eq!(rt; read, Some(Cause::EntryCount.at(59)));
-    assert_eq!(rt; fault(61, 2), read);
+    assert!(rt; read == Some(Cause::EntryCount.at(59)));
+    assert!(rt; fault(61, 2) == read);
 }
 
 #[test]
 fn sizes_at_fault(rt: HostRuntime) {
     for place in [28, 45, 48, 54, 60] {
-        assert_eq!(rt; fault(place, 0), Some(Cause::IntegerLength.at(place)));
+        assert!(rt; fault(place, 0) == Some(Cause::IntegerLength.at(place)));
     }
-    assert_eq!(rt; fault(28, 10), Some(Cause::IntegerLength.at(28)));
+    assert!(rt; fault(28, 10) == Some(Cause::IntegerLength.at(28)));
     for place in [51, 57] {
-        assert_eq!(rt; fault(place, 0), Some(Cause::BooleanLength.at(place)));
-        assert_eq!(rt; fault(place, 2), Some(Cause::BooleanLength.at(place)));
+        assert!(rt; fault(place, 0) == Some(Cause::BooleanLength.at(place)));
+        assert!(rt; fault(place, 2) == Some(Cause::BooleanLength.at(place)));
     }
-    assert_eq!(rt; fault(35, 7), Some(Cause::FixedLength.at(35)));
-    assert_eq!(rt; fault(35, 9), Some(Cause::FixedLength.at(35)));
+    assert!(rt; fault(35, 7) == Some(Cause::FixedLength.at(35)));
+    assert!(rt; fault(35, 9) == Some(Cause::FixedLength.at(35)));
 }
 
 #[test]
 fn each_cut_is_at_fault(rt: HostRuntime) {
-    assert_eq!(rt;
-        view_goose(&FRAME, 22, 22).err(),
-        Some(Cause::ElementMissing.at(22))
-    );
-    assert_eq!(rt; view_goose(&FRAME, 22, 23).err(), Some(Cause::Ends.at(23)));
+    assert!(rt; view_goose(&FRAME, 22, 22).err() == Some(Cause::ElementMissing.at(22)));
+    assert!(rt; view_goose(&FRAME, 22, 23).err() == Some(Cause::Ends.at(23)));
     for end in 24..67 {
-        assert_eq!(rt;
-            view_goose(&FRAME, 22, end).err(),
-            Some(Cause::LengthPastEnd.at(23))
-        );
+        assert!(rt; view_goose(&FRAME, 22, end).err() == Some(Cause::LengthPastEnd.at(23)));
     }
 }
 
@@ -129,9 +123,9 @@ fn each_field_may_be_cut(rt: HostRuntime) {
         (40, 63, Cause::LengthPastEnd),
         (42, 63, Cause::LengthPastEnd),
     ] {
-        assert_eq!(rt; fault_of_front(size), Some(cause.at(place)));
+        assert!(rt; fault_of_front(size) == Some(cause.at(place)));
     }
-    assert_eq!(rt; fault_of_front(43), None);
+    assert!(rt; fault_of_front(43) == None);
 }
 
 #[test]
@@ -140,5 +134,5 @@ fn laws_hold(rt: HostRuntime) {
     laws::written_is_spelled::<Global>();
     laws::spelled_is_spellable::<Global>();
     laws::seen_is_spelled::<Global>();
-    assert_eq!(rt; fault(66, 0xff), None);
+    assert!(rt; fault(66, 0xff) == None);
 }

@@ -50,13 +50,13 @@ fn recorded_pdu_stands(rt: HostRuntime) -> Result<(), Fail> {
     let Some(asdu) = one_asdu(&SAMPLED, 22, 54)? else {
         return Err(Fail::from("not one ASDU"));
     };
-    assert_eq!(rt; asdu.sv_id, b"S".as_slice());
+    assert!(rt; asdu.sv_id == b"S".as_slice());
     assert!(rt; asdu.dat_set.is_none());
-    assert_eq!(rt; (asdu.smp_cnt, asdu.conf_rev, asdu.smp_synch), (3998, 1, 2));
+    assert!(rt; (asdu.smp_cnt, asdu.conf_rev, asdu.smp_synch) == (3998, 1, 2));
     assert!(rt; asdu.refr_tm.is_none());
     assert!(rt; asdu.smp_rate.is_none());
-    assert_eq!(rt; asdu.sample, [0x00, 0x2a].as_slice());
-    assert_eq!(rt; asdu.smp_mod, Some([0].as_slice()));
+    assert!(rt; asdu.sample == [0x00, 0x2a].as_slice());
+    assert!(rt; asdu.smp_mod == Some([0].as_slice()));
     assert!(rt; asdu.field_89.is_none());
     Ok(())
 }
@@ -66,15 +66,12 @@ fn each_field_stands(rt: HostRuntime) -> Result<(), Fail> {
     let Some(asdu) = one_asdu(&FULL, 0, 54)? else {
         return Err(Fail::from("not one ASDU"));
     };
-    assert_eq!(rt;
-        (asdu.sv_id, asdu.dat_set),
-        (b"S".as_slice(), Some(b"D".as_slice()))
-    );
-    assert_eq!(rt; (asdu.smp_cnt, asdu.conf_rev, asdu.smp_synch), (7, 2, 1));
-    assert_eq!(rt; (asdu.refr_tm, asdu.smp_rate), (Some(TIME), Some(4000)));
-    assert_eq!(rt; asdu.sample, [1, 2, 3].as_slice());
-    assert_eq!(rt; asdu.smp_mod, Some([0, 5].as_slice()));
-    assert_eq!(rt; asdu.field_89, Some([7].as_slice()));
+    assert!(rt; (asdu.sv_id, asdu.dat_set) == (b"S".as_slice(), Some(b"D".as_slice())));
+    assert!(rt; (asdu.smp_cnt, asdu.conf_rev, asdu.smp_synch) == (7, 2, 1));
+    assert!(rt; (asdu.refr_tm, asdu.smp_rate) == (Some(TIME), Some(4000)));
+    assert!(rt; asdu.sample == [1, 2, 3].as_slice());
+    assert!(rt; asdu.smp_mod == Some([0, 5].as_slice()));
+    assert!(rt; asdu.field_89 == Some([7].as_slice()));
     Ok(())
 }
 
@@ -83,16 +80,10 @@ fn fields_that_may_be_absent_are(rt: HostRuntime) -> Result<(), Fail> {
     let Some(asdu) = one_asdu(&LEAST, 0, 27)? else {
         return Err(Fail::from("not one ASDU"));
     };
-    assert_eq!(rt; (asdu.sv_id, asdu.dat_set), (b"".as_slice(), None));
-    assert_eq!(rt;
-        (asdu.smp_cnt, asdu.conf_rev, asdu.smp_synch),
-        (0, 0xffff_ffff, 0xff)
-    );
-    assert_eq!(rt; (asdu.refr_tm, asdu.smp_rate), (None, None));
-    assert_eq!(rt;
-        (asdu.sample, asdu.smp_mod, asdu.field_89),
-        (b"".as_slice(), None, None)
-    );
+    assert!(rt; (asdu.sv_id, asdu.dat_set) == (b"".as_slice(), None));
+    assert!(rt; (asdu.smp_cnt, asdu.conf_rev, asdu.smp_synch) == (0, 0xffff_ffff, 0xff));
+    assert!(rt; (asdu.refr_tm, asdu.smp_rate) == (None, None));
+    assert!(rt; (asdu.sample, asdu.smp_mod, asdu.field_89) == (b"".as_slice(), None, None));
     Ok(())
 }
 
@@ -102,12 +93,12 @@ fn recorded_pdu_is_read(rt: HostRuntime) -> Result<(), Fail> {
     let [asdu] = pdu.asdus.as_slice() else {
         return Err(Fail::from("not one ASDU"));
     };
-    assert_eq!(rt; asdu.sv_id.as_slice(), b"S".as_slice());
+    assert!(rt; asdu.sv_id.as_slice() == b"S".as_slice());
     assert!(rt; asdu.dat_set.is_none());
-    assert_eq!(rt; (asdu.smp_cnt, asdu.conf_rev, asdu.smp_synch), (3998, 1, 2));
+    assert!(rt; (asdu.smp_cnt, asdu.conf_rev, asdu.smp_synch) == (3998, 1, 2));
     assert!(rt; asdu.refr_tm.is_none());
     assert!(rt; asdu.smp_rate.is_none());
-    assert_eq!(rt; asdu.sample.as_slice(), [0x00, 0x2a].as_slice());
+    assert!(rt; asdu.sample.as_slice() == [0x00, 0x2a].as_slice());
     assert!(rt; asdu.smp_mod.is_some());
     assert!(rt; asdu.field_89.is_none());
     Ok(())
@@ -121,8 +112,8 @@ fn wrong_count_is_told(rt: HostRuntime) {
         Err(ReadFault::Fault(fault)) => Some(fault),
         _ => None,
     };
-    assert_eq!(rt; fault, Some(Cause::AsduCount.at(24)));
-    assert_eq!(rt; view_sv(&frame, 22, 54).err(), fault);
+    assert!(rt; fault == Some(Cause::AsduCount.at(24)));
+    assert!(rt; view_sv(&frame, 22, 54).err() == fault);
 }
 
 // An APDU of eight ASDUs, the recorded one with the counts 0 to 7.
@@ -143,20 +134,20 @@ fn eight() -> ArrayVec<u8, 209> {
 fn asdus_come_in_their_order(rt: HostRuntime) -> Result<(), Fail> {
     let pdu = eight();
     let view = view_sv(pdu.as_slice(), 0, pdu.len())?;
-    assert_eq!(rt; view.count, 8);
+    assert!(rt; view.count == 8);
     let mut asdus = view.asdus;
     for count in 0..8u16 {
         let Some(asdu) = asdus.next() else {
             return Err(Fail::from("too few ASDUs"));
         };
-        assert_eq!(rt; (asdu.sv_id, asdu.smp_cnt), (b"S".as_slice(), count));
+        assert!(rt; (asdu.sv_id, asdu.smp_cnt) == (b"S".as_slice(), count));
     }
     assert!(rt; asdus.next().is_none());
     assert!(rt; asdus.next().is_none());
     let owned = read_sv(rt.alloc(), pdu.as_slice(), 0, pdu.len())?;
-    assert_eq!(rt; owned.asdus.as_slice().len(), 8);
+    assert!(rt; owned.asdus.as_slice().len() == 8);
     for (asdu, view) in owned.asdus.as_slice().iter().zip(view.asdus) {
-        assert_eq!(rt; asdu.smp_cnt, view.smp_cnt);
+        assert!(rt; asdu.smp_cnt == view.smp_cnt);
     }
     Ok(())
 }

@@ -70,7 +70,7 @@ fn read_sv_where_each_growth_is_refused(rt: HostRuntime) -> Result<(), Fail> {
     for first_refused in 0..100usize {
         let alloc = RefusingAlloc::new(rt.alloc(), first_refused);
         if is_read_at_once(&rt, &alloc, &view)? {
-            assert_eq!(rt; first_refused, 6);
+            assert!(rt; first_refused == 6);
             return Ok(());
         }
     }
@@ -105,7 +105,7 @@ fn to_pdu_where_each_growth_is_refused(rt: HostRuntime) -> Result<(), Fail> {
     for first_refused in 0..100usize {
         let alloc = RefusingAlloc::new(rt.alloc(), first_refused);
         if is_made_at_once(&rt, &alloc, &view)? {
-            assert_eq!(rt; first_refused, 6);
+            assert!(rt; first_refused == 6);
             return Ok(());
         }
     }

@@ -20,14 +20,14 @@ fn apdu_fits_from_where_it_stands(rt: HostRuntime) -> Result<(), Fail> {
     let view = view_sv(&SAMPLED, 22, 54)?;
     let mut exact = ArrayVec::<u8, 33>::new();
     exact.push(7);
-    assert_eq!(rt; put_sv_view(&mut exact, &view), Ok(()));
-    assert_eq!(rt; exact.len(), 33);
-    assert_eq!(rt; exact.as_slice()[0], 7);
-    assert_eq!(rt; &exact.as_slice()[1..], &SAMPLED[22..]);
+    assert!(rt; put_sv_view(&mut exact, &view) == Ok(()));
+    assert!(rt; exact.len() == 33);
+    assert!(rt; exact.as_slice()[0] == 7);
+    assert!(rt; &exact.as_slice()[1..] == &SAMPLED[22..]);
     let mut short = ArrayVec::<u8, 32>::new();
     short.push(7);
-    assert_eq!(rt; put_sv_view(&mut short, &view), Err(Full));
-    assert_eq!(rt; short.as_slice(), [7].as_slice());
+    assert!(rt; put_sv_view(&mut short, &view) == Err(Full));
+    assert!(rt; short.as_slice() == [7].as_slice());
     Ok(())
 }
 
@@ -35,8 +35,8 @@ fn apdu_fits_from_where_it_stands(rt: HostRuntime) -> Result<(), Fail> {
 fn each_field_is_written_from_where_it_stands(rt: HostRuntime) -> Result<(), Fail> {
     let view = view_sv(&FULL, 0, 54)?;
     let mut out = ArrayVec::<u8, 54>::new();
-    assert_eq!(rt; put_sv_view(&mut out, &view), Ok(()));
-    assert_eq!(rt; out.as_slice(), FULL.as_slice());
+    assert!(rt; put_sv_view(&mut out, &view) == Ok(()));
+    assert!(rt; out.as_slice() == FULL.as_slice());
     Ok(())
 }
 
@@ -48,16 +48,16 @@ fn eight_asdus_are_written_from_where_they_stand(rt: HostRuntime) -> Result<(), 
         octets.try_extend_from_slice(&SAMPLED[29..])?;
     }
     let view = view_sv(octets.as_slice(), 0, octets.len())?;
-    assert_eq!(rt; view.count, 8);
+    assert!(rt; view.count == 8);
     let mut out = ArrayVec::<u8, 209>::new();
-    assert_eq!(rt; put_sv_view(&mut out, &view), Ok(()));
-    assert_eq!(rt; out.len(), 209);
-    assert_eq!(rt; &out.as_slice()[..9], EIGHT.as_slice());
+    assert!(rt; put_sv_view(&mut out, &view) == Ok(()));
+    assert!(rt; out.len() == 209);
+    assert!(rt; &out.as_slice()[..9] == EIGHT.as_slice());
     for written in out.as_slice()[9..].chunks(25) {
-        assert_eq!(rt; written, &SAMPLED[29..]);
+        assert!(rt; written == &SAMPLED[29..]);
     }
     let mut short = ArrayVec::<u8, 208>::new();
-    assert_eq!(rt; put_sv_view(&mut short, &view), Err(Full));
+    assert!(rt; put_sv_view(&mut short, &view) == Err(Full));
     assert!(rt; short.is_empty());
     Ok(())
 }

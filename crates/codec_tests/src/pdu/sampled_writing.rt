@@ -50,16 +50,16 @@ fn apdu_fits_or_leaves_the_vector(rt: HostRuntime) -> Result<(), Fail> {
     assert!(rt; is_spellable_sv(&pdu));
     let mut ample = ArrayVec::<u8, 100>::new();
     ample.push(7);
-    assert_eq!(rt; put_sv(&mut ample, &pdu), Ok(()));
-    assert_eq!(rt; ample.len(), 33);
-    assert_eq!(rt; &ample.as_slice()[1..], ONE.as_slice());
+    assert!(rt; put_sv(&mut ample, &pdu) == Ok(()));
+    assert!(rt; ample.len() == 33);
+    assert!(rt; &ample.as_slice()[1..] == ONE.as_slice());
     let mut exact = ArrayVec::<u8, 32>::new();
-    assert_eq!(rt; put_sv(&mut exact, &pdu), Ok(()));
-    assert_eq!(rt; exact.as_slice(), ONE.as_slice());
+    assert!(rt; put_sv(&mut exact, &pdu) == Ok(()));
+    assert!(rt; exact.as_slice() == ONE.as_slice());
     let mut short = ArrayVec::<u8, 32>::new();
     short.push(7);
-    assert_eq!(rt; put_sv(&mut short, &pdu), Err(PutFault::Full));
-    assert_eq!(rt; short.as_slice(), [7].as_slice());
+    assert!(rt; put_sv(&mut short, &pdu) == Err(PutFault::Full));
+    assert!(rt; short.as_slice() == [7].as_slice());
     Ok(())
 }
 
@@ -73,13 +73,13 @@ fn lengths_take_their_long_form(rt: HostRuntime) -> Result<(), Fail> {
         asdus: AsduList::from(asdus),
     };
     let mut out = ArrayVec::<u8, 209>::new();
-    assert_eq!(rt; put_sv(&mut out, &pdu), Ok(()));
-    assert_eq!(rt; out.len(), 209);
-    assert_eq!(rt; &out.as_slice()[..9], EIGHT.as_slice());
+    assert!(rt; put_sv(&mut out, &pdu) == Ok(()));
+    assert!(rt; out.len() == 209);
+    assert!(rt; &out.as_slice()[..9] == EIGHT.as_slice());
     for written in out.as_slice()[9..].chunks(25) {
-        assert_eq!(rt; written, &ONE[7..]);
+        assert!(rt; written == &ONE[7..]);
     }
-    assert_eq!(rt; pdu.asdus.into_vec().len(), 8);
+    assert!(rt; pdu.asdus.into_vec().len() == 8);
     Ok(())
 }
 
@@ -122,10 +122,10 @@ fn what_has_no_spelling_is_refused(rt: HostRuntime) -> Result<(), Fail> {
         quality: 0,
     });
     assert!(rt; is_refused(&alone(rt.alloc(), late)?));
-    assert_eq!(rt; are_refused(rt.alloc(), 0)?, (true, true));
-    assert_eq!(rt; are_refused(rt.alloc(), 1)?, (false, false));
-    assert_eq!(rt; are_refused(rt.alloc(), 16)?, (false, false));
-    assert_eq!(rt; are_refused(rt.alloc(), 17)?, (true, true));
+    assert!(rt; are_refused(rt.alloc(), 0)? == (true, true));
+    assert!(rt; are_refused(rt.alloc(), 1)? == (false, false));
+    assert!(rt; are_refused(rt.alloc(), 16)? == (false, false));
+    assert!(rt; are_refused(rt.alloc(), 17)? == (true, true));
     Ok(())
 }
 
