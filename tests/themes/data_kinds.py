@@ -1,7 +1,7 @@
 """Each kind of Data: its text, its written form and its faults. A kind that is not read is an unexpected identifier."""
-from frames import WORKED, WORKED_LINE, put, with_members
+from frames import WORKED, WORKED_LINE, element, put, with_members
 from harness import Case, check, listed, refuse, rewrite, show, text
-from reference import KIND_OF, KINDS_READ
+from reference import KIND_OF, KINDS_READ, members
 
 # Octets of the members, the kinds among them in their order, their text, and their written form.
 READ = [
@@ -27,6 +27,56 @@ READ = [
     ("8c 06 00 00 00 00 00 01", "btime", "btime:000000000001", "8c 06 00 00 00 00 00 01"),
     ("90 02 c3 a9", "mms", "mms:c3a9", "90 02 c3 a9"),
     ("91 08 00 00 00 01 80 00 00 0a", "utc", "utc:000000018000000a", "91 08 00 00 00 01 80 00 00 0a"),
+]
+
+# Members in other spellings than their written form, and that form: numbers, unused bits and lengths of more octets than
+# they need, alone and beside members in their written form.
+REWRITTEN = [
+    ("83 01 07", "83 01 ff"),
+    ("83 01 80", "83 01 ff"),
+    ("85 02 00 05", "85 01 05"),
+    ("85 02 ff ff", "85 01 ff"),
+    ("85 03 ff ff 80", "85 01 80"),
+    ("85 03 00 00 80", "85 02 00 80"),
+    ("85 09 00 7f ff ff ff ff ff ff ff", "85 08 7f ff ff ff ff ff ff ff"),
+    ("85 09 ff 80 00 00 00 00 00 00 00", "85 08 80 00 00 00 00 00 00 00"),
+    ("86 02 00 05", "86 01 05"),
+    ("86 03 00 00 c8", "86 02 00 c8"),
+    ("86 09 00 00 00 00 00 00 00 00 00", "86 01 00"),
+    ("84 02 06 7f", "84 02 06 40"),
+    ("84 02 07 ff", "84 02 07 80"),
+    ("84 02 01 01", "84 02 01 00"),
+    ("83 81 01 ff", "83 01 ff"),
+    ("83 81 01 07", "83 01 ff"),
+    ("84 81 01 00", "84 01 00"),
+    ("84 84 00 00 00 01 00", "84 01 00"),
+    ("84 82 00 02 06 7f", "84 02 06 40"),
+    ("85 82 00 01 05", "85 01 05"),
+    ("85 83 00 00 02 00 05", "85 01 05"),
+    ("86 84 00 00 00 01 05", "86 01 05"),
+    ("87 81 05 08 41 20 00 00", "87 05 08 41 20 00 00"),
+    ("89 82 00 00", "89 00"),
+    ("89 84 00 00 00 01 07", "89 01 07"),
+    ("8a 82 00 01 41", "8a 01 41"),
+    ("8c 81 04 00 00 00 01", "8c 04 00 00 00 01"),
+    ("90 83 00 00 01 43", "90 01 43"),
+    ("91 81 08 65 53 f1 00 12 34 56 0a", "91 08 65 53 f1 00 12 34 56 0a"),
+    ("a1 81 00", "a1 00"),
+    ("a2 84 00 00 00 00", "a2 00"),
+    ("a1 82 00 03 83 01 ff", "a1 03 83 01 ff"),
+    ("a2 81 03 83 01 ff", "a2 03 83 01 ff"),
+    ("a2 84 00 00 00 03 85 01 05", "a2 03 85 01 05"),
+    ("a1 81 08 a2 81 05 83 82 00 01 07", "a1 05 a2 03 83 01 ff"),
+    ("83 01 ff 85 01 05 89 02 01 02 86 02 00 05", "83 01 ff 85 01 05 89 02 01 02 86 01 05"),
+    ("83 01 07 85 01 05 89 02 01 02 86 01 05", "83 01 ff 85 01 05 89 02 01 02 86 01 05"),
+    ("83 01 ff 85 02 00 05 89 02 01 02 86 01 05", "83 01 ff 85 01 05 89 02 01 02 86 01 05"),
+    ("83 01 07 85 02 00 05 89 81 02 01 02 86 02 00 05", "83 01 ff 85 01 05 89 02 01 02 86 01 05"),
+    ("a1 03 83 01 ff a2 07 89 01 07 84 02 06 7f", "a1 03 83 01 ff a2 07 89 01 07 84 02 06 40"),
+    ("a1 08 a2 06 85 02 00 05 89 00 83 01 ff", "a1 07 a2 05 85 01 05 89 00 83 01 ff"),
+    ("a2 81 08 a1 06 84 02 06 7f 89 00", "a2 08 a1 06 84 02 06 40 89 00"),
+    ("a1 81 80 83 81 01 ff 89 7a" + " 00" * 122, "a1 7f 83 01 ff 89 7a" + " 00" * 122),
+    ("a1 7e 85 02 00 05 89 78" + " 00" * 120, "a1 7d 85 01 05 89 78" + " 00" * 120),
+    ("a2 82 01 00 85 02 00 05 89 81 f9" + " 00" * 249, "a2 81 ff 85 01 05 89 81 f9" + " 00" * 249),
 ]
 
 # Octets of one member, its kind, and the fault's place from its identifier on.
@@ -76,6 +126,16 @@ def each_identifier():
             yield "fault {} {}".format(*bad[identifier])
 
 
+def rewritten():
+    """Members in other spellings, as they stand and inside an array of a structure."""
+    for spelled, written in REWRITTEN:
+        octets, form = bytes.fromhex(spelled), bytes.fromhex(written)
+        count = len(members(octets, 0, len(octets), 1))
+        yield rewrite(f"{spelled[:60]} is written {written[:60]}", with_members(octets, count), with_members(form, count))
+        nested, nested_form = (element(0xA1, element(0xA2, it)) for it in (octets, form))
+        yield rewrite(f"{spelled[:60]}, nested", with_members(nested), with_members(nested_form))
+
+
 def cases():
     yield Case("each identifier of a member", ["show"], listed(*[put(WORKED, at64=it) for it in range(256)]),
                text(f"{number} {line}" for number, line in enumerate(each_identifier(), 1)))
@@ -89,6 +149,8 @@ def cases():
             yield check(f"{spelled}, checked", with_members(octets), *["not-written"] * (octets != form))
         else:
             yield refuse(f"{spelled} is not read", with_members(octets), 64 + unread, "UnexpectedTag")
+    if set(KIND_OF.values()) <= set(KINDS_READ):
+        yield from rewritten()
     for spelled, kind, place, cause in FAULTY:
         is_read = kind in KINDS_READ
         place, cause = (64 + place, cause) if is_read else (64, "UnexpectedTag")

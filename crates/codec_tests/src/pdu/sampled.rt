@@ -1,7 +1,5 @@
 // Sampled Values: a recorded APDU, and one with each field, whose octets are changed one at a time.
 
-ghost use Rattle.std.specs.Prelude.{◌≤◌, length};
-
 use arrayvec::ArrayVec;
 use ber_core::{Cause, Fault};
 use mms_data::{ReadFault, UtcTime};
@@ -17,137 +15,118 @@ pub const FULL: [u8; 54] = [
     0x02, 0x00, 0x05, 0x89, 0x01, 0x07,
 ];
 
-// An APDU of one ASDU with no field that may be absent, of which the texts and the sample have no octets. Its
-// count is spelled in two octets.
-const LEAST: [u8; 27] = [
-    0x60, 0x19, 0x80, 0x02, 0x00, 0x01, 0xa2, 0x13, 0x30, 0x11, 0x80, 0x00, 0x82, 0x02, 0x00, 0x00,
-    0x83, 0x04, 0xff, 0xff, 0xff, 0xff, 0x85, 0x01, 0xff, 0x87, 0x00,
-];
-
 const TIME: UtcTime = UtcTime {
     seconds: 1,
     fraction: 2,
     quality: 3,
 };
 
-// The one ASDU of the APDU from `at` to `end`.
-fn one_asdu<'a>(octets: &'a [u8], at: usize, end: usize) -> Result<Option<AsduView<'a>>, Fault>
-    requires ordered { at ≤ end }
-    requires inside { end ≤ length octets.now }
-{
-    let view = view_sv(octets, at, end)?;
+// The one ASDU of the APDU.
+fn one_asdu(octets: &[u8]) -> Result<AsduView<'_>, Fail> {
+    let view = view_sv(octets, 0, octets.len())?;
     let mut asdus = view.asdus;
-    let first = asdus.next();
+    let first = asdus.next().ok_or("no ASDU")?;
     if view.count == 1 && asdus.next().is_none() {
         Ok(first)
     } else {
-        Ok(None)
+        Err(Fail::from("not one ASDU"))
     }
 }
 
 #[test]
-fn recorded_pdu_stands(rt: HostRuntime) -> Result<(), Fail> {
-    let Some(asdu) = one_asdu(&SAMPLED, 22, 54)? else {
-        return Err(Fail::from("not one ASDU"));
-    };
-    assert!(rt; asdu.sv_id == b"S".as_slice());
-    assert!(rt; asdu.dat_set.is_none());
+fn the_recorded_pdu_stands(rt: HostRuntime) -> Result<(), Fail> {
+    let asdu = one_asdu(&SAMPLED[22..])?;
+    assert!(rt; asdu.sv_id == b"S".as_slice() && asdu.dat_set.is_none());
     assert!(rt; (asdu.smp_cnt, asdu.conf_rev, asdu.smp_synch) == (3998, 1, 2));
-    assert!(rt; asdu.refr_tm.is_none());
-    assert!(rt; asdu.smp_rate.is_none());
-    assert!(rt; asdu.sample == [0x00, 0x2a].as_slice());
-    assert!(rt; asdu.smp_mod == Some([0].as_slice()));
-    assert!(rt; asdu.field_89.is_none());
+    assert!(rt; asdu.refr_tm.is_none() && asdu.smp_rate.is_none() && asdu.field_89.is_none());
+    assert!(rt; asdu.sample == [0x00, 0x2a].as_slice() && asdu.smp_mod == Some([0].as_slice()));
     Ok(())
 }
 
 #[test]
 fn each_field_stands(rt: HostRuntime) -> Result<(), Fail> {
-    let Some(asdu) = one_asdu(&FULL, 0, 54)? else {
-        return Err(Fail::from("not one ASDU"));
-    };
-    assert!(rt; (asdu.sv_id, asdu.dat_set) == (b"S".as_slice(), Some(b"D".as_slice())));
+    let asdu = one_asdu(&FULL)?;
+    assert!(rt; asdu.sv_id == b"S".as_slice() && asdu.dat_set == Some(b"D".as_slice()));
     assert!(rt; (asdu.smp_cnt, asdu.conf_rev, asdu.smp_synch) == (7, 2, 1));
-    assert!(rt; (asdu.refr_tm, asdu.smp_rate) == (Some(TIME), Some(4000)));
+    assert!(rt; asdu.refr_tm == Some(TIME) && asdu.smp_rate == Some(4000));
     assert!(rt; asdu.sample == [1, 2, 3].as_slice());
-    assert!(rt; asdu.smp_mod == Some([0, 5].as_slice()));
-    assert!(rt; asdu.field_89 == Some([7].as_slice()));
+    assert!(rt; asdu.smp_mod == Some([0, 5].as_slice()) && asdu.field_89 == Some([7].as_slice()));
     Ok(())
 }
 
 #[test]
-fn fields_that_may_be_absent_are(rt: HostRuntime) -> Result<(), Fail> {
-    let Some(asdu) = one_asdu(&LEAST, 0, 27)? else {
-        return Err(Fail::from("not one ASDU"));
-    };
-    assert!(rt; (asdu.sv_id, asdu.dat_set) == (b"".as_slice(), None));
-    assert!(rt; (asdu.smp_cnt, asdu.conf_rev, asdu.smp_synch) == (0, 0xffff_ffff, 0xff));
-    assert!(rt; (asdu.refr_tm, asdu.smp_rate) == (None, None));
-    assert!(rt; (asdu.sample, asdu.smp_mod, asdu.field_89) == (b"".as_slice(), None, None));
-    Ok(())
-}
-
-#[test]
-fn recorded_pdu_is_read(rt: HostRuntime) -> Result<(), Fail> {
+fn the_recorded_pdu_is_read(rt: HostRuntime) -> Result<(), Fail> {
     let pdu = read_sv(rt.alloc(), &SAMPLED, 22, 54)?;
     let [asdu] = pdu.asdus.as_slice() else {
         return Err(Fail::from("not one ASDU"));
     };
-    assert!(rt; asdu.sv_id.as_slice() == b"S".as_slice());
-    assert!(rt; asdu.dat_set.is_none());
+    assert!(rt; asdu.sv_id.as_slice() == b"S".as_slice() && asdu.dat_set.is_none());
     assert!(rt; (asdu.smp_cnt, asdu.conf_rev, asdu.smp_synch) == (3998, 1, 2));
-    assert!(rt; asdu.refr_tm.is_none());
-    assert!(rt; asdu.smp_rate.is_none());
-    assert!(rt; asdu.sample.as_slice() == [0x00, 0x2a].as_slice());
-    assert!(rt; asdu.smp_mod.is_some());
-    assert!(rt; asdu.field_89.is_none());
+    assert!(rt; asdu.refr_tm.is_none() && asdu.smp_rate.is_none() && asdu.field_89.is_none());
+    assert!(rt; asdu.sample.as_slice() == [0x00, 0x2a].as_slice() && asdu.smp_mod.is_some());
     Ok(())
 }
 
-#[test]
-fn wrong_count_is_told(rt: HostRuntime) {
-    let mut frame = SAMPLED;
-    frame[26] = 2;
-    let fault = match read_sv(rt.alloc(), &frame, 22, 54) {
-        Err(ReadFault::Fault(fault)) => Some(fault),
-        _ => None,
-    };
-    assert!(rt; fault == Some(Cause::AsduCount.at(24)));
-    assert!(rt; view_sv(&frame, 22, 54).err() == fault);
+// The fault of the APDU with each field, with this octet at this place.
+fn fault(place: usize, octet: u8) -> Option<Fault> {
+    let mut pdu = FULL;
+    if let Some(at) = pdu.get_mut(place) {
+        *at = octet;
+    }
+    view_sv(&pdu, 0, 54).err()
 }
 
-// An APDU of eight ASDUs, the recorded one with the counts 0 to 7.
-fn eight() -> ArrayVec<u8, 209> {
-    let mut pdu = ArrayVec::<u8, 209>::new();
-    let _ = pdu.try_extend_from_slice(&[0x60, 0x81, 0xce, 0x80, 0x01, 0x08, 0xa2, 0x81, 0xc8]);
-    for count in 0..8u8 {
-        let mut asdu = [0; 25];
-        asdu.copy_from_slice(&SAMPLED[29..]);
-        asdu[7] = 0;
-        asdu[8] = count;
-        let _ = pdu.try_extend_from_slice(&asdu);
+#[test]
+fn faults_at_their_places(rt: HostRuntime) {
+    for (place, octet, wanted) in [
+        (0, 0x61, Cause::UnexpectedTag.at(0)),
+        (1, 0x33, Cause::LengthPastEnd.at(6)),
+        (4, 0x00, Cause::IntegerRange.at(4)),
+        (4, 0x02, Cause::AsduCount.at(2)),
+        (7, 0x3f, Cause::HighTag.at(7)),
+        (11, 0x7f, Cause::NotVisible.at(11)),
+        (16, 0x03, Cause::FixedLength.at(16)),
+        (25, 0x86, Cause::UnexpectedTag.at(25)),
+        (48, 0x00, Cause::FixedLength.at(48)),
+        (51, 0x88, Cause::ExtraOctets.at(51)),
+    ] {
+        assert!(rt; fault(place, octet) == Some(wanted), "at {place}");
     }
-    pdu
+}
+
+#[test]
+fn the_element_fills_the_region(rt: HostRuntime) {
+    assert!(rt; view_sv(&SAMPLED, 22, 22).err() == Some(Cause::ElementMissing.at(22)));
+    let answer = read_sv(rt.alloc(), &SAMPLED, 22, 53);
+    let wanted = Cause::LengthPastEnd.at(23);
+    assert!(rt; matches!(answer, Err(ReadFault::Fault(fault)) if fault == wanted));
+}
+
+/// The front of eight ASDUs like the recorded one, up to the first of them.
+pub const EIGHT: [u8; 9] = [0x60, 0x81, 0xce, 0x80, 0x01, 0x08, 0xa2, 0x81, 0xc8];
+
+/// An APDU of eight ASDUs, the recorded one with the counts 0 to 7, behind this front.
+pub fn eight(front: &[u8]) -> Result<ArrayVec<u8, 212>, Fail> {
+    let mut pdu = ArrayVec::new();
+    pdu.try_extend_from_slice(front)?;
+    for count in 0..8u8 {
+        pdu.try_extend_from_slice(&SAMPLED[29..36])?;
+        pdu.try_extend_from_slice(&[0, count])?;
+        pdu.try_extend_from_slice(&SAMPLED[38..])?;
+    }
+    Ok(pdu)
 }
 
 #[test]
 fn asdus_come_in_their_order(rt: HostRuntime) -> Result<(), Fail> {
-    let pdu = eight();
+    let pdu = eight(&EIGHT)?;
     let view = view_sv(pdu.as_slice(), 0, pdu.len())?;
     assert!(rt; view.count == 8);
     let mut asdus = view.asdus;
     for count in 0..8u16 {
-        let Some(asdu) = asdus.next() else {
-            return Err(Fail::from("too few ASDUs"));
-        };
-        assert!(rt; (asdu.sv_id, asdu.smp_cnt) == (b"S".as_slice(), count));
+        let asdu = asdus.next().ok_or("too few ASDUs")?;
+        assert!(rt; asdu.smp_cnt == count && asdu.sv_id == b"S".as_slice());
     }
     assert!(rt; asdus.next().is_none());
-    assert!(rt; asdus.next().is_none());
-    let owned = read_sv(rt.alloc(), pdu.as_slice(), 0, pdu.len())?;
-    assert!(rt; owned.asdus.as_slice().len() == 8);
-    for (asdu, view) in owned.asdus.as_slice().iter().zip(view.asdus) {
-        assert!(rt; asdu.smp_cnt == view.smp_cnt);
-    }
     Ok(())
 }

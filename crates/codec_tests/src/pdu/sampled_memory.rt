@@ -1,134 +1,180 @@
-// Where memory is refused to a savPdu, at each growth in turn.
+// Sampled Values in memory of their own: with ample memory they are those that the octets were made of, whatever their
+// counts; and each growth is refused in turn.
 
+use crate::mms::writing::count_at;
 use crate::pdu::sampled::FULL;
-use mms_data::{Octets, ReadFault};
-use pdu_core::{Asdu, AsduView, SvPdu, SvView, read_sv, view_sv};
+use arrayvec::ArrayVec;
+use ber_core::put_integer;
+use mms_data::{ReadFault, put_element};
+use pdu_core::{AsduList, SvPdu, put_sv, read_sv, view_sv};
 use refusing_alloc::RefusingAlloc;
-use std::alloc::{Allocator, Global};
+use std::alloc::Global;
 use std::process::Abort;
 use std::test::Fail;
 
-// Whether the octets in memory of their own are those that stand somewhere, if any.
-fn are_owned<A: Allocator>(octets: &Option<Octets<A>>, slice: Option<&[u8]>) -> bool {
-    match (octets, slice) {
-        (Some(octets), Some(slice)) => octets.as_slice() == slice,
-        (None, None) => true,
-        _ => false,
-    }
+type Memory<'a> = &'a RefusingAlloc<Global>;
+
+// The calls that can want memory.
+#[derive(Clone, Copy, Debug)]
+enum Call {
+    ReadSv,
+    ToPdu,
+    ToAsdu,
 }
 
-// Whether the ASDU is what the view stands for.
-pub(super) fn is_owned<A: Allocator>(asdu: &Asdu<A>, view: &AsduView<'_>) -> bool {
-    asdu.sv_id.as_slice() == view.sv_id
-        && are_owned(&asdu.dat_set, view.dat_set)
-        && asdu.smp_cnt == view.smp_cnt
-        && asdu.conf_rev == view.conf_rev
-        && asdu.refr_tm == view.refr_tm
-        && asdu.smp_synch == view.smp_synch
-        && asdu.smp_rate == view.smp_rate
-        && asdu.sample.as_slice() == view.sample
-        && are_owned(&asdu.smp_mod, view.smp_mod)
-        && are_owned(&asdu.field_89, view.field_89)
+// Whether the APDU is written as the octets, which are at most 64.
+fn is_written(pdu: &SvPdu<Memory<'_>>, octets: &[u8]) -> bool {
+    let mut out = ArrayVec::<u8, 64>::new();
+    put_sv(&mut out, pdu).is_ok() && out.as_slice() == octets
 }
 
-// Whether the APDU is what the view of one ASDU stands for.
-fn is_full<A: Allocator>(pdu: &SvPdu<A>, view: &SvView<'_>) -> bool {
-    let mut asdus = view.asdus;
-    match (pdu.asdus.as_slice(), asdus.next()) {
-        ([asdu], Some(view)) => is_owned(asdu, &view),
-        _ => false,
-    }
-}
-
-// Whether the APDU is read at once; else it is once memory is granted.
-fn is_read_at_once<H: Abort>(
-    rt: &H,
-    alloc: &RefusingAlloc<Global>,
-    view: &SvView<'_>,
-) -> Result<bool, Fail> {
-    match read_sv(alloc, &FULL, 0, 54) {
-        Ok(pdu) => {
-            assert!(rt; !alloc.has_refused());
-            assert!(rt; is_full(&pdu, view));
-            Ok(true)
-        }
-        Err(ReadFault::Memory(_)) => {
-            assert!(rt; alloc.has_refused());
-            alloc.allow();
-            let pdu = read_sv(alloc, &FULL, 0, 54)?;
-            assert!(rt; is_full(&pdu, view));
-            Ok(false)
-        }
-        Err(ReadFault::Fault(_)) => Err(Fail::from("a fault of good octets")),
-    }
-}
-
-// The list, two texts, the sample and two fields more: six growths.
-#[test]
-fn read_sv_where_each_growth_is_refused(rt: HostRuntime) -> Result<(), Fail> {
-    let view = view_sv(&FULL, 0, 54)?;
-    for first_refused in 0..100usize {
-        let alloc = RefusingAlloc::new(rt.alloc(), first_refused);
-        if is_read_at_once(&rt, &alloc, &view)? {
-            assert!(rt; first_refused == 6);
-            return Ok(());
-        }
-    }
-    Err(Fail::from("each call was refused memory"))
-}
-
-// Whether the view's APDU is made at once; else it is once memory is granted.
-fn is_made_at_once<H: Abort>(
-    rt: &H,
-    alloc: &RefusingAlloc<Global>,
-    view: &SvView<'_>,
-) -> Result<bool, Fail> {
-    match view.to_pdu(alloc) {
-        Ok(pdu) => {
-            assert!(rt; !alloc.has_refused());
-            assert!(rt; is_full(&pdu, view));
-            Ok(true)
-        }
-        Err(_) => {
-            assert!(rt; alloc.has_refused());
-            alloc.allow();
-            let pdu = view.to_pdu(alloc)?;
-            assert!(rt; is_full(&pdu, view));
-            Ok(false)
-        }
-    }
-}
-
-#[test]
-fn to_pdu_where_each_growth_is_refused(rt: HostRuntime) -> Result<(), Fail> {
-    let view = view_sv(&FULL, 0, 54)?;
-    for first_refused in 0..100usize {
-        let alloc = RefusingAlloc::new(rt.alloc(), first_refused);
-        if is_made_at_once(&rt, &alloc, &view)? {
-            assert!(rt; first_refused == 6);
-            return Ok(());
-        }
-    }
-    Err(Fail::from("each call was refused memory"))
-}
-
-#[test]
-fn to_asdu_where_each_growth_is_refused(rt: HostRuntime) -> Result<(), Fail> {
-    let view = view_sv(&FULL, 0, 54)?;
-    let mut asdus = view.asdus;
-    let Some(view) = asdus.next() else {
-        return Err(Fail::from("no ASDU"));
+// Whether what the call gives is written as the octets.
+fn gives(call: Call, memory: Memory<'_>, octets: &[u8]) -> Result<bool, ReadFault> {
+    let pdu = match call {
+        Call::ReadSv => read_sv(memory, octets, 0, octets.len())?,
+        Call::ToPdu => view_sv(octets, 0, octets.len())?.to_pdu(memory)?,
+        Call::ToAsdu => made_one_by_one(memory, octets)?,
     };
-    for first_refused in 0..5usize {
-        let alloc = RefusingAlloc::new(rt.alloc(), first_refused);
-        assert!(rt; view.to_asdu(&alloc).is_err());
-        assert!(rt; alloc.has_refused());
-        alloc.allow();
-        let asdu = view.to_asdu(&alloc)?;
-        assert!(rt; is_owned(&asdu, &view));
+    Ok(is_written(&pdu, octets))
+}
+
+// The APDU of the octets, its ASDUs made one by one.
+fn made_one_by_one<'a>(memory: Memory<'a>, octets: &[u8]) -> Result<SvPdu<Memory<'a>>, ReadFault> {
+    let view = view_sv(octets, 0, octets.len())?;
+    let mut asdus = Vec::with_capacity(memory, view.count as usize)?;
+    for asdu in view.asdus {
+        asdus.push(asdu.to_asdu(memory)?)?;
     }
-    let alloc = RefusingAlloc::new(rt.alloc(), 5);
-    let asdu = view.to_asdu(&alloc)?;
-    assert!(rt; is_owned(&asdu, &view));
+    Ok(SvPdu {
+        asdus: AsduList::from(asdus),
+    })
+}
+
+// With ample memory each call gives the APDU.
+fn is_owned<H: Abort>(rt: &H, memory: Memory<'_>, octets: &[u8]) -> Result<(), Fail> {
+    for call in [Call::ReadSv, Call::ToPdu, Call::ToAsdu] {
+        assert!(rt; gives(call, memory, octets)?, "{call:?} of {octets:?}");
+    }
+    Ok(())
+}
+
+// With ample memory each call answers; that it answers what the octets were made of is proved.
+fn is_answered<H: Abort>(rt: &H, memory: Memory<'_>, octets: &[u8]) {
+    for call in [Call::ReadSv, Call::ToPdu, Call::ToAsdu] {
+        assert!(rt;
+            gives(call, memory, octets).is_ok(),
+            "{call:?} of {octets:?}"
+        );
+    }
+}
+
+// An APDU of so many ASDUs, which stand in these octets.
+fn sampled(count: usize, asdus: &[u8]) -> Result<ArrayVec<u8, 20_100>, Fail> {
+    let mut fields = ArrayVec::<u8, 20_100>::new();
+    put_integer(&mut fields, 0x80, count as i128)?;
+    put_element(&mut fields, 0xa2, asdus)?;
+    let mut octets = ArrayVec::new();
+    put_element(&mut octets, 0x60, fields.as_slice())?;
+    Ok(octets)
+}
+
+// An ASDU in which of the fields that may be absent none is there.
+const SMALL: [u8; 20] = [
+    0x30, 0x12, 0x80, 0x01, 0x53, 0x82, 0x02, 0x00, 0x00, 0x83, 0x04, 0xff, 0xff, 0xff, 0xff, 0x85,
+    0x01, 0xff, 0x87, 0x00,
+];
+
+#[test]
+fn asdus_of_each_count_are_answered(rt: HostRuntime) -> Result<(), Fail> {
+    let ample = RefusingAlloc::new(rt.alloc(), usize::MAX);
+    let mut asdus = ArrayVec::<u8, 20_100>::new();
+    for count in 1..=1000 {
+        asdus.try_extend_from_slice(&SMALL)?;
+        if count <= 100 || count % 50 == 0 {
+            is_answered(&rt, &ample, sampled(count, asdus.as_slice())?.as_slice());
+        }
+    }
+    Ok(())
+}
+
+// The fields of an ASDU that has all of them, each beside the bit that tells that it is absent, if it may be.
+const FIELDS: [(u8, &[u8]); 10] = [
+    (0, &[0x80, 0x01, 0x53]),
+    (1, &[0x81, 0x01, 0x44]),
+    (0, &[0x82, 0x02, 0x00, 0x00]),
+    (0, &[0x83, 0x04, 0xff, 0xff, 0xff, 0xff]),
+    (
+        2,
+        &[0x84, 0x08, 0x00, 0x00, 0x00, 0x01, 0xff, 0xff, 0xff, 0x02],
+    ),
+    (0, &[0x85, 0x01, 0x00]),
+    (4, &[0x86, 0x02, 0x00, 0x50]),
+    (0, &[0x87, 0x00]),
+    (8, &[0x88, 0x01, 0x00]),
+    (16, &[0x89, 0x02, 0x01, 0x02]),
+];
+
+// An APDU of one ASDU of these fields.
+fn alone(fields: &[u8]) -> Result<ArrayVec<u8, 20_100>, Fail> {
+    let mut asdu = ArrayVec::<u8, 20_100>::new();
+    put_element(&mut asdu, 0x30, fields)?;
+    sampled(1, asdu.as_slice())
+}
+
+#[test]
+fn asdus_of_any_fields_are_owned(rt: HostRuntime) -> Result<(), Fail> {
+    let ample = RefusingAlloc::new(rt.alloc(), usize::MAX);
+    for absent in 0..32 {
+        let mut fields = ArrayVec::<u8, 64>::new();
+        for (bit, field) in FIELDS {
+            if absent & bit == 0 {
+                fields.try_extend_from_slice(field)?;
+            }
+        }
+        is_owned(&rt, &ample, alone(fields.as_slice())?.as_slice())?;
+    }
+    Ok(())
+}
+
+// An ASDU of these texts and this sample.
+fn with(sv_id: &[u8], dat_set: &[u8], sample: &[u8]) -> Result<ArrayVec<u8, 20_100>, Fail> {
+    let mut fields = ArrayVec::<u8, 2100>::new();
+    put_element(&mut fields, 0x80, sv_id)?;
+    put_element(&mut fields, 0x81, dat_set)?;
+    fields.try_extend_from_slice(&SMALL[5..18])?;
+    put_element(&mut fields, 0x87, sample)?;
+    alone(fields.as_slice())
+}
+
+#[test]
+fn texts_and_samples_of_each_count_are_answered(rt: HostRuntime) -> Result<(), Fail> {
+    let ample = RefusingAlloc::new(rt.alloc(), usize::MAX);
+    let letters = [0x41; 1500];
+    for step in 0..=324 {
+        let text = letters.get(..count_at(step)).ok_or("too few octets")?;
+        is_answered(&rt, &ample, with(text, b"D", b"")?.as_slice());
+        is_answered(&rt, &ample, with(b"", text, &[7])?.as_slice());
+        is_answered(&rt, &ample, with(b"S", b"", text)?.as_slice());
+    }
+    Ok(())
+}
+
+// The list, two texts, the sample and two fields more.
+#[test]
+fn each_of_six_growths_is_refused(rt: HostRuntime) -> Result<(), Fail> {
+    let memory = RefusingAlloc::new(rt.alloc(), 0);
+    for call in [Call::ReadSv, Call::ToPdu, Call::ToAsdu] {
+        for first_refused in 0..6 {
+            memory.refuse_from(first_refused);
+            assert!(rt;
+                gives(call, &memory, &FULL).is_err() && memory.has_refused(),
+                "{call:?}"
+            );
+            memory.allow();
+            assert!(rt; gives(call, &memory, &FULL)?, "{call:?}");
+        }
+        memory.refuse_from(6);
+        assert!(rt; gives(call, &memory, &FULL)?, "{call:?}");
+    }
     Ok(())
 }

@@ -1,0 +1,229 @@
+// Outside examples: a recorded frame of GOOSE whose octets are changed one at a time, and APDUs in other forms.
+
+use arrayvec::ArrayVec;
+use ber_core::{Cause, Fault};
+use mms_data::{Octets, PutFault, ReadFault, UtcTime, Value, View};
+use pdu_core::{
+    GoosePdu, GooseView, are_spellable_parts, is_spellable, laws, put_goose, put_goose_parts,
+    put_goose_view, read_goose, slice_if, view_goose,
+};
+use std::alloc::Global;
+use std::test::Fail;
+use worked_frames::FRAME;
+
+// The APDU of `FRAME` with a longer spelling of its length and of stNum.
+const LONG: [u8; 50] = [
+    0x61, 0x82, 0x00, 0x2e, 0x80, 0x01, 0x47, 0x81, 0x02, 0x07, 0xd0, 0x82, 0x01, 0x44, 0x84, 0x08,
+    0x00, 0x00, 0x00, 0x00, 0x00, 0x00, 0x00, 0x00, 0x85, 0x04, 0x00, 0x00, 0x00, 0x01, 0x86, 0x01,
+    0x00, 0x87, 0x01, 0x00, 0x88, 0x01, 0x01, 0x89, 0x01, 0x00, 0x8a, 0x01, 0x01, 0xab, 0x03, 0x83,
+    0x01, 0xff,
+];
+
+// The same APDU without simulation and ndsCom.
+const SHORT: [u8; 39] = [
+    0x61, 0x25, 0x80, 0x01, 0x47, 0x81, 0x02, 0x07, 0xd0, 0x82, 0x01, 0x44, 0x84, 0x08, 0x00, 0x00,
+    0x00, 0x00, 0x00, 0x00, 0x00, 0x00, 0x85, 0x01, 0x01, 0x86, 0x01, 0x00, 0x88, 0x01, 0x01, 0x8a,
+    0x01, 0x01, 0xab, 0x03, 0x83, 0x01, 0xff,
+];
+
+// An APDU with an identifier and two members: a structure of an array of a text and of a text, and a boolean.
+pub(super) const NESTED: [u8; 58] = [
+    0x61, 0x38, 0x80, 0x01, 0x41, 0x81, 0x01, 0x01, 0x82, 0x00, 0x83, 0x01, 0x49, 0x84, 0x08, 0x00,
+    0x00, 0x00, 0x01, 0xff, 0xff, 0xff, 0x02, 0x85, 0x02, 0x00, 0x80, 0x86, 0x01, 0x00, 0x87, 0x01,
+    0xff, 0x88, 0x01, 0x01, 0x89, 0x01, 0x00, 0x8a, 0x01, 0x02, 0xab, 0x0e, 0xa2, 0x09, 0xa1, 0x04,
+    0x8a, 0x02, 0x41, 0x42, 0x90, 0x01, 0x43, 0x83, 0x01, 0x00,
+];
+
+// An APDU with a member of each kind, spelled longer than need be, with another octet for true and unused bits set.
+const LOOSE: [u8; 109] = [
+    0x61, 0x6b, 0x80, 0x01, 0x47, 0x81, 0x01, 0x01, 0x82, 0x01, 0x44, 0x84, 0x08, 0x00, 0x00, 0x00,
+    0x01, 0xff, 0xff, 0xff, 0x02, 0x85, 0x01, 0x01, 0x86, 0x01, 0x00, 0x88, 0x01, 0x01, 0x8a, 0x01,
+    0x0c, 0xab, 0x4a, 0xa1, 0x03, 0x83, 0x01, 0x07, 0xa2, 0x81, 0x0b, 0xa1, 0x82, 0x00, 0x03, 0x83,
+    0x01, 0x00, 0x85, 0x02, 0x00, 0x05, 0x83, 0x01, 0x80, 0x84, 0x03, 0x03, 0xff, 0xff, 0x85, 0x04,
+    0xff, 0xff, 0xff, 0x80, 0x86, 0x03, 0x00, 0x00, 0x80, 0x87, 0x81, 0x05, 0x08, 0x3f, 0x80, 0x00,
+    0x00, 0x89, 0x02, 0x01, 0x02, 0x8a, 0x02, 0x41, 0x42, 0x8c, 0x04, 0x00, 0x00, 0x00, 0x01, 0x90,
+    0x02, 0xc3, 0xa9, 0x91, 0x08, 0x00, 0x00, 0x00, 0x02, 0x00, 0x00, 0x01, 0x0a,
+];
+
+// Its written form.
+pub(super) const TIGHT: [u8; 106] = [
+    0x61, 0x68, 0x80, 0x01, 0x47, 0x81, 0x01, 0x01, 0x82, 0x01, 0x44, 0x84, 0x08, 0x00, 0x00, 0x00,
+    0x01, 0xff, 0xff, 0xff, 0x02, 0x85, 0x01, 0x01, 0x86, 0x01, 0x00, 0x87, 0x01, 0x00, 0x88, 0x01,
+    0x01, 0x89, 0x01, 0x00, 0x8a, 0x01, 0x0c, 0xab, 0x41, 0xa1, 0x03, 0x83, 0x01, 0xff, 0xa2, 0x08,
+    0xa1, 0x03, 0x83, 0x01, 0x00, 0x85, 0x01, 0x05, 0x83, 0x01, 0xff, 0x84, 0x03, 0x03, 0xff, 0xf8,
+    0x85, 0x01, 0x80, 0x86, 0x02, 0x00, 0x80, 0x87, 0x05, 0x08, 0x3f, 0x80, 0x00, 0x00, 0x89, 0x02,
+    0x01, 0x02, 0x8a, 0x02, 0x41, 0x42, 0x8c, 0x04, 0x00, 0x00, 0x00, 0x01, 0x90, 0x02, 0xc3, 0xa9,
+    0x91, 0x08, 0x00, 0x00, 0x00, 0x02, 0x00, 0x00, 0x01, 0x0a,
+];
+
+const NO_TIME: UtcTime = UtcTime {
+    seconds: 0,
+    fraction: 0,
+    quality: 0,
+};
+
+// Whether the view is that of the frame.
+fn is_recorded(view: &GooseView<'_>) -> bool {
+    let mut members = view.members;
+    view.gocb_ref == b"G".as_slice()
+        && view.live == 2000
+        && view.dat_set == b"D".as_slice()
+        && view.go_id.is_none()
+        && view.t == NO_TIME
+        && (view.st_num, view.sq_num, view.conf_rev) == (1, 0, 1)
+        && (view.simulation, view.nds_com) == (false, false)
+        && view.entries == 1
+        && matches!(members.next(), Some(View::Boolean(true)))
+}
+
+#[test]
+fn the_recorded_pdu_stands(rt: HostRuntime) -> Result<(), Fail> {
+    assert!(rt; is_recorded(&view_goose(&FRAME, 22, 67)?));
+    assert!(rt; is_recorded(&view_goose(&LONG, 0, 50)?));
+    assert!(rt; is_recorded(&view_goose(&SHORT, 0, 39)?));
+    Ok(())
+}
+
+#[test]
+fn each_field_stands(rt: HostRuntime) -> Result<(), Fail> {
+    let view = view_goose(&NESTED, 0, 58)?;
+    assert!(rt; view.gocb_ref == b"A".as_slice() && view.dat_set.is_empty());
+    assert!(rt; view.go_id == Some(b"I".as_slice()));
+    assert!(rt; (view.t.seconds, view.t.fraction, view.t.quality) == (1, 0xff_ffff, 2));
+    assert!(rt; (view.st_num, view.sq_num, view.conf_rev) == (128, 0, 1));
+    assert!(rt; (view.simulation, view.nds_com) == (true, false) && view.entries == 2);
+    Ok(())
+}
+
+// Whether the APDU is that of the frame.
+fn is_owned(pdu: &GoosePdu<Global>) -> bool {
+    pdu.gocb_ref.as_slice() == b"G".as_slice()
+        && pdu.live == 2000
+        && pdu.dat_set.as_slice() == b"D".as_slice()
+        && pdu.go_id.is_none()
+        && pdu.t == NO_TIME
+        && (pdu.st_num, pdu.sq_num, pdu.conf_rev) == (1, 0, 1)
+        && (pdu.simulation, pdu.nds_com) == (false, false)
+        && matches!(pdu.members.as_slice(), [Value::Boolean(true)])
+}
+
+#[test]
+fn the_recorded_pdu_is_read(rt: HostRuntime) -> Result<(), Fail> {
+    let pdu = read_goose(rt.alloc(), &FRAME, 22, 67)?;
+    assert!(rt; is_owned(&pdu) && slice_if(&pdu.go_id).is_none());
+    Ok(())
+}
+
+// The APDU of the frame, with this octet at this place, and its fault.
+fn fault(place: usize, octet: u8) -> Option<Fault> {
+    let mut frame = FRAME;
+    if let Some(at) = frame.get_mut(place) {
+        *at = octet;
+    }
+    view_goose(&frame, 22, 67).err()
+}
+
+#[test]
+fn faults_at_their_places(rt: HostRuntime) {
+    for (place, octet, wanted) in [
+        (22, 0x60, Cause::UnexpectedTag.at(22)),
+        (23, 0x2a, Cause::LengthPastEnd.at(63)),
+        (26, 0x07, Cause::NotVisible.at(26)),
+        (35, 0x07, Cause::FixedLength.at(35)),
+        (46, 0xff, Cause::IntegerRange.at(46)),
+        (51, 0x02, Cause::BooleanLength.at(51)),
+        (61, 0x02, Cause::EntryCount.at(59)),
+        (64, 0x88, Cause::UnexpectedTag.at(64)),
+    ] {
+        assert!(rt; fault(place, octet) == Some(wanted), "at {place}");
+    }
+}
+
+#[test]
+fn the_element_fills_the_region(rt: HostRuntime) {
+    let mut longer = [0; 68];
+    longer[..67].copy_from_slice(&FRAME);
+    assert!(rt; view_goose(&longer, 22, 68).err() == Some(Cause::ExtraOctets.at(67)));
+    assert!(rt; view_goose(&FRAME, 22, 22).err() == Some(Cause::ElementMissing.at(22)));
+    let answer = read_goose(rt.alloc(), &FRAME, 22, 66);
+    let wanted = Cause::LengthPastEnd.at(23);
+    assert!(rt; matches!(answer, Err(ReadFault::Fault(fault)) if fault == wanted));
+}
+
+// The written form of the APDU that the octets spell, from where it stands.
+fn form_of_view(octets: &[u8]) -> Result<ArrayVec<u8, 128>, Fail> {
+    let mut out = ArrayVec::new();
+    put_goose_view(&mut out, &view_goose(octets, 0, octets.len())?)?;
+    Ok(out)
+}
+
+// The same from memory of its own.
+fn form_of_value(alloc: Global, octets: &[u8]) -> Result<ArrayVec<u8, 128>, Fail> {
+    let mut out = ArrayVec::new();
+    put_goose(&mut out, &read_goose(alloc, octets, 0, octets.len())?)?;
+    Ok(out)
+}
+
+// The same of the APDU whose texts and members are kept elsewhere.
+fn form_of_parts(alloc: Global, octets: &[u8]) -> Result<ArrayVec<u8, 128>, Fail> {
+    let pdu = read_goose(alloc, octets, 0, octets.len())?;
+    let mut out = ArrayVec::new();
+    put_goose_parts(&mut out, &pdu.parts())?;
+    Ok(out)
+}
+
+#[test]
+fn each_pdu_has_its_written_form(rt: HostRuntime) -> Result<(), Fail> {
+    for (octets, form) in [
+        (&FRAME[22..], &FRAME[22..]),
+        (&LONG, &FRAME[22..]),
+        (&SHORT, &FRAME[22..]),
+        (&NESTED, &NESTED),
+        (&LOOSE, &TIGHT),
+    ] {
+        assert!(rt; form_of_view(octets)?.as_slice() == form, "{octets:?}");
+        assert!(rt;
+            form_of_value(rt.alloc(), octets)?.as_slice() == form,
+            "{octets:?}"
+        );
+        assert!(rt;
+            form_of_parts(rt.alloc(), octets)?.as_slice() == form,
+            "{octets:?}"
+        );
+    }
+    Ok(())
+}
+
+#[test]
+fn a_pdu_fits_or_leaves_the_vector(rt: HostRuntime) -> Result<(), Fail> {
+    let pdu = read_goose(rt.alloc(), &FRAME, 22, 67)?;
+    let mut short = ArrayVec::<u8, 45>::new();
+    short.push(7);
+    assert!(rt; put_goose(&mut short, &pdu) == Err(PutFault::Full));
+    assert!(rt; put_goose_parts(&mut short, &pdu.parts()) == Err(PutFault::Full));
+    assert!(rt; put_goose_view(&mut short, &view_goose(&FRAME, 22, 67)?).is_err());
+    assert!(rt; short.as_slice() == [7].as_slice());
+    Ok(())
+}
+
+#[test]
+fn what_has_no_spelling_is_refused(rt: HostRuntime) -> Result<(), Fail> {
+    let mut pdu = read_goose(rt.alloc(), &NESTED, 0, 58)?;
+    assert!(rt; slice_if(&pdu.go_id) == Some(b"I".as_slice()));
+    pdu.t.fraction = 0x100_0000;
+    let mut none = ArrayVec::<u8, 0>::new();
+    assert!(rt; put_goose(&mut none, &pdu) == Err(PutFault::NotSpellable) && !is_spellable(&pdu));
+    pdu.t.fraction = 0xff_ffff;
+    assert!(rt; put_goose(&mut none, &pdu) == Err(PutFault::Full) && is_spellable(&pdu));
+    pdu.gocb_ref = Octets::try_from_slice(rt.alloc(), b"A\x7f")?;
+    assert!(rt; !are_spellable_parts(&pdu.parts()));
+    Ok(())
+}
+
+#[test]
+fn laws_hold() {
+    laws::one_reading::<Global>();
+    laws::written_is_spelled::<Global>();
+    laws::spelled_is_spellable::<Global>();
+    laws::seen_is_spelled::<Global>();
+}
