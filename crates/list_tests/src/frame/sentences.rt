@@ -1,0 +1,68 @@
+//! What the errors say to a person.
+
+use frame_core::{DeviceFault, EncodeFault, ListCause, ListFault, WriteFault};
+use std::alloc::Global;
+use std::fmt::Display;
+use std::process::Abort;
+use std::test::Fail;
+
+/// Whether the error says this.
+pub fn says<E: Display + Drop>(alloc: Global, error: E, sentence: &str) -> Result<bool, Fail> {
+    Ok(error.to_string(alloc)?.as_str() == sentence)
+}
+
+#[test]
+fn faults_of_lists_name_the_line_and_the_cause(rt: HostRuntime) -> Result<(), Fail> {
+    for (cause, sentence) in [
+        (
+            ListCause::LineTooLong,
+            "line 7: the line has over 4096 octets",
+        ),
+        (
+            ListCause::LineForm,
+            "line 7: the line is neither an event, nor a comment, nor empty",
+        ),
+        (
+            ListCause::Moment,
+            "line 7: the moment is not 1 to 15 decimal digits (1 to 18 after a first line V2)",
+        ),
+        (
+            ListCause::Hex,
+            "line 7: the octets are not an even count of 2 to 4000 hexadecimal digits",
+        ),
+        (
+            ListCause::ListTooLong,
+            "line 7: the list has over 1000000 lines",
+        ),
+        (ListCause::ReadFailed, "line 7: reading failed"),
+    ] {
+        assert!(rt;
+            says(rt.alloc(), ListFault { line: 7, cause }, sentence)?,
+            "{cause:?}"
+        );
+    }
+    Ok(())
+}
+
+#[test]
+fn faults_of_writing_say_what_is_wrong(rt: HostRuntime) -> Result<(), Fail> {
+    assert!(rt;
+        says(
+            rt.alloc(),
+            WriteFault::NotListable,
+            "the event can't stand in a list"
+        )?
+    );
+    assert!(rt; says(rt.alloc(), WriteFault::WriteFailed, "writing failed")?);
+    assert!(rt; says(rt.alloc(), DeviceFault, "the device failed")?);
+    let unspellable = "a field of the frame has no spelling";
+    assert!(rt; says(rt.alloc(), EncodeFault::NotSpellable, unspellable)?);
+    assert!(rt;
+        says(
+            rt.alloc(),
+            EncodeFault::TooLong,
+            "the frame would be too long"
+        )?
+    );
+    Ok(())
+}
