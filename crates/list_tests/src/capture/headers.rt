@@ -54,10 +54,7 @@ fn what_is_looked_at(rt: HostRuntime) {
         order: OctetOrder::LittleEndian,
         unit: FractionUnit::Microseconds,
     });
-    let refused = Err(CaptureFault {
-        number: 0,
-        cause: CaptureCause::CaptureHeader,
-    });
+    let refused = refused(CaptureCause::CaptureHeader);
     for place in 0..24usize {
         let mut header = *LITTLE;
         header[place] = 0xee;
@@ -73,24 +70,34 @@ fn what_is_looked_at(rt: HostRuntime) {
     }
 }
 
+/// The answer where the header is refused.
+fn refused(cause: CaptureCause) -> Result<CaptureForm, CaptureFault> {
+    Err(CaptureFault { number: 0, cause })
+}
+
+/// Whether a header that ends behind so many octets is told to be cut off.
+fn is_cut(size: usize) -> bool {
+    let part = LITTLE.get(..size).unwrap_or(LITTLE);
+    let cut = refused(CaptureCause::CaptureShort);
+    is_answered(&mut source_of(part, 24, NEVER), cut, InputEnd::End)
+}
+
+/// Whether a header is refused where this read fails, one octet a read.
+fn is_failed(fails_at: u64) -> bool {
+    let failed = refused(CaptureCause::ReadFailed);
+    is_answered(
+        &mut source_of(LITTLE, 1, fails_at),
+        failed,
+        InputEnd::Failed,
+    )
+}
+
 #[test]
 fn a_header_that_is_cut_or_fails(rt: HostRuntime) {
-    let cut = Err(CaptureFault {
-        number: 0,
-        cause: CaptureCause::CaptureShort,
-    });
-    let failed = Err(CaptureFault {
-        number: 0,
-        cause: CaptureCause::ReadFailed,
-    });
     for size in 0..24usize {
-        let mut reader = source_of(&LITTLE[..size], 24, NEVER);
-        assert!(rt; is_answered(&mut reader, cut, InputEnd::End), "at {size}");
-        // One octet a read: each of 24 reads can fail.
-        let mut reader = source_of(LITTLE, 1, size as u64);
-        assert!(rt;
-            is_answered(&mut reader, failed, InputEnd::Failed),
-            "at {size}"
-        );
+        assert!(rt; is_cut(size), "at {size}");
+    }
+    for fails_at in 0..24u64 {
+        assert!(rt; is_failed(fails_at), "at {fails_at}");
     }
 }

@@ -5,9 +5,7 @@ use capture_core::{
     read_record,
 };
 use frame_core::{InputEnd, Source};
-use std::alloc::Global;
 use std::process::Abort;
-use std::test::Fail;
 use test_devices::{NEVER, source_of};
 
 const LITTLE: CaptureForm = CaptureForm {
@@ -80,65 +78,52 @@ fn nanoseconds_are_divided_without_rest(rt: HostRuntime) {
     }
 }
 
+/// Whether a record that ends behind so many octets is answered so.
+fn is_cut(size: usize, answer: Result<Option<Captured>, CaptureFault>) -> bool {
+    let part = THREE.get(..size).unwrap_or(THREE);
+    is_answered(&mut source_of(part, 4096, NEVER), LITTLE, 6, answer, b"")
+}
+
+/// Whether a record is refused where this read fails, one octet a read.
+fn is_failed(fails_at: u64) -> bool {
+    let failed = refused(7, CaptureCause::ReadFailed);
+    let mut reader = source_of(THREE, 1, fails_at);
+    is_answered(&mut reader, LITTLE, 6, failed, b"") && reader.ending() == InputEnd::Failed
+}
+
 #[test]
 fn a_record_that_is_cut_or_fails(rt: HostRuntime) {
     let cut = refused(7, CaptureCause::CaptureShort);
-    let failed = refused(7, CaptureCause::ReadFailed);
-    for size in 0..19usize {
-        let wanted = if size == 0 { Ok(None) } else { cut };
-        let mut reader = source_of(&THREE[..size], 4096, NEVER);
-        assert!(rt;
-            is_answered(&mut reader, LITTLE, 6, wanted, b""),
-            "at {size}"
-        );
-        // One octet a read: each of 19 reads can fail.
-        let mut reader = source_of(THREE, 1, size as u64);
-        assert!(rt;
-            is_answered(&mut reader, LITTLE, 6, failed, b""),
-            "at {size}"
-        );
-        assert!(rt; reader.ending() == InputEnd::Failed);
+    assert!(rt; is_cut(0, Ok(None)));
+    for size in 1..19usize {
+        assert!(rt; is_cut(size, cut), "at {size}");
     }
-}
-
-/// The head of a record of so many octets at 0, with so many octets behind it.
-fn record_of(alloc: Global, size: u32, behind: usize) -> Result<Vec<u8>, Fail> {
-    let mut record = vec![in alloc; 0; 16]?;
-    record.as_mut_slice()[8..12].copy_from_slice(&size.to_le_bytes());
-    record.resize(behind.saturating_add(16), 0x5a)?;
-    Ok(record)
+    for fails_at in 0..19u64 {
+        assert!(rt; is_failed(fails_at), "at {fails_at}");
+    }
 }
 
 #[test]
-fn sizes_of_records(rt: HostRuntime) -> Result<(), Fail> {
-    let too_long = refused(1, CaptureCause::RecordLength);
-    for (size, behind, answer) in [
-        (0u32, 5usize, Ok(Some(Captured::LeftOut { size: 0 }))),
+fn sizes_of_records(rt: HostRuntime) {
+    let mut record = [0; 2017];
+    for (size, answer) in [
+        (0u16, Captured::LeftOut { size: 0 }),
         (
             2000,
-            2000,
-            Ok(Some(Captured::Frame {
+            Captured::Frame {
                 moment: 0,
                 size: 2000,
-            })),
+            },
         ),
-        (2001, 2001, Ok(Some(Captured::LeftOut { size: 2001 }))),
-        (
-            262_144,
-            262_144,
-            Ok(Some(Captured::LeftOut { size: 262_144 })),
-        ),
-        (262_144, 262_143, refused(1, CaptureCause::CaptureShort)),
-        (262_145, 0, too_long),
+        (2001, Captured::LeftOut { size: 2001 }),
     ] {
-        let record = record_of(rt.alloc(), size, behind)?;
-        let mut reader = source_of(record.as_slice(), 4096, NEVER);
+        record[8..10].copy_from_slice(&size.to_le_bytes());
+        let mut reader = source_of(&record, 4096, NEVER);
         assert!(rt;
-            is_answered(&mut reader, LITTLE, 0, answer, b""),
+            is_answered(&mut reader, LITTLE, 0, Ok(Some(answer)), b""),
             "of {size}"
         );
     }
-    Ok(())
 }
 
 #[test]

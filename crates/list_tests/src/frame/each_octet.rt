@@ -1,22 +1,15 @@
 //! Frames of which one octet is replaced by each other one.
 
-use crate::frame::frames::{changed, is_written_as, read, seen};
+use crate::frame::frames::{changed, form_of, has_form, read, seen};
 use crate::frame::sampled_frames::changed_sampled;
-use frame_core::{decode, encode};
 use std::alloc::Global;
 use std::process::Abort;
 
 /// Whether the frame of these octets has a written form that is read, and written as it stands.
 fn has_lasting_form(alloc: Global, octets: &[u8]) -> bool {
-    let Ok(frame) = decode(alloc, octets) else {
-        return false;
-    };
-    let Ok(form) = encode(&frame) else {
-        return false;
-    };
-    match decode(alloc, form.as_slice()) {
-        Ok(again) => is_written_as(&again, form.as_slice()),
-        Err(_) => false,
+    match form_of(alloc, octets) {
+        Some(form) => has_form(alloc, form.as_slice(), form.as_slice()),
+        None => false,
     }
 }
 

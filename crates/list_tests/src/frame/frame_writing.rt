@@ -1,6 +1,6 @@
 //! Frames in their written form.
 
-use crate::frame::frames::{LONG, TAGGED, is_written_as};
+use crate::frame::frames::{LONG, TAGGED, has_form};
 use crate::frame::sampled_frames::{TAGGED_SAMPLED, of_eight};
 use arrayvec::ArrayVec;
 use ber_core::Full;
@@ -23,27 +23,17 @@ fn has_view_form(octets: &[u8], form: &[u8]) -> bool {
     encode_view(&view, &mut written) == Ok(()) && written.as_slice() == form
 }
 
-/// Whether the frame that the octets spell has this written form.
-fn has_form(alloc: Global, octets: &[u8], form: &[u8]) -> bool {
-    match decode(alloc, octets) {
-        Ok(frame) => is_written_as(&frame, form),
-        Err(_) => false,
-    }
+/// Whether these octets have this written form, as a frame and as a view.
+fn have_form(alloc: Global, octets: &[u8], form: &[u8]) -> bool {
+    has_form(alloc, octets, form) && has_view_form(octets, form)
 }
 
 #[test]
 fn a_frame_has_one_written_form(rt: HostRuntime) {
     let eight = of_eight();
-    for (octets, form) in [
-        (FRAME.as_slice(), FRAME.as_slice()),
-        (&LONG, &FRAME),
-        (&TAGGED, &TAGGED),
-        (&SAMPLED, &SAMPLED),
-        (&TAGGED_SAMPLED, &TAGGED_SAMPLED),
-        (&eight, &eight),
-    ] {
-        assert!(rt; has_form(rt.alloc(), octets, form), "{octets:?}");
-        assert!(rt; has_view_form(octets, form), "{octets:?}");
+    assert!(rt; have_form(rt.alloc(), &LONG, &FRAME));
+    for octets in [FRAME.as_slice(), &TAGGED, &SAMPLED, &TAGGED_SAMPLED, &eight] {
+        assert!(rt; have_form(rt.alloc(), octets, octets), "{octets:?}");
     }
 }
 
@@ -67,62 +57,58 @@ fn is_written_by_parts(frame: &Frame<Global>, form: &[u8]) -> bool {
     }
 }
 
-#[test]
-fn a_frame_by_parts_has_the_same_form(rt: HostRuntime) -> Result<(), Fail> {
-    for (octets, form) in [
-        (LONG.as_slice(), FRAME.as_slice()),
-        (&TAGGED, &TAGGED[..71]),
-    ] {
-        let frame = decode(rt.alloc(), octets)?;
-        assert!(rt; is_written_by_parts(&frame, form), "{octets:?}");
-    }
-    Ok(())
-}
-
-/// How the frame of these octets is refused with so many octets 00 behind it; else the size of its written form.
-fn with_trailer(
-    alloc: Global,
-    octets: &[u8],
-    size: usize,
-) -> Result<Result<usize, EncodeFault>, Fail> {
-    let mut frame = decode(alloc, octets)?;
-    frame.trailer = Octets::from(vec![in alloc; 0; size]?);
-    match encode(&frame) {
-        Ok(form) => Ok(Ok(form.len())),
-        Err(fault) => Ok(Err(fault)),
+/// The same of the frame of these octets.
+fn has_form_by_parts(alloc: Global, octets: &[u8], form: &[u8]) -> bool {
+    match decode(alloc, octets) {
+        Ok(frame) => is_written_by_parts(&frame, form),
+        Err(_) => false,
     }
 }
 
 #[test]
-fn a_trailer_fits_up_to_1600_octets(rt: HostRuntime) -> Result<(), Fail> {
-    for (octets, most) in [(FRAME.as_slice(), 1533usize), (&SAMPLED, 1546)] {
-        assert!(rt; with_trailer(rt.alloc(), octets, most)? == Ok(1600));
-        assert!(rt; with_trailer(rt.alloc(), octets, most + 1)? == Err(EncodeFault::TooLong));
-    }
-    Ok(())
+fn a_frame_by_parts_has_the_same_form(rt: HostRuntime) {
+    assert!(rt; has_form_by_parts(rt.alloc(), &LONG, &FRAME));
+    assert!(rt; has_form_by_parts(rt.alloc(), &TAGGED, &TAGGED[..71]));
 }
 
-#[test]
-fn a_frame_that_is_seen_may_have_too_long_a_form(rt: HostRuntime) -> Result<(), Fail> {
-    let trailer = [0; 1534];
-    let mut view = view_frame(&FRAME)?;
+/// How the view of the frame of one boolean is written with this trailer: whether it is too long, and the size.
+fn written_with(trailer: &[u8]) -> Option<(Result<(), Full>, usize)> {
+    let Ok(mut view) = view_frame(&FRAME) else {
+        return None;
+    };
+    view.trailer = trailer;
     let mut written = ArrayVec::<u8, 1600>::new();
-    view.trailer = &trailer[..1533];
-    assert!(rt; encode_view(&view, &mut written) == Ok(()));
-    assert!(rt; written.len() == 1600);
-    view.trailer = &trailer;
-    assert!(rt; encode_view(&view, &mut written) == Err(Full));
-    assert!(rt; written.is_empty());
-    Ok(())
+    let answer = encode_view(&view, &mut written);
+    Some((answer, written.len()))
+}
+
+#[test]
+fn a_frame_that_is_seen_may_have_too_long_a_form(rt: HostRuntime) {
+    let trailer = [0; 1534];
+    assert!(rt; written_with(&trailer[..1533]) == Some((Ok(()), 1600)));
+    assert!(rt; written_with(&trailer) == Some((Err(Full), 0)));
+}
+
+/// A frame of no ASDUs, with this trailer.
+fn of_no_asdus(alloc: Global, trailer: Octets<Global>) -> Frame<Global> {
+    Frame {
+        destination: [0x01, 0x0c, 0xcd, 0x04, 0x00, 0x01],
+        source: [0x02, 0x00, 0x00, 0x00, 0x00, 0x01],
+        tag: None,
+        app_id: 0x4000,
+        reserved1: 0,
+        reserved2: 0,
+        apdu: Apdu::Sampled(SvPdu {
+            asdus: AsduList::from(Vec::new(alloc)),
+        }),
+        trailer,
+    }
 }
 
 #[test]
 fn no_asdus_have_no_spelling(rt: HostRuntime) -> Result<(), Fail> {
-    let mut frame = decode(rt.alloc(), &SAMPLED)?;
-    frame.trailer = Octets::from(vec![in rt.alloc(); 0; 1600]?);
-    frame.apdu = Apdu::Sampled(SvPdu {
-        asdus: AsduList::from(Vec::new(rt.alloc())),
-    });
-    assert!(rt; encode(&frame).err() == Some(EncodeFault::NotSpellable));
+    let trailer = Octets::try_from_slice(rt.alloc(), &[0; 1600])?;
+    let empty = of_no_asdus(rt.alloc(), trailer);
+    assert!(rt; encode(&empty).err() == Some(EncodeFault::NotSpellable));
     Ok(())
 }

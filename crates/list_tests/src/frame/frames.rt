@@ -1,5 +1,6 @@
 //! A frame of one boolean, and frames that differ from it.
 
+use arrayvec::ArrayVec;
 use ber_core::{Cause, Fault};
 use frame_core::{Frame, decode, encode, view_frame};
 use mms_data::ReadFault;
@@ -52,6 +53,22 @@ pub fn read(alloc: Global, octets: &[u8]) -> Result<(), Fault> {
 pub fn has_fault(alloc: Global, octets: &[u8], place: usize, cause: Cause) -> bool {
     let fault = Err(cause.at(place));
     seen(octets) == fault && read(alloc, octets) == fault
+}
+
+/// The written form of the frame of these octets, if there is one.
+pub fn form_of(alloc: Global, octets: &[u8]) -> Option<ArrayVec<u8, 1600>> {
+    match decode(alloc, octets) {
+        Ok(frame) => encode(&frame).ok(),
+        Err(_) => None,
+    }
+}
+
+/// Whether the frame of these octets has this written form.
+pub fn has_form(alloc: Global, octets: &[u8], form: &[u8]) -> bool {
+    match form_of(alloc, octets) {
+        Some(written) => written.as_slice() == form,
+        None => false,
+    }
 }
 
 /// Whether the frame's written form is these octets.

@@ -10,6 +10,16 @@ fn is_next<R: Source>(reader: &mut LineReader<R>, line: &[u8]) -> bool {
     reader.next_line() == Ok(Some(line))
 }
 
+/// Whether no line is left.
+fn is_end<R: Source>(reader: &mut LineReader<R>) -> bool {
+    reader.next_line() == Ok(None)
+}
+
+/// The fault of the next line, if it has one.
+fn next_fault<R: Source>(reader: &mut LineReader<R>) -> Option<ListFault> {
+    reader.next_line().err()
+}
+
 /// Whether the next lines are these, and the end follows for good.
 fn are_all<R: Source>(reader: &mut LineReader<R>, lines: &[&[u8]]) -> bool {
     for line in lines {
@@ -17,15 +27,13 @@ fn are_all<R: Source>(reader: &mut LineReader<R>, lines: &[&[u8]]) -> bool {
             return false;
         }
     }
-    reader.next_line() == Ok(None) && reader.next_line() == Ok(None)
+    is_end(reader) && is_end(reader)
 }
 
 /// Whether the next line is refused for this cause, for good.
 fn is_refused<R: Source>(reader: &mut LineReader<R>, line: u64, cause: ListCause) -> bool {
-    let fault = ListFault { line, cause };
-    reader.next_line() == Err(fault)
-        && reader.next_line() == Err(fault)
-        && reader.line_number() == line
+    let fault = Some(ListFault { line, cause });
+    next_fault(reader) == fault && next_fault(reader) == fault && reader.line_number() == line
 }
 
 #[test]

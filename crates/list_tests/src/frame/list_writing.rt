@@ -4,75 +4,69 @@ use frame_core::{Event, EventKind, Sink, ToWrite, WriteFault, put_all, write_eve
 use mms_data::Octets;
 use std::alloc::Global;
 use std::process::Abort;
-use std::test::Fail;
 use test_devices::{FailsOnce, FullDisk, KINDS, NEVER, sink_of};
 
-/// The event at this moment of a frame of these octets.
-fn frame(alloc: Global, moment: u64, octets: &[u8]) -> Result<Event<Global>, Fail> {
-    let kind = EventKind::Frame(Octets::try_from_slice(alloc, octets)?);
-    Ok(Event { moment, kind })
-}
-
-/// The event at this moment of the clock.
-fn clock(moment: u64) -> Event<Global> {
-    let kind = EventKind::Clock;
-    Event { moment, kind }
-}
-
-/// The event at this moment that sets the mode off.
-fn mode(moment: u64) -> Event<Global> {
-    let kind = EventKind::Mode(false);
-    Event { moment, kind }
-}
-
-/// Whether the event is answered so, and written as these octets.
+/// Whether an event at this moment is answered so, and written as these octets.
 fn is_answered(
     alloc: Global,
-    event: &Event<Global>,
+    moment: u64,
+    kind: EventKind<Global>,
     answer: Result<(), WriteFault>,
     line: &[u8],
 ) -> bool {
     let mut sink = sink_of(alloc, 3, NEVER);
-    write_event(&mut sink, event) == answer && sink.octets.as_slice() == line && !sink.has_failed()
+    let event = Event { moment, kind };
+    write_event(&mut sink, &event) == answer && sink.octets.as_slice() == line && !sink.has_failed()
 }
 
-#[test]
-fn an_event_is_written_as_its_line(rt: HostRuntime) -> Result<(), Fail> {
-    let last = 999_999_999_999_999_999u64;
-    for (moment, at_clock, at_mode, at_frame) in [
-        (
-            7u64,
-            b"C 7\n".as_slice(),
-            b"M 7 off\n".as_slice(),
-            b"F 7 00ab10\n".as_slice(),
-        ),
-        (
-            last,
-            b"C 999999999999999999\n",
-            b"M 999999999999999999 off\n",
-            b"F 999999999999999999 00ab10\n",
-        ),
-    ] {
-        let frame = frame(rt.alloc(), moment, &[0, 171, 16])?;
-        assert!(rt; is_answered(rt.alloc(), &clock(moment), Ok(()), at_clock));
-        assert!(rt; is_answered(rt.alloc(), &mode(moment), Ok(()), at_mode));
-        assert!(rt; is_answered(rt.alloc(), &frame, Ok(()), at_frame));
+/// The same of a frame.
+fn is_frame_answered(
+    alloc: Global,
+    moment: u64,
+    octets: &[u8],
+    answer: Result<(), WriteFault>,
+    line: &[u8],
+) -> bool {
+    match Octets::try_from_slice(alloc, octets) {
+        Ok(octets) => is_answered(alloc, moment, EventKind::Frame(octets), answer, line),
+        Err(_) => false,
     }
-    Ok(())
+}
+
+const LAST_MOMENT: u64 = 999_999_999_999_999_999;
+
+#[test]
+fn an_event_is_written_as_its_line(rt: HostRuntime) {
+    for (moment, line) in [
+        (7u64, b"C 7\n".as_slice()),
+        (LAST_MOMENT, b"C 999999999999999999\n"),
+    ] {
+        assert!(rt; is_answered(rt.alloc(), moment, EventKind::Clock, Ok(()), line));
+    }
+    for (moment, on, line) in [
+        (7u64, true, b"M 7 on\n".as_slice()),
+        (LAST_MOMENT, false, b"M 999999999999999999 off\n"),
+    ] {
+        assert!(rt; is_answered(rt.alloc(), moment, EventKind::Mode(on), Ok(()), line));
+    }
+    for (moment, line) in [
+        (7u64, b"F 7 00ab10\n".as_slice()),
+        (LAST_MOMENT, b"F 999999999999999999 00ab10\n"),
+    ] {
+        assert!(rt; is_frame_answered(rt.alloc(), moment, &[0, 171, 16], Ok(()), line));
+    }
 }
 
 #[test]
-fn what_no_list_can_hold_is_not_written(rt: HostRuntime) -> Result<(), Fail> {
+fn what_no_list_can_hold_is_not_written(rt: HostRuntime) {
     let refused = Err(WriteFault::NotListable);
-    let late = 1_000_000_000_000_000_000u64;
-    assert!(rt; is_answered(rt.alloc(), &clock(late), refused, b""));
-    assert!(rt; is_answered(rt.alloc(), &mode(late), refused, b""));
+    let late = LAST_MOMENT + 1;
+    assert!(rt; is_answered(rt.alloc(), late, EventKind::Clock, refused, b""));
+    assert!(rt; is_answered(rt.alloc(), late, EventKind::Mode(false), refused, b""));
     let long = [0; 2001];
     for (moment, octets) in [(late, b"\0".as_slice()), (0, b""), (0, &long)] {
-        let frame = frame(rt.alloc(), moment, octets)?;
-        assert!(rt; is_answered(rt.alloc(), &frame, refused, b""));
+        assert!(rt; is_frame_answered(rt.alloc(), moment, octets, refused, b""));
     }
-    Ok(())
 }
 
 #[test]

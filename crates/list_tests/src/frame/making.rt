@@ -5,7 +5,7 @@
 use crate::frame::frames::{TAGGED, is_written_as};
 use crate::frame::sampled_frames::TAGGED_SAMPLED;
 use arrayvec::ArrayVec;
-use frame_core::{Frame, decode, view_frame};
+use frame_core::{Apdu, Frame, FrameView, decode, view_frame};
 use mms_data::{Octets, ReadFault};
 use refusing_alloc::RefusingAlloc;
 use std::alloc::{Allocator, Global};
@@ -41,15 +41,9 @@ fn is_frame_made<A: Allocator + Copy>(alloc: A, octets: &[u8]) -> Option<bool> {
     }
 }
 
-/// The same of `to_apdu`, in a frame without the trailer.
-fn is_apdu_made<A: Allocator + Copy>(alloc: A, octets: &[u8]) -> Option<bool> {
-    let Ok(view) = view_frame(octets) else {
-        return Some(false);
-    };
-    let Ok(apdu) = view.apdu.to_apdu(alloc) else {
-        return None;
-    };
-    let frame = Frame {
+/// The frame of this APDU in the envelope of the view, without its trailer.
+fn framed<A: Allocator + Copy>(alloc: A, view: &FrameView<'_>, apdu: Apdu<A>) -> Frame<A> {
+    Frame {
         destination: view.destination,
         source: view.source,
         tag: view.tag,
@@ -58,11 +52,20 @@ fn is_apdu_made<A: Allocator + Copy>(alloc: A, octets: &[u8]) -> Option<bool> {
         reserved2: view.reserved2,
         apdu,
         trailer: Octets::from(Vec::new(alloc)),
+    }
+}
+
+/// The same of `to_apdu`, in a frame without the trailer.
+fn is_apdu_made<A: Allocator + Copy>(alloc: A, octets: &[u8]) -> Option<bool> {
+    let Ok(view) = view_frame(octets) else {
+        return Some(false);
     };
-    let size = octets.len().saturating_sub(view.trailer.len());
-    match octets.get(..size) {
-        Some(front) => Some(is_written_as(&frame, front)),
-        None => Some(false),
+    let Some(front) = octets.strip_suffix(view.trailer) else {
+        return Some(false);
+    };
+    match view.apdu.to_apdu(alloc) {
+        Ok(apdu) => Some(is_written_as(&framed(alloc, &view, apdu), front)),
+        Err(_) => None,
     }
 }
 
