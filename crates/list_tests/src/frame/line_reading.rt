@@ -12,7 +12,7 @@ fn is_next<R: Source>(reader: &mut LineReader<R>, line: &[u8]) -> bool {
 
 /// Whether no line is left.
 fn is_end<R: Source>(reader: &mut LineReader<R>) -> bool {
-    reader.next_line() == Ok(None)
+    matches!(reader.next_line(), Ok(None))
 }
 
 /// The fault of the next line, if it has one.

@@ -142,10 +142,10 @@ const PARTED: &[u8; 23] = b"V2\nF 5 0aff\nC 7\nM 8 on\n";
 /// What it tells before its end.
 const PARTS: [(&str, u64); 3] = [("F 5 0aff", 2), ("C 7", 3), ("M 8 on", 4)];
 
-/// Whether the list, of which a read fails behind so many octets, tells so many events and then this fault, for good.
-fn fails(alloc: Global, size: usize, events: usize, fault: &str) -> bool {
+/// Whether the list, of which a read fails behind so many octets, tells so many events and then this fault in this line,
+/// for good.
+fn fails(alloc: Global, size: usize, events: usize, line: u64, fault: &str) -> bool {
     let mut list = ListReader::new(source_of(PARTED, size.max(1), 1));
-    let line = events as u64 + 2;
     tells(alloc, &mut list, PARTS.get(..events).unwrap_or(&PARTS))
         && tells(alloc, &mut list, &[(fault, line), (fault, line)])
         && list.into_reader().ending() == InputEnd::Failed
@@ -153,14 +153,17 @@ fn fails(alloc: Global, size: usize, events: usize, fault: &str) -> bool {
 
 #[test]
 fn a_failed_read_is_told_at_the_unfinished_line(rt: HostRuntime) {
-    for (first, last, events, fault) in [
-        (3usize, 11usize, 0usize, "line 2: reading failed"),
-        (12, 15, 1, "line 3: reading failed"),
-        (16, 22, 2, "line 4: reading failed"),
-        (23, 23, 3, "line 5: reading failed"),
+    for (first, last, events, line, fault) in [
+        (3usize, 11usize, 0usize, 2u64, "line 2: reading failed"),
+        (12, 15, 1, 3, "line 3: reading failed"),
+        (16, 22, 2, 4, "line 4: reading failed"),
+        (23, 23, 3, 5, "line 5: reading failed"),
     ] {
         for size in first..=last {
-            assert!(rt; fails(rt.alloc(), size, events, fault), "behind {size}");
+            assert!(rt;
+                fails(rt.alloc(), size, events, line, fault),
+                "behind {size}"
+            );
         }
     }
 }

@@ -87,6 +87,22 @@ fn a_failed_write_leaves_a_front(rt: HostRuntime) {
     }
 }
 
+/// Whether these octets arrive at a writer.
+fn arrive(alloc: Global, octets: &[u8]) -> bool {
+    let mut written = Vec::new(alloc);
+    let is_put = {
+        let mut sink = ToWrite::new(&mut written);
+        put_all(&mut sink, octets) == Ok(()) && !sink.has_failed()
+    };
+    is_put && written.as_slice() == octets
+}
+
+#[test]
+fn all_octets_are_put(rt: HostRuntime) {
+    assert!(rt; arrive(rt.alloc(), b"four"));
+    assert!(rt; arrive(rt.alloc(), &[b'#'; 5000]));
+}
+
 #[test]
 fn a_writer_that_takes_nothing_is_a_fault(rt: HostRuntime) {
     let mut sink = ToWrite::new(FullDisk);
