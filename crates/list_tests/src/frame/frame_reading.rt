@@ -1,235 +1,202 @@
 //! Frames that are read, and the first fault of those that are not.
 
-use crate::frame::frames::{
-    LONG, MISSING, TAGGED, changed, changed_twice, fault, read, seen, with_deep_member,
-    with_one_more,
-};
+use crate::frame::frames::{LONG, TAGGED, changed, has_fault, read, seen};
+use crate::frame::sampled_frames::{TAGGED_SAMPLED, changed_sampled, of_eight};
 use ber_core::Cause;
-use frame_core::{Apdu, ApduView, VlanTag, decode, laws, view_frame};
+use frame_core::{ApduView, FrameView, VlanTag, laws, view_frame};
+use pdu_core::{AsduView, GooseView, SvView};
 use std::alloc::Global;
 use std::process::Abort;
-use std::test::Fail;
-use worked_frames::FRAME;
+use worked_frames::{FRAME, SAMPLED};
 
-/// Whether the view of these octets is of the frame of one boolean.
-fn is_seen<H: Abort>(rt: &H, octets: &[u8]) -> Result<(), Fail> {
-    let view = view_frame(octets)?;
-    assert_eq!(rt; view.destination, [0x01, 0x0c, 0xcd, 0x01, 0x00, 0x01]);
-    assert_eq!(rt; view.source, [0x02, 0x00, 0x00, 0x00, 0x00, 0x01]);
-    assert_eq!(rt; view.tag, None);
-    assert_eq!(rt; view.app_id, 1);
-    assert_eq!(rt; view.trailer.len(), 0);
-    let ApduView::Goose(goose) = view.apdu else {
-        return Err(Fail::from("no GOOSE"));
-    };
-    assert_eq!(rt; goose.gocb_ref, b"G".as_slice());
-    assert_eq!(rt; goose.live, 2000);
-    assert_eq!(rt; goose.dat_set, b"D".as_slice());
-    assert_eq!(rt; goose.st_num, 1);
-    assert_eq!(rt; goose.sq_num, 0);
-    assert_eq!(rt; goose.entries, 1);
-    Ok(())
+/// Whether the view has this tag and trailer, and the reserved fields and the source of the worked frames.
+fn has_envelope(view: &FrameView<'_>, tag: Option<VlanTag>, trailer: &[u8]) -> bool {
+    view.source == [0x02, 0x00, 0x00, 0x00, 0x00, 0x01]
+        && view.tag == tag
+        && (view.reserved1, view.reserved2) == (0, 0)
+        && view.trailer == trailer
 }
 
-/// Whether the frame of one boolean is read from these octets.
-fn is_read<H: Abort>(rt: &H, alloc: Global, octets: &[u8]) -> Result<(), Fail> {
-    let frame = decode(alloc, octets)?;
-    let Apdu::Goose(goose) = &frame.apdu else {
-        return Err(Fail::from("no GOOSE"));
+/// Whether the APDU is that of one boolean.
+fn is_worked(goose: &GooseView<'_>) -> bool {
+    goose.gocb_ref == b"G".as_slice()
+        && goose.live == 2000
+        && goose.dat_set == b"D".as_slice()
+        && (goose.st_num, goose.sq_num) == (1, 0)
+        && goose.entries == 1
+}
+
+/// Whether the view of these octets is of the frame of one boolean, with this tag and trailer.
+fn is_seen(octets: &[u8], tag: Option<VlanTag>, trailer: &[u8]) -> bool {
+    let Ok(view) = view_frame(octets) else {
+        return false;
     };
-    assert_eq!(rt; goose.gocb_ref.as_slice(), b"G".as_slice());
-    assert_eq!(rt; goose.members.as_slice().len(), 1);
-    Ok(())
+    has_envelope(&view, tag, trailer)
+        && view.destination == [0x01, 0x0c, 0xcd, 0x01, 0x00, 0x01]
+        && view.app_id == 1
+        && match &view.apdu {
+            ApduView::Goose(goose) => is_worked(goose),
+            ApduView::Sampled(_) => false,
+        }
+}
+
+const PRIORITY_4: Option<VlanTag> = Some(VlanTag { control: 0x8000 });
+
+#[test]
+fn a_frame_is_seen(rt: HostRuntime) {
+    for (octets, tag, trailer) in [
+        (FRAME.as_slice(), None, b"".as_slice()),
+        (&LONG, None, b""),
+        (&TAGGED, PRIORITY_4, &[0; 4]),
+    ] {
+        assert!(rt; is_seen(octets, tag, trailer), "{octets:?}");
+    }
+}
+
+/// Whether the ASDU is that of the worked frame.
+fn is_worked_asdu(asdu: &AsduView<'_>) -> bool {
+    asdu.sv_id == b"S".as_slice()
+        && asdu.dat_set.is_none()
+        && (asdu.smp_cnt, asdu.conf_rev, asdu.smp_synch) == (3998, 1, 2)
+        && asdu.sample == [0x00, 0x2a].as_slice()
+        && asdu.smp_mod == Some([0x00].as_slice())
+}
+
+/// Whether there are so many ASDUs, each that of the worked frame.
+fn are_worked_asdus(apdu: &SvView<'_>, count: u16) -> bool {
+    let mut asdus = apdu.asdus;
+    for _ in 0..count {
+        match asdus.next() {
+            Some(asdu) if is_worked_asdu(&asdu) => {}
+            _ => return false,
+        }
+    }
+    apdu.count == count && asdus.next().is_none()
+}
+
+/// Whether the view of these octets is of a frame of so many such ASDUs, with this tag and trailer.
+fn is_sampled_seen(octets: &[u8], count: u16, tag: Option<VlanTag>, trailer: &[u8]) -> bool {
+    let Ok(view) = view_frame(octets) else {
+        return false;
+    };
+    has_envelope(&view, tag, trailer)
+        && view.destination == [0x01, 0x0c, 0xcd, 0x04, 0x00, 0x01]
+        && view.app_id == 0x4000
+        && match &view.apdu {
+            ApduView::Sampled(apdu) => are_worked_asdus(apdu, count),
+            ApduView::Goose(_) => false,
+        }
 }
 
 #[test]
-fn a_frame_is_seen_and_read(rt: HostRuntime) -> Result<(), Fail> {
-    is_seen(&rt, &FRAME)?;
-    is_read(&rt, rt.alloc(), &FRAME)?;
-    is_seen(&rt, &LONG)?;
-    is_read(&rt, rt.alloc(), &LONG)
+fn sampled_values_are_seen(rt: HostRuntime) {
+    let eight = of_eight();
+    for (octets, count, tag, trailer) in [
+        (SAMPLED.as_slice(), 1u16, None, b"".as_slice()),
+        (&eight, 8, None, b""),
+        (&TAGGED_SAMPLED, 1, PRIORITY_4, &[0; 4]),
+    ] {
+        assert!(rt; is_sampled_seen(octets, count, tag, trailer), "{octets:?}");
+    }
 }
 
 #[test]
-fn a_tag_and_a_trailer_are_kept(rt: HostRuntime) -> Result<(), Fail> {
-    let view = view_frame(&TAGGED)?;
-    let tag = view.tag.ok_or("no tag")?;
-    assert_eq!(rt; tag, VlanTag { control: 0x8000 });
-    assert_eq!(rt; tag.priority(), 4);
-    assert_eq!(rt; tag.drop_eligible(), false);
-    assert_eq!(rt; tag.vlan(), 0);
-    assert_eq!(rt; view.trailer, [0, 0, 0, 0].as_slice());
-    let all = VlanTag { control: 0xb123 };
-    assert_eq!(rt; all.priority(), 5);
-    assert_eq!(rt; all.drop_eligible(), true);
-    assert_eq!(rt; all.vlan(), 0x123);
-    Ok(())
+fn a_tag_has_three_parts(rt: HostRuntime) {
+    for (control, priority, is_drop_eligible, vlan) in [
+        (0x8000u16, 4u8, false, 0u16),
+        (0xb123, 5, true, 0x123),
+    ] {
+        let tag = VlanTag { control };
+        assert!(rt; tag.priority() == priority);
+        assert!(rt; tag.drop_eligible() == is_drop_eligible);
+        assert!(rt; tag.vlan() == vlan);
+    }
+}
+
+/// Whether so many octets from the front are told to be cut off at their end.
+fn is_truncated_at(alloc: Global, octets: &[u8], size: usize) -> bool {
+    match octets.get(..size) {
+        Some(front) => has_fault(alloc, front, size, Cause::Truncated),
+        None => false,
+    }
 }
 
 #[test]
 fn a_cut_frame_is_truncated(rt: HostRuntime) {
-    for size in 0..FRAME.len() {
-        assert_eq!(rt; seen(&FRAME[..size]), fault(size, Cause::Truncated));
-        assert_eq!(rt;
-            read(rt.alloc(), &FRAME[..size]),
-            fault(size, Cause::Truncated)
-        );
-    }
-    for size in 0..71 {
-        assert_eq!(rt; seen(&TAGGED[..size]), fault(size, Cause::Truncated));
-        assert_eq!(rt;
-            read(rt.alloc(), &TAGGED[..size]),
-            fault(size, Cause::Truncated)
-        );
-    }
-}
-
-#[test]
-fn what_is_left_of_a_trailer_is_kept(rt: HostRuntime) -> Result<(), Fail> {
-    for size in 71..=75 {
-        let view = view_frame(&TAGGED[..size])?;
-        assert_eq!(rt; view.trailer, &TAGGED[71..size]);
-        let frame = decode(rt.alloc(), &TAGGED[..size])?;
-        assert_eq!(rt; frame.trailer.as_slice(), &TAGGED[71..size]);
-    }
-    Ok(())
-}
-
-#[test]
-fn a_cut_may_fit_the_field_length(rt: HostRuntime) {
-    for size in 24..67 {
-        let frame = changed(17, (size - 14) as u8);
-        let cut = &frame[..size];
-        assert_eq!(rt; seen(cut), fault(23, Cause::LengthPastEnd));
-        assert_eq!(rt; read(rt.alloc(), cut), fault(23, Cause::LengthPastEnd));
-    }
-}
-
-#[test]
-fn a_cut_may_fit_both_lengths(rt: HostRuntime) -> Result<(), Fail> {
-    for (size, place, cause) in [
-        (24u8, 24, Cause::ElementMissing),
-        (25, 25, Cause::Ends),
-        (26, 25, Cause::LengthPastEnd),
-        (27, 27, Cause::ElementMissing),
-        (28, 28, Cause::Ends),
-        (50, 50, Cause::ElementMissing),
-        (53, 53, Cause::ElementMissing),
-        (62, 62, Cause::ElementMissing),
-        (64, 63, Cause::LengthPastEnd),
-        (65, 63, Cause::LengthPastEnd),
-        (66, 63, Cause::LengthPastEnd),
+    let eight = of_eight();
+    for (octets, whole) in [
+        (FRAME.as_slice(), 67usize),
+        (&TAGGED, 71),
+        (&SAMPLED, 54),
+        (&TAGGED_SAMPLED, 58),
+        (&eight, 231),
     ] {
-        let frame = changed_twice(17, size.wrapping_sub(14), 23, size.wrapping_sub(24));
-        let cut = frame.get(..usize::from(size)).ok_or("a longer cut")?;
-        assert_eq!(rt; seen(cut), fault(place, cause), "at {size}");
-        assert_eq!(rt; read(rt.alloc(), cut), fault(place, cause), "at {size}");
+        for size in 0..whole {
+            assert!(rt;
+                is_truncated_at(rt.alloc(), octets, size),
+                "{size} of {whole}"
+            );
+        }
     }
-    Ok(())
 }
 
 #[test]
 fn each_cause_stands_at_its_place(rt: HostRuntime) {
-    let cases = [
-        (changed(24, 0x9f), 24, Cause::HighTag),
-        (changed(23, 0x80), 23, Cause::Indefinite),
-        (changed(23, 0x85), 23, Cause::LengthForm),
-        (changed(23, 0xff), 23, Cause::LengthForm),
-        (changed(23, 0x2c), 23, Cause::LengthPastEnd),
-        (changed(23, 0x2a), 63, Cause::LengthPastEnd),
-        (changed(45, 0), 45, Cause::IntegerLength),
-        (changed(22, 0x60), 22, Cause::UnexpectedTag),
-        (changed(64, 0x88), 64, Cause::UnexpectedTag),
-        (changed(51, 2), 51, Cause::BooleanLength),
-        (changed(46, 0xff), 46, Cause::IntegerRange),
-        (changed(35, 7), 35, Cause::FixedLength),
-        (changed(26, 7), 26, Cause::NotVisible),
-        (changed(61, 2), 59, Cause::EntryCount),
-        (changed_twice(64, 0x84, 66, 1), 66, Cause::BitUnused),
-        (changed_twice(12, 8, 13, 0), 12, Cause::EtherType),
-        (changed(17, 7), 16, Cause::LengthField),
-        (changed_twice(16, 5, 17, 0xdd), 16, Cause::LengthField),
-        (changed(17, 0x36), 67, Cause::Truncated),
-        (changed(17, 0x34), 23, Cause::LengthPastEnd),
-    ];
-    for (octets, place, cause) in cases {
-        assert_eq!(rt; seen(&octets), fault(place, cause));
-        assert_eq!(rt; read(rt.alloc(), &octets), fault(place, cause));
+    for (place, octet, told, cause) in [
+        (24usize, 0x9fu8, 24usize, Cause::HighTag),
+        (23, 0x80, 23, Cause::Indefinite),
+        (23, 0x85, 23, Cause::LengthForm),
+        (23, 0x2c, 23, Cause::LengthPastEnd),
+        (45, 0, 45, Cause::IntegerLength),
+        (22, 0x60, 22, Cause::UnexpectedTag),
+        (51, 2, 51, Cause::BooleanLength),
+        (46, 0xff, 46, Cause::IntegerRange),
+        (35, 7, 35, Cause::FixedLength),
+        (26, 7, 26, Cause::NotVisible),
+        (61, 2, 59, Cause::EntryCount),
+        (64, 0x84, 66, Cause::BitUnused),
+        (13, 0xb9, 12, Cause::EtherType),
+        (13, 0xba, 22, Cause::UnexpectedTag),
+        (17, 7, 16, Cause::LengthField),
+        (17, 0x36, 67, Cause::Truncated),
+    ] {
+        let octets = changed(place, octet);
+        assert!(rt;
+            has_fault(rt.alloc(), &octets, told, cause),
+            "{octet} at {place}"
+        );
     }
 }
 
 #[test]
-fn what_is_behind_the_last_field_is_a_fault(rt: HostRuntime) {
-    let more = with_one_more(0x36);
-    assert_eq!(rt; seen(&more), fault(67, Cause::ExtraOctets));
-    assert_eq!(rt; read(rt.alloc(), &more), fault(67, Cause::ExtraOctets));
-    assert_eq!(rt; seen(&with_one_more(0x35)), Ok(()));
-}
-
-#[test]
-fn a_frame_may_have_too_many_octets(rt: HostRuntime) {
-    assert_eq!(rt; seen(&[0; 1601]), fault(1600, Cause::FrameTooLong));
-    assert_eq!(rt;
-        read(rt.alloc(), &[0; 1601]),
-        fault(1600, Cause::FrameTooLong)
-    );
-}
-
-#[test]
-fn members_may_be_too_deep(rt: HostRuntime) {
-    let deep = with_deep_member();
-    assert_eq!(rt; seen(&deep), fault(96, Cause::TooDeep));
-    assert_eq!(rt; read(rt.alloc(), &deep), fault(96, Cause::TooDeep));
-}
-
-#[test]
-fn a_field_may_be_missing(rt: HostRuntime) {
-    assert_eq!(rt; seen(&MISSING), fault(27, Cause::ElementMissing));
-    assert_eq!(rt;
-        read(rt.alloc(), &MISSING),
-        fault(27, Cause::ElementMissing)
-    );
-}
-
-#[test]
-fn octets_may_end_inside_a_length(rt: HostRuntime) {
-    let frame = changed_twice(17, 0x0a, 23, 0x82);
-    let cut = &frame[..24];
-    assert_eq!(rt; seen(cut), fault(24, Cause::Ends));
-    assert_eq!(rt; read(rt.alloc(), cut), fault(24, Cause::Ends));
-}
-
-#[test]
-fn each_identifier_of_a_member_is_judged(rt: HostRuntime) {
-    for identifier in 0..=255u8 {
-        let told = match identifier {
-            0x83 | 0x85 | 0x87 | 0x89 | 0x90 => Ok(()),
-            0xa1 | 0xa2 => fault(66, Cause::HighTag),
-            0x84 => fault(66, Cause::BitUnused),
-            0x86 => fault(66, Cause::IntegerRange),
-            0x8a => fault(66, Cause::NotVisible),
-            0x8c | 0x91 => fault(65, Cause::FixedLength),
-            _ if identifier % 32 == 31 => fault(64, Cause::HighTag),
-            _ => fault(64, Cause::UnexpectedTag),
-        };
-        let octets = changed(64, identifier);
-        assert_eq!(rt; seen(&octets), told);
-        assert_eq!(rt; read(rt.alloc(), &octets), told);
+fn each_cause_stands_at_its_place_in_sampled_values(rt: HostRuntime) {
+    for (place, octet, told, cause) in [
+        (26usize, 2u8, 24usize, Cause::AsduCount),
+        (26, 0, 26, Cause::IntegerRange),
+        (29, 0x31, 29, Cause::UnexpectedTag),
+        (35, 3, 35, Cause::FixedLength),
+        (13, 0xb9, 12, Cause::EtherType),
+        (13, 0xb8, 22, Cause::UnexpectedTag),
+    ] {
+        let octets = changed_sampled(place, octet);
+        assert!(rt;
+            has_fault(rt.alloc(), &octets, told, cause),
+            "{octet} at {place}"
+        );
     }
 }
 
 #[test]
-fn an_apdu_is_made_from_its_view(rt: HostRuntime) -> Result<(), Fail> {
-    let view = view_frame(&FRAME)?;
-    let Apdu::Goose(goose) = view.apdu.to_apdu(rt.alloc())? else {
-        return Err(Fail::from("no GOOSE"));
-    };
-    assert_eq!(rt; goose.dat_set.as_slice(), b"D".as_slice());
-    Ok(())
+fn a_frame_has_1600_octets_at_most(rt: HostRuntime) {
+    let mut octets = [0; 1601];
+    octets[..67].copy_from_slice(&FRAME);
+    assert!(rt; seen(&octets[..1600]) == Ok(()));
+    assert!(rt; read(rt.alloc(), &octets[..1600]) == Ok(()));
+    assert!(rt; has_fault(rt.alloc(), &octets, 1600, Cause::FrameTooLong));
 }
 
 #[test]
-fn laws_hold(rt: HostRuntime) {
+fn laws_hold() {
     laws::one_reading::<Global>();
     laws::reading_tells::<Global>();
     laws::written_is_spelled::<Global>();
@@ -238,5 +205,4 @@ fn laws_hold(rt: HostRuntime) {
     laws::written_event_reads_back::<Global>();
     laws::stops_tell_the_ending::<u8, u8, u8>();
     laws::a_line_says_what_it_spells::<Global>();
-    assert_eq!(rt; seen(&FRAME), Ok(()));
 }

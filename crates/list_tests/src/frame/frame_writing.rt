@@ -1,45 +1,46 @@
 //! Frames in their written form.
 
-use crate::frame::frames::{LONG, TAGGED};
+use crate::frame::frames::{LONG, TAGGED, has_form};
+use crate::frame::sampled_frames::{TAGGED_SAMPLED, of_eight};
 use arrayvec::ArrayVec;
 use ber_core::Full;
 use frame_core::{
     Apdu, EncodeFault, Frame, GooseFrame, decode, encode, encode_goose, encode_view, view_frame,
 };
 use mms_data::Octets;
+use pdu_core::{AsduList, SvPdu};
 use std::alloc::Global;
 use std::process::Abort;
 use std::test::Fail;
-use worked_frames::FRAME;
+use worked_frames::{FRAME, SAMPLED};
 
-/// Whether the frame that the octets spell has this written form, owned and as a view.
-fn has_form<H: Abort>(rt: &H, alloc: Global, octets: &[u8], form: &[u8]) -> Result<(), Fail> {
-    let frame = decode(alloc, octets)?;
-    assert_eq!(rt; encode(&frame)?.as_slice(), form);
-    let mut seen = ArrayVec::<u8, 1600>::new();
-    assert_eq!(rt; encode_view(&view_frame(octets)?, &mut seen), Ok(()));
-    assert_eq!(rt; seen.as_slice(), form);
-    Ok(())
+/// Whether the view of these octets has this written form.
+fn has_view_form(octets: &[u8], form: &[u8]) -> bool {
+    let Ok(view) = view_frame(octets) else {
+        return false;
+    };
+    let mut written = ArrayVec::<u8, 1600>::new();
+    encode_view(&view, &mut written) == Ok(()) && written.as_slice() == form
+}
+
+/// Whether these octets have this written form, as a frame and as a view.
+fn have_form(alloc: Global, octets: &[u8], form: &[u8]) -> bool {
+    has_form(alloc, octets, form) && has_view_form(octets, form)
 }
 
 #[test]
-fn a_frame_has_one_written_form(rt: HostRuntime) -> Result<(), Fail> {
-    has_form(&rt, rt.alloc(), &FRAME, &FRAME)?;
-    has_form(&rt, rt.alloc(), &LONG, &FRAME)?;
-    has_form(&rt, rt.alloc(), &TAGGED, &TAGGED)
+fn a_frame_has_one_written_form(rt: HostRuntime) {
+    let eight = of_eight();
+    assert!(rt; have_form(rt.alloc(), &LONG, &FRAME));
+    for octets in [FRAME.as_slice(), &TAGGED, &SAMPLED, &TAGGED_SAMPLED, &eight] {
+        assert!(rt; have_form(rt.alloc(), octets, octets), "{octets:?}");
+    }
 }
 
-/// Whether the GOOSE frame that the octets spell has this written form where its APDU is kept elsewhere, without its
-/// trailer.
-fn has_form_by_parts<H: Abort>(
-    rt: &H,
-    alloc: Global,
-    octets: &[u8],
-    form: &[u8],
-) -> Result<(), Fail> {
-    let frame = decode(alloc, octets)?;
+/// Whether the GOOSE frame has this written form where its APDU is kept elsewhere, without its trailer.
+fn is_written_by_parts(frame: &Frame<Global>, form: &[u8]) -> bool {
     let Apdu::Goose(unit) = &frame.apdu else {
-        return Err(Fail::from("no GOOSE"));
+        return false;
     };
     let parts = GooseFrame {
         destination: frame.destination,
@@ -50,78 +51,64 @@ fn has_form_by_parts<H: Abort>(
         reserved2: frame.reserved2,
         parts: unit.parts(),
     };
-    assert_eq!(rt; encode_goose(&parts)?.as_slice(), form);
-    Ok(())
+    match encode_goose(&parts) {
+        Ok(written) => written.as_slice() == form,
+        Err(_) => false,
+    }
+}
+
+/// The same of the frame of these octets.
+fn has_form_by_parts(alloc: Global, octets: &[u8], form: &[u8]) -> bool {
+    match decode(alloc, octets) {
+        Ok(frame) => is_written_by_parts(&frame, form),
+        Err(_) => false,
+    }
 }
 
 #[test]
-fn a_frame_by_parts_has_the_same_form(rt: HostRuntime) -> Result<(), Fail> {
-    has_form_by_parts(&rt, rt.alloc(), &LONG, &FRAME)?;
-    has_form_by_parts(&rt, rt.alloc(), &TAGGED, &TAGGED[..71])
+fn a_frame_by_parts_has_the_same_form(rt: HostRuntime) {
+    assert!(rt; has_form_by_parts(rt.alloc(), &LONG, &FRAME));
+    assert!(rt; has_form_by_parts(rt.alloc(), &TAGGED, &TAGGED[..71]));
 }
 
-/// The frame with so many octets 00 behind it.
-fn with_trailer(alloc: Global, size: usize) -> Result<Frame<Global>, Fail> {
-    let mut frame = decode(alloc, &FRAME)?;
-    frame.trailer = Octets::from(vec![in alloc; 0; size]?);
-    Ok(frame)
-}
-
-#[test]
-fn a_trailer_fits_up_to_1600_octets(rt: HostRuntime) -> Result<(), Fail> {
-    let most = with_trailer(rt.alloc(), 1533)?;
-    assert_eq!(rt; encode(&most)?.len(), 1600);
-    let over = with_trailer(rt.alloc(), 1534)?;
-    assert_eq!(rt; encode(&over).err(), Some(EncodeFault::TooLong));
-    Ok(())
-}
-
-#[test]
-fn a_frame_that_is_seen_may_have_too_long_a_form(rt: HostRuntime) -> Result<(), Fail> {
-    let mut view = view_frame(&FRAME)?;
-    let trailer = [0; 1534];
-    view.trailer = &trailer[..1533];
-    let mut seen = ArrayVec::<u8, 1600>::new();
-    assert_eq!(rt; encode_view(&view, &mut seen), Ok(()));
-    assert_eq!(rt; seen.len(), 1600);
-    view.trailer = &trailer;
-    assert_eq!(rt; encode_view(&view, &mut seen), Err(Full));
-    assert!(rt; seen.is_empty());
-    Ok(())
-}
-
-/// The frame with the octet 07, which no text has, for its control block.
-fn with_unspellable_text(alloc: Global, frame: Frame<Global>) -> Result<Frame<Global>, Fail> {
-    let Frame {
-        destination,
-        source,
-        tag,
-        app_id,
-        reserved1,
-        reserved2,
-        apdu,
-        trailer,
-    } = frame;
-    let Apdu::Goose(mut goose) = apdu else {
-        return Err(Fail::from("no GOOSE"));
+/// How the view of the frame of one boolean is written with this trailer: whether it is too long, and the size.
+fn written_with(trailer: &[u8]) -> Option<(Result<(), Full>, usize)> {
+    let Ok(mut view) = view_frame(&FRAME) else {
+        return None;
     };
-    goose.gocb_ref = Octets::from(vec![in alloc; 7]?);
-    Ok(Frame {
-        destination,
-        source,
-        tag,
-        app_id,
-        reserved1,
-        reserved2,
-        apdu: Apdu::Goose(goose),
-        trailer,
-    })
+    view.trailer = trailer;
+    let mut written = ArrayVec::<u8, 1600>::new();
+    let answer = encode_view(&view, &mut written);
+    Some((answer, written.len()))
 }
 
 #[test]
-fn a_field_with_no_spelling_is_told_first(rt: HostRuntime) -> Result<(), Fail> {
-    let over = with_trailer(rt.alloc(), 1534)?;
-    let frame = with_unspellable_text(rt.alloc(), over)?;
-    assert_eq!(rt; encode(&frame).err(), Some(EncodeFault::NotSpellable));
+fn a_frame_that_is_seen_may_have_too_long_a_form(rt: HostRuntime) {
+    let trailer = [0; 1534];
+    assert!(rt; written_with(&trailer[..1533]) == Some((Ok(()), 1600)));
+    assert!(rt; written_with(&trailer) == Some((Err(Full), 0)));
+}
+
+/// A frame of no ASDUs, with this trailer.
+fn of_no_asdus(alloc: Global, trailer: Octets<Global>) -> Frame<Global> {
+    Frame {
+        destination: [0x01, 0x0c, 0xcd, 0x04, 0x00, 0x01],
+        source: [0x02, 0x00, 0x00, 0x00, 0x00, 0x01],
+        tag: None,
+        app_id: 0x4000,
+        reserved1: 0,
+        reserved2: 0,
+        apdu: Apdu::Sampled(SvPdu {
+            asdus: AsduList::from(Vec::new(alloc)),
+        }),
+        trailer,
+    }
+}
+
+#[test]
+fn no_asdus_have_no_spelling(rt: HostRuntime) -> Result<(), Fail> {
+    let trailer = Octets::try_from_slice(rt.alloc(), &[0; 1600])?;
+    let empty = of_no_asdus(rt.alloc(), trailer);
+    assert!(rt; encode(&empty).err() == Some(EncodeFault::NotSpellable));
     Ok(())
 }

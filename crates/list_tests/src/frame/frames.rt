@@ -1,7 +1,6 @@
 //! A frame of one boolean, and frames that differ from it.
 
-ghost use Rattle.std.specs.Prelude.{◌<◌};
-
+use arrayvec::ArrayVec;
 use ber_core::{Cause, Fault};
 use frame_core::{Frame, decode, encode, view_frame};
 use mms_data::ReadFault;
@@ -26,54 +25,12 @@ pub const TAGGED: [u8; 75] = [
     0x01, 0x01, 0xab, 0x03, 0x83, 0x01, 0xff, 0x00, 0x00, 0x00, 0x00,
 ];
 
-/// The first field of the APDU, and then nothing where others are always there.
-pub const MISSING: [u8; 27] = [
-    0x01, 0x0c, 0xcd, 0x01, 0x00, 0x01, 0x02, 0x00, 0x00, 0x00, 0x00, 0x01, 0x88, 0xb8, 0x00, 0x01,
-    0x00, 0x0d, 0x00, 0x00, 0x00, 0x00, 0x61, 0x03, 0x80, 0x01, 0x47,
-];
-
-/// The frame with another octet at a place.
-pub fn changed(place: usize, octet: u8) -> [u8; 67]
-    requires { place < 67 }
-{
+/// The frame with another octet at a place, if it reaches there.
+pub fn changed(place: usize, octet: u8) -> [u8; 67] {
     let mut frame = FRAME;
-    frame[place] = octet;
-    frame
-}
-
-/// The frame with other octets at two places.
-pub fn changed_twice(place: usize, octet: u8, other_place: usize, other: u8) -> [u8; 67]
-    requires first { place < 67 }
-    requires second { other_place < 67 }
-{
-    let mut frame = changed(place, octet);
-    frame[other_place] = other;
-    frame
-}
-
-/// The frame with another field Length and one octet 00 behind it.
-pub fn with_one_more(size: u8) -> [u8; 68] {
-    let mut frame = [0; 68];
-    frame[..67].copy_from_slice(&FRAME);
-    frame[17] = size;
-    frame
-}
-
-/// Sixteen arrays inside one another, and a boolean inside the last.
-pub const DEEP: [u8; 35] = [
-    0xa1, 0x21, 0xa1, 0x1f, 0xa1, 0x1d, 0xa1, 0x1b, 0xa1, 0x19, 0xa1, 0x17, 0xa1, 0x15, 0xa1, 0x13,
-    0xa1, 0x11, 0xa1, 0x0f, 0xa1, 0x0d, 0xa1, 0x0b, 0xa1, 0x09, 0xa1, 0x07, 0xa1, 0x05, 0xa1, 0x03,
-    0x83, 0x01, 0xff,
-];
-
-/// The frame with the sixteen arrays for its member.
-pub fn with_deep_member() -> [u8; 99] {
-    let mut frame = [0; 99];
-    frame[..64].copy_from_slice(&FRAME[..64]);
-    frame[64..].copy_from_slice(&DEEP);
-    frame[17] = 0x55;
-    frame[23] = 0x4b;
-    frame[63] = 0x23;
+    if place < 67 {
+        frame[place] = octet;
+    }
     frame
 }
 
@@ -92,9 +49,26 @@ pub fn read(alloc: Global, octets: &[u8]) -> Result<(), Fault> {
     }
 }
 
-/// What is answered where the first fault is this one.
-pub fn fault(place: usize, cause: Cause) -> Result<(), Fault> {
-    Err(cause.at(place))
+/// Whether this is the first fault of the octets, as a view and as a frame.
+pub fn has_fault(alloc: Global, octets: &[u8], place: usize, cause: Cause) -> bool {
+    let fault = Err(cause.at(place));
+    seen(octets) == fault && read(alloc, octets) == fault
+}
+
+/// The written form of the frame of these octets, if there is one.
+pub fn form_of(alloc: Global, octets: &[u8]) -> Option<ArrayVec<u8, 1600>> {
+    match decode(alloc, octets) {
+        Ok(frame) => encode(&frame).ok(),
+        Err(_) => None,
+    }
+}
+
+/// Whether the frame of these octets has this written form.
+pub fn has_form(alloc: Global, octets: &[u8], form: &[u8]) -> bool {
+    match form_of(alloc, octets) {
+        Some(written) => written.as_slice() == form,
+        None => false,
+    }
 }
 
 /// Whether the frame's written form is these octets.

@@ -3,106 +3,86 @@
 use frame_core::{FromRead, InputEnd, LineReader, ListCause, ListFault, Source};
 use std::process::Abort;
 use std::test::Fail;
-use test_devices::{Endless, FailsOnce, KINDS, NEVER, source_of};
+use test_devices::{FailsOnce, KINDS, NEVER, source_of};
 
-#[test]
-fn lines_come_without_their_endings(rt: HostRuntime) -> Result<(), Fail> {
-    let text = b"one\ntwo\r\n\r\n\nlast\r".as_slice();
-    let lines = [b"one".as_slice(), b"two", b"", b"", b"last"];
-    for at_most in [1usize, 2, 3, 7, 4096, 8192] {
-        if at_most > 0 {
-            let mut reader = LineReader::new(source_of(text, at_most, NEVER));
-            assert_eq!(rt; reader.line_number(), 0);
-            for line in lines {
-                assert_eq!(rt;
-                    reader.next_line(),
-                    Ok(Some(line)),
-                    "{at_most} octets a read"
-                );
-            }
-            assert_eq!(rt; reader.next_line(), Ok(None));
-            assert_eq!(rt; reader.next_line(), Ok(None));
-            assert_eq!(rt; reader.line_number(), 5);
-            assert_eq!(rt; reader.into_reader().ending(), InputEnd::End);
+/// Whether the next line is this one.
+fn is_next<R: Source>(reader: &mut LineReader<R>, line: &[u8]) -> bool {
+    reader.next_line() == Ok(Some(line))
+}
+
+/// Whether no line is left.
+fn is_end<R: Source>(reader: &mut LineReader<R>) -> bool {
+    matches!(reader.next_line(), Ok(None))
+}
+
+/// The fault of the next line, if it has one.
+fn next_fault<R: Source>(reader: &mut LineReader<R>) -> Option<ListFault> {
+    reader.next_line().err()
+}
+
+/// Whether the next lines are these, and the end follows for good.
+fn are_all<R: Source>(reader: &mut LineReader<R>, lines: &[&[u8]]) -> bool {
+    for line in lines {
+        if !is_next(reader, line) {
+            return false;
         }
     }
-    Ok(())
+    is_end(reader) && is_end(reader)
+}
+
+/// Whether the next line is refused for this cause, for good.
+fn is_refused<R: Source>(reader: &mut LineReader<R>, line: u64, cause: ListCause) -> bool {
+    let fault = Some(ListFault { line, cause });
+    next_fault(reader) == fault && next_fault(reader) == fault && reader.line_number() == line
+}
+
+#[test]
+fn lines_come_without_their_endings(rt: HostRuntime) {
+    let text = b"one\ntwo\r\n\r\n\nlast\r";
+    let lines = [b"one".as_slice(), b"two", b"", b"", b"last"];
+    for at_most in 1..=20usize {
+        let mut reader = LineReader::new(source_of(text, at_most, NEVER));
+        assert!(rt; reader.line_number() == 0);
+        assert!(rt; are_all(&mut reader, &lines), "{at_most} octets a read");
+        assert!(rt; reader.line_number() == 5);
+        assert!(rt; reader.into_reader().ending() == InputEnd::End);
+    }
 }
 
 #[test]
 fn a_line_has_4096_octets_at_most(rt: HostRuntime) -> Result<(), Fail> {
-    let mut text = vec![in rt.alloc(); b'#'; 4096]?;
-    text.push(b'\n')?;
+    let text = vec![in rt.alloc(); b'#'; 4097]?;
+    let longest = &text.as_slice()[..4096];
+    let mut reader = LineReader::new(source_of(longest, 7, NEVER));
+    assert!(rt; are_all(&mut reader, &[longest]));
     let mut reader = LineReader::new(source_of(text.as_slice(), 7, NEVER));
-    assert_eq!(rt; reader.next_line(), Ok(Some(&text.as_slice()[..4096])));
-    assert_eq!(rt; reader.next_line(), Ok(None));
-    let long = vec![in rt.alloc(); b'#'; 4097]?;
-    let mut reader = LineReader::new(source_of(long.as_slice(), 7, NEVER));
-    let fault = ListFault {
-        line: 1,
-        cause: ListCause::LineTooLong,
-    };
-    assert_eq!(rt; reader.next_line(), Err(fault));
-    assert_eq!(rt; reader.next_line(), Err(fault));
-    assert_eq!(rt; reader.line_number(), 1);
+    assert!(rt; is_refused(&mut reader, 1, ListCause::LineTooLong));
     Ok(())
 }
 
 #[test]
 fn the_end_of_a_reader_is_the_end(rt: HostRuntime) {
     let mut reader = LineReader::new(FromRead::new(b"one\ntwo".as_slice()));
-    assert_eq!(rt; reader.next_line(), Ok(Some(b"one".as_slice())));
-    assert_eq!(rt; reader.next_line(), Ok(Some(b"two".as_slice())));
-    assert_eq!(rt; reader.next_line(), Ok(None));
-    assert_eq!(rt; reader.into_reader().ending(), InputEnd::End);
+    assert!(rt; are_all(&mut reader, &[b"one", b"two"]));
+    assert!(rt; reader.into_reader().ending() == InputEnd::End);
 }
 
 #[test]
-fn a_failed_read_comes_after_the_whole_lines(rt: HostRuntime) -> Result<(), Fail> {
+fn a_failed_read_comes_after_the_whole_lines(rt: HostRuntime) {
     let mut reader = LineReader::new(source_of(b"one\ntwo", 5, 1));
-    let fault = ListFault {
-        line: 2,
-        cause: ListCause::ReadFailed,
-    };
-    assert_eq!(rt; reader.next_line(), Ok(Some(b"one".as_slice())));
-    assert_eq!(rt; reader.next_line(), Err(fault));
-    assert_eq!(rt; reader.next_line(), Err(fault));
-    assert_eq!(rt; reader.into_reader().ending(), InputEnd::Failed);
-    Ok(())
+    assert!(rt; is_next(&mut reader, b"one"));
+    assert!(rt; is_refused(&mut reader, 2, ListCause::ReadFailed));
+    assert!(rt; reader.into_reader().ending() == InputEnd::Failed);
 }
 
 #[test]
-fn a_list_has_a_million_lines_at_most(rt: HostRuntime) -> Result<(), Fail> {
-    let mut reader = LineReader::new(FromRead::new(Endless(b'\n')));
-    for _ in 0..1_000_000u32 {
-        assert_eq!(rt; reader.next_line(), Ok(Some(b"".as_slice())));
-    }
-    let fault = ListFault {
-        line: 1_000_001,
-        cause: ListCause::ListTooLong,
-    };
-    assert_eq!(rt; reader.next_line(), Err(fault));
-    assert_eq!(rt; reader.line_number(), 1_000_001);
-    Ok(())
-}
-
-#[test]
-fn a_read_that_failed_is_not_tried_again(rt: HostRuntime) -> Result<(), Fail> {
+fn a_read_that_failed_is_not_tried_again(rt: HostRuntime) {
     for kind in KINDS {
         let mut device = FailsOnce { kind, calls: 0 };
         {
             let mut reader = LineReader::new(FromRead::new(&mut device));
-            for _call in 0..3u8 {
-                assert_eq!(rt;
-                    reader.next_line(),
-                    Err(ListFault {
-                        line: 1,
-                        cause: ListCause::ReadFailed
-                    })
-                );
-            }
+            assert!(rt; is_refused(&mut reader, 1, ListCause::ReadFailed));
         }
-        assert_eq!(rt; device.calls, 1, "{kind:?}");
+        assert!(rt; device.calls == 1, "{kind:?}");
     }
-    Ok(())
 }
