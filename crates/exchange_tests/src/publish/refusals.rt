@@ -1,12 +1,27 @@
 //! What is refused, in which order, and what is left as it was.
 
-use crate::publish::frames::{
-    NO_TIME, boolean, control, frame, octet_string, publisher, refused, step,
-};
+use crate::publish::frames::{NO_TIME, booleans, control, frame, step};
 use mms_data::{Octets, UtcTime, Value, ValueList};
-use publish_core::{PublishFault, Publisher, Step, Table};
+use publish_core::{PublishFault, Publisher, Table};
 use std::alloc::{AllocError, Global};
 use std::test::Fail;
+
+#[test]
+fn steps_that_make_no_table(rt: HostRuntime) {
+    let good = step(10, 2000);
+    let equal = [good, step(10, 10)];
+    let several = [good, good, step(0, 10), step(10, 10)];
+    for (steps, wanted) in [
+        ([].as_slice(), Some(PublishFault::StepCount)),
+        ([step(0, 0); 17].as_slice(), Some(PublishFault::StepCount)),
+        ([good; 16].as_slice(), None),
+        (equal.as_slice(), Some(PublishFault::StepTimes(1))),
+        (several.as_slice(), Some(PublishFault::StepTimes(2))),
+        ([step(1, 2)].as_slice(), None),
+    ] {
+        assert!(rt; Table::new(steps).err() == wanted);
+    }
+}
 
 // A moment of change whose fraction of a second has no spelling.
 const WIDE: UtcTime = UtcTime {
@@ -15,76 +30,84 @@ const WIDE: UtcTime = UtcTime {
     quality: 0,
 };
 
-// Two booleans.
-fn two_values(alloc: Global) -> Result<ValueList<Global>, AllocError> {
+// One octet string, or one binary time, of so many octets.
+fn octets(alloc: Global, size: usize, is_time: bool) -> Result<ValueList<Global>, AllocError> {
+    let octets = Octets::from(vec![in alloc; 7; size]?);
     let mut values = Vec::new(alloc);
-    values.push(Value::Boolean(true))?;
-    values.push(Value::Boolean(false))?;
+    values.push(if is_time {
+        Value::BinaryTime(octets)
+    } else {
+        Value::Octets(octets)
+    })?;
     Ok(ValueList::from(values))
 }
 
-// One binary time of five octets, which no binary time has.
-fn odd_time(alloc: Global) -> Result<ValueList<Global>, AllocError> {
-    let mut values = Vec::new(alloc);
-    values.push(Value::BinaryTime(Octets::from(vec![in alloc; 0; 5]?)))?;
-    Ok(ValueList::from(values))
+// Whether a change to these values is refused for this reason, and hands so many values back.
+fn is_refused(
+    publisher: &mut Publisher<Global>,
+    t: UtcTime,
+    values: ValueList<Global>,
+    wanted: (PublishFault, usize),
+) -> bool {
+    match publisher.change(7, t, values) {
+        Ok(_) => false,
+        Err((fault, values)) => (fault, values.as_slice().len()) == wanted,
+    }
 }
 
-#[test]
-fn steps_that_make_no_table(rt: HostRuntime) {
-    let good = step(10, 2000);
-    assert_eq!(rt; Table::new(&[]).err(), Some(PublishFault::StepCount));
-    assert_eq!(rt;
-        Table::new(&[good; 17]).err(),
-        Some(PublishFault::StepCount)
-    );
-    assert_eq!(rt;
-        Table::new(&[step(0, 0); 17]).err(),
-        Some(PublishFault::StepCount)
-    );
-    assert!(rt; Table::new(&[good; 16]).is_ok());
-    let equal = Table::new(&[good, step(10, 10)]);
-    assert_eq!(rt; equal.err(), Some(PublishFault::StepTimes(1)));
-    let without_wait = Table::new(&[good, good, step(0, 10), step(10, 10)]);
-    assert_eq!(rt; without_wait.err(), Some(PublishFault::StepTimes(2)));
-    assert!(rt; Table::new(&[step(1, 2)]).is_ok());
+// Whether changes are refused in the order of their faults, and the publisher then gives its first frame.
+fn are_refused_in_order(alloc: Global, publisher: &mut Publisher<Global>) -> Result<bool, Fail> {
+    let two = booleans(alloc, 2, true)?;
+    let long = octets(alloc, 1500, false)?;
+    let odd = octets(alloc, 5, true)?;
+    let longer = octets(alloc, 1439, false)?;
+    Ok(
+        is_refused(publisher, WIDE, two, (PublishFault::EntriesDiffer, 2))
+            && is_refused(publisher, WIDE, long, (PublishFault::NotSpellable, 1))
+            && is_refused(publisher, NO_TIME, odd, (PublishFault::NotSpellable, 1))
+            && is_refused(publisher, NO_TIME, longer, (PublishFault::WouldNotFit, 1)),
+    )
+}
+
+// Whether a change to a boolean gives the first frame.
+fn is_accepted(alloc: Global, publisher: &mut Publisher<Global>) -> Result<bool, Fail> {
+    match publisher.change(0, NO_TIME, booleans(alloc, 1, true)?) {
+        Ok(octets) => Ok(octets.as_slice() == frame(1, 0, true).as_slice()),
+        Err(_) => Ok(false),
+    }
 }
 
 #[test]
 fn changes_are_refused_in_this_order(rt: HostRuntime) -> Result<(), Fail> {
-    let mut publisher = publisher(rt.alloc(), &[step(10, 2000)], 1)?;
-    let two = refused(&rt, publisher.change(7, WIDE, two_values(rt.alloc())?));
-    assert_eq!(rt; two, (PublishFault::EntriesDiffer, 2));
-    let wide = refused(
-        &rt,
-        publisher.change(7, WIDE, octet_string(rt.alloc(), 1500)?),
-    );
-    assert_eq!(rt; wide, (PublishFault::NotSpellable, 1));
-    let odd = refused(&rt, publisher.change(7, NO_TIME, odd_time(rt.alloc())?));
-    assert_eq!(rt; odd, (PublishFault::NotSpellable, 1));
-    let long = refused(
-        &rt,
-        publisher.change(7, NO_TIME, octet_string(rt.alloc(), 1500)?),
-    );
-    assert_eq!(rt; long, (PublishFault::WouldNotFit, 1));
-    assert_eq!(rt; publisher.moment(), 0);
-    let first = publisher.change(0, NO_TIME, boolean(rt.alloc(), true)?);
-    assert_eq!(rt;
-        first.ok().expect(&rt, "accepted").as_slice(),
-        frame(1, 0, false).as_slice()
+    let table = Table::new(&[step(10, 2000)])?;
+    let mut publisher = Publisher::new(control(rt.alloc(), 1)?, table, 1)?;
+    assert!(rt; are_refused_in_order(rt.alloc(), &mut publisher)?);
+    assert!(rt; publisher.moment() == 0);
+    assert!(rt; is_accepted(rt.alloc(), &mut publisher)?);
+    Ok(())
+}
+
+#[test]
+fn a_control_with_a_text_without_a_spelling(rt: HostRuntime) -> Result<(), Fail> {
+    let one = booleans(rt.alloc(), 1, true)?;
+    let mut odd = control(rt.alloc(), 1)?;
+    odd.dat_set = Octets::from(vec![in rt.alloc(); 0x7f; 1]?);
+    let mut publisher = Publisher::new(odd, Table::new(&[step(10, 2000)])?, 1)?;
+    assert!(rt;
+        is_refused(
+            &mut publisher,
+            NO_TIME,
+            one,
+            (PublishFault::NotSpellable, 1)
+        )
     );
     Ok(())
 }
 
 #[test]
-fn a_text_of_the_control_without_a_spelling_is_refused(rt: HostRuntime) -> Result<(), Fail> {
-    let mut odd = control(rt.alloc(), 1)?;
-    odd.dat_set = Octets::from(vec![in rt.alloc(); 0x7f; 1]?);
-    let mut publisher = Publisher::new(odd, Table::new(&[step(10, 2000)])?, 1)?;
-    let answer = refused(
-        &rt,
-        publisher.change(0, NO_TIME, boolean(rt.alloc(), true)?),
-    );
-    assert_eq!(rt; answer, (PublishFault::NotSpellable, 1));
+fn a_first_status_number_of_zero(rt: HostRuntime) -> Result<(), Fail> {
+    let table = Table::new(&[step(10, 2000)])?;
+    let refused = Publisher::new(control(rt.alloc(), 1)?, table, 0);
+    assert!(rt; refused.err() == Some(PublishFault::FirstState));
     Ok(())
 }

@@ -1,0 +1,103 @@
+//! Any count of members, and many blocks, with ample memory.
+
+use super::given::{block, event_with_frame};
+use crate::publish::frames::{NO_TIME, booleans, control, step};
+use frame_core::{Event, EventKind};
+use publish_core::{Publisher, Table};
+use std::alloc::Global;
+use std::test::Fail;
+use subscribe_core::{Entry, Subscriber};
+
+/// The most booleans that a frame holds, and the greatest APPID: each block has as many members as its APPID says.
+const MOST: u16 = 480;
+
+/// A subscriber of all these blocks.
+fn subscriber(alloc: Global) -> Result<Subscriber<Global>, Fail> {
+    let mut blocks = Vec::new(alloc);
+    for count in 0..MOST + 1 {
+        let mut block = block(alloc, count)?;
+        block.entries = u32::from(count);
+        if blocks.push(block).is_err() {
+            return Err(Fail::from("no memory for a block"));
+        }
+    }
+    Ok(Subscriber::new(alloc, blocks)?)
+}
+
+/// The first frame that a publisher sends of the block of so many members, at moment 0.
+fn first_frame(alloc: Global, count: u16, is_simulated: bool) -> Result<Event<Global>, Fail> {
+    let values = booleans(alloc, u32::from(count), true)?;
+    let mut control = control(alloc, u32::from(count))?;
+    control.app_id = count;
+    control.simulation = is_simulated;
+    let mut publisher = Publisher::new(control, Table::new(&[step(10, 2000)])?, 1)?;
+    match publisher.change(0, NO_TIME, values) {
+        Ok(octets) => Ok(event_with_frame(alloc, 0, octets.as_slice())?),
+        Err(_) => Err(Fail::from("a change was refused")),
+    }
+}
+
+/// How many members are acted on, where the last entry is an action.
+fn acted_on(entries: &[Entry<Global>]) -> Option<usize> {
+    match entries.last() {
+        Some(Entry::Act { members, .. }) => Some(members.as_slice().len()),
+        _ => None,
+    }
+}
+
+/// Whether each block acts on its first frame, one after another, with all members, and each frame reaches its block alone.
+fn each_acts(
+    alloc: Global,
+    subscriber: &mut Subscriber<Global>,
+    is_simulated: bool,
+) -> Result<bool, Fail> {
+    for count in 0..MOST + 1 {
+        let event = first_frame(alloc, count, is_simulated)?;
+        let entries = subscriber.take(&event)?;
+        let looks = subscriber.looks();
+        if acted_on(&entries) != Some(usize::from(count)) || looks < 1 || 2 < looks {
+            return Ok(false);
+        }
+    }
+    Ok(true)
+}
+
+/// How many entries this has at a moment in milliseconds.
+fn entries_at(
+    subscriber: &mut Subscriber<Global>,
+    moment: u32,
+    kind: EventKind<Global>,
+) -> Result<usize, Fail> {
+    let event = Event {
+        moment: u64::from(moment) * 1000,
+        kind,
+    };
+    Ok(subscriber.take(&event)?.len())
+}
+
+/// Whether all blocks act, go over to simulated frames and back, and expire.
+fn all_act_switch_and_expire(
+    alloc: Global,
+    subscriber: &mut Subscriber<Global>,
+) -> Result<bool, Fail> {
+    let all = usize::from(MOST) + 1;
+    Ok(
+        subscriber.looks() == 0
+            && each_acts(alloc, subscriber, false)?
+            && entries_at(subscriber, 1999, EventKind::Clock)? == 0
+            && subscriber.looks() == 0
+            && entries_at(subscriber, 1999, EventKind::Mode(true))? == 0
+            && each_acts(alloc, subscriber, true)?
+            && entries_at(subscriber, 1999, EventKind::Mode(false))? == all
+            && each_acts(alloc, subscriber, false)?
+            && entries_at(subscriber, 3999, EventKind::Clock)? == all
+            && subscriber.looks() == 481,
+    )
+}
+
+#[test]
+fn blocks_of_each_count_of_members(rt: HostRuntime) -> Result<(), Fail> {
+    let mut subscriber = subscriber(rt.alloc())?;
+    assert!(rt; all_act_switch_and_expire(rt.alloc(), &mut subscriber)?);
+    Ok(())
+}
