@@ -1,9 +1,14 @@
 //! What the faults say to a person.
 
 use publish_core::PublishFault;
-use std::alloc::AllocError;
+use std::alloc::{AllocError, Global};
 use std::test::Fail;
 use subscribe_core::{SubscribeFault, WatchFault};
+
+/// Whether the fault says this.
+fn says(alloc: Global, fault: PublishFault, sentence: &str) -> Result<bool, AllocError> {
+    Ok(fault.to_string(alloc)?.as_str() == sentence)
+}
 
 #[test]
 fn faults_of_a_publisher(rt: HostRuntime) -> Result<(), Fail> {

@@ -1,7 +1,7 @@
 //! A control block, its frames with one boolean, and what makes them.
 
 use mms_data::{Octets, UtcTime, Value, ValueList};
-use publish_core::{Control, Step};
+use publish_core::{Control, Publisher, Step};
 use std::alloc::{AllocError, Global};
 use worked_frames::FRAME;
 
@@ -56,4 +56,17 @@ pub fn booleans(alloc: Global, count: u32, value: bool) -> Result<ValueList<Glob
         values.push(Value::Boolean(value))?;
     }
     Ok(ValueList::from(values))
+}
+
+/// Whether a change at a moment in microseconds gives these octets.
+pub fn is_changed(
+    publisher: &mut Publisher<Global>,
+    moment: u64,
+    values: ValueList<Global>,
+    wanted: &[u8],
+) -> bool {
+    match publisher.change(moment, NO_TIME, values) {
+        Ok(octets) => octets.as_slice() == wanted,
+        Err((_fault, _values)) => false,
+    }
 }

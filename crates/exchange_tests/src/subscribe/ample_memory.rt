@@ -2,6 +2,7 @@
 
 use super::given::{block, event_with_frame};
 use crate::publish::frames::{NO_TIME, booleans, control, step};
+use arrayvec::ArrayVec;
 use frame_core::{Event, EventKind};
 use publish_core::{Publisher, Table};
 use std::alloc::Global;
@@ -24,16 +25,21 @@ fn subscriber(alloc: Global) -> Result<Subscriber<Global>, Fail> {
     Ok(Subscriber::new(alloc, blocks)?)
 }
 
-/// The first frame that a publisher sends of the block of so many members, at moment 0.
-fn first_frame(alloc: Global, count: u16, is_simulated: bool) -> Result<Event<Global>, Fail> {
+/// The first frame that a publisher sends of the block of so many members.
+fn first_frame(
+    alloc: Global,
+    count: u16,
+    is_simulated: bool,
+) -> Result<Option<ArrayVec<u8, 1600>>, Fail> {
     let values = booleans(alloc, u32::from(count), true)?;
+    let table = Table::new(&[step(10, 2000)])?;
     let mut control = control(alloc, u32::from(count))?;
     control.app_id = count;
     control.simulation = is_simulated;
-    let mut publisher = Publisher::new(control, Table::new(&[step(10, 2000)])?, 1)?;
+    let mut publisher = Publisher::new(control, table, 1)?;
     match publisher.change(0, NO_TIME, values) {
-        Ok(octets) => Ok(event_with_frame(alloc, 0, octets.as_slice())?),
-        Err(_) => Err(Fail::from("a change was refused")),
+        Ok(octets) => Ok(Some(octets)),
+        Err((_fault, _values)) => Ok(None),
     }
 }
 
@@ -52,7 +58,10 @@ fn each_acts(
     is_simulated: bool,
 ) -> Result<bool, Fail> {
     for count in 0..MOST + 1 {
-        let event = first_frame(alloc, count, is_simulated)?;
+        let Some(octets) = first_frame(alloc, count, is_simulated)? else {
+            return Ok(false);
+        };
+        let event = event_with_frame(alloc, 0, octets.as_slice())?;
         let entries = subscriber.take(&event)?;
         let looks = subscriber.looks();
         if acted_on(&entries) != Some(usize::from(count)) || looks < 1 || 2 < looks {

@@ -4,9 +4,9 @@ use super::given::{Given, Numbers, TRUE, Told, Want, block, event, tells};
 use ber_core::Cause;
 use frame_core::Event;
 use refusing_alloc::RefusingAlloc;
-use std::alloc::Global;
+use std::alloc::{Allocator, Global};
 use std::test::Fail;
-use subscribe_core::{Reason, SubscribeFault, Subscriber};
+use subscribe_core::{Block, Reason, SubscribeFault, Subscriber};
 
 /// What `new` answers.
 #[derive(Clone, Copy, PartialEq, Eq)]
@@ -16,21 +16,15 @@ enum Made {
     NoMemory,
 }
 
-/// A subscriber of blocks with these APPIDs.
-fn subscriber<'a>(
-    alloc: &'a RefusingAlloc<Global>,
-    app_ids: &[u16],
-    first_refused: usize,
-) -> Result<Result<Subscriber<&'a RefusingAlloc<Global>>, SubscribeFault>, Fail> {
-    alloc.allow();
+/// Blocks with these APPIDs.
+fn blocks<A: Allocator + Copy>(alloc: A, app_ids: &[u16]) -> Result<Vec<Block<A>, A>, Fail> {
     let mut blocks = Vec::new(alloc);
     for app_id in app_ids {
         if blocks.push(block(alloc, *app_id)?).is_err() {
             return Err(Fail::from("no memory for a block"));
         }
     }
-    alloc.refuse_from(first_refused);
-    Ok(Subscriber::new(alloc, blocks))
+    Ok(blocks)
 }
 
 /// What `new` answers to blocks with these APPIDs, this growth and all after it refused, and whether a growth was refused.
@@ -40,10 +34,13 @@ fn answer_of_new(
     first_refused: usize,
 ) -> Result<(Made, bool), Fail> {
     let alloc = RefusingAlloc::new(memory, 0);
-    let made = match subscriber(&alloc, app_ids, first_refused)? {
-        Ok(_) => Made::Made,
+    alloc.allow();
+    let blocks = blocks(&alloc, app_ids)?;
+    alloc.refuse_from(first_refused);
+    let made = match Subscriber::new(&alloc, blocks) {
+        Ok(_subscriber) => Made::Made,
         Err(SubscribeFault::SameBlockTwice(i)) => Made::Twice(i),
-        Err(SubscribeFault::Memory(_)) => Made::NoMemory,
+        Err(SubscribeFault::Memory(_error)) => Made::NoMemory,
     };
     Ok((made, alloc.has_refused()))
 }
@@ -79,7 +76,7 @@ fn told<'a>(
     alloc.refuse_from(first_refused);
     let told = match subscriber.take(event) {
         Ok(entries) => Some(tells(&entries)),
-        Err(_) => None,
+        Err(_error) => None,
     };
     let has_refused = alloc.has_refused();
     alloc.allow();
@@ -205,8 +202,8 @@ fn first_wrong<'a>(
 #[test]
 fn take_where_each_growth_is_refused(rt: HostRuntime) -> Result<(), Fail> {
     let alloc = RefusingAlloc::new(rt.alloc(), 0);
-    let mut subscriber = subscriber(&alloc, &[1, 2], 100)??;
     alloc.allow();
+    let mut subscriber = Subscriber::new(&alloc, blocks(&alloc, &[1, 2])?)?;
     if let Some(at) = first_wrong(&alloc, &mut subscriber)? {
         assert!(rt; false, "at {at}");
     }

@@ -1,7 +1,7 @@
-//! The watch, over a period and at the ends of periods.
+//! The watch, over a period.
 
 use std::test::Fail;
-use subscribe_core::{Seen, Watch, WatchFault};
+use subscribe_core::{Seen, Watch};
 
 #[test]
 fn counts_of_a_period(rt: HostRuntime) -> Result<(), Fail> {
@@ -20,18 +20,4 @@ fn counts_of_a_period(rt: HostRuntime) -> Result<(), Fail> {
         assert!(rt; watch.see(count) == want, "at {count}");
     }
     Ok(())
-}
-
-#[test]
-fn periods(rt: HostRuntime) {
-    for (period, fault) in [
-        (0, Some(WatchFault::Period)),
-        (1, Some(WatchFault::Period)),
-        (2, None),
-        (65_536, None),
-        (65_537, Some(WatchFault::Period)),
-        (u32::MAX, Some(WatchFault::Period)),
-    ] {
-        assert!(rt; Watch::new(period).err() == fault, "at {period}");
-    }
 }
