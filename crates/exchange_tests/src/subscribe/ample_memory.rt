@@ -4,10 +4,12 @@ use super::given::{block, event_with_frame};
 use crate::publish::frames::{NO_TIME, booleans, control, step};
 use arrayvec::ArrayVec;
 use frame_core::{Event, EventKind};
+use mms_data::Octets;
 use publish_core::{Publisher, Table};
-use std::alloc::Global;
+use std::alloc::{AllocError, Global};
 use std::test::Fail;
 use subscribe_core::{Entry, Subscriber};
+use worked_frames::FRAME;
 
 /// The most booleans that a frame holds, and the greatest APPID: each block has as many members as its APPID says.
 const MOST: u16 = 480;
@@ -71,17 +73,13 @@ fn each_acts(
     Ok(true)
 }
 
-/// How many entries this has at a moment in milliseconds.
+/// How many entries this has at a moment in microseconds.
 fn entries_at(
     subscriber: &mut Subscriber<Global>,
-    moment: u32,
+    moment: u64,
     kind: EventKind<Global>,
-) -> Result<usize, Fail> {
-    let event = Event {
-        moment: u64::from(moment) * 1000,
-        kind,
-    };
-    Ok(subscriber.take(&event)?.len())
+) -> Result<usize, AllocError> {
+    Ok(subscriber.take(&Event { moment, kind })?.len())
 }
 
 /// Whether all blocks act, go over to simulated frames and back, and expire.
@@ -93,13 +91,13 @@ fn all_act_switch_and_expire(
     Ok(
         subscriber.looks() == 0
             && each_acts(alloc, subscriber, false)?
-            && entries_at(subscriber, 1999, EventKind::Clock)? == 0
+            && entries_at(subscriber, 1_999_999, EventKind::Clock)? == 0
             && subscriber.looks() == 0
-            && entries_at(subscriber, 1999, EventKind::Mode(true))? == 0
+            && entries_at(subscriber, 1_999_999, EventKind::Mode(true))? == 0
             && each_acts(alloc, subscriber, true)?
-            && entries_at(subscriber, 1999, EventKind::Mode(false))? == all
+            && entries_at(subscriber, 1_999_999, EventKind::Mode(false))? == all
             && each_acts(alloc, subscriber, false)?
-            && entries_at(subscriber, 3999, EventKind::Clock)? == all
+            && entries_at(subscriber, 3_999_999, EventKind::Clock)? == all
             && subscriber.looks() == 481,
     )
 }
@@ -108,5 +106,8 @@ fn all_act_switch_and_expire(
 fn blocks_of_each_count_of_members(rt: HostRuntime) -> Result<(), Fail> {
     let mut subscriber = subscriber(rt.alloc())?;
     assert!(rt; all_act_switch_and_expire(rt.alloc(), &mut subscriber)?);
+    let frame = Octets::from(Vec::from_slice(rt.alloc(), &FRAME)?);
+    assert!(rt; entries_at(&mut subscriber, u64::MAX, EventKind::Frame(frame))? == 1);
+    assert!(rt; entries_at(&mut subscriber, u64::MAX, EventKind::Clock)? == 0);
     Ok(())
 }
