@@ -1,4 +1,5 @@
 """What a publisher sends by a script: worked scripts, and scripts made by chance of which the slow publisher says what comes."""
+import itertools
 import pathlib
 import random
 
@@ -311,6 +312,25 @@ def line_ends():
     yield Publishes("a line more than a million", million + b"\n\n", sent(fault="1000001 script ListTooLong"))
 
 
+# ---- Every short script -----------------------------------------------------
+
+
+class EachFive:
+    """Every script of five calls, of which the program writes what the slow publisher writes. A call is a change to one boolean
+    or the other, a poll at its moment, one a microsecond before, or one at 20 ms; call n comes at 10 ms times n."""
+
+    name = "each script of five calls"
+
+    def why_wrong(self, program):
+        start = [b"V2", control(), step(10, 2000), step(20, 3000)]
+        drawn = [[change(at), change(at, b"830100"), poll(at), poll(max(at - 1, 0)), poll(20000)] for at in range(0, 50000, 10000)]
+        for calls in itertools.product(*drawn):
+            why = Publishes("", script(*start, *calls)).why_wrong(program)
+            if why:
+                return [b" ".join(calls).decode(), *why]
+        return []
+
+
 # ---- By chance --------------------------------------------------------------
 
 
@@ -434,6 +454,7 @@ def cases():
         yield from made()
     for made in (envelopes, fields, members, longest, line_ends):
         yield from made()
+    yield EachFive()
     chance = random.Random(SEED)
     for at in range(400):
         yield Publishes(f"a script by chance, {at}", some_script(chance))

@@ -126,6 +126,15 @@ def each_four():
         yield b"".join(drawn), [BLOCK]
 
 
+def each_four_of_numbers():
+    """All 1,296 lists of four events drawn from frames of two status numbers, two sequence numbers and two lifetimes, and two
+    clocks. Event i comes at 400 times i milliseconds, the second clock at 1,200."""
+    frames = [state(1, 0, 1000), state(1, 1, 1000), state(2, 0, 1000), state(1, 0, 3000)]
+    events = [[line(400 * i, frame) for frame in frames] + [b"C %d\n" % (400 * i), b"C 1200\n"] for i in range(4)]
+    for drawn in itertools.product(*events):
+        yield b"".join(drawn), [BLOCK]
+
+
 def short_lists():
     """Three hundred lists of 8 to 12 events made by chance, over one to three blocks."""
     chance = random.Random(SEED)
@@ -222,6 +231,7 @@ def cases():
     yield Replays("a long list by chance", some_list(chance, 5000), BLOCKS)
     yield ManyLists()
     yield ByDefinition("each list of four real and simulated frames, clocks and modes", each_four)
+    yield ByDefinition("each list of four frames of few numbers and clocks", each_four_of_numbers)
     yield ByDefinition("three hundred short lists by chance", short_lists)
     for at in range(6):
         yield Split(f"block by block, {at}", some_list(chance, 300), BLOCKS[:1 + at % 3])

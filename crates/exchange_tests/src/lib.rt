@@ -6,4 +6,6 @@ mod laws;
 #[cfg(test)]
 mod publish;
 #[cfg(test)]
+mod sentences;
+#[cfg(test)]
 mod subscribe;

@@ -1,7 +1,5 @@
-//! Runs of a publisher whose frames are written out by hand.
+//! A run of a publisher whose frames are written out by hand, and what is refused.
 
-mod by_definition;
-mod frames;
-mod limits;
+pub mod frames;
 mod refusals;
-mod runs;
+mod run;

@@ -1,8 +1,6 @@
-//! Worked examples of the subscriber and the watch, a slow function by the definitions' words, and refused memory.
+//! A subscriber with ample memory and with refused memory, and the watch.
 
-mod by_definition;
+mod ample_memory;
 mod given;
 mod refused_memory;
-mod simulation;
 mod watching;
-mod worked_examples;

@@ -1,75 +1,40 @@
-// Each growth of a vector is refused in turn, and the vector is used again afterwards.
+// Which growths are refused, of a vector and one by one.
 
 use crate::RefusingAlloc;
 use std::alloc::{AllocError, Allocator};
-use std::test::Fail;
 
-// Two growths: room for one number, and for nine.
-fn grow_twice<A: Allocator + Copy>(alloc: A) -> Result<Vec<u64, A>, AllocError> {
+// Three growths: room for one number, for nine, and for one again.
+fn grow_and_shrink<A: Allocator + Copy>(alloc: A) -> Result<(), AllocError> {
     let mut numbers = Vec::with_capacity(alloc, 1)?;
-    numbers.push(7)?;
-    numbers.reserve_exact(8)?;
-    Ok(numbers)
-}
-
-#[test]
-fn refuses_each_growth_in_turn(rt: HostRuntime) {
-    for (first_refused, is_refused) in [(0, true), (1, true), (2, false), (3, false)] {
-        let alloc = RefusingAlloc::new(rt.alloc(), first_refused);
-        assert_eq!(rt;
-            grow_twice(&alloc).is_err(),
-            is_refused,
-            "at {first_refused}"
-        );
-        assert_eq!(rt; alloc.has_refused(), is_refused, "at {first_refused}");
-    }
-}
-
-#[test]
-fn refuses_every_later_growth(rt: HostRuntime) {
-    let alloc = RefusingAlloc::new(rt.alloc(), 1);
-    for is_refused in [false, true, true] {
-        assert_eq!(rt;
-            Vec::<u64, _>::with_capacity(&alloc, 1).is_err(),
-            is_refused
-        );
-    }
-}
-
-#[test]
-fn serves_again_once_allowed(rt: HostRuntime) -> Result<(), Fail> {
-    let alloc = RefusingAlloc::new(rt.alloc(), 1);
-    let mut numbers = Vec::with_capacity(&alloc, 1)?;
     numbers.push(7u64)?;
-    assert!(rt; numbers.push(8).is_err());
-    assert_eq!(rt; numbers.as_slice(), [7].as_slice());
-    alloc.allow();
-    numbers.push(9)?;
-    assert_eq!(rt; numbers.as_slice(), [7, 9].as_slice());
-    assert!(rt; alloc.has_refused());
-    Ok(())
-}
-
-#[test]
-fn counts_anew(rt: HostRuntime) -> Result<(), Fail> {
-    let alloc = RefusingAlloc::new(rt.alloc(), 0);
-    assert!(rt; grow_twice(&alloc).is_err());
-    alloc.refuse_from(2);
-    assert!(rt; !alloc.has_refused());
-    let mut numbers = grow_twice(&alloc)?;
-    assert!(rt; !alloc.has_refused());
-    assert!(rt; numbers.reserve_exact(100).is_err());
-    assert_eq!(rt; numbers.as_slice(), [7].as_slice());
-    assert!(rt; alloc.has_refused());
-    Ok(())
-}
-
-#[test]
-fn a_smaller_block_is_a_growth(rt: HostRuntime) -> Result<(), Fail> {
-    let alloc = RefusingAlloc::new(rt.alloc(), 2);
-    let mut numbers = grow_twice(&alloc)?;
+    numbers.reserve_exact(8)?;
     numbers.shrink_to_fit();
-    assert!(rt; alloc.has_refused());
-    assert_eq!(rt; numbers.as_slice(), [7].as_slice());
     Ok(())
+}
+
+// A smaller block that is refused is no error of the vector's.
+#[test]
+fn refuses_each_growth_of_a_vector_in_turn(rt: HostRuntime) {
+    for (first_refused, is_error, has_refused) in [
+        (0, true, true),
+        (1, true, true),
+        (2, false, true),
+        (3, false, false),
+    ] {
+        let alloc = RefusingAlloc::new(rt.alloc(), first_refused);
+        assert!(rt; grow_and_shrink(&alloc).is_err() == is_error, "at {first_refused}");
+        assert!(rt; alloc.has_refused() == has_refused, "at {first_refused}");
+    }
+}
+
+#[test]
+fn counts_growths_until_asked_again(rt: HostRuntime) {
+    let alloc = RefusingAlloc::new(rt.alloc(), 2);
+    assert!(rt; alloc.grants() && alloc.grants() && !alloc.has_refused());
+    assert!(rt; !alloc.grants() && !alloc.grants() && alloc.has_refused());
+    alloc.allow();
+    assert!(rt; alloc.grants() && alloc.grants() && alloc.grants() && alloc.has_refused());
+    alloc.refuse_from(1);
+    assert!(rt; !alloc.has_refused() && alloc.grants() && !alloc.has_refused());
+    assert!(rt; !alloc.grants() && !alloc.grants() && alloc.has_refused());
 }

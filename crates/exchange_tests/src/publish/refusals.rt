@@ -1,12 +1,27 @@
 //! What is refused, in which order, and what is left as it was.
 
-use crate::publish::frames::{
-    NO_TIME, boolean, control, frame, octet_string, publisher, refused, step,
-};
+use crate::publish::frames::{NO_TIME, booleans, control, frame, is_changed, step};
 use mms_data::{Octets, UtcTime, Value, ValueList};
 use publish_core::{PublishFault, Publisher, Step, Table};
 use std::alloc::{AllocError, Global};
 use std::test::Fail;
+
+// Why these steps make no table.
+fn fault_of(steps: &[Step]) -> Option<PublishFault> {
+    match Table::new(steps) {
+        Ok(_table) => None,
+        Err(fault) => Some(fault),
+    }
+}
+
+#[test]
+fn steps_that_make_no_table(rt: HostRuntime) {
+    let (good, bad) = (step(10, 2000), step(10, 10));
+    assert!(rt; fault_of(&[]) == Some(PublishFault::StepCount));
+    assert!(rt; fault_of(&[bad; 17]) == Some(PublishFault::StepCount));
+    assert!(rt; fault_of(&[good; 16]) == None);
+    assert!(rt; fault_of(&[good, good, bad, bad]) == Some(PublishFault::StepTimes(2)));
+}
 
 // A moment of change whose fraction of a second has no spelling.
 const WIDE: UtcTime = UtcTime {
@@ -15,76 +30,71 @@ const WIDE: UtcTime = UtcTime {
     quality: 0,
 };
 
-// Two booleans.
-fn two_values(alloc: Global) -> Result<ValueList<Global>, AllocError> {
+// One value alone.
+fn alone(alloc: Global, value: Value<Global>) -> Result<ValueList<Global>, AllocError> {
     let mut values = Vec::new(alloc);
-    values.push(Value::Boolean(true))?;
-    values.push(Value::Boolean(false))?;
+    values.push(value)?;
     Ok(ValueList::from(values))
 }
 
-// One binary time of five octets, which no binary time has.
-fn odd_time(alloc: Global) -> Result<ValueList<Global>, AllocError> {
-    let mut values = Vec::new(alloc);
-    values.push(Value::BinaryTime(Octets::from(vec![in alloc; 0; 5]?)))?;
-    Ok(ValueList::from(values))
+// So many octets.
+fn octets(alloc: Global, size: usize) -> Result<Octets<Global>, AllocError> {
+    Ok(Octets::from(vec![in alloc; 7; size]?))
 }
 
-#[test]
-fn steps_that_make_no_table(rt: HostRuntime) {
-    let good = step(10, 2000);
-    assert_eq!(rt; Table::new(&[]).err(), Some(PublishFault::StepCount));
-    assert_eq!(rt;
-        Table::new(&[good; 17]).err(),
-        Some(PublishFault::StepCount)
-    );
-    assert_eq!(rt;
-        Table::new(&[step(0, 0); 17]).err(),
-        Some(PublishFault::StepCount)
-    );
-    assert!(rt; Table::new(&[good; 16]).is_ok());
-    let equal = Table::new(&[good, step(10, 10)]);
-    assert_eq!(rt; equal.err(), Some(PublishFault::StepTimes(1)));
-    let without_wait = Table::new(&[good, good, step(0, 10), step(10, 10)]);
-    assert_eq!(rt; without_wait.err(), Some(PublishFault::StepTimes(2)));
-    assert!(rt; Table::new(&[step(1, 2)]).is_ok());
+// Whether a change to these values is refused for this reason, and hands so many values back.
+fn is_refused(
+    publisher: &mut Publisher<Global>,
+    t: UtcTime,
+    values: ValueList<Global>,
+    wanted: PublishFault,
+    count: usize,
+) -> bool {
+    match publisher.change(7, t, values) {
+        Ok(_octets) => false,
+        Err((fault, values)) => fault == wanted && values.as_slice().len() == count,
+    }
+}
+
+// Whether changes are refused in the order of their faults.
+fn are_refused_in_order(alloc: Global, publisher: &mut Publisher<Global>) -> Result<bool, Fail> {
+    let two = booleans(alloc, 2, true)?;
+    let long = alone(alloc, Value::Octets(octets(alloc, 1500)?))?;
+    let odd = alone(alloc, Value::BinaryTime(octets(alloc, 5)?))?;
+    let longer = alone(alloc, Value::Octets(octets(alloc, 1439)?))?;
+    Ok(
+        is_refused(publisher, WIDE, two, PublishFault::EntriesDiffer, 2)
+            && is_refused(publisher, WIDE, long, PublishFault::NotSpellable, 1)
+            && is_refused(publisher, NO_TIME, odd, PublishFault::NotSpellable, 1)
+            && is_refused(publisher, NO_TIME, longer, PublishFault::WouldNotFit, 1),
+    )
 }
 
 #[test]
 fn changes_are_refused_in_this_order(rt: HostRuntime) -> Result<(), Fail> {
-    let mut publisher = publisher(rt.alloc(), &[step(10, 2000)], 1)?;
-    let two = refused(&rt, publisher.change(7, WIDE, two_values(rt.alloc())?));
-    assert_eq!(rt; two, (PublishFault::EntriesDiffer, 2));
-    let wide = refused(
-        &rt,
-        publisher.change(7, WIDE, octet_string(rt.alloc(), 1500)?),
-    );
-    assert_eq!(rt; wide, (PublishFault::NotSpellable, 1));
-    let odd = refused(&rt, publisher.change(7, NO_TIME, odd_time(rt.alloc())?));
-    assert_eq!(rt; odd, (PublishFault::NotSpellable, 1));
-    let long = refused(
-        &rt,
-        publisher.change(7, NO_TIME, octet_string(rt.alloc(), 1500)?),
-    );
-    assert_eq!(rt; long, (PublishFault::WouldNotFit, 1));
-    assert_eq!(rt; publisher.moment(), 0);
-    let first = publisher.change(0, NO_TIME, boolean(rt.alloc(), true)?);
-    assert_eq!(rt;
-        first.ok().expect(&rt, "accepted").as_slice(),
-        frame(1, 0, false).as_slice()
-    );
+    let one = booleans(rt.alloc(), 1, true)?;
+    let table = Table::new(&[step(10, 2000)])?;
+    let mut publisher = Publisher::new(control(rt.alloc(), 1)?, table, 1)?;
+    assert!(rt; are_refused_in_order(rt.alloc(), &mut publisher)?);
+    assert!(rt; publisher.moment() == 0);
+    assert!(rt; is_changed(&mut publisher, 0, one, &frame(1, 0, true)));
     Ok(())
 }
 
 #[test]
-fn a_text_of_the_control_without_a_spelling_is_refused(rt: HostRuntime) -> Result<(), Fail> {
+fn a_control_with_a_text_without_a_spelling(rt: HostRuntime) -> Result<(), Fail> {
+    let one = booleans(rt.alloc(), 1, true)?;
     let mut odd = control(rt.alloc(), 1)?;
     odd.dat_set = Octets::from(vec![in rt.alloc(); 0x7f; 1]?);
     let mut publisher = Publisher::new(odd, Table::new(&[step(10, 2000)])?, 1)?;
-    let answer = refused(
-        &rt,
-        publisher.change(0, NO_TIME, boolean(rt.alloc(), true)?),
-    );
-    assert_eq!(rt; answer, (PublishFault::NotSpellable, 1));
+    assert!(rt; is_refused(&mut publisher, NO_TIME, one, PublishFault::NotSpellable, 1));
+    Ok(())
+}
+
+#[test]
+fn a_first_status_number_of_zero(rt: HostRuntime) -> Result<(), Fail> {
+    let table = Table::new(&[step(10, 2000)])?;
+    let refused = Publisher::new(control(rt.alloc(), 1)?, table, 0);
+    assert!(rt; refused.err() == Some(PublishFault::FirstState));
     Ok(())
 }

@@ -4,26 +4,15 @@ use ber_core::Cause;
 use frame_core::{Event, EventKind};
 use mms_data::{Octets, Value};
 use std::alloc::{AllocError, Allocator};
-use std::process::Abort;
-use std::test::Fail;
-use subscribe_core::{Block, Entry, Reason, Subscriber};
+use subscribe_core::{Block, Entry, Reason};
 use worked_frames::{FRAME, SAMPLED};
 
-/// `FRAME` with stNum 4294967295, in five octets.
-pub const LAST_STATE: [u8; 71] = [
-    0x01, 0x0c, 0xcd, 0x01, 0x00, 0x01, 0x02, 0x00, 0x00, 0x00, 0x00, 0x01, 0x88, 0xb8, 0x00, 0x01,
-    0x00, 0x39, 0x00, 0x00, 0x00, 0x00, 0x61, 0x2f, 0x80, 0x01, 0x47, 0x81, 0x02, 0x07, 0xd0, 0x82,
-    0x01, 0x44, 0x84, 0x08, 0x00, 0x00, 0x00, 0x00, 0x00, 0x00, 0x00, 0x00, 0x85, 0x05, 0x00, 0xff,
-    0xff, 0xff, 0xff, 0x86, 0x01, 0x00, 0x87, 0x01, 0x00, 0x88, 0x01, 0x01, 0x89, 0x01, 0x00, 0x8a,
-    0x01, 0x01, 0xab, 0x03, 0x83, 0x01, 0xff,
-];
-
 /// The numbers of a frame with one boolean: its moment in milliseconds, status and sequence number, and timeAllowedtoLive.
-#[derive(Clone, Copy, Debug)]
+#[derive(Clone, Copy)]
 pub struct Numbers(pub u32, pub u8, pub u8, pub u16);
 
 /// What happens, its moment in milliseconds first.
-#[derive(Clone, Copy, Debug)]
+#[derive(Clone, Copy)]
 pub enum Given {
     /// A frame of the block whose APPID is 1.
     Goose(Numbers),
@@ -33,8 +22,6 @@ pub enum Given {
     Other(Numbers),
     /// The frame with another octet at a place.
     Changed(u32, usize, u8),
-    /// The frame with the greatest status number.
-    LastState(u32),
     /// A frame of Sampled Values.
     Sampled(u32),
     /// The frame without its last octet.
@@ -46,7 +33,7 @@ pub enum Given {
 }
 
 /// What is told of an entry: its numbers, and of an action whether it has one boolean, and which.
-#[derive(Clone, Copy, Debug, PartialEq, Eq)]
+#[derive(Clone, Copy, PartialEq, Eq)]
 pub enum Told {
     Expired(usize),
     Switched(usize),
@@ -61,12 +48,11 @@ pub enum Told {
 }
 
 /// What is told of the entries of an event.
-#[derive(Clone, Copy, Debug, PartialEq, Eq)]
+#[derive(Clone, Copy, PartialEq, Eq)]
 pub enum Want {
     Nothing,
     One(Told),
     Two(Told, Told),
-    Three(Told, Told, Told),
     More,
 }
 
@@ -121,7 +107,6 @@ pub fn tells<A: Allocator>(entries: &[Entry<A>]) -> Want {
         [] => Want::Nothing,
         [a] => Want::One(summary(a)),
         [a, b] => Want::Two(summary(a), summary(b)),
-        [a, b, c] => Want::Three(summary(a), summary(b), summary(c)),
         _ => Want::More,
     }
 }
@@ -170,7 +155,6 @@ pub fn event<A: Allocator>(alloc: A, given: Given) -> Result<Event<A>, AllocErro
             let numbers = Numbers(moment, 1, 0, 2000);
             event_with_frame(alloc, moment, &octets(numbers, place, octet))
         }
-        Given::LastState(moment) => event_with_frame(alloc, moment, &LAST_STATE),
         Given::Sampled(moment) => event_with_frame(alloc, moment, &SAMPLED),
         Given::Cut(moment) => event_with_frame(alloc, moment, &FRAME[..66]),
         Given::Clock(moment) => Ok(plain(moment, EventKind::Clock)),
@@ -188,49 +172,4 @@ pub fn block<A: Allocator + Copy>(alloc: A, app_id: u16) -> Result<Block<A>, All
         conf_rev: 1,
         entries: 1,
     })
-}
-
-/// A subscriber of this block.
-pub fn alone<A: Allocator + Copy>(alloc: A, block: Block<A>) -> Result<Subscriber<A>, Fail> {
-    let mut blocks = Vec::new(alloc);
-    if blocks.push(block).is_err() {
-        return Err(Fail::from("no memory for a block"));
-    }
-    Ok(Subscriber::new(alloc, blocks)?)
-}
-
-/// A subscriber of so many blocks, which differ in their APPID alone, from 1 on.
-pub fn several<A: Allocator + Copy>(alloc: A, count: u16) -> Result<Subscriber<A>, Fail> {
-    let mut blocks = Vec::new(alloc);
-    for i in 0..count {
-        if blocks.push(block(alloc, i.wrapping_add(1))?).is_err() {
-            return Err(Fail::from("no memory for a block"));
-        }
-    }
-    Ok(Subscriber::new(alloc, blocks)?)
-}
-
-/// Takes an event.
-pub fn take<A: Allocator + Copy>(
-    alloc: A,
-    subscriber: &mut Subscriber<A>,
-    given: Given,
-) -> Result<Want, AllocError> {
-    let event = event(alloc, given)?;
-    let entries = subscriber.take(&event)?;
-    Ok(tells(&entries))
-}
-
-/// Takes events, of each of which this is to be told.
-pub fn play<H: Abort, A: Allocator + Copy>(
-    rt: &H,
-    alloc: A,
-    subscriber: &mut Subscriber<A>,
-    examples: &[(Given, Want)],
-) -> Result<(), Fail> {
-    for (given, want) in examples {
-        let told = take(alloc, subscriber, *given)?;
-        assert_eq!(rt; told, *want);
-    }
-    Ok(())
 }

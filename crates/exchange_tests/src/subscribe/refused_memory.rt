@@ -1,76 +1,108 @@
 //! Where memory is refused, at each growth in turn.
 
-use super::given::{Given, Numbers, TRUE, Told, Want, block, event, several, tells};
+use super::given::{Given, Numbers, TRUE, Told, Want, block, event, tells};
+use ber_core::Cause;
 use frame_core::Event;
 use refusing_alloc::RefusingAlloc;
-use std::alloc::Global;
-use std::process::Abort;
+use std::alloc::{Allocator, Global};
 use std::test::Fail;
-use subscribe_core::{Reason, SubscribeFault, Subscriber};
+use subscribe_core::{Block, Reason, SubscribeFault, Subscriber};
 
-/// Whether the subscriber of two blocks is made at once; else it is once memory is granted.
-fn is_made_at_once<H: Abort>(rt: &H, memory: Global, first_refused: usize) -> Result<bool, Fail> {
+/// What `new` answers.
+#[derive(Clone, Copy, PartialEq, Eq)]
+enum Made {
+    Made,
+    Twice(usize),
+    NoMemory,
+}
+
+/// Blocks with these APPIDs.
+fn blocks<A: Allocator + Copy>(alloc: A, app_ids: &[u16]) -> Result<Vec<Block<A>, A>, Fail> {
+    let mut blocks = Vec::new(alloc);
+    for app_id in app_ids {
+        if blocks.push(block(alloc, *app_id)?).is_err() {
+            return Err(Fail::from("no memory for a block"));
+        }
+    }
+    Ok(blocks)
+}
+
+/// What `new` answers to blocks with these APPIDs, this growth and all after it refused, and whether a growth was refused.
+fn answer_of_new(
+    memory: Global,
+    app_ids: &[u16],
+    first_refused: usize,
+) -> Result<(Made, bool), Fail> {
     let alloc = RefusingAlloc::new(memory, 0);
     alloc.allow();
-    let mut blocks = Vec::new(&alloc);
-    for app_id in [1, 2] {
-        assert!(rt; blocks.push(block(&alloc, app_id)?).is_ok());
-    }
+    let blocks = blocks(&alloc, app_ids)?;
     alloc.refuse_from(first_refused);
-    match Subscriber::new(&alloc, blocks) {
-        Ok(_) => {
-            assert!(rt; !alloc.has_refused());
-            Ok(true)
-        }
-        Err(SubscribeFault::Memory(_)) => {
-            assert!(rt; alloc.has_refused());
-            alloc.allow();
-            let _ = several(&alloc, 2)?;
-            Ok(false)
-        }
-        Err(SubscribeFault::SameBlockTwice(_)) => Err(Fail::from("no block was given twice")),
-    }
+    let made = match Subscriber::new(&alloc, blocks) {
+        Ok(_subscriber) => Made::Made,
+        Err(SubscribeFault::SameBlockTwice(i)) => Made::Twice(i),
+        Err(SubscribeFault::Memory(_error)) => Made::NoMemory,
+    };
+    Ok((made, alloc.has_refused()))
 }
 
 #[test]
 fn new_where_each_growth_is_refused(rt: HostRuntime) -> Result<(), Fail> {
     for first_refused in 0..100usize {
-        if is_made_at_once(&rt, rt.alloc(), first_refused)? {
+        let answer = answer_of_new(rt.alloc(), &[1, 2], first_refused)?;
+        if answer == (Made::Made, false) {
             assert!(rt; first_refused >= 3);
             return Ok(());
         }
+        assert!(rt; answer == (Made::NoMemory, true), "growth {first_refused}");
     }
     Err(Fail::from("each call was refused memory"))
 }
 
+#[test]
+fn new_where_no_memory_is_needed(rt: HostRuntime) -> Result<(), Fail> {
+    assert!(rt; answer_of_new(rt.alloc(), &[], 0)? == (Made::Made, false));
+    assert!(rt; answer_of_new(rt.alloc(), &[1, 2, 1, 1], 0)? == (Made::Twice(2), false));
+    Ok(())
+}
+
+/// What is told of an event where this growth and all after it are refused, if memory did not want, and whether a growth was
+/// refused.
+fn told<'a>(
+    alloc: &'a RefusingAlloc<Global>,
+    subscriber: &mut Subscriber<&'a RefusingAlloc<Global>>,
+    event: &Event<&'a RefusingAlloc<Global>>,
+    first_refused: usize,
+) -> (Option<Want>, bool) {
+    alloc.refuse_from(first_refused);
+    let told = match subscriber.take(event) {
+        Ok(entries) => Some(tells(&entries)),
+        Err(_error) => None,
+    };
+    let has_refused = alloc.has_refused();
+    alloc.allow();
+    (told, has_refused)
+}
+
 /// Takes an event, of which this is to be told, each growth refused in turn, and the same event again after each refusal. How
-/// many growths it takes.
-fn growths<'a, H: Abort>(
-    rt: &H,
+/// many growths it takes; `None` where something else is told, or memory is wanted where none was refused, or the other way.
+fn growths<'a>(
     alloc: &'a RefusingAlloc<Global>,
     subscriber: &mut Subscriber<&'a RefusingAlloc<Global>>,
     event: &Event<&'a RefusingAlloc<Global>>,
     want: Want,
-) -> Result<usize, Fail> {
+) -> Option<usize> {
     for first_refused in 0..100usize {
-        alloc.refuse_from(first_refused);
-        let answer = subscriber.take(event);
-        let has_refused = alloc.has_refused();
-        alloc.allow();
-        match answer {
-            Ok(entries) => {
-                assert!(rt; !has_refused);
-                assert_eq!(rt; tells(&entries), want);
-                return Ok(first_refused);
-            }
-            Err(_) => assert!(rt; has_refused),
+        match told(alloc, subscriber, event, first_refused) {
+            (None, true) => {}
+            (Some(told), false) if told == want => return Some(first_refused),
+            _ => return None,
         }
     }
-    Err(Fail::from("each call was refused memory"))
+    None
 }
 
 // Each with the least and the greatest count of growths that it may take.
-const EXAMPLES: [(Given, Want, usize, usize); 4] = [
+const EXAMPLES: [(Given, Want, usize, usize); 19] = [
     (
         Given::Goose(Numbers(0, 1, 0, 2000)),
         Want::One(Told::Act(0, 1, 0, TRUE)),
@@ -90,65 +122,90 @@ const EXAMPLES: [(Given, Want, usize, usize); 4] = [
         9,
     ),
     (Given::Clock(4000), Want::One(Told::Expired(1)), 1, 9),
-];
-
-const LITTLE: [(Given, Want, usize, usize); 9] = [
     (
-        Given::Goose(Numbers(0, 2, 1, 2000)),
+        Given::Goose(Numbers(5000, 2, 1, 2000)),
         Want::One(Told::Act(0, 2, 1, TRUE)),
-        3,
+        2,
         9,
     ),
     (
-        Given::Goose(Numbers(1, 2, 1, 2000)),
+        Given::Goose(Numbers(5001, 2, 1, 2000)),
         Want::One(Told::Repeated(0, 2, 1)),
         1,
         2,
     ),
     (
-        Given::Goose(Numbers(1, 2, 0, 2000)),
+        Given::Goose(Numbers(5001, 2, 0, 2000)),
         Want::One(Told::Older(0, 2, 0)),
         1,
         2,
     ),
     (
-        Given::Changed(1, 46, 0),
+        Given::Changed(5001, 46, 0),
         Want::One(Told::Refused(0, Reason::StateZero)),
         1,
         2,
     ),
     (
-        Given::Changed(1, 15, 9),
+        Given::Changed(5001, 15, 9),
         Want::One(Told::NotSubscribed),
         1,
         2,
     ),
-    (Given::Sampled(1), Want::One(Told::Sampled), 1, 2),
-    (Given::Clock(1), Want::Nothing, 0, 0),
-    (Given::Mode(1, true), Want::Nothing, 0, 0),
-    (Given::Mode(1, false), Want::Nothing, 0, 0),
+    (Given::Sampled(5001), Want::One(Told::Sampled), 1, 2),
+    (
+        Given::Cut(5001),
+        Want::One(Told::Faulty(66, Cause::Truncated)),
+        1,
+        2,
+    ),
+    (Given::Clock(5001), Want::Nothing, 0, 0),
+    (Given::Mode(5001, true), Want::Nothing, 0, 0),
+    (
+        Given::Simulated(Numbers(5002, 1, 0, 2000)),
+        Want::Two(Told::Switched(0), Told::Act(0, 1, 0, TRUE)),
+        2,
+        9,
+    ),
+    (
+        Given::Goose(Numbers(5003, 3, 0, 2000)),
+        Want::One(Told::Refused(0, Reason::Simulated)),
+        1,
+        2,
+    ),
+    (
+        Given::Simulated(Numbers(7002, 2, 0, 2000)),
+        Want::Two(Told::Expired(0), Told::Act(0, 2, 0, TRUE)),
+        3,
+        9,
+    ),
+    (Given::Mode(7003, false), Want::One(Told::Switched(0)), 1, 9),
+    (Given::Mode(7003, false), Want::Nothing, 0, 0),
+    (Given::Clock(9999), Want::Nothing, 0, 0),
 ];
 
-/// Takes the events of these examples, each growth refused in turn.
-fn refuse_each<H: Abort>(
-    rt: &H,
-    memory: Global,
-    examples: &[(Given, Want, usize, usize)],
-) -> Result<(), Fail> {
-    let refusing = RefusingAlloc::new(memory, 0);
-    refusing.allow();
-    let alloc = &refusing;
-    let mut subscriber = several(alloc, 2)?;
-    for (given, want, least, most) in examples {
+/// Whether the examples are told as they are to be, and how many growths each takes is as it is to be; else the first that is not.
+fn first_wrong<'a>(
+    alloc: &'a RefusingAlloc<Global>,
+    subscriber: &mut Subscriber<&'a RefusingAlloc<Global>>,
+) -> Result<Option<usize>, Fail> {
+    for (at, (given, want, least, most)) in EXAMPLES.iter().enumerate() {
         let event = event(alloc, *given)?;
-        let count = growths(rt, alloc, &mut subscriber, &event, *want)?;
-        assert!(rt; *least <= count && count <= *most);
+        match growths(alloc, subscriber, &event, *want) {
+            Some(count) if *least <= count && count <= *most => {}
+            _ => return Ok(Some(at)),
+        }
     }
-    Ok(())
+    Ok(None)
 }
 
 #[test]
 fn take_where_each_growth_is_refused(rt: HostRuntime) -> Result<(), Fail> {
-    refuse_each(&rt, rt.alloc(), &EXAMPLES)?;
-    refuse_each(&rt, rt.alloc(), &LITTLE)
+    let alloc = RefusingAlloc::new(rt.alloc(), 0);
+    alloc.allow();
+    let mut subscriber = Subscriber::new(&alloc, blocks(&alloc, &[1, 2])?)?;
+    if let Some(at) = first_wrong(&alloc, &mut subscriber)? {
+        assert!(rt; false, "at {at}");
+    }
+    Ok(())
 }

@@ -1,0 +1,52 @@
+//! What the faults say to a person.
+
+use publish_core::PublishFault;
+use std::alloc::{AllocError, Global};
+use std::test::Fail;
+use subscribe_core::{SubscribeFault, WatchFault};
+
+/// Whether the fault says this.
+fn says(alloc: Global, fault: PublishFault, sentence: &str) -> Result<bool, AllocError> {
+    Ok(fault.to_string(alloc)?.as_str() == sentence)
+}
+
+#[test]
+fn faults_of_a_publisher(rt: HostRuntime) -> Result<(), Fail> {
+    for (fault, sentence) in [
+        (PublishFault::StepCount, "a table has 1 to 16 steps"),
+        (
+            PublishFault::StepTimes(2),
+            "step 2 waits for nothing, or lives no longer than it waits",
+        ),
+        (PublishFault::FirstState, "the first status number is 0"),
+        (
+            PublishFault::EntriesDiffer,
+            "the count of values is not that of the control's entries",
+        ),
+        (
+            PublishFault::NotSpellable,
+            "a value, the time or a text has no spelling",
+        ),
+        (
+            PublishFault::WouldNotFit,
+            "a frame of the new state would be too long",
+        ),
+    ] {
+        assert!(rt;
+            fault.to_string(rt.alloc())?.as_str() == sentence,
+            "{sentence}"
+        );
+    }
+    Ok(())
+}
+
+#[test]
+fn faults_of_a_subscriber_and_a_watch(rt: HostRuntime) -> Result<(), Fail> {
+    let twice = SubscribeFault::SameBlockTwice(2).to_string(rt.alloc())?;
+    assert!(rt; twice.as_str() == "block 2 has the APPID and the gocbRef of an earlier one");
+    let memory = SubscribeFault::Memory(AllocError).to_string(rt.alloc())?;
+    assert!(rt; memory.as_str() == "out of memory");
+    let period = WatchFault::Period.to_string(rt.alloc())?;
+    assert!(rt; period.as_str() == "the period is not 2 to 65536");
+    Ok(())
+}

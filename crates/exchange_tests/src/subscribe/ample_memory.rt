@@ -1,0 +1,113 @@
+//! Any count of members, and many blocks, with ample memory.
+
+use super::given::{block, event_with_frame};
+use crate::publish::frames::{NO_TIME, booleans, control, step};
+use arrayvec::ArrayVec;
+use frame_core::{Event, EventKind};
+use mms_data::Octets;
+use publish_core::{Publisher, Table};
+use std::alloc::{AllocError, Global};
+use std::test::Fail;
+use subscribe_core::{Entry, Subscriber};
+use worked_frames::FRAME;
+
+/// The most booleans that a frame holds, and the greatest APPID: each block has as many members as its APPID says.
+const MOST: u16 = 480;
+
+/// A subscriber of all these blocks.
+fn subscriber(alloc: Global) -> Result<Subscriber<Global>, Fail> {
+    let mut blocks = Vec::new(alloc);
+    for count in 0..MOST + 1 {
+        let mut block = block(alloc, count)?;
+        block.entries = u32::from(count);
+        if blocks.push(block).is_err() {
+            return Err(Fail::from("no memory for a block"));
+        }
+    }
+    Ok(Subscriber::new(alloc, blocks)?)
+}
+
+/// The first frame that a publisher sends of the block of so many members.
+fn first_frame(
+    alloc: Global,
+    count: u16,
+    is_simulated: bool,
+) -> Result<Option<ArrayVec<u8, 1600>>, Fail> {
+    let values = booleans(alloc, u32::from(count), true)?;
+    let table = Table::new(&[step(10, 2000)])?;
+    let mut control = control(alloc, u32::from(count))?;
+    control.app_id = count;
+    control.simulation = is_simulated;
+    let mut publisher = Publisher::new(control, table, 1)?;
+    match publisher.change(0, NO_TIME, values) {
+        Ok(octets) => Ok(Some(octets)),
+        Err((_fault, _values)) => Ok(None),
+    }
+}
+
+/// How many members are acted on, where the last entry is an action.
+fn acted_on(entries: &[Entry<Global>]) -> Option<usize> {
+    match entries.last() {
+        Some(Entry::Act { members, .. }) => Some(members.as_slice().len()),
+        _ => None,
+    }
+}
+
+/// Whether each block acts on its first frame, one after another, with all members, and each frame reaches its block alone.
+fn each_acts(
+    alloc: Global,
+    subscriber: &mut Subscriber<Global>,
+    is_simulated: bool,
+) -> Result<bool, Fail> {
+    for count in 0..MOST + 1 {
+        let Some(octets) = first_frame(alloc, count, is_simulated)? else {
+            return Ok(false);
+        };
+        let event = event_with_frame(alloc, 0, octets.as_slice())?;
+        let entries = subscriber.take(&event)?;
+        let looks = subscriber.looks();
+        if acted_on(&entries) != Some(usize::from(count)) || looks < 1 || 2 < looks {
+            return Ok(false);
+        }
+    }
+    Ok(true)
+}
+
+/// How many entries this has at a moment in microseconds.
+fn entries_at(
+    subscriber: &mut Subscriber<Global>,
+    moment: u64,
+    kind: EventKind<Global>,
+) -> Result<usize, AllocError> {
+    Ok(subscriber.take(&Event { moment, kind })?.len())
+}
+
+/// Whether all blocks act, go over to simulated frames and back, and expire.
+fn all_act_switch_and_expire(
+    alloc: Global,
+    subscriber: &mut Subscriber<Global>,
+) -> Result<bool, Fail> {
+    let all = usize::from(MOST) + 1;
+    Ok(
+        subscriber.looks() == 0
+            && each_acts(alloc, subscriber, false)?
+            && entries_at(subscriber, 1_999_999, EventKind::Clock)? == 0
+            && subscriber.looks() == 0
+            && entries_at(subscriber, 1_999_999, EventKind::Mode(true))? == 0
+            && each_acts(alloc, subscriber, true)?
+            && entries_at(subscriber, 1_999_999, EventKind::Mode(false))? == all
+            && each_acts(alloc, subscriber, false)?
+            && entries_at(subscriber, 3_999_999, EventKind::Clock)? == all
+            && subscriber.looks() == 481,
+    )
+}
+
+#[test]
+fn blocks_of_each_count_of_members(rt: HostRuntime) -> Result<(), Fail> {
+    let mut subscriber = subscriber(rt.alloc())?;
+    assert!(rt; all_act_switch_and_expire(rt.alloc(), &mut subscriber)?);
+    let frame = Octets::from(Vec::from_slice(rt.alloc(), &FRAME)?);
+    assert!(rt; entries_at(&mut subscriber, u64::MAX, EventKind::Frame(frame))? == 1);
+    assert!(rt; entries_at(&mut subscriber, u64::MAX, EventKind::Clock)? == 0);
+    Ok(())
+}
