@@ -21,6 +21,11 @@ FOUND = {
     "rewrite": b"1 some frame was written with its own octets", "watch": b"1 some line says another word",
     "import": b"1 a record was left out",
 }
+# What help says of a command's own words.
+OWN_WORDS = {
+    "replay": [b"APPID,gocbRef,datSet,goID,confRev,entries", b"0001,IED1LD/LLN0$GO$gcb,IED1LD/LLN0$ds,,1,2"],
+    "watch": [b"from 2 to 65536"],
+}
 # What would have been right, by what the message of the parser says: it stands behind that, or that says it itself.
 RIGHT = {
     b"unrecognized subcommand": b"\nThe commands are show, check, rewrite, replay, publish, watch and import; ",
@@ -57,7 +62,8 @@ class Helps(Case):
 
 
 class Begins(Case):
-    """Help begins with an example of its command that runs as it stands, and says the exit statuses and where to read more."""
+    """Help begins with an example of its command that runs as it stands, and says what the command's own words are, the exit
+    statuses and where to read more."""
 
     def __init__(self, words):
         super().__init__(f"the example of {' '.join(words)}", words)
@@ -75,6 +81,7 @@ class Begins(Case):
         why += [] if ran.returncode in (0, 1) and ran.stdout and not ran.stderr else [f"the example ends so: {ran}"]
         parts = [b"Exit status: 0 ", *STATUSES, b"docs/FORMATS.md"]
         parts += [UNITS.get(self.words[0], b"Moments in the input are microseconds where its first line is V2, else milliseconds")]
+        parts += OWN_WORDS.get(self.words[0], [])
         if self.words[0] == "check":
             parts += [b"not-written is a note and no error: the frame is good"]
         found = FOUND.get(self.words[0], b"Exit status: 0 done, 2 wrong arguments")

@@ -2,8 +2,6 @@
 #![tactic(auto)]
 
 pub mod laws;
-#[cfg(test)]
-mod tests;
 
 pub use engine_core::{Ending, check, import, publish, replay, rewrite, show, status, watch};
 pub use script_core::{BlockError, read_block};

@@ -93,9 +93,9 @@ fn answer_at_last<R: Abort, S: Source>(
         return answer;
     }
     assert!(rt; alloc.has_refused());
-    assert_eq!(rt; script.line_number(), number);
-    assert_eq!(rt; next_answer(alloc, script), Answer::Memory);
-    assert_eq!(rt; script.line_number(), number);
+    assert!(rt; script.line_number() == number);
+    assert!(rt; next_answer(alloc, script) == Answer::Memory);
+    assert!(rt; script.line_number() == number);
     alloc.allow();
     next_answer(alloc, script)
 }
@@ -114,8 +114,8 @@ fn each_line_is_read_again(rt: HostRuntime) -> Result<(), Fail> {
             (Answer::Fault(7, ScriptCause::Members(fault)), 7),
         ] {
             let told = answer_at_last(&rt, &alloc, &mut script);
-            assert_eq!(rt; told, answer, "at {first_refused}");
-            assert_eq!(rt; script.line_number(), number, "at {first_refused}");
+            assert!(rt; told == answer, "at {first_refused}");
+            assert!(rt; script.line_number() == number, "at {first_refused}");
         }
         if !alloc.has_refused() {
             // Three texts of the control line; of the change its values, one's octets and another's values.

@@ -2,8 +2,8 @@
 ghost use Rattle.std.specs.Prelude.{◌≡◌, false};
 ghost use Rattle.frame_core.specs.declared.device.InputEnd.{InputEnd};
 
-use crate::{Ending, check, import, publish, read_block, replay, rewrite, show, watch};
 use frame_core::{Sink, Source};
+use goose_cmd::{Ending, check, import, publish, read_block, replay, rewrite, show, watch};
 use std::alloc::Allocator;
 
 /// An engine, and which input it is given: one without a fault of its lines, or, where a list ends by one, `FAULTY`.

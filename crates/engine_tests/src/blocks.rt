@@ -1,0 +1,151 @@
+//! Control blocks from their texts.
+
+use goose_cmd::{BlockError, read_block};
+use refusing_alloc::RefusingAlloc;
+use std::alloc::{Allocator, Global};
+use std::process::Abort;
+use std::test::Fail;
+use subscribe_core::Block;
+
+/// The fields of a block.
+#[derive(Clone, Copy)]
+pub(super) struct Fields {
+    pub app_id: u16,
+    pub gocb_ref: &'static [u8],
+    pub dat_set: &'static [u8],
+    pub go_id: Option<&'static [u8]>,
+    pub conf_rev: u32,
+    pub entries: u32,
+}
+
+/// Whether a block has these fields.
+pub(super) fn has_fields<A: Allocator>(block: &Block<A>, wanted: &Fields) -> bool {
+    let has_its_id = match &block.go_id {
+        Some(go_id) => wanted.go_id == Some(go_id.as_slice()),
+        None => wanted.go_id.is_none(),
+    };
+    has_its_id
+        && block.app_id == wanted.app_id
+        && block.gocb_ref.as_slice() == wanted.gocb_ref
+        && block.dat_set.as_slice() == wanted.dat_set
+        && block.conf_rev == wanted.conf_rev
+        && block.entries == wanted.entries
+}
+
+// Texts of blocks: of each field the least and the greatest, and a gocbRef of 129 octets.
+const BLOCKS: [(&str, Fields); 4] = [
+    (
+        "aBcD,G,,I,4294967295,0",
+        Fields {
+            app_id: 0xABCD,
+            gocb_ref: b"G",
+            dat_set: b"",
+            go_id: Some(b"I"),
+            conf_rev: 4_294_967_295,
+            entries: 0,
+        },
+    ),
+    (
+        "0001,G,D,,1,1",
+        Fields {
+            app_id: 1,
+            gocb_ref: b"G",
+            dat_set: b"D",
+            go_id: None,
+            conf_rev: 1,
+            entries: 1,
+        },
+    ),
+    (
+        "0000,,,,0,4294967295",
+        Fields {
+            app_id: 0,
+            gocb_ref: b"",
+            dat_set: b"",
+            go_id: None,
+            conf_rev: 0,
+            entries: 4_294_967_295,
+        },
+    ),
+    (
+        "0001,IED1LD0123456789012345678901234567890123456789012345678901/LLN0$GO$gcb01234567890123456789012345678901234567890123456789012345678,IED1LD0/LLN0$dsTrip,TRIP,1,2",
+        Fields {
+            app_id: 1,
+            gocb_ref: b"IED1LD0123456789012345678901234567890123456789012345678901/LLN0$GO$gcb01234567890123456789012345678901234567890123456789012345678",
+            dat_set: b"IED1LD0/LLN0$dsTrip",
+            go_id: Some(b"TRIP"),
+            conf_rev: 1,
+            entries: 2,
+        },
+    ),
+];
+
+#[test]
+fn six_fields_are_a_block(rt: HostRuntime) -> Result<(), Fail> {
+    for (text, wanted) in BLOCKS {
+        let Ok(block) = read_block(rt.alloc(), text) else {
+            return Err("no block".into());
+        };
+        assert!(rt; has_fields(&block, &wanted), "{text}");
+    }
+    Ok(())
+}
+
+#[test]
+fn other_texts_are_none(rt: HostRuntime) -> Result<(), Fail> {
+    // It is told whatever memory there is.
+    let alloc = RefusingAlloc::new(rt.alloc(), 0);
+    for text in [
+        "",
+        "0001,G,D,,1",
+        "1,G,D,,1,1",
+        "0001,G,D,,4294967296,1",
+        "0001,G,D\t,,1,1",
+    ] {
+        let answer = read_block(&alloc, text);
+        assert!(rt; matches!(answer, Err(BlockError::BlockForm)), "{text}");
+    }
+    assert!(rt; !alloc.has_refused());
+    Ok(())
+}
+
+// The block of which each text is refused memory in turn.
+const TEXTS: Fields = Fields {
+    app_id: 1,
+    gocb_ref: b"G",
+    dat_set: b"D",
+    go_id: Some(b"I"),
+    conf_rev: 1,
+    entries: 1,
+};
+
+// Whether a block that is refused this growth is refused as a whole, and given once memory is granted. Answers whether a
+// growth was refused.
+fn is_refused<R: Abort>(rt: &R, memory: Global, first_refused: usize) -> Result<bool, Fail> {
+    let alloc = RefusingAlloc::new(memory, first_refused);
+    match read_block(&alloc, "0001,G,D,I,1,1") {
+        Ok(block) => {
+            assert!(rt; has_fields(&block, &TEXTS));
+            assert!(rt; !alloc.has_refused());
+            return Ok(false);
+        }
+        Err(error) => assert!(rt; matches!(error, BlockError::Memory(_))),
+    }
+    assert!(rt; alloc.has_refused());
+    alloc.allow();
+    let Ok(block) = read_block(&alloc, "0001,G,D,I,1,1") else {
+        return Err("no block, though memory was granted".into());
+    };
+    assert!(rt; has_fields(&block, &TEXTS));
+    Ok(true)
+}
+
+#[test]
+fn memory_is_refused_for_the_texts_of_a_block(rt: HostRuntime) -> Result<(), Fail> {
+    // Three texts, and no growth more.
+    for first_refused in 0..4usize {
+        let met = is_refused(&rt, rt.alloc(), first_refused)?;
+        assert!(rt; met == (first_refused < 3), "at {first_refused}");
+    }
+    Ok(())
+}

@@ -1,0 +1,16 @@
+//! The laws can be called.
+
+use goose_cmd::laws;
+use std::alloc::Global;
+
+#[test]
+fn laws_hold(_rt: HostRuntime) {
+    laws::plain_texts_follow_one_another::<u8, u8>();
+    laws::scripts_are_in_order::<Global>();
+    laws::written_lists_replay::<Global>();
+    laws::replay_texts_are_one::<Global>();
+    laws::watch_texts_are_one::<Global>();
+    laws::publish_texts_are_one::<Global>();
+    laws::published_lists_replay::<Global, Global>();
+    laws::published_texts_replay::<Global, Global>();
+}

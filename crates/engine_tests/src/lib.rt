@@ -1,0 +1,19 @@
+//! Tests of `script_core`, `words_core`, `engine_core` and `goose_cmd` by their public calls.
+#![tactic(auto)]
+
+#[cfg(test)]
+mod blocks;
+#[cfg(test)]
+mod command_line;
+#[cfg(test)]
+mod devices;
+#[cfg(test)]
+mod engines;
+#[cfg(test)]
+mod laws;
+#[cfg(test)]
+mod limits;
+#[cfg(test)]
+mod owed_memory;
+#[cfg(test)]
+mod scripts;
