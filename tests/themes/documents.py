@@ -72,8 +72,8 @@ class Claimed:
             here = {}
             for owner, name, contract in owned_contracts(file.read_text()):
                 here.setdefault((owner, name), set()).update(re.findall(NAMED, contract))
-            stated |= here
-            if file.is_relative_to(self.crate):
+            stated.update(here)
+            if self.crate in file.parents:
                 own |= set(here)
         told = set(re.findall(r"`([a-z]\w*)`", claims))
         for call, *names in named_calls(calls):
