@@ -5,18 +5,21 @@ import pathlib
 import re
 import subprocess
 import tempfile
+import time
 
 from harness import SECONDS
 
 TOP = pathlib.Path(__file__).resolve().parent.parent.parent
 
-# `rt check` refuses a crate with a file src/open.rt. `rt must-fail CRATE` judges each edit by its new text. Both note where
-# they run, how many at once they may try, and all edits that there are.
+# `rt check` refuses a crate with a file src/open.rt, and does not end with src/slow.rt. `rt must-fail CRATE` judges each edit
+# by its new text. Both note where they run, how many edits they may try at once, and all edits that there are.
 RT = r"""#!/bin/sh
-echo "$* in ${PWD#"$TMPDIR"/*/} of $RT_JOBS: $(cd "${PWD%%/crates*}" && echo crates/*/must-fail/* crates/*/out crates.txt HANDLES)" >> "$RUNS"
+there=$(cd "${PWD%%/crates*}" && echo crates/*/must-fail/* crates/*/out crates.txt HANDLES)
+echo "$* in ${PWD#"$TMPDIR"/*/} of $RT_JOBS: $there" >> "$RUNS"
 case $1 in
     check)
-        if [ -e src/open.rt ]; then echo "a goal is open"; exit 1; fi ;;
+        if [ -e src/open.rt ]; then echo "a goal is open"; exit 1; fi
+        if [ -e src/slow.rt ]; then sleep 600; fi ;;
     must-fail)
         for edit in crates/"$2"/must-fail/*.edit; do
             case $(sed -n 's/^new: //p' "$edit") in
@@ -60,12 +63,20 @@ class Tree:
         file.write_text(octets)
         file.chmod(mode)
 
-    def run(self, *words):
-        """The lines that the script writes, what it says, and its status."""
+    def run(self, *words, end_it=False):
+        """The lines that the script writes, what it says, and its status. It is ended once `rt` runs where that is asked for."""
         more = {"PATH": f"{self.top / 'bin'}:{os.environ['PATH']}", "RUNS": str(self.runs), "TMPDIR": str(self.room)}
-        ran = subprocess.run([str(self.top / "tools" / "wrong_bodies"), *words], timeout=SECONDS, text=True, env={**os.environ, **more},
-                             stdin=subprocess.DEVNULL, stdout=subprocess.PIPE, stderr=subprocess.PIPE)
-        return ran.stdout.splitlines(), ran.stderr, ran.returncode
+        ran = subprocess.Popen([str(self.top / "tools" / "wrong_bodies"), *words], env={**os.environ, **more}, text=True,
+                               stdin=subprocess.DEVNULL, stdout=subprocess.PIPE, stderr=subprocess.PIPE)
+        while end_it and not self.ran() and ran.poll() is None:
+            time.sleep(0.01)
+        if end_it:
+            ran.terminate()
+        try:
+            wrote, said = ran.communicate(timeout=SECONDS)
+        finally:
+            ran.kill()
+        return wrote.splitlines(), said, ran.returncode
 
     def ran(self):
         """The lines that `rt` noted."""
@@ -89,7 +100,8 @@ def each_in_its_crate(tree):
     lines, said, status = tree.run("--at-once", "3")
     heads = ["low: 2 wrong bodies, crate 1 of 2", "high: 1 wrong bodies, crate 2 of 2"]
     yield "output", ([*heads, "3 refused, 0 not refused, 0 not tried"], "", 0), (lines, said, status)
-    edits = " ".join(f"crates/{it}.edit" for it in ("high/must-fail/drops_the_last", "low/must-fail/adds_one", "low/must-fail/swaps_two"))
+    names = ("high/must-fail/drops_the_last", "low/must-fail/adds_one", "low/must-fail/swaps_two")
+    edits = " ".join(f"crates/{it}.edit" for it in names)
     runs = ["check --jobs 2 in crates/low", "must-fail low in ", "check --jobs 2 in crates/high", "must-fail high in "]
     at_top = [f"{it} of 3: {edits} crates/*/out crates.txt HANDLES" for it in runs]
     yield "the runs", at_top, [re.sub(r"in \S*wrong_bodies-\w+ of", "in  of", line) for line in tree.ran()]
@@ -107,7 +119,8 @@ def some_crates(tree):
 def not_refused(tree):
     """What is not refused is told, and so is what was refused by a limit alone."""
     lines, said, status = tree.run()
-    yield "output", ["low: 3 wrong bodies, crate 1 of 1", "low/changes_nothing: NOT REFUSED: the crate is still proved with this edit",
+    yield "output", ["low: 3 wrong bodies, crate 1 of 1",
+                     "low/changes_nothing: NOT REFUSED: the crate is still proved with this edit",
                      "low/never_ends: refused, as it must be (only by a limit of the prover, which gave no verdict)",
                      "2 refused, 1 not refused, 0 not tried"], lines
     yield "message and status", ("", 1), (said, status)
@@ -142,6 +155,16 @@ def kept(tree):
     yield "status", 0, status
 
 
+def ended(tree):
+    """Where it is ended early, so is `rt`, the copy is removed, and what was not tried is counted."""
+    tree.put("crates/low/src/slow.rt", "")
+    lines, said, status = tree.run(end_it=True)
+    yield "output", ["low: 2 wrong bodies, crate 1 of 2", "It was ended before all were tried.",
+                     "0 refused, 0 not refused, 3 not tried"], lines
+    yield "message and status", ("", 1), (said, status)
+    yield "what is left of the copy", [], list(tree.room.iterdir())
+
+
 def wrong_words(tree):
     """Words that are no crate with wrong bodies, and others that mean nothing, are told, and nothing is tried."""
     for words, why in ((["middle"], "middle has no wrong bodies; those that have some: low, high"),
@@ -151,9 +174,11 @@ def wrong_words(tree):
                        (["--at-once", "two"], "argument --at-once: invalid int value: 'two'"),
                        (["--all"], "unrecognized arguments: --all")):
         lines, said, status = tree.run(*words)
-        yield " ".join(words), ([], f"tools/wrong_bodies: error: {why}", 2), (lines, said.splitlines()[-1], status)
+        wanted = ([], f"tools/wrong_bodies: error: {why}", 2)
+        yield " ".join(words), wanted, (lines, said.splitlines()[-1], status)
     lines, said, status = tree.run("--help")
-    yield "help", (True, "", 0), ("Tries the wrong bodies of the folder wrong_bodies: the prover must refuse each." in lines, said, status)
+    first = "Tries the wrong bodies of the folder wrong_bodies: the prover must refuse each."
+    yield "help", (True, "", 0), (first in lines, said, status)
     yield "runs", [], tree.ran()
 
 
@@ -170,23 +195,26 @@ class Applied:
 
 def edits_of(crate):
     """The wrong bodies of a crate, those that the gate tries first."""
-    return [it for folder in (TOP / "crates" / crate / "must-fail", TOP / "wrong_bodies" / crate) for it in sorted(folder.glob("*.edit"))]
+    folders = (TOP / "crates" / crate / "must-fail", TOP / "wrong_bodies" / crate)
+    return [it for folder in folders for it in sorted(folder.glob("*.edit"))]
 
 
 def why_not_applied(crate, lines):
     """Why an edit with these lines cannot be applied to a crate."""
-    files, path = {}, None
+    files, path, old = {}, "", ""
     for line in lines:
         word, _, text = line.partition(": ")
         if word == "file":
             path = text
             files[path] = (crate / path).read_text(encoding="utf-8") if (crate / path).is_file() else ""
+            if not files[path]:
+                yield f"there is no file {path}"
         elif word == "old":
-            if files.get(path, "").count(text) != 1:
-                yield f"its old text stands {files.get(path, '').count(text)} times in {path}: {text.strip()}"
-            old = text
+            old, count = text, files.get(path, "").count(text)
+            if count != 1:
+                yield f"its old text stands {count} times in the file: {text.strip()}"
         elif word in ("new", "new:"):
-            files[path] = files[path].replace(old, text)
+            files[path] = files.get(path, "").replace(old, text)
         else:
             yield f"a line is not read: {line}"
     if not any(line.startswith("old: ") for line in lines):
@@ -196,11 +224,13 @@ def why_not_applied(crate, lines):
 def cases():
     yield Tries("each is tried in its crate", each_in_its_crate)
     yield Tries("some crates", some_crates)
-    yield Tries("some are not refused", not_refused, {"low": {"adds_one": "other", "changes_nothing": "same", "never_ends": "endless"}})
-    yield Tries("some are not tried", not_tried, {"low": {"adds_one": "other", "has_no_file": "gone", "is_killed": "killed", "is_silent": "none"},
-                                                  "lost": {"adds_one": "other"}})
+    some = {"adds_one": "other", "changes_nothing": "same", "never_ends": "endless"}
+    yield Tries("some are not refused", not_refused, {"low": some})
+    some = {"adds_one": "other", "has_no_file": "gone", "is_killed": "killed", "is_silent": "none"}
+    yield Tries("some are not tried", not_tried, {"low": some, "lost": {"adds_one": "other"}})
     yield Tries("a crate that is not proved", unproved)
     yield Tries("a copy that is kept", kept)
+    yield Tries("one that is ended early", ended)
     yield Tries("wrong words", wrong_words)
     folders = [*(TOP / "crates").glob("*/must-fail"), *(TOP / "wrong_bodies").glob("*/*.edit")]
     for crate in sorted({it.parent.name for it in folders}):
