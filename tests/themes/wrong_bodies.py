@@ -12,8 +12,9 @@ from harness import SECONDS
 TOP = pathlib.Path(__file__).resolve().parent.parent.parent
 
 # `rt check` refuses a crate with a file src/open.rt, and does not end with src/slow.rt. `rt must-fail CRATE` judges each edit
-# by its new text. Both note where they run, how many edits they may try at once, and all edits that there are.
+# by its new text. Both note their process, where they run, how many edits they may try at once, and all edits that there are.
 RT = r"""#!/bin/sh
+echo $$ > "$RUNS.last"
 there=$(cd "${PWD%%/crates*}" && echo crates/*/must-fail/* crates/*/out crates.txt HANDLES)
 echo "$* in ${PWD#"$TMPDIR"/*/} of $RT_JOBS: $there" >> "$RUNS"
 case $1 in
@@ -163,6 +164,8 @@ def ended(tree):
                      "0 refused, 0 not refused, 3 not tried"], lines
     yield "message and status", ("", 1), (said, status)
     yield "what is left of the copy", [], list(tree.room.iterdir())
+    number = tree.runs.with_suffix(".last").read_text().strip()
+    yield "whether rt still runs", False, pathlib.Path(f"/proc/{number}").exists()
 
 
 def wrong_words(tree):
