@@ -173,7 +173,7 @@ def lowest_first(tree):
     """The crates that the program stands on are proved before it, each behind those that it stands on."""
     wrote, said, status = with_crates(tree).build()
     yield "output", (tree.program(), "", 0), (wrote, said, status)
-    runs = [line.removeprefix(f"{tree.top / 'crates'}/") for line in tree.runs.read_text().splitlines()]
+    runs = [line[len(f"{tree.top / 'crates'}/"):] for line in tree.runs.read_text().splitlines()]
     yield "the runs", ["low lib ", "other lib ", "beside lib ", "high lib ", "goose run -- show given"], runs
     yield "files left behind", ["build.lock", "build.log"], sorted(it.name for it in (tree.top / "out").iterdir())
 

@@ -1,6 +1,7 @@
 """The documents name what there is: modules and words of definitions, files and headings that are linked to; crates.txt
 names the crates that sources use. And they name all of it: each public definition and each public call with a contract
-has a row, and the row each clause of the call that has a name."""
+has a row, and the row each clause of the call that has a name. Each wrong body that the gate tries has
+a row, with the call and the clause that refuse it."""
 import pathlib
 import re
 
@@ -71,8 +72,8 @@ class Claimed:
             here = {}
             for owner, name, contract in owned_contracts(file.read_text()):
                 here.setdefault((owner, name), set()).update(re.findall(NAMED, contract))
-            stated |= here
-            if file.is_relative_to(self.crate):
+            stated.update(here)
+            if self.crate in file.parents:
                 own |= set(here)
         told = set(re.findall(r"`([a-z]\w*)`", claims))
         for call, *names in named_calls(calls):
@@ -161,6 +162,39 @@ def contracts(source):
         yield found[2], source[found.start():end.start() if end else len(source)]
 
 
+class Refused:
+    """Each wrong body that the gate tries stands in one row of docs/PROOFS.md, with a call of its crate and a clause of that;
+    and the count of the others is what is said of it."""
+
+    name = "the wrong bodies of docs/PROOFS.md"
+
+    def __init__(self, text):
+        self.text = text
+
+    def why_wrong(self, _program):
+        rows = re.findall(r"(?m)^\| .* \| `(\w+)/(\w+)` \| (.*) \|$", self.text)
+        told = [f"crates/{crate}/must-fail/{name}.edit" for crate, name, _ in rows]
+        there = [str(it.relative_to(TOP)) for it in (TOP / "crates").glob("*/must-fail/*.edit")]
+        why = [f"{it} stands {told.count(it)} times, and in the tree {there.count(it)} times"
+               for it in sorted({*told, *there}) if told.count(it) != there.count(it)]
+        others = len(list((TOP / "wrong_bodies").glob("*/*.edit")))
+        why += [] if f"\n{others} more stand in" in self.text else [f"{others} others are not told"]
+        return why + [it for row in rows for it in self.why_row_wrong(*row)]
+
+    def why_row_wrong(self, crate, name, by):
+        stated = {}
+        for file in (TOP / "crates" / crate / "src").rglob("*.rt"):
+            source = file.read_text()
+            for call, contract in [*((it, "") for it in re.findall(r"\bfn (\w+)", source)), *contracts(source)]:
+                stated.setdefault(call, set()).update(re.findall(NAMED, contract))
+        call, clause = re.match(r"`([\w:]+)`(?:: `(\w+)`)?", by).groups()
+        clauses = stated.get(call.split("::")[-1])
+        if clauses is None:
+            yield f"{name}: there is no {call} in {crate}"
+        elif clause and clause not in clauses:
+            yield f"{name}: {call} has no clause {clause}"
+
+
 class StandsOn:
     """A crate's line in crates.txt names the crates that its sources use, and no others."""
 
@@ -228,6 +262,7 @@ def cases():
     for crate, named in lines.items():
         yield StandsOn(crate, named, others)
     defined, proved = parts(DEFINITIONS), parts(PROOFS)
+    yield Refused(proved.get("Wrong bodies", ""))
     for crate in lines:
         has_definitions = (TOP / "crates" / crate / "specs").is_dir()
         if has_definitions:

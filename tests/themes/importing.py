@@ -71,7 +71,7 @@ def by_chance_made(chance):
     for _ in range(chance.randrange(8)):
         size = chance.choice([0, 1, 60, 1999, 2000, 2001, 5000])
         octets += record(chance.choice([0, 1, 2**32 - 1]), chance.choice([0, 999, 1000, 999999999, 2**32 - 1]),
-                         chance.randbytes(size), order)
+                         bytes(chance.choices(range(256), k=size)), order)
     if chance.random() < 0.2:
         octets += record(0, 0, b"", order, chance.choice([262144, 262145, 2**32 - 1]))
     return octets[:chance.randrange(len(octets) + 1)] if chance.random() < 0.5 else octets
