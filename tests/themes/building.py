@@ -1,4 +1,4 @@
-"""`./goose` and `tools/build`, over a small tree of files and a command `rt` of the tests' own: when they build
+"""`./goose`, `tools/build` and `tools/try`, over a small tree of files and a command `rt` of the tests' own: when they build
 and in which order, what they hand on, and how a build ends that fails or is interrupted."""
 import contextlib
 import os
@@ -47,7 +47,7 @@ class Tree:
     def __init__(self, folder, early="", wrote=STORED, status=0):
         self.top = pathlib.Path(folder) / "a tree"
         self.runs = pathlib.Path(folder) / "runs"
-        for name in ("goose", "tools/build", "tools/prove"):
+        for name in ("goose", "tools/build", "tools/prove", "tools/try"):
             self.put(name, (TOP / name).read_text(), 0o755)
         for name in SOURCES:
             self.put(name, "")
@@ -405,6 +405,44 @@ def handed_on(tree):
     yield "builds", 1, tree.built()
 
 
+# What `tools/try` says first.
+UNPROVED = "nothing is proved: goose is compiled and run as it is, in about a minute; ./goose proves it\n"
+
+
+def tried(tree):
+    """`tools/try` hands on words, standard input, both outputs and the status of the unproved program, and builds nothing."""
+    wanted = ("<try><--><check><a word>", f"{UNPROVED}said\nchecked: ended\n", 3)
+    yield "output", wanted, tree.run(tree.top / "tools" / "try", "check", "a word", given="given")
+    yield "from another folder", wanted, tree.run(tree.top / "tools" / "try", "check", "a word", given="given", folder="/")
+    (tree.top / "bin" / "linked").symlink_to(tree.top / "tools" / "try")
+    yield "by a link", wanted, tree.run(tree.top / "bin" / "linked", "check", "a word", given="given", folder="/")
+    yield "the runs", ["goose try -- check a word given"] * 3, tree.ran()
+    yield "a build", False, (tree.top / "out").exists()
+
+
+def not_tried(tree):
+    """Where `rt try` fails, what it says is handed on, and nothing is written."""
+    wanted = ("", f"{UNPROVED}error: a name\nrun=none proved=no\ngoose was not run to its end: rt try ended with status 2\n", 125)
+    yield "output", wanted, tree.run(tree.top / "tools" / "try", "show")
+
+
+def too_much(tree):
+    """Where the program writes more than `rt try` takes, that is said."""
+    why = "goose was not shown: it writes more than 1 MiB, which a look does not take. Give it less, or build it: ./goose\n"
+    yield "output", ("", UNPROVED + why, 125), tree.run(tree.top / "tools" / "try", "show")
+
+
+# What `rt try` does: the program ends; it is refused; it writes too much.
+TRIES = """printf '<%s>' "$@"
+printf 'said\\nchecked: ended\\nchecked: ended status=3\\nrun=ended status=3 runners=1 proved=no\\n' >&2
+exit 3"""
+REFUSES = """printf 'part of a line'
+printf 'error: a name\\nrun=none proved=no\\n' >&2
+exit 2"""
+FLOODS = """printf '| the end of a line\\nchecked: no-answer: the program wrote more than 1048576 bytes to standard output\\n' >&2
+echo 'run=no-answer proved=no' >&2
+exit 6"""
+
 # What `rt` does early: it lists its tree; it waits until two have begun; it fails, beside one that takes long; it waits to
 # be told.
 LISTS = '[ "$crate" != high ] || (cd ../..; find . -type f > "$RUNS.high"; cat crates.txt > "$RUNS.rows")'
@@ -447,3 +485,6 @@ def cases():
     yield Builds("a terminal is told how far it is", on_a_terminal)
     yield Builds("crates that stand on each other", circle)
     yield Builds("what is handed on", handed_on)
+    yield Builds("the unproved program", tried, early=TRIES)
+    yield Builds("an unproved program that is refused", not_tried, early=REFUSES)
+    yield Builds("an unproved program that writes too much", too_much, early=FLOODS)
