@@ -3,12 +3,12 @@ use Rattle.std.proofs.Common.{◌≡◌, ◌≢◌, ℕ, ◌+◌, ◌-◌, ◌<�
 use Rattle.std.proofs.lemmas.List.{append-nil, take_all, take_at, drop_at, length-append}
 use Rattle.std.proofs.lemmas.Bool.Decides.{leb_tells, nat_tests}
 use Rattle.std.specs.Io.KnownBytes.{Consumes}
-use Rattle.frame_core.specs.declared.device.InputEnd.{InputEnd}
-use Rattle.frame_core.specs.declared.device.InputEnd.TheVariants.{Open, End, Failed}
-use Rattle.frame_core.specs.Device.{GivesOctets, OnlyOpen}
-use Rattle.frame_core.specs.Lines.{CanFollow, faulty}
-use Rattle.frame_core.proofs.Devices.{Consumes-append, Gives-append}
-use Rattle.frame_core.proofs.Readers.{OnlyOpen-append, OnlyOpen-none}
+use Rattle.list_core.specs.declared.device.InputEnd.{InputEnd}
+use Rattle.list_core.specs.declared.device.InputEnd.TheVariants.{Open, End, Failed}
+use Rattle.list_core.specs.Device.{GivesOctets, OnlyOpen}
+use Rattle.list_core.specs.Lines.{CanFollow, faulty}
+use Rattle.list_core.proofs.Devices.{Consumes-append, Gives-append}
+use Rattle.list_core.proofs.Readers.{OnlyOpen-append, OnlyOpen-none}
 use Rattle.capture_core.specs.declared.form.CaptureForm.{CaptureForm}
 use Rattle.capture_core.specs.declared.capture_fault.CaptureCause.TheVariants.{RecordLength, TooManyRecords}
 use Rattle.capture_core.specs.declared.capture_fault.CaptureFault.{CaptureFault}

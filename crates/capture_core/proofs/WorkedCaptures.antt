@@ -1,7 +1,7 @@
 -- Captures written out, computed: a wrong definition does not check.
 use Rattle.std.proofs.Common.{◌≡◌, ℕ, List, [], ◌∷◌, ◌++◌, Some, None, refl}
-use Rattle.frame_core.specs.declared.device.InputEnd.TheVariants.{Open, End, Failed}
-use Rattle.frame_core.specs.Lines.{finished, unfinished}
+use Rattle.list_core.specs.declared.device.InputEnd.TheVariants.{Open, End, Failed}
+use Rattle.list_core.specs.Lines.{finished, unfinished}
 use Rattle.capture_core.specs.declared.form.OctetOrder.TheVariants.{BigEndian, LittleEndian}
 use Rattle.capture_core.specs.declared.form.FractionUnit.TheVariants.{Microseconds, Nanoseconds}
 use Rattle.capture_core.specs.declared.form.CaptureForm.{CaptureForm}

@@ -1,8 +1,8 @@
 -- A capture is a text of octets: a header of 24, then records, and what ends them.
 use Rattle.std.specs.Prelude.{ℕ, ◌+◌, ◌-◌, ◌*◌, ◌/◌, ◌∷◌, zero, suc, List, [], length, take, drop, Option, Some, None, nat_lt, if◌then◌else◌}
-use Rattle.frame_core.specs.declared.device.InputEnd.{InputEnd}
-use Rattle.frame_core.specs.declared.device.InputEnd.TheVariants.{Open, End, Failed}
-use Rattle.frame_core.specs.Lines.{Stop, finished, unfinished, faulty}
+use Rattle.list_core.specs.declared.device.InputEnd.{InputEnd}
+use Rattle.list_core.specs.declared.device.InputEnd.TheVariants.{Open, End, Failed}
+use Rattle.list_core.specs.Lines.{Stop, finished, unfinished, faulty}
 use Rattle.capture_core.specs.Numbers.{number_at}
 use Rattle.capture_core.specs.Header.{header_of}
 use Rattle.capture_core.specs.declared.form.FractionUnit.{FractionUnit}

@@ -1,9 +1,9 @@
 -- What reading a stated count of octets answers.
 use Rattle.std.specs.Prelude.{◌≡◌, ◌≢◌, ◌<◌, ℕ, List, length, take, Option, Bool, true, false}
 use Rattle.std.specs.Io.KnownBytes.{Consumes}
-use Rattle.frame_core.specs.Device.{GivesOctets, OnlyOpen}
-use Rattle.frame_core.specs.declared.device.InputEnd.{InputEnd}
-use Rattle.frame_core.specs.declared.device.InputEnd.TheVariants.{Open}
+use Rattle.list_core.specs.Device.{GivesOctets, OnlyOpen}
+use Rattle.list_core.specs.declared.device.InputEnd.{InputEnd}
+use Rattle.list_core.specs.declared.device.InputEnd.TheVariants.{Open}
 use Rattle.capture_core.specs.declared.filling.Filled.{Filled}
 use Rattle.capture_core.specs.declared.filling.Filled.TheVariants.{Whole, Short}
 

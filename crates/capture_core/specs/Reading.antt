@@ -1,9 +1,9 @@
 -- What reading a capture answers, of the text before and the text after.
 use Rattle.std.specs.Prelude.{◌≡◌, ◌<◌, ◌≤◌, ◌+◌, ◌^◌, ◌==◌, ℕ, nat_le, if◌then◌else◌, List, ◌++◌, length, take, Option, Some, None, Result, Ok, Err, MatchResult}
 use Rattle.std.specs.Io.KnownBytes.{Consumes}
-use Rattle.frame_core.specs.declared.device.InputEnd.{InputEnd}
-use Rattle.frame_core.specs.Device.{GivesOctets, OnlyOpen}
-use Rattle.frame_core.specs.Lines.{CanFollow, Stop, finished, faulty}
+use Rattle.list_core.specs.declared.device.InputEnd.{InputEnd}
+use Rattle.list_core.specs.Device.{GivesOctets, OnlyOpen}
+use Rattle.list_core.specs.Lines.{CanFollow, Stop, finished, faulty}
 use Rattle.capture_core.specs.Capture.{Capture, CaptureRecord, capture, cut, ended, fault_in, records_after, put_record, no_records}
 use Rattle.capture_core.specs.declared.form.CaptureForm.{CaptureForm}
 use Rattle.capture_core.specs.declared.capture_fault.CaptureFault.{CaptureFault}

@@ -1,8 +1,8 @@
 -- What octets are a record of a capture, records, and a whole capture.
 use Rattle.std.specs.Prelude.{◌≡◌, ◌≤◌, ◌+◌, ℕ, List, [], ◌∷◌, ◌++◌, length, Some}
-use Rattle.frame_core.specs.Lines.{finished}
-use Rattle.frame_core.specs.declared.device.InputEnd.{InputEnd}
-use Rattle.frame_core.specs.declared.device.InputEnd.TheVariants.{End}
+use Rattle.list_core.specs.Lines.{finished}
+use Rattle.list_core.specs.declared.device.InputEnd.{InputEnd}
+use Rattle.list_core.specs.declared.device.InputEnd.TheVariants.{End}
 use Rattle.capture_core.specs.Header.{header_of}
 use Rattle.capture_core.specs.Capture.{Capture, CaptureRecord, capture, captured_size, moment_in_head}
 use Rattle.capture_core.specs.declared.form.CaptureForm.{CaptureForm}

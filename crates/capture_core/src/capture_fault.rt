@@ -1,11 +1,11 @@
 //! Why a capture is refused, and in which record.
 ghost use Rattle.std.specs.Prelude.{◌≡◌, ◌≢◌};
-ghost use Rattle.frame_core.specs.declared.device.InputEnd.{InputEnd};
-ghost use Rattle.frame_core.specs.Lines.{faulty};
+ghost use Rattle.list_core.specs.declared.device.InputEnd.{InputEnd};
+ghost use Rattle.list_core.specs.Lines.{faulty};
 ghost use Rattle.capture_core.specs.Capture.{cut, fault_in};
 ghost use Rattle.capture_core.specs.declared.capture_fault.CaptureCause.TheVariants as cause;
 
-use frame_core::InputEnd;
+use list_core::InputEnd;
 use thiserror::Error;
 
 /// Why a capture is refused.

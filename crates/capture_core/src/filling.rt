@@ -1,9 +1,9 @@
 //! Reading a stated count of octets.
 ghost use Rattle.std.specs.Prelude.{◌<◌, false, true};
-ghost use Rattle.frame_core.specs.declared.device.InputEnd.{InputEnd};
+ghost use Rattle.list_core.specs.declared.device.InputEnd.{InputEnd};
 ghost use Rattle.capture_core.specs.Filling.{Fills, Passes};
 
-use frame_core::{InputEnd, Source};
+use list_core::{InputEnd, Source};
 
 /// How far a stated count of octets was read.
 #[derive(Clone, Copy, Debug, PartialEq, Eq)]

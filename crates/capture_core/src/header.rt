@@ -1,6 +1,6 @@
 //! The header of a capture.
 ghost use Rattle.std.specs.Prelude.{◌≡◌, ◌≤◌, length, IfErr};
-ghost use Rattle.frame_core.specs.declared.device.InputEnd.{InputEnd};
+ghost use Rattle.list_core.specs.declared.device.InputEnd.{InputEnd};
 ghost use Rattle.capture_core.specs.Header.{form_in, form_of, header_of, is_read_in, unit_of};
 ghost use Rattle.capture_core.specs.Reading.{ReadsHeader};
 ghost use Rattle.capture_core.specs.declared.capture_fault.CaptureCause.TheVariants as cause;
@@ -9,7 +9,7 @@ use crate::capture_fault::{CaptureCause, CaptureFault, cut_in};
 use crate::filling::{Filled, fill};
 use crate::form::{CaptureForm, FractionUnit, OctetOrder};
 use crate::numbers::{long_at, short_at};
-use frame_core::Source;
+use list_core::Source;
 
 /// The magic number where fractions of a second are microseconds.
 const MICROSECONDS: u32 = 0xa1b2_c3d4;

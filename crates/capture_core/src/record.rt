@@ -1,6 +1,6 @@
 //! The records of a capture.
 ghost use Rattle.std.specs.Prelude.{◌≡◌, ◌≢◌, ◌<◌, ◌≤◌, ◌^◌, [], length, Option, Result, IfErr};
-ghost use Rattle.frame_core.specs.declared.device.InputEnd.{InputEnd};
+ghost use Rattle.list_core.specs.declared.device.InputEnd.{InputEnd};
 ghost use Rattle.capture_core.specs.Capture.{CaptureRecord, microseconds_of, moment_in_head};
 ghost use Rattle.capture_core.specs.Reading.{IsRecordToldAs, ReadsRecord, StopsBy, short_stop};
 ghost use Rattle.capture_core.specs.declared.capture_fault.CaptureFault as fault;
@@ -10,7 +10,7 @@ use crate::capture_fault::{CaptureCause, CaptureFault, cut_in};
 use crate::filling::{Filled, fill, pass};
 use crate::form::{CaptureForm, FractionUnit};
 use crate::numbers::long_at;
-use frame_core::{InputEnd, Source};
+use list_core::{InputEnd, Source};
 
 /// The most octets of a frame that a list can hold.
 pub const LONGEST_FRAME: usize = 2000;

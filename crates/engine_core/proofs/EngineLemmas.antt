@@ -3,19 +3,19 @@ use Rattle.std.proofs.Common.{Option, Some, None, Ok, Err, Result, ◌≡◌, �
 use Rattle.std.specs.Prelude.{◌||◌, if◌then◌else◌}
 use Rattle.std.proofs.lemmas.List.{append_assoc, append-nil}
 use Rattle.std.specs.Io.KnownBytes.{Appends}
-use Rattle.frame_core.specs.declared.device.InputEnd.{InputEnd}
-use Rattle.frame_core.specs.declared.device.InputEnd.TheVariants.{Open}
-use Rattle.frame_core.specs.declared.list_fault.ListCause.{ListCause}
-use Rattle.frame_core.specs.declared.list_fault.ListCause.TheVariants.{LineTooLong, LineForm, Moment, Hex, ListTooLong, ReadFailed}
-use Rattle.frame_core.specs.declared.line_rules.ItemFault.{ItemFault}
-use Rattle.frame_core.specs.declared.line_rules.ItemFault.TheVariants as fault
-use Rattle.frame_core.specs.Device.{AppendsFront, GivesOctets}
-use Rattle.frame_core.specs.Lines.{Stop, finished, unfinished, faulty}
-use Rattle.frame_core.specs.Items.{Rules, Listing, listing, put_items}
-use Rattle.frame_core.specs.ItemReader.{Place, Answer, AnswersItem, OnlyKept, TakesItems, Tells, lines_before}
-use Rattle.frame_core.proofs.Devices.{Appends-append, Appends-none, AppendsFront-append, AppendsFront-more, Consumes-none, Gives-from_Consumes}
-use Rattle.frame_core.proofs.Readers.{CanFollow-none, off_after, starts_after}
-use Rattle.frame_core.proofs.ItemReaders.{TakesItems-push, TakesItems-none, gives_both, list_whole}
+use Rattle.list_core.specs.declared.device.InputEnd.{InputEnd}
+use Rattle.list_core.specs.declared.device.InputEnd.TheVariants.{Open}
+use Rattle.list_core.specs.declared.list_fault.ListCause.{ListCause}
+use Rattle.list_core.specs.declared.list_fault.ListCause.TheVariants.{LineTooLong, LineForm, Moment, Hex, ListTooLong, ReadFailed}
+use Rattle.list_core.specs.declared.line_rules.ItemFault.{ItemFault}
+use Rattle.list_core.specs.declared.line_rules.ItemFault.TheVariants as fault
+use Rattle.list_core.specs.Device.{AppendsFront, GivesOctets}
+use Rattle.list_core.specs.Lines.{Stop, finished, unfinished, faulty}
+use Rattle.list_core.specs.Items.{Rules, Listing, listing, put_items}
+use Rattle.list_core.specs.ItemReader.{Place, Answer, AnswersItem, OnlyKept, TakesItems, Tells, lines_before}
+use Rattle.list_core.proofs.Devices.{Appends-append, Appends-none, AppendsFront-append, AppendsFront-more, Consumes-none, Gives-from_Consumes}
+use Rattle.list_core.proofs.Readers.{CanFollow-none, off_after, starts_after}
+use Rattle.list_core.proofs.ItemReaders.{TakesItems-push, TakesItems-none, gives_both, list_whole}
 use Rattle.engine_core.specs.declared.ending.Ending.{Ending}
 use Rattle.engine_core.specs.declared.ending.Ending.TheVariants.{Done, Findings, WriteFault}
 use Rattle.engine_core.specs.EngineText.{Text, Account, told, told_after, told_rest, told_stop, put_step, whole_text, ending_of, ending_at, StopsAt, EndsWell, EndsByFault, WantsMemory, WritesAfter, list_from, next_text, step_text}

@@ -1,16 +1,16 @@
 -- What one answer of a reader of items makes an engine write.
 use Rattle.std.specs.Prelude.{◌≡◌, ◌⊎◌, ℕ, Bool, List, [], ◌∷◌, ◌++◌, Option, Some, None, Result, Ok, Err, false}
 use Rattle.std.specs.Io.KnownBytes.{Appends}
-use Rattle.frame_core.specs.Device.{AppendsFront}
-use Rattle.frame_core.specs.declared.line_rules.ItemFault.{ItemFault}
-use Rattle.frame_core.specs.declared.line_rules.ItemFault.TheVariants as fault
-use Rattle.frame_core.specs.declared.line_rules.LineError.{LineError}
-use Rattle.frame_core.specs.declared.line_rules.LineError.TheVariants as line
-use Rattle.frame_core.specs.ItemReader.{Answer}
+use Rattle.list_core.specs.Device.{AppendsFront}
+use Rattle.list_core.specs.declared.line_rules.ItemFault.{ItemFault}
+use Rattle.list_core.specs.declared.line_rules.ItemFault.TheVariants as fault
+use Rattle.list_core.specs.declared.line_rules.LineError.{LineError}
+use Rattle.list_core.specs.declared.line_rules.LineError.TheVariants as line
+use Rattle.list_core.specs.ItemReader.{Answer}
 use Rattle.engine_core.specs.declared.ending.Ending.{Ending}
 use Rattle.engine_core.specs.declared.ending.Ending.TheVariants.{WriteFault, Memory}
-use Rattle.engine_core.specs.declared.engines.run.Next.{Next}
-use Rattle.engine_core.specs.declared.engines.run.Next.TheVariants as next
+use Rattle.engine_core.specs.declared.running.Next.{Next}
+use Rattle.engine_core.specs.declared.running.Next.TheVariants as next
 use Rattle.engine_core.specs.EngineText.{Text, ending_at, step_text}
 
 -- What an engine answers for an item after others, and appends to a line: its text, and then it stands after this item too; a refusal; or want of memory, where there is something to write.

@@ -1,16 +1,16 @@
 -- What an engine over a list of items writes: a text for each item, which may speak of all items before it, and a last one where the list has a fault or an item is refused.
 use Rattle.std.specs.Prelude.{◌≡◌, ◌≤◌, ◌⊎◌, ◌||◌, ℕ, Bool, true, false, List, [], ◌∷◌, ◌++◌, length, Option, None, Result, Ok, Err}
 use Rattle.std.specs.Io.KnownBytes.{Appends}
-use Rattle.frame_core.specs.declared.device.InputEnd.{InputEnd}
-use Rattle.frame_core.specs.declared.device.InputEnd.TheVariants.{Open}
-use Rattle.frame_core.specs.declared.list_fault.ListCause.{ListCause}
-use Rattle.frame_core.specs.declared.list_fault.ListCause.TheVariants.{LineTooLong, LineForm, Moment, Hex, ListTooLong, ReadFailed}
-use Rattle.frame_core.specs.declared.line_rules.ItemFault.{ItemFault}
-use Rattle.frame_core.specs.declared.line_rules.ItemFault.TheVariants as fault
-use Rattle.frame_core.specs.Device.{AppendsFront}
-use Rattle.frame_core.specs.Lines.{Stop, StartsLine, finished, unfinished, faulty}
-use Rattle.frame_core.specs.Items.{Rules, Listing, listing, put_items}
-use Rattle.frame_core.specs.ItemReader.{OnlyKept}
+use Rattle.list_core.specs.declared.device.InputEnd.{InputEnd}
+use Rattle.list_core.specs.declared.device.InputEnd.TheVariants.{Open}
+use Rattle.list_core.specs.declared.list_fault.ListCause.{ListCause}
+use Rattle.list_core.specs.declared.list_fault.ListCause.TheVariants.{LineTooLong, LineForm, Moment, Hex, ListTooLong, ReadFailed}
+use Rattle.list_core.specs.declared.line_rules.ItemFault.{ItemFault}
+use Rattle.list_core.specs.declared.line_rules.ItemFault.TheVariants as fault
+use Rattle.list_core.specs.Device.{AppendsFront}
+use Rattle.list_core.specs.Lines.{Stop, StartsLine, finished, unfinished, faulty}
+use Rattle.list_core.specs.Items.{Rules, Listing, listing, put_items}
+use Rattle.list_core.specs.ItemReader.{OnlyKept}
 use Rattle.engine_core.specs.declared.ending.Ending.{Ending}
 use Rattle.engine_core.specs.declared.ending.Ending.TheVariants.{Done, Findings, InputFault, ReadFault, WriteFault, Memory}
 

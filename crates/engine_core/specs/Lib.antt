@@ -1,15 +1,3 @@
 pub mod Ending
-pub mod ShowText
-pub mod RewriteText
 pub mod EngineText
 pub mod EngineStep
-pub mod WrittenForm
-pub mod CheckText
-pub mod ReplayText
-pub mod ReplayStep
-pub mod WatchText
-pub mod WatchStep
-pub mod ImportText
-pub mod ImportStep
-pub mod PublishText
-pub mod PublishStep

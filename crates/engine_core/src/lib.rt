@@ -1,14 +1,8 @@
-//! The engines of the program `goose`: each reads a list, a script or a capture and writes its text.
+//! What an engine of the program `goose` is: a text over the items of a list, written by one run.
 #![tactic(auto)]
 
 mod ending;
-mod engines;
+mod running;
 
-pub use ending::{Ending, status};
-pub use engines::check::check;
-pub use engines::import::import;
-pub use engines::publish::publish;
-pub use engines::replay::replay;
-pub use engines::rewrite::rewrite;
-pub use engines::show::show;
-pub use engines::watch::watch;
+pub use crate::ending::{Ending, status};
+pub use crate::running::{Engine, Next, ending_where, refuse, run};

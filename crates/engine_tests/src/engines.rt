@@ -1,6 +1,6 @@
 //! The seven engines, each with inputs, and what it writes of them.
 ghost use Rattle.std.specs.Prelude.{◌≡◌, false};
-ghost use Rattle.frame_core.specs.declared.device.InputEnd.{InputEnd};
+ghost use Rattle.list_core.specs.declared.device.InputEnd.{InputEnd};
 
 use frame_core::{Sink, Source};
 use goose_cmd::{Ending, check, import, publish, read_block, replay, rewrite, show, watch};

@@ -1,12 +1,12 @@
 -- The actions of an epoch that stems from one publisher's run.
 use Rattle.std.proofs.Common.{◌≡◌, ℕ, ◌+◌, ◌<◌, ◌≤◌, Some, List, [], length, map, slice_get, get_or, Contains, sym, refl, ap, ap₂, ◌∙◌, subst, arith}
 use Rattle.std.proofs.lemmas.Option.{same_Some, slice_get-get_or, slice_get_within}
-use Rattle.frame_core.specs.declared.event.Event.{Event}
+use Rattle.list_core.specs.declared.event.Event.{Event}
 use Rattle.mms_data.specs.Data.{Data}
 use Rattle.mms_data.specs.declared.time.UtcTime.{UtcTime}
 use Rattle.publish_core.specs.Frames.{Change, Setup, change}
 use Rattle.publish_core.specs.Run.{Call}
-use Rattle.subscribe_core.specs.declared.block.Block.{Block}
+use Rattle.block_core.specs.declared.block.Block.{Block}
 use Rattle.subscribe_core.specs.declared.entry.Entry.{Entry}
 use Rattle.subscribe_core.specs.declared.entry.Entry.TheVariants as says
 use Rattle.subscribe_core.specs.declared.registers.Facts.{Facts}

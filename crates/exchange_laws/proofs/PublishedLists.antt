@@ -5,7 +5,7 @@ use Rattle.frame_core.specs.FrameReading.{frame_at}
 use Rattle.frame_core.specs.Written.{written_frame}
 use Rattle.frame_core.specs.declared.frame.Apdu.TheVariants as apdus
 use Rattle.frame_core.specs.declared.frame.Frame.{Frame}
-use Rattle.frame_core.specs.declared.event.Event.{Event}
+use Rattle.list_core.specs.declared.event.Event.{Event}
 use Rattle.frame_core.proofs.ReadingLaws.{frame_again}
 use Rattle.pdu_core.specs.declared.goose.GoosePdu.{GoosePdu}
 use Rattle.publish_core.specs.Frames.{Change, Setup, frame}

@@ -4,14 +4,14 @@ use Rattle.std.proofs.lemmas.Option.{none-some, same_Some}
 use Rattle.frame_core.specs.Apdu.{SpellsApdu, ether_type_of}
 use Rattle.frame_core.specs.Envelope.{Word}
 use Rattle.frame_core.specs.Frame.{SpellsFrame}
-use Rattle.frame_core.specs.declared.event.Event.{Event}
-use Rattle.frame_core.specs.declared.event.EventKind.{EventKind}
-use Rattle.frame_core.specs.declared.event.EventKind.TheVariants as kinds
+use Rattle.list_core.specs.declared.event.Event.{Event}
+use Rattle.list_core.specs.declared.event.EventKind.{EventKind}
+use Rattle.list_core.specs.declared.event.EventKind.TheVariants as kinds
 use Rattle.frame_core.specs.declared.frame.Apdu.{Apdu}
 use Rattle.frame_core.specs.declared.frame.Apdu.TheVariants as apdus
 use Rattle.frame_core.specs.declared.frame.Frame.{Frame}
 use Rattle.pdu_core.specs.declared.goose.GoosePdu.{GoosePdu}
-use Rattle.subscribe_core.specs.declared.block.Block.{Block}
+use Rattle.block_core.specs.declared.block.Block.{Block}
 use Rattle.subscribe_core.specs.declared.entry.Reason.{Reason}
 use Rattle.subscribe_core.specs.declared.registers.Facts.{Facts}
 use Rattle.subscribe_core.specs.Matching.{facts_of_frame, is_of, reason_of, facts_unless_refused}

@@ -10,7 +10,7 @@ use Rattle.publish_core.specs.Run.{Act, Call, Changed, Polled, call, change_in}
 use Rattle.publish_core.specs.Standing.{PublisherStanding, change_of}
 use Rattle.publish_core.specs.Step.{first_last, is_due as is_poll_due, last_frame, next_last, run_calls as run_publisher}
 use Rattle.publish_core.specs.Table.{AreSteps, step_at}
-use Rattle.subscribe_core.specs.declared.block.Block.{Block}
+use Rattle.block_core.specs.declared.block.Block.{Block}
 use Rattle.subscribe_core.specs.declared.registers.Held.{Held}
 use Rattle.subscribe_core.specs.declared.registers.Verdict.TheVariants.{Acted, Renewed}
 use Rattle.subscribe_core.specs.Matching.{facts_of_frame, has_other_id, holds, reasons}

@@ -1,7 +1,7 @@
 -- A frame of a run carries what was published under its status number.
 use Rattle.std.proofs.Common.{◌≡◌, ℕ, ◌≤◌, Some, List, slice_get, sym, ap, ◌∙◌, subst}
-use Rattle.frame_core.specs.declared.event.Event.{Event}
-use Rattle.frame_core.specs.declared.event.EventKind.TheVariants as kinds
+use Rattle.list_core.specs.declared.event.Event.{Event}
+use Rattle.list_core.specs.declared.event.EventKind.TheVariants as kinds
 use Rattle.frame_core.specs.declared.frame.Apdu.TheVariants as apdus
 use Rattle.frame_core.specs.declared.frame.Frame.{Frame}
 use Rattle.pdu_core.specs.declared.goose.GoosePdu.{GoosePdu}
@@ -11,7 +11,7 @@ use Rattle.publish_core.specs.Numbers.{sequence_number, state_number}
 use Rattle.publish_core.specs.Run.{Call, IsChange, NoWrap, trace_of_calls as published_trace}
 use Rattle.publish_core.specs.Table.{step_at, step_of}
 use Rattle.publish_core.proofs.GivesOne.{carried}
-use Rattle.subscribe_core.specs.declared.block.Block.{Block}
+use Rattle.block_core.specs.declared.block.Block.{Block}
 use Rattle.subscribe_core.specs.declared.registers.Facts.{Facts}
 use Rattle.subscribe_core.specs.Laws.{IsIn}
 use Rattle.subscribe_core.specs.Reading.{AreRead, FrameRead, IsContent, IsRead, OfGoose, EventRead}

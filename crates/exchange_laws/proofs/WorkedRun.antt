@@ -2,9 +2,9 @@
 use Rattle.std.proofs.Common.{◌≡◌, ℕ, zero, suc, Bool, true, false, Some, None, List, [], ◌∷◌, map, slice_get, Ok, refl, ap, ap₂, ◌∙◌, subst, arith, le_refl}
 use Rattle.std.proofs.lemmas.Option.{none-some, same_Some}
 use Rattle.frame_core.specs.Frame.{SpellsFrame}
-use Rattle.frame_core.specs.declared.event.Event.{Event}
-use Rattle.frame_core.specs.declared.event.EventKind.{EventKind}
-use Rattle.frame_core.specs.declared.event.EventKind.TheVariants as kinds
+use Rattle.list_core.specs.declared.event.Event.{Event}
+use Rattle.list_core.specs.declared.event.EventKind.{EventKind}
+use Rattle.list_core.specs.declared.event.EventKind.TheVariants as kinds
 use Rattle.frame_core.specs.declared.frame.Frame.{Frame}
 use Rattle.frame_core.proofs.ReadingLaws.{frame_again}
 use Rattle.mms_data.specs.Data.{boolean, simple}
@@ -13,7 +13,7 @@ use Rattle.publish_core.specs.declared.control.Control.{Control}
 use Rattle.publish_core.specs.declared.table.Step.{Step}
 use Rattle.publish_core.specs.Frames.{Change, Setup, change, frame, setup}
 use Rattle.publish_core.specs.Run.{Call, Changed, First, GivesFrame, Next, Polled, call, trace_of_calls}
-use Rattle.subscribe_core.specs.declared.block.Block.{Block}
+use Rattle.block_core.specs.declared.block.Block.{Block}
 use Rattle.subscribe_core.specs.declared.entry.Entry.TheVariants as says
 use Rattle.subscribe_core.specs.Content.{content_by, reading_of}
 use Rattle.subscribe_core.specs.Reading.{Content}

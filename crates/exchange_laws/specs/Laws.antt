@@ -1,13 +1,13 @@
 -- What the definitions of the publisher and of the subscriber say together.
 use Rattle.std.specs.Prelude.{◌≡◌, ℕ, ◌+◌, ◌<◌, ◌≤◌, ◌↔◌, Option, Some, List, [], ◌∷◌, length, slice_get, Contains}
-use Rattle.frame_core.specs.declared.event.Event.{Event}
-use Rattle.frame_core.specs.declared.event.EventKind.TheVariants as kinds
+use Rattle.list_core.specs.declared.event.Event.{Event}
+use Rattle.list_core.specs.declared.event.EventKind.TheVariants as kinds
 use Rattle.frame_core.specs.declared.frame.Frame.{Frame}
 use Rattle.mms_data.specs.Data.{Data}
 use Rattle.mms_data.specs.declared.time.UtcTime.{UtcTime}
 use Rattle.publish_core.specs.Frames.{Change, Setup, change}
 use Rattle.publish_core.specs.Run.{Call, NoWrap, PublishesOctets}
-use Rattle.subscribe_core.specs.declared.block.Block.{Block}
+use Rattle.block_core.specs.declared.block.Block.{Block}
 use Rattle.subscribe_core.specs.declared.entry.Entry.{Entry}
 use Rattle.subscribe_core.specs.declared.entry.Entry.TheVariants as says
 use Rattle.subscribe_core.specs.declared.registers.Facts.{Facts}

@@ -1,15 +1,15 @@
 -- The whole list of frames that a publisher gives, as events of a list, and what the publisher's own block makes of it.
 use Rattle.std.specs.Prelude.{◌≡◌, ℕ, ◌+◌, ◌*◌, ◌<◌, ◌≤◌, ◌⊎◌, max, false, Option, Some, None, List, [], ◌∷◌}
 use Rattle.frame_core.specs.Written.{written_frame}
-use Rattle.frame_core.specs.declared.event.Event.{Event}
-use Rattle.frame_core.specs.declared.event.EventKind.TheVariants as kinds
+use Rattle.list_core.specs.declared.event.Event.{Event}
+use Rattle.list_core.specs.declared.event.EventKind.TheVariants as kinds
 use Rattle.frame_core.specs.declared.frame.Apdu.{Apdu}
 use Rattle.frame_core.specs.declared.frame.Apdu.TheVariants as apdus
 use Rattle.frame_core.specs.declared.frame.Frame.{Frame}
 use Rattle.publish_core.specs.Frames.{Setup}
 use Rattle.publish_core.specs.Run.{Act, AreAnswers, Call, Changed, NoWrap, Polled}
 use Rattle.publish_core.specs.Table.{AreSteps}
-use Rattle.subscribe_core.specs.declared.block.Block.{Block}
+use Rattle.block_core.specs.declared.block.Block.{Block}
 use Rattle.subscribe_core.specs.declared.entry.Entry.{Entry}
 use Rattle.subscribe_core.specs.declared.entry.Entry.TheVariants as says
 use Rattle.exchange_laws.specs.Stems.{AreAccepted, AreHeld}

@@ -2,15 +2,15 @@
 -- published under a status number.
 use Rattle.std.specs.Prelude.{◌≡◌, ℕ, ◌+◌, ◌<◌, ◌≤◌, ◌^◌, Some, List, length, slice_get, take}
 use Rattle.frame_core.specs.Frame.{SpellsFrame}
-use Rattle.frame_core.specs.declared.event.Event.{Event}
-use Rattle.frame_core.specs.declared.event.EventKind.TheVariants as kinds
+use Rattle.list_core.specs.declared.event.Event.{Event}
+use Rattle.list_core.specs.declared.event.EventKind.TheVariants as kinds
 use Rattle.frame_core.specs.declared.frame.Frame.{Frame}
 use Rattle.frame_core.specs.Written.{TagIsHeld}
 use Rattle.publish_core.specs.Frames.{Change, Setup}
 use Rattle.publish_core.specs.Refusal.{Accepts}
 use Rattle.publish_core.specs.Run.{Call, Changed, IsChange, NoWrap, Publishes, trace_of_calls as published_trace}
 use Rattle.publish_core.specs.Table.{step_at}
-use Rattle.subscribe_core.specs.declared.block.Block.{Block}
+use Rattle.block_core.specs.declared.block.Block.{Block}
 use Rattle.subscribe_core.specs.declared.registers.Facts.{Facts}
 use Rattle.subscribe_core.specs.Epoch.{Trace}
 use Rattle.subscribe_core.specs.Laws.{IsIn}

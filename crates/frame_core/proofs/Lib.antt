@@ -1,15 +1,3 @@
-pub mod Devices
-pub mod Cuts
-pub mod Lines
-pub mod MomentDigits
-pub mod Decimals
-pub mod LineFields
-pub mod FirstLines
-pub mod Readers
-pub mod ItemReaders
-pub mod Stops
-pub mod WrittenLines
-pub mod LineShapes
 pub mod Answered
 pub mod ApduLaws
 pub mod EnvelopeLaws
@@ -21,4 +9,3 @@ pub mod PutLaws
 pub mod ReadingLaws
 pub mod SpelledSpellable
 pub mod StandardFacts
-pub mod Pairs

@@ -1,14 +1,3 @@
-pub mod Device
-pub mod Cuts
-pub mod Lines
-pub mod FirstLine
-pub mod Reader
-pub mod EventLine
-pub mod LineAnswer
-pub mod WriteAnswer
-pub mod Items
-pub mod ItemReader
-pub mod ListReader
 pub mod VlanTag
 pub mod Apdu
 pub mod ApduReading
@@ -23,4 +12,3 @@ pub mod FrameReading
 pub mod Written
 pub mod WrittenTest
 pub mod Laws
-pub mod Decimal

@@ -7,14 +7,14 @@ ghost use Rattle.std.specs.Prelude.{IfOk};
 ghost use Rattle.words_core.specs.CommandLine.{HasPeriod, said};
 
 use clap::error::ErrorKind as WordsErrorKind;
-use frame_core::{FromRead, ToWrite};
-use goose_cmd::{
-    Ending, Task, WordsError, check, import, publish, read_words, replay, rewrite, show, status,
-    watch,
-};
+use engine_core::{Ending, status};
+use exchange_engines::{publish, replay, watch};
+use frame_engines::{check, import, rewrite, show};
+use list_core::{FromRead, ToWrite};
 use std::io::{BufReader, BufWriter, ErrorKind, Write};
 use std::process::ExitCode;
 use std::{env, io};
+use words_core::{Task, WordsError, read_words};
 
 // What standard error says of a control block that can't be read, behind its position.
 const BLOCK_FORM: &str =

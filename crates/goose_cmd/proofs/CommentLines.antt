@@ -12,23 +12,24 @@ use Rattle.std.proofs.lemmas.List.Folds.{list_all-append}
 use Rattle.std.proofs.lemmas.List.Sums.{AllPass-from_list_all}
 use Rattle.ber_core.specs.declared.fault.Cause.{Cause}
 use Rattle.ber_core.specs.declared.fault.Cause.TheVariants as causes
-use Rattle.frame_core.specs.declared.device.InputEnd.TheVariants.{End}
-use Rattle.frame_core.specs.declared.event_lines.EventLines.TheVariants.{After}
-use Rattle.frame_core.specs.declared.event_lines.MomentUnit.TheVariants.{Microseconds}
-use Rattle.frame_core.specs.declared.line_rules.ItemFault.{ItemFault}
-use Rattle.frame_core.specs.declared.line_rules.ItemFault.TheVariants as fault
-use Rattle.frame_core.specs.declared.list_fault.ListCause.{ListCause}
-use Rattle.frame_core.specs.declared.list_fault.ListCause.TheVariants as lines
-use Rattle.frame_core.specs.Cuts.{HasNo}
-use Rattle.frame_core.specs.EventLine.{event_of, event_rules, meant}
-use Rattle.frame_core.specs.Items.{items_in, listing, put_said}
-use Rattle.frame_core.specs.Lines.{reading, without_cr}
-use Rattle.frame_core.proofs.ItemReaders.{items_in-line}
-use Rattle.frame_core.proofs.Lines.{reading-line}
+use Rattle.list_core.specs.declared.device.InputEnd.TheVariants.{End}
+use Rattle.list_core.specs.declared.event_lines.EventLines.TheVariants.{After}
+use Rattle.list_core.specs.declared.event_lines.MomentUnit.TheVariants.{Microseconds}
+use Rattle.list_core.specs.declared.line_rules.ItemFault.{ItemFault}
+use Rattle.list_core.specs.declared.line_rules.ItemFault.TheVariants as fault
+use Rattle.list_core.specs.declared.list_fault.ListCause.{ListCause}
+use Rattle.list_core.specs.declared.list_fault.ListCause.TheVariants as lines
+use Rattle.list_core.specs.Cuts.{HasNo}
+use Rattle.list_core.specs.EventLine.{event_of, event_rules, meant}
+use Rattle.list_core.specs.Items.{items_in, listing, put_said}
+use Rattle.list_core.specs.Lines.{reading, without_cr}
+use Rattle.list_core.proofs.ItemReaders.{items_in-line}
+use Rattle.list_core.proofs.Lines.{reading-line}
 use Rattle.script_core.specs.declared.script.ScriptCause.{ScriptCause}
 use Rattle.script_core.specs.declared.script.ScriptCause.TheVariants as script
-use Rattle.text_core.specs.Names.{name_of_cause, name_of_list_cause, name_of_script_cause}
-use Rattle.text_core.specs.ScriptLine.{cause_detail, script_line}
+use Rattle.text_core.specs.Names.{name_of_cause, name_of_list_cause}
+use Rattle.exchange_engines.specs.ExchangeNames.{name_of_script_cause}
+use Rattle.exchange_engines.specs.ScriptLine.{cause_detail, script_line}
 use Rattle.goose_cmd.proofs.ScriptOrder.{either}
 
 -- ---- texts without control characters, of so many octets at most

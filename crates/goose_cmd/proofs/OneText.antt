@@ -2,13 +2,13 @@
 use Rattle.std.proofs.Common.{◌≡◌, ℕ, false, List, [], ◌∷◌, ◌++◌, length, Bool, Option, Some, None, Result, Ok, Err, inl, inr, ap, ap₂, subst, sym, ◌∙◌, refl, append_assoc, arith}
 use Rattle.std.proofs.lemmas.List.{append-nil, length-append}
 use Rattle.std.proofs.lemmas.Option.{none-some, same_Some}
-use Rattle.frame_core.specs.declared.event.Event.{Event}
+use Rattle.list_core.specs.declared.event.Event.{Event}
 use Rattle.frame_core.specs.declared.frame.Frame.{Frame}
-use Rattle.frame_core.specs.declared.line_rules.ItemFault.{ItemFault}
-use Rattle.frame_core.specs.declared.line_rules.ItemFault.TheVariants as fault
-use Rattle.frame_core.specs.declared.list_fault.ListCause.{ListCause}
-use Rattle.frame_core.specs.Items.{Listing, listing}
-use Rattle.frame_core.specs.Lines.{Stop, faulty, finished, unfinished}
+use Rattle.list_core.specs.declared.line_rules.ItemFault.{ItemFault}
+use Rattle.list_core.specs.declared.line_rules.ItemFault.TheVariants as fault
+use Rattle.list_core.specs.declared.list_fault.ListCause.{ListCause}
+use Rattle.list_core.specs.Items.{Listing, listing}
+use Rattle.list_core.specs.Lines.{Stop, faulty, finished, unfinished}
 use Rattle.publish_core.specs.declared.fault.PublishFault.{PublishFault}
 use Rattle.publish_core.specs.Frames.{Setup, change}
 use Rattle.publish_core.specs.Refusal.{next_state}
@@ -16,7 +16,7 @@ use Rattle.publish_core.specs.Run.{Act, Call, Changed, Polled, call, greatest_ca
 use Rattle.publish_core.specs.Table.{AreSteps}
 use Rattle.publish_core.proofs.Judged.{changes_are_judged}
 use Rattle.publish_core.proofs.Runs.{answer_one}
-use Rattle.subscribe_core.specs.declared.block.Block.{Block}
+use Rattle.block_core.specs.declared.block.Block.{Block}
 use Rattle.subscribe_core.specs.declared.entry.Entry.{Entry}
 use Rattle.subscribe_core.specs.declared.watch.Seen.{Seen}
 use Rattle.subscribe_core.specs.Standing.{AreApart}
@@ -27,11 +27,11 @@ use Rattle.script_core.specs.declared.script.ScriptItem.{ScriptItem}
 use Rattle.script_core.specs.declared.script.ScriptItem.TheVariants as item
 use Rattle.script_core.specs.declared.script.ScriptLines.TheVariants.{First}
 use Rattle.script_core.specs.Script.{script_rules}
-use Rattle.text_core.specs.EntryText.{entry_lines}
+use Rattle.exchange_engines.specs.EntryText.{entry_lines}
 use Rattle.engine_core.specs.EngineText.{Account, Text, put_step, told_after, told_stop}
-use Rattle.engine_core.specs.PublishText.{IsCallText, IsPublishText, IsRefused, IsTaken, StandsBefore, answer_text, items_of_lines, script_cause}
-use Rattle.engine_core.specs.ReplayText.{IsReplayText, events_of}
-use Rattle.engine_core.specs.WatchText.{IsWatchText, counts, counts_of, samples_of, watched}
+use Rattle.exchange_engines.specs.PublishText.{IsCallText, IsPublishText, IsRefused, IsTaken, StandsBefore, answer_text, items_of_lines, script_cause}
+use Rattle.exchange_engines.specs.ReplayText.{IsReplayText, events_of}
+use Rattle.exchange_engines.specs.WatchText.{IsWatchText, counts, counts_of, samples_of, watched}
 use Rattle.goose_cmd.specs.OneText.{PublishTextsAreOne, ReplayTextsAreOne, SaySame, WatchTextsAreOne}
 use Rattle.goose_cmd.proofs.ScriptOrder.{scripts_in_order}
 

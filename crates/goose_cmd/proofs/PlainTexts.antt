@@ -2,9 +2,9 @@
 use Rattle.std.proofs.Common.{◌≡◌, ℕ, Bool, List, [], ◌∷◌, ◌++◌, Ok, ap, sym, ◌∙◌, refl}
 use Rattle.std.specs.List.{flat_map, list_any}
 use Rattle.std.proofs.lemmas.List.{append_assoc}
-use Rattle.frame_core.specs.declared.line_rules.ItemFault.{ItemFault}
-use Rattle.frame_core.specs.Lines.{Stop}
-use Rattle.frame_core.specs.Items.{Listing}
+use Rattle.list_core.specs.declared.line_rules.ItemFault.{ItemFault}
+use Rattle.list_core.specs.Lines.{Stop}
+use Rattle.list_core.specs.Items.{Listing}
 use Rattle.engine_core.specs.EngineText.{Text, Account, IsPlain, told_after, put_step, last_text, whole_text, told}
 
 module _ {X C : Type 0} (t : Text X C) (line : ℕ × X → List ℕ) (finds : ℕ × X → Bool) (p : IsPlain t line finds) where

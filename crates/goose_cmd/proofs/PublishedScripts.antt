@@ -4,11 +4,11 @@ use Rattle.std.proofs.Math.Seq.{take-append_seam}
 use Rattle.std.proofs.lemmas.List.{append-nil, length-append, length-map, length_push, map-append}
 use Rattle.std.specs.List.{flat_map}
 use Rattle.frame_core.specs.declared.frame.Frame.{Frame}
-use Rattle.frame_core.specs.EventLine.{event_text}
-use Rattle.frame_core.specs.declared.line_rules.ItemFault.{ItemFault}
-use Rattle.frame_core.specs.declared.line_rules.ItemFault.TheVariants as fault
-use Rattle.frame_core.specs.Items.{Listing}
-use Rattle.frame_core.specs.Lines.{Stop, faulty}
+use Rattle.list_core.specs.EventLine.{event_text}
+use Rattle.list_core.specs.declared.line_rules.ItemFault.{ItemFault}
+use Rattle.list_core.specs.declared.line_rules.ItemFault.TheVariants as fault
+use Rattle.list_core.specs.Items.{Listing}
+use Rattle.list_core.specs.Lines.{Stop, faulty}
 use Rattle.publish_core.specs.declared.table.Step.{Step}
 use Rattle.publish_core.specs.Frames.{Change, Setup, setup}
 use Rattle.publish_core.specs.Refusal.{Accepts}
@@ -23,8 +23,8 @@ use Rattle.script_core.specs.declared.script.ScriptItem.{ScriptItem}
 use Rattle.script_core.specs.declared.script.ScriptItem.TheVariants as item
 use Rattle.engine_core.specs.EngineText.{Account, Text, last_text, put_step, told, told_after, told_stop}
 use Rattle.goose_cmd.specs.PublishedReplay.{ScriptsGiveLists, StopsBehind, TellsStop}
-use Rattle.engine_core.specs.PublishText.{IsCallText, IsPublishText, IsScriptSound, IsTaken, answer_text, item_of_call, items_of_lines, script_cause, script_of}
-use Rattle.engine_core.proofs.PublishLemmas.{items-push}
+use Rattle.exchange_engines.specs.PublishText.{IsCallText, IsPublishText, IsScriptSound, IsTaken, answer_text, item_of_call, items_of_lines, script_cause, script_of}
+use Rattle.exchange_engines.proofs.PublishLemmas.{items-push}
 use Rattle.goose_cmd.specs.ListText.{list_text}
 use Rattle.std.specs.Prelude.{◌⊎◌}
 use Rattle.goose_cmd.specs.PublishedReplay.{script_of_text}

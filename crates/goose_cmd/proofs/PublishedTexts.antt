@@ -4,16 +4,16 @@ use Rattle.std.proofs.lemmas.List.Elements.{All-from_get_or}
 use Rattle.std.specs.Prelude.{◌⊎◌}
 use Rattle.ber_core.specs.Length.{AreOctets}
 use Rattle.frame_core.specs.declared.frame.Frame.{Frame}
-use Rattle.frame_core.specs.declared.event.Event.{Event}
-use Rattle.frame_core.specs.declared.line_rules.ItemFault.{ItemFault}
-use Rattle.frame_core.specs.declared.list_fault.ListCause.{ListCause}
-use Rattle.frame_core.specs.Lines.{Stop, faulty, finished, unfinished}
+use Rattle.list_core.specs.declared.event.Event.{Event}
+use Rattle.list_core.specs.declared.line_rules.ItemFault.{ItemFault}
+use Rattle.list_core.specs.declared.list_fault.ListCause.{ListCause}
+use Rattle.list_core.specs.Lines.{Stop, faulty, finished, unfinished}
 use Rattle.frame_core.specs.Written.{written_frame}
 use Rattle.publish_core.specs.Frames.{Setup}
 use Rattle.publish_core.specs.Run.{Act, Call, IsAnswer, trace_of_calls}
 use Rattle.publish_core.specs.Numbers.{state_number}
 use Rattle.publish_core.proofs.GivesOne.{carried}
-use Rattle.subscribe_core.specs.declared.block.Block.{Block}
+use Rattle.block_core.specs.declared.block.Block.{Block}
 use Rattle.subscribe_core.specs.declared.entry.Entry.{Entry}
 use Rattle.exchange_laws.specs.PublishedList.{IsWholeRun, Sent, one_entry_each, published_events, sent_from, with_frame}
 use Rattle.exchange_laws.specs.Stems.{AreAccepted}
@@ -22,10 +22,10 @@ use Rattle.exchange_laws.proofs.WrittenForms.{change_accepted}
 use Rattle.script_core.specs.declared.script.ScriptCause.{ScriptCause}
 use Rattle.script_core.specs.declared.script.ScriptItem.{ScriptItem}
 use Rattle.engine_core.specs.EngineText.{Text, last_text, told}
-use Rattle.engine_core.specs.ReplayText.{IsReplayText}
-use Rattle.text_core.specs.ScriptLine.{script_line}
+use Rattle.exchange_engines.specs.ReplayText.{IsReplayText}
+use Rattle.exchange_engines.specs.ScriptLine.{script_line}
 use Rattle.goose_cmd.specs.PublishedReplay.{PublishedTextsReplay, script_of_text}
-use Rattle.engine_core.specs.PublishText.{IsPublishText, IsScriptSound}
+use Rattle.exchange_engines.specs.PublishText.{IsPublishText, IsScriptSound}
 use Rattle.goose_cmd.specs.ListText.{ReplayGives, SendsOctets, list_text}
 use Rattle.goose_cmd.proofs.ScriptLimits.{SaysOctets, script_moments, script_octets, script_room, script_sizes}
 use Rattle.goose_cmd.proofs.CommentLines.{comment_listed, script_comment}

@@ -15,21 +15,21 @@ use Rattle.mms_data.specs.Data.{Data}
 use Rattle.mms_data.specs.Reading.{members_at}
 use Rattle.mms_data.specs.Written.{written_all}
 use Rattle.mms_data.specs.declared.time.UtcTime.{UtcTime}
-use Rattle.frame_core.specs.declared.device.InputEnd.{InputEnd}
-use Rattle.frame_core.specs.declared.device.InputEnd.TheVariants.{Open, End, Failed}
-use Rattle.frame_core.specs.declared.event_lines.MomentUnit.{MomentUnit}
-use Rattle.frame_core.specs.declared.event_lines.MomentUnit.TheVariants.{Milliseconds, Microseconds}
-use Rattle.frame_core.specs.declared.list_fault.ListCause.TheVariants.{LineTooLong, ListTooLong}
-use Rattle.frame_core.specs.declared.list_fault.ListFault.{ListFault}
-use Rattle.frame_core.specs.EventLine.{is_moment, is_version, microseconds_in, moment_of, most_digits}
-use Rattle.frame_core.specs.Items.{Listing, items_said, put_said}
-use Rattle.frame_core.specs.Lines.{Reading, Stop, fault_at, line_judged, pieces, put_line, reading, reading_at_end, reading_of_pieces, reading_of_rest, without_cr}
-use Rattle.frame_core.proofs.MomentDigits.{digits_test}
+use Rattle.list_core.specs.declared.device.InputEnd.{InputEnd}
+use Rattle.list_core.specs.declared.device.InputEnd.TheVariants.{Open, End, Failed}
+use Rattle.list_core.specs.declared.event_lines.MomentUnit.{MomentUnit}
+use Rattle.list_core.specs.declared.event_lines.MomentUnit.TheVariants.{Milliseconds, Microseconds}
+use Rattle.list_core.specs.declared.list_fault.ListCause.TheVariants.{LineTooLong, ListTooLong}
+use Rattle.list_core.specs.declared.list_fault.ListFault.{ListFault}
+use Rattle.list_core.specs.EventLine.{is_moment, is_version, microseconds_in, moment_of, most_digits}
+use Rattle.list_core.specs.Items.{Listing, items_said, put_said}
+use Rattle.list_core.specs.Lines.{Reading, Stop, fault_at, line_judged, pieces, put_line, reading, reading_at_end, reading_of_pieces, reading_of_rest, without_cr}
+use Rattle.list_core.proofs.MomentDigits.{digits_test}
 use Rattle.publish_core.specs.declared.table.Step.{Step}
 use Rattle.publish_core.specs.Frames.{Change, Setup}
 use Rattle.publish_core.specs.Run.{Act, Call, Changed, Polled, trace_of_calls}
 use Rattle.exchange_laws.specs.Stems.{AreHeld}
-use Rattle.script_core.specs.Commas.{comma_fields}
+use Rattle.block_core.specs.Commas.{comma_fields}
 use Rattle.script_core.specs.declared.script.ScriptCause.{ScriptCause}
 use Rattle.script_core.specs.declared.script.ScriptItem.{ScriptItem}
 use Rattle.script_core.specs.declared.script.ScriptItem.TheVariants as item
@@ -38,7 +38,7 @@ use Rattle.script_core.specs.declared.script.ScriptLines.TheVariants.{First, Aft
 use Rattle.script_core.specs.declared.script.ScriptPart.{ScriptPart}
 use Rattle.script_core.specs.declared.script.ScriptPart.TheVariants as part
 use Rattle.script_core.specs.Script.{ControlLine, all_octets_in, all_said, call_said, change_said, change_said_by, change_to, control_of, control_said, line_said, poll_of, poll_said, script_rules, script_said, settled, step_said, step_said_by, time_in, too_early}
-use Rattle.engine_core.specs.PublishText.{item_of_act, item_of_call, items_of_lines, script_of}
+use Rattle.exchange_engines.specs.PublishText.{item_of_act, item_of_call, items_of_lines, script_of}
 use Rattle.goose_cmd.specs.ListText.{MomentsAreShort}
 use Rattle.goose_cmd.specs.PublishedReplay.{SaysRun, script_of_text}
 use Rattle.goose_cmd.proofs.ScriptOrder.{either}

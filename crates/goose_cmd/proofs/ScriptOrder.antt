@@ -9,17 +9,17 @@ use Rattle.ber_core.specs.declared.fault.Fault.{Fault}
 use Rattle.mms_data.specs.Data.{Data}
 use Rattle.mms_data.specs.Reading.{members_at}
 use Rattle.mms_data.specs.declared.time.UtcTime.{UtcTime}
-use Rattle.frame_core.specs.declared.device.InputEnd.{InputEnd}
-use Rattle.frame_core.specs.declared.event_lines.MomentUnit.{MomentUnit}
-use Rattle.frame_core.specs.declared.event_lines.MomentUnit.TheVariants.{Milliseconds}
-use Rattle.frame_core.specs.declared.list_fault.ListFault.{ListFault}
+use Rattle.list_core.specs.declared.device.InputEnd.{InputEnd}
+use Rattle.list_core.specs.declared.event_lines.MomentUnit.{MomentUnit}
+use Rattle.list_core.specs.declared.event_lines.MomentUnit.TheVariants.{Milliseconds}
+use Rattle.list_core.specs.declared.list_fault.ListFault.{ListFault}
 use Rattle.frame_core.specs.declared.vlan_tag.VlanTag.{VlanTag}
-use Rattle.frame_core.specs.Decimal.{decimal_of}
-use Rattle.frame_core.specs.EventLine.{is_version, moment_of}
-use Rattle.frame_core.specs.declared.line_rules.ItemFault.{ItemFault}
-use Rattle.frame_core.specs.declared.line_rules.ItemFault.TheVariants as fault
-use Rattle.frame_core.specs.Items.{Listing, close, items_said, put_said, stops}
-use Rattle.frame_core.specs.Lines.{Stop, faulty, reading}
+use Rattle.list_core.specs.Decimal.{decimal_of}
+use Rattle.list_core.specs.EventLine.{is_version, moment_of}
+use Rattle.list_core.specs.declared.line_rules.ItemFault.{ItemFault}
+use Rattle.list_core.specs.declared.line_rules.ItemFault.TheVariants as fault
+use Rattle.list_core.specs.Items.{Listing, close, items_said, put_said, stops}
+use Rattle.list_core.specs.Lines.{Stop, faulty, reading}
 use Rattle.publish_core.specs.declared.table.Step.{Step}
 use Rattle.publish_core.specs.Frames.{Setup, change, setup}
 use Rattle.publish_core.specs.Run.{Act, Call, Changed, Polled, call}
@@ -32,11 +32,11 @@ use Rattle.script_core.specs.declared.script.ScriptLines.TheVariants.{First, Aft
 use Rattle.script_core.specs.declared.script.ScriptPart.{ScriptPart}
 use Rattle.script_core.specs.declared.script.ScriptPart.TheVariants as part
 use Rattle.script_core.specs.declared.script_control.Numbers.{Numbers}
-use Rattle.script_core.specs.Commas.{at_most_32_bits, comma_fields, number_by, octets_in, text_in, word_in}
+use Rattle.block_core.specs.Commas.{at_most_32_bits, comma_fields, number_by, octets_in, text_in, word_in}
 use Rattle.script_core.specs.Script.{ControlLine, all_said, block_of_line, call_said, change_said_by, change_said, change_to, control_of, control_said, control_with, flag_in, line_said, all_octets_in, numbers_with, poll_of, poll_said, script_rules, script_said, settled, step_said_by, step_said, tag_in, time_in, too_early}
-use Rattle.engine_core.specs.PublishStep.{is_good, with_step}
-use Rattle.engine_core.specs.PublishText.{IsScriptSound, ScriptsAreInOrder, StandsBefore, item_of_act, item_of_call, items_of_lines, script_of}
-use Rattle.engine_core.proofs.PublishLemmas.{good_each}
+use Rattle.exchange_engines.specs.PublishStep.{is_good, with_step}
+use Rattle.exchange_engines.specs.PublishText.{IsScriptSound, ScriptsAreInOrder, StandsBefore, item_of_act, item_of_call, items_of_lines, script_of}
+use Rattle.exchange_engines.proofs.PublishLemmas.{good_each}
 use Rattle.goose_cmd.specs.PublishedReplay.{script_of_text}
 
 -- ---- scripts that grow

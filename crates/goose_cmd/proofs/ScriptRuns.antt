@@ -2,7 +2,7 @@
 use Rattle.std.proofs.Common.{◌≡◌, ℕ, zero, suc, take, Option, Some, None, List, [], ◌∷◌, ◌++◌, slice_get, option_map, inl, inr, ap, subst, sym, ◌∙◌, refl, append_assoc}
 use Rattle.std.proofs.lemmas.List.{append-nil}
 use Rattle.std.specs.Prelude.{◌⊎◌}
-use Rattle.frame_core.specs.declared.device.InputEnd.{InputEnd}
+use Rattle.list_core.specs.declared.device.InputEnd.{InputEnd}
 use Rattle.publish_core.specs.declared.fault.PublishFault.{PublishFault}
 use Rattle.publish_core.specs.Frames.{Change, Setup}
 use Rattle.publish_core.specs.Refusal.{Accepts, next_state}
@@ -11,7 +11,7 @@ use Rattle.publish_core.specs.Judgement.{IsJudged}
 use Rattle.publish_core.specs.Table.{AreSteps}
 use Rattle.publish_core.proofs.Judged.{changes_are_judged}
 use Rattle.goose_cmd.specs.PublishedReplay.{SaysRun, ScriptsSayRuns, StopsBehind, script_of_text}
-use Rattle.engine_core.specs.PublishText.{IsRefused, IsScriptSound, IsTaken, items_of_lines, script_of}
+use Rattle.exchange_engines.specs.PublishText.{IsRefused, IsScriptSound, IsTaken, items_of_lines, script_of}
 use Rattle.goose_cmd.proofs.ScriptOrder.{AreOfScript, script_items}
 
 -- behind others each of these calls is taken

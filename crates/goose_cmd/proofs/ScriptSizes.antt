@@ -5,7 +5,7 @@ use Rattle.std.proofs.lemmas.Bool.{and_parts, eqb-true, leb-true}
 use Rattle.ber_core.specs.Length.{AreOctets}
 use Rattle.hex.specs.Hex.{decode_pairs, digit_or_error, hex_digit_value, ◌>>=◌}
 use Rattle.hex.specs.declared.error.FromHexError.{FromHexError}
-use Rattle.frame_core.specs.EventLine.{decoded}
+use Rattle.list_core.specs.EventLine.{decoded}
 use Rattle.frame_core.specs.Written.{TagIsHeld}
 use Rattle.frame_core.specs.declared.vlan_tag.VlanTag.{VlanTag}
 use Rattle.publish_core.specs.declared.control.Control.{Control}
@@ -14,9 +14,9 @@ use Rattle.publish_core.specs.Frames.{Setup}
 use Rattle.publish_core.specs.Table.{step_at}
 use Rattle.exchange_laws.specs.Stems.{AreHeld}
 use Rattle.script_core.specs.declared.script_control.Numbers.{Numbers}
-use Rattle.script_core.specs.Commas.{number_by, octets_in, text_in, word_in}
+use Rattle.block_core.specs.Commas.{number_by, octets_in, text_in, word_in}
 use Rattle.script_core.specs.Script.{ControlLine, all_octets_in, control_of, control_with, flag_in, numbers_with, step_said_by, step_with, tag_in}
-use Rattle.frame_core.specs.Decimal.{decimal_of}
+use Rattle.list_core.specs.Decimal.{decimal_of}
 use Rattle.goose_cmd.proofs.ScriptOrder.{Below, below, either}
 use Rattle.goose_cmd.proofs.WrittenOctets.{cons_octets, no_octets}
 

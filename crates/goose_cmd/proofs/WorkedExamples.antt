@@ -9,17 +9,17 @@ use Rattle.ber_core.specs.Written.{integer_size, short_integer, short_length, wr
 use Rattle.mms_data.specs.ContentsReading.{simple_at}
 use Rattle.mms_data.specs.Kinds.{kind_at}
 use Rattle.mms_data.specs.Reading.{member_at, member_with, members_at, members_with}
-use Rattle.frame_core.specs.declared.device.InputEnd.TheVariants.{End}
-use Rattle.frame_core.specs.declared.event.Event.{Event}
-use Rattle.frame_core.specs.declared.event.EventKind.TheVariants.{Clock, Mode}
-use Rattle.frame_core.specs.Items.{Listing, items_said}
-use Rattle.frame_core.specs.Lines.{finished, reading}
+use Rattle.list_core.specs.declared.device.InputEnd.TheVariants.{End}
+use Rattle.list_core.specs.declared.event.Event.{Event}
+use Rattle.list_core.specs.declared.event.EventKind.TheVariants.{Clock, Mode}
+use Rattle.list_core.specs.Items.{Listing, items_said}
+use Rattle.list_core.specs.Lines.{finished, reading}
 use Rattle.subscribe_core.specs.declared.entry.Entry.{Entry}
 use Rattle.subscribe_core.specs.declared.entry.Entry.TheVariants.{Expired, NotSubscribed}
 use Rattle.script_core.specs.declared.script.ScriptCause.{ScriptCause}
 use Rattle.script_core.specs.declared.script.ScriptItem.{ScriptItem}
 use Rattle.engine_core.specs.EngineText.{told, told_after, whole_text}
-use Rattle.engine_core.specs.PublishStep.{publish_text}
+use Rattle.exchange_engines.specs.PublishStep.{publish_text}
 use Rattle.goose_cmd.specs.ListText.{lines_from, list_of_text, list_text}
 use Rattle.publish_core.specs.Frames.{Change, Setup, change, setup}
 use Rattle.publish_core.specs.Run.{Call, Changed, Polled, call, trace_of_calls}

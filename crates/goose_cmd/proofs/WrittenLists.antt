@@ -3,23 +3,23 @@ use Rattle.std.proofs.Common.{◌≡◌, ℕ, suc, ◌+◌, ◌^◌, ◌<◌, �
 use Rattle.std.specs.List.{flat_map}
 use Rattle.std.proofs.lemmas.Bool.{cases_lt}
 use Rattle.std.proofs.lemmas.List.{append-nil, length_push}
-use Rattle.frame_core.specs.declared.device.InputEnd.TheVariants.{End}
-use Rattle.frame_core.specs.declared.event.Event.{Event}
-use Rattle.frame_core.specs.declared.event_lines.EventLines.TheVariants.{After}
-use Rattle.frame_core.specs.declared.event_lines.MomentUnit.TheVariants.{Microseconds}
-use Rattle.frame_core.specs.declared.list_fault.ListCause.{ListCause}
-use Rattle.frame_core.specs.EventLine.{event_rules, event_text}
-use Rattle.frame_core.specs.Items.{Listing, items_in, items_said, listing, put_item, stops}
-use Rattle.frame_core.specs.Lines.{finished}
+use Rattle.list_core.specs.declared.device.InputEnd.TheVariants.{End}
+use Rattle.list_core.specs.declared.event.Event.{Event}
+use Rattle.list_core.specs.declared.event_lines.EventLines.TheVariants.{After}
+use Rattle.list_core.specs.declared.event_lines.MomentUnit.TheVariants.{Microseconds}
+use Rattle.list_core.specs.declared.list_fault.ListCause.{ListCause}
+use Rattle.list_core.specs.EventLine.{event_rules, event_text}
+use Rattle.list_core.specs.Items.{Listing, items_in, items_said, listing, put_item, stops}
+use Rattle.list_core.specs.Lines.{finished}
 use Rattle.frame_core.specs.Written.{written_frame}
 use Rattle.frame_core.specs.declared.frame.Frame.{Frame}
-use Rattle.frame_core.proofs.Lines.{reading-end}
-use Rattle.frame_core.proofs.WrittenLines.{version-first, written-first}
+use Rattle.list_core.proofs.Lines.{reading-end}
+use Rattle.list_core.proofs.WrittenLines.{version-first, written-first}
 use Rattle.publish_core.specs.Frames.{Setup, frame}
 use Rattle.publish_core.specs.Numbers.{state_number}
 use Rattle.publish_core.specs.Run.{Act, Call, IsAnswer, trace_of_calls}
 use Rattle.publish_core.proofs.GivesOne.{carried}
-use Rattle.subscribe_core.specs.declared.block.Block.{Block}
+use Rattle.block_core.specs.declared.block.Block.{Block}
 use Rattle.subscribe_core.specs.declared.entry.Entry.{Entry}
 use Rattle.subscribe_core.specs.Entries.{AreEntries, AreEntriesAt}
 use Rattle.subscribe_core.specs.Standing.{AreApart}
@@ -30,10 +30,10 @@ use Rattle.exchange_laws.proofs.OneFrame.{one_apart}
 use Rattle.exchange_laws.proofs.PublishedLists.{whole_runs_replay}
 use Rattle.exchange_laws.proofs.WrittenForms.{change_accepted}
 use Rattle.engine_core.specs.EngineText.{Account, Text, put_step, told_after}
-use Rattle.text_core.specs.EntryText.{entry_lines}
+use Rattle.exchange_engines.specs.EntryText.{entry_lines}
 use Rattle.goose_cmd.specs.ListText.{CanBeListed, MomentsAreShort, PublishedListsReplay, ReplayGives, SendsOctets, WrittenListsReplay, lines_from, list_of_text, list_text}
-use Rattle.engine_core.specs.ReplayText.{IsReplayText, events_of}
-use Rattle.engine_core.proofs.ReplayLemmas.{events_push}
+use Rattle.exchange_engines.specs.ReplayText.{IsReplayText, events_of}
+use Rattle.exchange_engines.proofs.ReplayLemmas.{events_push}
 
 -- events with the numbers of their lines, of which the first is n
 abbrev numbered : {A : Type 0} → ℕ → List (Event A) → List (ℕ × Event A)

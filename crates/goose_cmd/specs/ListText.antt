@@ -1,25 +1,25 @@
 -- The text of a list that is written, and what its replay writes.
 use Rattle.std.specs.Prelude.{◌≡◌, ℕ, ◌+◌, ◌<◌, ◌^◌, List, [], ◌∷◌, ◌++◌, length, Option, codes}
 use Rattle.std.specs.List.{All, flat_map}
-use Rattle.frame_core.specs.declared.device.InputEnd.TheVariants.{End}
-use Rattle.frame_core.specs.declared.event.Event.{Event}
-use Rattle.frame_core.specs.declared.event_lines.EventLines.TheVariants.{First}
+use Rattle.list_core.specs.declared.device.InputEnd.TheVariants.{End}
+use Rattle.list_core.specs.declared.event.Event.{Event}
+use Rattle.list_core.specs.declared.event_lines.EventLines.TheVariants.{First}
 use Rattle.frame_core.specs.declared.frame.Frame.{Frame}
-use Rattle.frame_core.specs.declared.list_fault.ListCause.{ListCause}
-use Rattle.frame_core.specs.EventLine.{HoldsOctets, IsListable, event_rules, event_text}
-use Rattle.frame_core.specs.Items.{Listing, listing}
-use Rattle.frame_core.specs.Lines.{finished}
+use Rattle.list_core.specs.declared.list_fault.ListCause.{ListCause}
+use Rattle.list_core.specs.EventLine.{HoldsOctets, IsListable, event_rules, event_text}
+use Rattle.list_core.specs.Items.{Listing, listing}
+use Rattle.list_core.specs.Lines.{finished}
 use Rattle.frame_core.specs.Written.{written_frame}
 use Rattle.publish_core.specs.Frames.{Setup}
 use Rattle.publish_core.specs.Run.{Call}
-use Rattle.subscribe_core.specs.declared.block.Block.{Block}
+use Rattle.block_core.specs.declared.block.Block.{Block}
 use Rattle.subscribe_core.specs.declared.entry.Entry.{Entry}
 use Rattle.subscribe_core.specs.Entries.{AreEntries}
 use Rattle.subscribe_core.specs.Standing.{AreApart}
 use Rattle.exchange_laws.specs.PublishedList.{IsWholeRun, Sent, one_entry_each, published_events, sent_from}
 use Rattle.engine_core.specs.EngineText.{Text, whole_text, told}
-use Rattle.text_core.specs.EntryText.{entry_lines}
-use Rattle.engine_core.specs.ReplayText.{IsReplayText}
+use Rattle.exchange_engines.specs.EntryText.{entry_lines}
+use Rattle.exchange_engines.specs.ReplayText.{IsReplayText}
 
 -- a list of version 2: the line `V2`, and the one line of each event
 abbrev pub list_text : {A : Type 0} → List (Event A) → List ℕ

@@ -1,19 +1,19 @@
 -- What an engine writes is one text: two texts of one engine say the same.
 use Rattle.std.specs.Prelude.{◌≡◌, ℕ, List}
-use Rattle.frame_core.specs.declared.device.InputEnd.{InputEnd}
-use Rattle.frame_core.specs.declared.event.Event.{Event}
-use Rattle.frame_core.specs.declared.list_fault.ListCause.{ListCause}
-use Rattle.frame_core.specs.Items.{Listing, listing}
-use Rattle.subscribe_core.specs.declared.block.Block.{Block}
+use Rattle.list_core.specs.declared.device.InputEnd.{InputEnd}
+use Rattle.list_core.specs.declared.event.Event.{Event}
+use Rattle.list_core.specs.declared.list_fault.ListCause.{ListCause}
+use Rattle.list_core.specs.Items.{Listing, listing}
+use Rattle.block_core.specs.declared.block.Block.{Block}
 use Rattle.subscribe_core.specs.Standing.{AreApart}
 use Rattle.script_core.specs.declared.script.ScriptCause.{ScriptCause}
 use Rattle.script_core.specs.declared.script.ScriptItem.{ScriptItem}
 use Rattle.script_core.specs.declared.script.ScriptLines.TheVariants.{First}
 use Rattle.script_core.specs.Script.{script_rules}
 use Rattle.engine_core.specs.EngineText.{Text, told, whole_text}
-use Rattle.engine_core.specs.PublishText.{IsPublishText}
-use Rattle.engine_core.specs.ReplayText.{IsReplayText}
-use Rattle.engine_core.specs.WatchText.{IsWatchText}
+use Rattle.exchange_engines.specs.PublishText.{IsPublishText}
+use Rattle.exchange_engines.specs.ReplayText.{IsReplayText}
+use Rattle.exchange_engines.specs.WatchText.{IsWatchText}
 
 -- two texts say the same of a list, item by item and in its end
 abbrev pub SaySame : {X C : Type 0} → Text X C → Text X C → Listing X C → Type 0

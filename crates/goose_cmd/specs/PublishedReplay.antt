@@ -1,17 +1,17 @@
 -- What `publish` writes of a script, and what the replay of that writes.
 use Rattle.std.specs.Prelude.{◌≡◌, ◌⊎◌, ℕ, List, [], ◌∷◌, ◌++◌, length, slice_get, Option, Some, ⊤}
-use Rattle.frame_core.specs.declared.device.InputEnd.{InputEnd}
-use Rattle.frame_core.specs.declared.event.Event.{Event}
+use Rattle.list_core.specs.declared.device.InputEnd.{InputEnd}
+use Rattle.list_core.specs.declared.event.Event.{Event}
 use Rattle.frame_core.specs.declared.frame.Frame.{Frame}
-use Rattle.frame_core.specs.declared.list_fault.ListCause.{ListCause}
-use Rattle.frame_core.specs.declared.line_rules.ItemFault.{ItemFault}
-use Rattle.frame_core.specs.declared.line_rules.ItemFault.TheVariants as fault
-use Rattle.frame_core.specs.Items.{Listing, listing}
-use Rattle.frame_core.specs.Lines.{Stop, faulty}
+use Rattle.list_core.specs.declared.list_fault.ListCause.{ListCause}
+use Rattle.list_core.specs.declared.line_rules.ItemFault.{ItemFault}
+use Rattle.list_core.specs.declared.line_rules.ItemFault.TheVariants as fault
+use Rattle.list_core.specs.Items.{Listing, listing}
+use Rattle.list_core.specs.Lines.{Stop, faulty}
 use Rattle.publish_core.specs.declared.fault.PublishFault.{PublishFault}
 use Rattle.publish_core.specs.Frames.{Setup}
 use Rattle.publish_core.specs.Run.{AreAnswers, Call, NoWrap}
-use Rattle.subscribe_core.specs.declared.block.Block.{Block}
+use Rattle.block_core.specs.declared.block.Block.{Block}
 use Rattle.exchange_laws.specs.PublishedList.{InTime, IsOwnBlock, one_entry_each, published_events, sent_from}
 use Rattle.exchange_laws.specs.Stems.{AreAccepted}
 use Rattle.script_core.specs.declared.script.ScriptCause.{ScriptCause}
@@ -20,8 +20,8 @@ use Rattle.script_core.specs.declared.script.ScriptLines.TheVariants.{First}
 use Rattle.script_core.specs.Script.{script_rules}
 use Rattle.engine_core.specs.EngineText.{Text, last_text, told, whole_text}
 use Rattle.goose_cmd.specs.ListText.{ReplayGives, list_text}
-use Rattle.engine_core.specs.PublishText.{IsPublishText, IsRefused, item_of_call, items_of_lines, script_cause, script_of}
-use Rattle.engine_core.specs.ReplayText.{IsReplayText}
+use Rattle.exchange_engines.specs.PublishText.{IsPublishText, IsRefused, item_of_call, items_of_lines, script_cause, script_of}
+use Rattle.exchange_engines.specs.ReplayText.{IsReplayText}
 
 -- what the text of a script says, whose input ends so
 abbrev pub script_of_text : {A : Type 0} → InputEnd → List ℕ → Listing (ScriptItem A) ScriptCause

@@ -1,11 +1,11 @@
 //! Laws about the texts that engines write, and about scripts. The functions compute nothing.
 ghost use Rattle.std.specs.Prelude.{◌≡◌, ◌++◌, ℕ, List, Bool};
 ghost use Rattle.std.specs.List.{flat_map, list_any};
-ghost use Rattle.frame_core.specs.Items.{Listing};
+ghost use Rattle.list_core.specs.Items.{Listing};
 ghost use Rattle.engine_core.specs.EngineText.{IsPlain, Text, last_text, whole_text, told};
 ghost use Rattle.goose_cmd.specs.ListText.{PublishedListsReplay, WrittenListsReplay};
 ghost use Rattle.goose_cmd.specs.OneText.{PublishTextsAreOne, ReplayTextsAreOne, WatchTextsAreOne};
-ghost use Rattle.engine_core.specs.PublishText.{ScriptsAreInOrder};
+ghost use Rattle.exchange_engines.specs.PublishText.{ScriptsAreInOrder};
 ghost use Rattle.goose_cmd.specs.PublishedReplay.{PublishedTextsReplay, ScriptsGiveLists, ScriptsSayRuns};
 
 pub use exchange_laws::laws::{

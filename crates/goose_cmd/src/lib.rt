@@ -3,6 +3,8 @@
 
 pub mod laws;
 
-pub use engine_core::{Ending, check, import, publish, replay, rewrite, show, status, watch};
-pub use script_core::{BlockError, read_block};
+pub use block_core::{BlockError, read_block};
+pub use engine_core::{Ending, status};
+pub use exchange_engines::{publish, replay, watch};
+pub use frame_engines::{check, import, rewrite, show};
 pub use words_core::{Task, WordsError, read_words};

@@ -6,9 +6,9 @@ ghost use Rattle.mms_data.specs.Meaning.{left, meaning};
 ghost use Rattle.mms_data.specs.Memory.{NeedsNoMemory};
 ghost use Rattle.mms_data.specs.Value.{data_of, datas};
 
-use crate::octets::Octets;
 use crate::value::{BitText, Value, ValueList};
 use crate::view::{BitView, Members, View};
+use ber_core::Octets;
 use std::alloc::{AllocError, Allocator};
 
 impl<'a> View<'a> {

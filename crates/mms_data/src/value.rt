@@ -1,7 +1,7 @@
 // Values in memory of their own.
 
-use crate::octets::Octets;
 use crate::time::UtcTime;
+use ber_core::Octets;
 use std::alloc::Allocator;
 use std::marker::Model;
 

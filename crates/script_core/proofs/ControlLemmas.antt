@@ -1,7 +1,7 @@
 -- A control line by its first seven fields, and the numbers behind them.
 use Rattle.std.proofs.Common.{◌≡◌, ℕ, List, [], ◌∷◌, Option, Some, None, refl}
 use Rattle.frame_core.specs.declared.vlan_tag.VlanTag.{VlanTag}
-use Rattle.script_core.specs.Commas.{octets_in, text_in, word_in}
+use Rattle.block_core.specs.Commas.{octets_in, text_in, word_in}
 use Rattle.script_core.specs.Script.{control_of, control_with, tag_in}
 use Rattle.script_core.specs.ScriptView.{numbers_in}
 

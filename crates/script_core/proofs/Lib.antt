@@ -1,4 +1,3 @@
-pub mod CommaLemmas
 pub mod ScriptLemmas
 pub mod ControlLemmas
 pub mod WorkedExamples

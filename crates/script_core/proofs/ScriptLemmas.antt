@@ -11,9 +11,9 @@ use Rattle.mms_data.specs.Spelling.{FaultIn, SpellsAll}
 use Rattle.mms_data.proofs.Again.{all_again}
 use Rattle.mms_data.proofs.Wrong.{all_wrong}
 use Rattle.mms_data.proofs.WrongAgain.{all_wrong_again}
-use Rattle.frame_core.specs.Cuts.{cut_at, parts_after}
-use Rattle.frame_core.specs.declared.event_lines.MomentUnit.{MomentUnit}
-use Rattle.frame_core.proofs.Cuts.{cut_some}
+use Rattle.list_core.specs.Cuts.{cut_at, parts_after}
+use Rattle.list_core.specs.declared.event_lines.MomentUnit.{MomentUnit}
+use Rattle.list_core.proofs.Cuts.{cut_some}
 use Rattle.script_core.specs.Script.{change_said, octets_keep, poll_said}
 use Rattle.script_core.specs.declared.script.ScriptCause.TheVariants as cause
 use Rattle.script_core.specs.declared.script.ScriptPart.{ScriptPart}

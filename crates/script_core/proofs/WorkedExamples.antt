@@ -1,4 +1,4 @@
--- What a few fields, blocks and lines of scripts say, computed.
+-- What a few fields and lines of scripts say, computed.
 use Rattle.std.proofs.Common.{◌≡◌, false, true, None, Some, [], ◌∷◌, Ok, Err, refl}
 use Rattle.std.specs.Prelude.{codes}
 use Rattle.hex.specs.Hex.{decode_pairs}
@@ -9,9 +9,7 @@ use Rattle.mms_data.specs.ContentsReading.{simple_at}
 use Rattle.mms_data.specs.Data.{boolean, simple}
 use Rattle.mms_data.specs.Kinds.{kind_at}
 use Rattle.mms_data.specs.Reading.{member_at, member_with, members_at, members_with}
-use Rattle.frame_core.specs.declared.event_lines.MomentUnit.TheVariants.{Milliseconds, Microseconds}
-use Rattle.script_core.specs.BlockText.{block_in}
-use Rattle.script_core.specs.Commas.{number_by, text_in, word_in}
+use Rattle.list_core.specs.declared.event_lines.MomentUnit.TheVariants.{Milliseconds, Microseconds}
 use Rattle.script_core.specs.Script.{flag_in, line_said, script_said, tag_in}
 use Rattle.script_core.specs.declared.script.ScriptCause.TheVariants as cause
 use Rattle.script_core.specs.declared.script.ScriptItem.TheVariants as item
@@ -19,34 +17,15 @@ use Rattle.script_core.specs.declared.script.ScriptLines.TheVariants.{First, Aft
 use Rattle.script_core.specs.declared.script.ScriptPart.TheVariants as part
 
 pub record AreFields : Type 0 where
-  pub most : number_by (codes "4294967295") ≡ Some 4294967295
-  pub too_much : number_by (codes "4294967296") ≡ None
-  pub zeros : number_by (codes "0000000007") ≡ Some 7
-  pub too_long : number_by (codes "00000000007") ≡ None
-  pub no_digit : number_by [] ≡ None
-  pub word : word_in (codes "00fF") ≡ Some 255
-  pub short_word : word_in (codes "0ff") ≡ None
   pub tag : tag_in (codes "8064") ≡ Some (Some (record { control = 0x8064 }))
   pub no_tag : tag_in [] ≡ Some None
   pub off : flag_in (codes "0") ≡ Some false
   pub on : flag_in (codes "1") ≡ Some true
   pub no_flag : flag_in (codes "2") ≡ None
-  pub empty_text : text_in [] ≡ Some []
-  pub no_text : text_in (9 ∷ []) ≡ None
 
 fields : AreFields
 unfolding decode_pairs
-fields = record { most = refl; too_much = refl; zeros = refl; too_long = refl; no_digit = refl; word = refl; short_word = refl; tag = refl; no_tag = refl; off = refl; on = refl; no_flag = refl; empty_text = refl; no_text = refl }
-
--- a goID that is empty is not looked at; a field more is no block
-pub record AreBlocks : Type 0 where
-  pub block : block_in {A = Unit {0}} (codes "0001,G,D,,1,4") ≡ Some (record { app_id = 1; gocb_ref = 71 ∷ []; dat_set = 68 ∷ []; go_id = None; conf_rev = 1; entries = 4 })
-  pub named : block_in {A = Unit {0}} (codes "0001,G,D,I,1,4") ≡ Some (record { app_id = 1; gocb_ref = 71 ∷ []; dat_set = 68 ∷ []; go_id = Some (73 ∷ []); conf_rev = 1; entries = 4 })
-  pub field_more : block_in {A = Unit {0}} (codes "0001,G,D,,1,4,") ≡ None
-
-blocks : AreBlocks
-unfolding decode_pairs
-blocks = record { block = refl; named = refl; field_more = refl }
+fields = record { tag = refl; no_tag = refl; off = refl; on = refl; no_flag = refl }
 
 pub record AreLines : Type 0 where
   pub comment : line_said {A = Unit {0}} Milliseconds part.Control (codes "# a bay") ≡ Ok (None, part.Control)

@@ -1,5 +1,2 @@
-pub mod Commas
-pub mod BlockText
-pub mod BlockView
 pub mod Script
 pub mod ScriptView

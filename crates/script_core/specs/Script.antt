@@ -8,17 +8,17 @@ use Rattle.mms_data.specs.Data.{Data}
 use Rattle.mms_data.specs.Reading.{members_at}
 use Rattle.mms_data.specs.Utc.{utc_of}
 use Rattle.mms_data.specs.declared.time.UtcTime.{UtcTime}
-use Rattle.frame_core.specs.EventLine.{decoded, is_version, moment_of}
-use Rattle.frame_core.specs.Items.{Rules}
-use Rattle.frame_core.specs.declared.line_rules.LineError.{LineError}
-use Rattle.frame_core.specs.declared.line_rules.LineError.TheVariants as line
-use Rattle.frame_core.specs.declared.event_lines.MomentUnit.{MomentUnit}
-use Rattle.frame_core.specs.declared.event_lines.MomentUnit.TheVariants.{Milliseconds, Microseconds}
+use Rattle.list_core.specs.EventLine.{decoded, is_version, moment_of}
+use Rattle.list_core.specs.Items.{Rules}
+use Rattle.list_core.specs.declared.line_rules.LineError.{LineError}
+use Rattle.list_core.specs.declared.line_rules.LineError.TheVariants as line
+use Rattle.list_core.specs.declared.event_lines.MomentUnit.{MomentUnit}
+use Rattle.list_core.specs.declared.event_lines.MomentUnit.TheVariants.{Milliseconds, Microseconds}
 use Rattle.frame_core.specs.declared.vlan_tag.VlanTag.{VlanTag}
 use Rattle.publish_core.specs.declared.control.Control.{Control}
 use Rattle.publish_core.specs.declared.table.Step.{Step}
-use Rattle.script_core.specs.BlockText.{go_id_of, texts_keep}
-use Rattle.script_core.specs.Commas.{comma_fields, number_by, octets_in, text_in, word_in}
+use Rattle.block_core.specs.BlockText.{go_id_of, texts_keep}
+use Rattle.block_core.specs.Commas.{comma_fields, number_by, octets_in, text_in, word_in}
 use Rattle.script_core.specs.declared.script_control.Numbers.{Numbers}
 use Rattle.script_core.specs.declared.script.ScriptCause.{ScriptCause}
 use Rattle.script_core.specs.declared.script.ScriptCause.TheVariants as cause

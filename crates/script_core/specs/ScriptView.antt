@@ -1,8 +1,8 @@
 -- What the fields of a control line say, where they stand.
 use Rattle.std.specs.Prelude.{ℕ, Bool, List, [], ◌∷◌, Option, None, option_map}
 use Rattle.std.specs.Borrow.{Bor}
-use Rattle.script_core.specs.BlockText.{texts_keep}
-use Rattle.script_core.specs.Commas.{number_by}
+use Rattle.block_core.specs.BlockText.{texts_keep}
+use Rattle.block_core.specs.Commas.{number_by}
 use Rattle.script_core.specs.Script.{ControlLine, flag_in, numbers_with}
 use Rattle.script_core.specs.declared.script_control.ControlView.{ControlView}
 use Rattle.script_core.specs.declared.script_control.Numbers.{Numbers}

@@ -1,12 +1,12 @@
 //! The control line of a script, and the lines of its steps.
 ghost use Rattle.std.specs.Prelude.{◌≡◌, true, option_map, IfOk, IfErr};
-ghost use Rattle.frame_core.specs.Cuts.{parts_after};
-ghost use Rattle.script_core.specs.Commas.{number_by, octets_in, text_in, word_in};
+ghost use Rattle.list_core.specs.Cuts.{parts_after};
+ghost use Rattle.block_core.specs.Commas.{number_by, octets_in, text_in, word_in};
 ghost use Rattle.script_core.specs.Script.{AnswersScriptLine, block_of_line, control_keeps, control_of, control_said, control_with, flag_in, numbers_with, step_said_by, step_said, tag_in};
 ghost use Rattle.script_core.specs.ScriptView.{control_seen, numbers_in, view_keeps};
 
-use crate::commas::{fields_of, number_by, text_in, word_in};
 use crate::script::{ScriptCause, ScriptItem, ScriptPart};
+use block_core::commas::{fields_of, number_by, text_in, word_in};
 use frame_core::{LineError, VlanTag, cut_first};
 use mms_data::Octets;
 use publish_core::{Control, Step};

@@ -1,8 +1,8 @@
 //! One line of a script: what it says.
 ghost use Rattle.std.specs.Prelude.{◌≡◌, Some};
-ghost use Rattle.frame_core.specs.Cuts.{parts_after};
-ghost use Rattle.frame_core.specs.EventLine.{moment_of};
-ghost use Rattle.script_core.specs.Commas.{comma_fields};
+ghost use Rattle.list_core.specs.Cuts.{parts_after};
+ghost use Rattle.list_core.specs.EventLine.{moment_of};
+ghost use Rattle.block_core.specs.Commas.{comma_fields};
 ghost use Rattle.script_core.specs.Script.{AnswersScriptLine, all_keep, all_said, change_keeps, members_keep, octets_keep, change_said_by, change_said, part_keeps, fields_said, line_keeps, line_said, all_octets_in, poll_said, time_in, too_early};
 
 use crate::script::{ScriptCause, ScriptItem, ScriptPart};

@@ -2,7 +2,7 @@
 use Rattle.std.proofs.Common.{◌≡◌, ℕ, zero, suc, ◌+◌, ◌<◌, Bool, true, false, inl, inr, Option, Some, None, List, [], ◌∷◌, ◌++◌, slice_get, if◌then◌else◌, sym, refl, ap, ◌∙◌, subst, arith, append_assoc, ne_eqb, eq-eqb}
 use Rattle.std.proofs.lemmas.Bool.{false≢true}
 use Rattle.std.proofs.lemmas.Option.{none-some, same_Some}
-use Rattle.subscribe_core.specs.declared.block.Block.{Block}
+use Rattle.block_core.specs.declared.block.Block.{Block}
 use Rattle.subscribe_core.specs.Reading.{FrameRead, EventRead, Content, OfGoose, OfSampled, OfFault, OfClock, OfMode}
 use Rattle.subscribe_core.specs.declared.registers.Facts.{Facts}
 use Rattle.subscribe_core.specs.declared.entry.Reason.{Reason}

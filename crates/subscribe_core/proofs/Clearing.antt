@@ -4,7 +4,7 @@ use Rattle.std.proofs.lemmas.Bool.{cases_Bool, cases_lt, false≢true, cond-true
 use Rattle.std.proofs.lemmas.List.{length-set, length-map, map-set, get_or_past}
 use Rattle.std.proofs.lemmas.Option.{none-some, same_Some, slice_get-get_or}
 use Rattle.std.specs.BTreeSet.{BTreeSet, contains}
-use Rattle.subscribe_core.specs.declared.block.Block.{Block}
+use Rattle.block_core.specs.declared.block.Block.{Block}
 use Rattle.subscribe_core.specs.declared.names.Name.{Name}
 use Rattle.subscribe_core.specs.declared.registers.Held.{Held}
 use Rattle.subscribe_core.specs.declared.registers.Register.{Register}

@@ -4,7 +4,7 @@ use Rattle.std.proofs.lemmas.Bool.{cases_order}
 use Rattle.std.proofs.lemmas.Option.{slice_get_within}
 use Rattle.std.proofs.lemmas.List.{length-replicate}
 use Rattle.std.specs.BTreeSet.{BTreeSet}
-use Rattle.subscribe_core.specs.declared.block.Block.{Block}
+use Rattle.block_core.specs.declared.block.Block.{Block}
 use Rattle.subscribe_core.specs.declared.names.Name.{Name}
 use Rattle.subscribe_core.specs.declared.registers.Register.{Register}
 use Rattle.subscribe_core.specs.Deadlines.{has_deadline, helds}

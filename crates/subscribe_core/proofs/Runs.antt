@@ -2,8 +2,8 @@
 use Rattle.std.proofs.Common.{◌≡◌, ℕ, zero, suc, ◌+◌, inl, max, Bool, List, [], ◌∷◌, ◌++◌, length, map, Some, slice_get, replicate, sym, refl, ap, ◌∙◌, subst, arith, append_assoc}
 use Rattle.std.proofs.lemmas.Option.{none-some, same_Some}
 use Rattle.std.proofs.lemmas.List.{length-replicate, length_push}
-use Rattle.frame_core.specs.declared.event.Event.{Event}
-use Rattle.subscribe_core.specs.declared.block.Block.{Block}
+use Rattle.list_core.specs.declared.event.Event.{Event}
+use Rattle.block_core.specs.declared.block.Block.{Block}
 use Rattle.subscribe_core.specs.declared.entry.Entry.{Entry}
 use Rattle.subscribe_core.specs.declared.registers.Register.{Register}
 use Rattle.subscribe_core.specs.Epoch.{BlockHolds}

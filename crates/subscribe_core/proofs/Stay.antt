@@ -1,7 +1,7 @@
 -- The entries of an event don't depend on later events.
 use Rattle.std.proofs.Common.{◌≡◌, Bool, if◌then◌else◌, subst, refl, ℕ, ◌+◌, ◌<◌, inl, inr, Option, Some, None, List, [], ◌∷◌, ◌++◌, length, sym, ap, ◌∙◌, arith}
 use Rattle.std.proofs.lemmas.Option.{slice_get_within}
-use Rattle.subscribe_core.specs.declared.block.Block.{Block}
+use Rattle.block_core.specs.declared.block.Block.{Block}
 use Rattle.subscribe_core.specs.Reading.{FrameRead, EventRead, Content, OfGoose, OfSampled, OfFault, OfClock, OfMode}
 use Rattle.subscribe_core.specs.declared.entry.Reason.{Reason}
 use Rattle.subscribe_core.specs.declared.entry.Entry.{Entry}

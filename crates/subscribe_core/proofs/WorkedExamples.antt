@@ -2,7 +2,7 @@
 use Rattle.std.proofs.Common.{◌≡◌, ℕ, ◌*◌, ◌^◌, ◌-◌, Bool, true, false, None, List, [], ◌∷◌, refl}
 use Rattle.mms_data.specs.Data.{simple, boolean}
 use Rattle.pdu_core.specs.declared.goose.GoosePdu.{GoosePdu}
-use Rattle.subscribe_core.specs.declared.block.Block.{Block}
+use Rattle.block_core.specs.declared.block.Block.{Block}
 use Rattle.subscribe_core.specs.declared.entry.Entry.{Entry}
 use Rattle.subscribe_core.specs.declared.entry.Entry.TheVariants as says
 use Rattle.subscribe_core.specs.declared.entry.Reason.TheVariants.{ConfRev, Simulated}

@@ -1,6 +1,6 @@
 -- Why there is no subscriber of some blocks.
 use Rattle.std.specs.Prelude.{◌≡◌, List, []}
-use Rattle.subscribe_core.specs.declared.block.Block.{Block}
+use Rattle.block_core.specs.declared.block.Block.{Block}
 use Rattle.subscribe_core.specs.declared.fault.SubscribeFault.{SubscribeFault}
 use Rattle.subscribe_core.specs.declared.fault.SubscribeFault.TheVariants.{SameBlockTwice, Memory}
 use Rattle.subscribe_core.specs.Standing.{AreApart, IsFirstTwice}

@@ -1,7 +1,7 @@
 -- What a subscriber's fields keep to: the two indexes agree with the blocks and with what they hold.
 use Rattle.std.specs.Prelude.{◌≡◌, ℕ, ◌+◌, Bool, not, ◌&&◌, ◌||◌, List, [], ◌∷◌, ◌++◌, Option, None, length, map, if◌then◌else◌}
 use Rattle.std.specs.BTreeSet.{BTreeSet}
-use Rattle.subscribe_core.specs.declared.block.Block.{Block}
+use Rattle.block_core.specs.declared.block.Block.{Block}
 use Rattle.subscribe_core.specs.declared.entry.Entry.{Entry}
 use Rattle.subscribe_core.specs.declared.entry.Entry.TheVariants as says
 use Rattle.subscribe_core.specs.declared.names.Name.{Name}

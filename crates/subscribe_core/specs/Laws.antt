@@ -1,10 +1,10 @@
 -- What follows from the definitions, for every list of events.
 use Rattle.std.specs.Prelude.{◌≡◌, ℕ, ◌<◌, ◌≤◌, ◌↔◌, ◌==◌, Some, List, [], ◌∷◌, ◌++◌, map, slice_get, flat_map, Contains, if◌then◌else◌}
-use Rattle.subscribe_core.specs.declared.block.Block.{Block}
+use Rattle.block_core.specs.declared.block.Block.{Block}
 use Rattle.subscribe_core.specs.declared.entry.Entry.{Entry}
 use Rattle.subscribe_core.specs.declared.entry.Entry.TheVariants as says
 use Rattle.subscribe_core.specs.declared.registers.Facts.{Facts}
-use Rattle.frame_core.specs.declared.event.Event.{Event}
+use Rattle.list_core.specs.declared.event.Event.{Event}
 use Rattle.mms_data.specs.Data.{Data}
 use Rattle.mms_data.specs.declared.time.UtcTime.{UtcTime}
 use Rattle.subscribe_core.specs.declared.registers.Verdict.TheVariants.{Acted}

@@ -8,9 +8,9 @@ use Rattle.frame_core.specs.Frame.{SpellsFrame}
 use Rattle.frame_core.specs.FrameFault.{FrameFault}
 use Rattle.frame_core.specs.declared.frame.Frame.{Frame}
 use Rattle.frame_core.specs.declared.frame.Apdu.TheVariants as apdus
-use Rattle.frame_core.specs.declared.event.Event.{Event}
-use Rattle.frame_core.specs.declared.event.EventKind.{EventKind}
-use Rattle.frame_core.specs.declared.event.EventKind.TheVariants as kinds
+use Rattle.list_core.specs.declared.event.Event.{Event}
+use Rattle.list_core.specs.declared.event.EventKind.{EventKind}
+use Rattle.list_core.specs.declared.event.EventKind.TheVariants as kinds
 
 -- a frame of GOOSE as a subscriber goes by it (IEC 61850-8-1)
 pub record FrameRead : Type 0 where

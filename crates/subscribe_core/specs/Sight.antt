@@ -1,6 +1,6 @@
 -- What a control block sees of a list of events.
 use Rattle.std.specs.Prelude.{ℕ, ◌+◌, max, Bool, Option, Some, None, List, [], ◌∷◌, take, slice_get, if◌then◌else◌}
-use Rattle.subscribe_core.specs.declared.block.Block.{Block}
+use Rattle.block_core.specs.declared.block.Block.{Block}
 use Rattle.subscribe_core.specs.declared.registers.Facts.{Facts}
 use Rattle.subscribe_core.specs.Epoch.{Trace}
 use Rattle.subscribe_core.specs.Matching.{is_of, reason_of, facts_of_frame, facts_unless_refused}

@@ -1,6 +1,6 @@
 -- The simulation mode, and which blocks take simulated frames (profile). All is said by positions in the list.
 use Rattle.std.specs.Prelude.{ℕ, zero, suc, Bool, false, not, ◌&&◌, ◌||◌, Option, Some, None, List, [], ◌∷◌, take, nat_lt, slice_get, if◌then◌else◌}
-use Rattle.subscribe_core.specs.declared.block.Block.{Block}
+use Rattle.block_core.specs.declared.block.Block.{Block}
 use Rattle.subscribe_core.specs.Reading.{FrameRead, Content, OfGoose, OfSampled, OfFault, OfClock, OfMode, EventRead}
 use Rattle.subscribe_core.specs.Matching.{is_of, reason_of, is_clear}
 

@@ -1,8 +1,8 @@
 -- What a subscriber keeps, and when it is what a whole list of events says.
 use Rattle.std.specs.Prelude.{◌≡◌, ℕ, ◌<◌, Bool, false, Some, None, List, length, replicate, slice_get}
-use Rattle.subscribe_core.specs.declared.block.Block.{Block}
+use Rattle.block_core.specs.declared.block.Block.{Block}
 use Rattle.subscribe_core.specs.declared.registers.Register.{Register}
-use Rattle.frame_core.specs.declared.event.Event.{Event}
+use Rattle.list_core.specs.declared.event.Event.{Event}
 use Rattle.subscribe_core.specs.Epoch.{BlockHolds}
 use Rattle.subscribe_core.specs.Reading.{EventRead, AreRead}
 use Rattle.subscribe_core.specs.Sight.{greatest_event_moment, trace_of_block}

@@ -1,6 +1,7 @@
 -- The counter of samples (IEC 61850-9-2, smpCnt): what each count is after the counts before it (profile). All is said by
 -- positions in the list of counts.
 use Rattle.std.specs.Prelude.{◌≡◌, ℕ, ◌+◌, ◌-◌, ◌*◌, ◌%◌, ◌<◌, ◌≤◌, ◌⊎◌, ◌==◌, max, nat_lt, Bool, true, false, Option, Some, None, List, [], ◌∷◌, ◌++◌, length, map, slice_get, if◌then◌else◌}
+use Rattle.block_core.specs.Period.{IsPeriod}
 use Rattle.subscribe_core.specs.declared.watch.Seen.{Seen}
 use Rattle.subscribe_core.specs.declared.watch.Seen.TheVariants as seen
 
@@ -55,10 +56,6 @@ pub record WatchState : Type 0 where
 -- it keeps what the counts say
 abbrev pub WatchesAfter : List ℕ → WatchState → Type 0
 WatchesAfter counts w = (answers : List Seen) × AreSeen w.period counts answers × IsLastCount counts answers (length counts) w.last
-
--- a period that a watch may have
-abbrev pub IsPeriod : ℕ → Type 0
-IsPeriod period = (2 ≤ period) × (period ≤ 65536)
 
 -- the last count lies below the period
 abbrev pub IsBelow : ℕ → Option ℕ → Type 0

@@ -5,7 +5,7 @@ ghost use Rattle.subscribe_core.specs.Laws.{ActedWhereInTime, ActsAreTold, Block
 ghost use Rattle.subscribe_core.specs.Reading.{EventRead};
 ghost use Rattle.subscribe_core.specs.Sight.{trace_of_block};
 ghost use Rattle.subscribe_core.specs.Watch.{SeenAreOne, SkipsAddUp};
-ghost use Rattle.subscribe_core.specs.declared.block.Block.{Block};
+ghost use Rattle.block_core.specs.declared.block.Block.{Block};
 
 use std::alloc::Allocator;
 

@@ -2,7 +2,6 @@
 #![tactic(auto)]
 
 mod answering;
-mod block;
 mod deadlines;
 mod entry;
 mod fault;
@@ -15,8 +14,8 @@ mod subscriber;
 mod twice;
 mod watch;
 
-pub use crate::block::Block;
 pub use crate::entry::{Entry, Reason};
 pub use crate::fault::SubscribeFault;
 pub use crate::subscriber::Subscriber;
 pub use crate::watch::{Seen, Watch, WatchFault};
+pub use block_core::Block;

@@ -6,9 +6,9 @@ ghost use Rattle.pdu_core.specs.Views.{octets_if};
 ghost use Rattle.subscribe_core.specs.Received.{received_frame};
 ghost use Rattle.subscribe_core.specs.Simulation.{is_against as holds_against};
 
-use crate::block::Block;
 use crate::entry::Reason;
 use crate::registers::Facts;
+use block_core::Block;
 use mms_data::Octets;
 use pdu_core::GooseView;
 use std::alloc::Allocator;

@@ -4,7 +4,7 @@ ghost use Rattle.std.specs.Prelude.{◌≡◌, [], IfOk, IsOk, MatchOption};
 ghost use Rattle.std.specs.List.{All};
 ghost use Rattle.subscribe_core.specs.Names.{key_cmp, key_of, AreSorted, HasName, AreNamesOf};
 
-use crate::block::Block;
+use block_core::Block;
 use mms_data::Octets;
 use std::alloc::{AllocError, Allocator};
 use std::cmp::Ordering;

@@ -3,8 +3,8 @@
 ghost use Rattle.std.specs.Prelude.{◌≡◌, ◌<◌, ◌+◌, ◌-◌, ◌^◌, length, min, None, Some, slice_get, slice_set};
 ghost use Rattle.subscribe_core.specs.declared.registers.Register.{Register as Kept};
 
-use crate::block::Block;
 use crate::registers::Register;
+use block_core::Block;
 use std::alloc::Allocator;
 
 /// One reach, counted: it is good for one look.

@@ -3,7 +3,7 @@
 ghost use Rattle.std.specs.Prelude.{◌<◌, IsTrue, ◌↔◌, MatchOption, length};
 ghost use Rattle.subscribe_core.specs.Standing.{AreApart, HasNameOf, IsTwice, IsFirstTwice};
 
-use crate::block::Block;
+use block_core::Block;
 use std::alloc::Allocator;
 
 // Whether two blocks have one name.

@@ -1,7 +1,8 @@
 // The counter of samples.
 
 ghost use Rattle.std.specs.Prelude.{◌≡◌, ◌<◌, ◌≤◌, ◌+◌, ◌-◌, ◌%◌, ◌++◌, ◌∷◌, ◌↔◌, [], ℕ, List, IsOk, IfOk, Some};
-ghost use Rattle.subscribe_core.specs.Watch.{IsPeriod, IsSeenLast, WatchesAfter, by_way as way_means, last_by, seen_after};
+ghost use Rattle.block_core.specs.Period.{IsPeriod};
+ghost use Rattle.subscribe_core.specs.Watch.{IsSeenLast, WatchesAfter, by_way as way_means, last_by, seen_after};
 
 use std::marker::Model;
 use thiserror::Error;
@@ -39,7 +40,8 @@ pub struct Watch {
 }
 
 impl Model for Watch {
-    ghost use Rattle.subscribe_core.specs.Watch.{IsBelow, IsPeriod, WatchState};
+    ghost use Rattle.block_core.specs.Period.{IsPeriod};
+    ghost use Rattle.subscribe_core.specs.Watch.{IsBelow, WatchState};
 
     ghost Value = { WatchState };
 

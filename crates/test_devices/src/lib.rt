@@ -3,7 +3,7 @@
 
 ghost use Rattle.std.specs.Prelude.{◌≡◌, ◌<◌, false, Some};
 
-use frame_core::{DeviceFault, InputEnd, Sink, Source};
+use list_core::{DeviceFault, InputEnd, Sink, Source};
 use std::alloc::Global;
 use std::io;
 use std::io::{Read, Write};

@@ -3,4 +3,5 @@ pub mod ValueLemmas
 pub mod BitLemmas
 pub mod Spaced
 pub mod OwnedTexts
+pub mod NonEmpty
 pub mod WorkedExamples

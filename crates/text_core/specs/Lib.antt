@@ -1,9 +1,5 @@
 pub mod Pieces
 pub mod Names
-pub mod FrameText
 pub mod ValueText
 pub mod LineText
 pub mod SampledText
-pub mod EntryText
-pub mod ScriptLine
-pub mod SampleLine

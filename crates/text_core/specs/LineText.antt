@@ -2,7 +2,7 @@
 use Rattle.std.specs.Prelude.{ℕ, List, ◌++◌, codes}
 use Rattle.std.specs.Fmt.{decimal}
 use Rattle.ber_core.specs.declared.fault.Fault.{Fault}
-use Rattle.frame_core.specs.declared.list_fault.ListFault.{ListFault}
+use Rattle.list_core.specs.declared.list_fault.ListFault.{ListFault}
 use Rattle.text_core.specs.Names.{name_of_cause, name_of_list_cause}
 
 -- the number of the line and the moment in microseconds

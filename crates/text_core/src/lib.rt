@@ -1,15 +1,11 @@
-//! The texts of which the lines that `goose` writes are made.
+//! The texts of which the lines that `goose` writes are made: numbers, names, values, APDUs and the short lines.
 #![tactic(auto)]
 
-pub mod entry;
 pub mod event;
 pub mod fields;
-pub mod frame;
 pub mod line;
 pub mod names;
 pub mod owned;
 pub mod pieces;
 pub mod sampled;
-pub mod script;
 pub mod value;
-pub mod watched;

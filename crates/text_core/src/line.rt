@@ -1,12 +1,12 @@
 //! The short lines: of a clock moment, of a faulty frame, and the last one, of a fault of the list.
 ghost use Rattle.std.specs.Prelude.{◌≡◌, ◌++◌, OnOk};
-ghost use Rattle.frame_core.specs.EventLine.{mode_text};
+ghost use Rattle.list_core.specs.EventLine.{mode_text};
 ghost use Rattle.text_core.specs.LineText.{clock_line, fault_line, list_line};
 
 use crate::names::{cause_name, list_cause_name};
 use crate::pieces::put_decimal;
 use ber_core::Fault;
-use frame_core::ListFault;
+use list_core::ListFault;
 use std::alloc::{AllocError, Allocator};
 
 /// Appends the line of a clock moment, in microseconds.

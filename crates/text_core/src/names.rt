@@ -1,12 +1,9 @@
-//! The names of causes and reasons, as they are written.
-ghost use Rattle.std.specs.Prelude.{◌≡◌, ◌≤◌, length};
-ghost use Rattle.text_core.specs.Names.{name_of_capture_cause, name_of_cause, name_of_list_cause, name_of_reason, name_of_script_cause};
+//! The names of causes, as they are written.
+ghost use Rattle.std.specs.Prelude.{◌≡◌};
+ghost use Rattle.text_core.specs.Names.{name_of_cause, name_of_list_cause};
 
 use ber_core::Cause;
-use capture_core::CaptureCause;
-use frame_core::ListCause;
-use script_core::ScriptCause;
-use subscribe_core::Reason;
+use list_core::ListCause;
 
 /// The name of the cause for which octets of a frame are refused.
 pub fn cause_name(cause: Cause) -> &'static [u8]
@@ -48,53 +45,5 @@ pub fn list_cause_name(cause: ListCause) -> &'static [u8]
         ListCause::Hex => b"Hex",
         ListCause::ListTooLong => b"ListTooLong",
         ListCause::ReadFailed => b"ReadFailed",
-    }
-}
-
-/// The name of the cause for which a capture is refused, of 14 octets at most.
-pub fn capture_cause_name(cause: CaptureCause) -> &'static [u8]
-    ensures name { result.now ≡ name_of_capture_cause cause }
-    ensures short { length result.now ≤ 14 }
-{
-    match cause {
-        CaptureCause::CaptureHeader => b"CaptureHeader",
-        CaptureCause::CaptureShort => b"CaptureShort",
-        CaptureCause::RecordLength => b"RecordLength",
-        CaptureCause::TooManyRecords => b"TooManyRecords",
-        CaptureCause::ReadFailed => b"ReadFailed",
-    }
-}
-
-/// The name of the reason for which a frame of a block is refused.
-pub fn reason_name(reason: Reason) -> &'static [u8]
-    ensures { result.now ≡ name_of_reason reason }
-{
-    match reason {
-        Reason::DatSet => b"DatSet",
-        Reason::GoId => b"GoId",
-        Reason::ConfRev => b"ConfRev",
-        Reason::Commissioning => b"Commissioning",
-        Reason::Simulated => b"Simulated",
-        Reason::Entries => b"Entries",
-        Reason::StateZero => b"StateZero",
-        Reason::LiveZero => b"LiveZero",
-    }
-}
-
-/// The name of the cause for which a line of a script is refused.
-pub fn script_cause_name(cause: ScriptCause) -> &'static [u8]
-    ensures { result.now ≡ name_of_script_cause cause }
-{
-    match cause {
-        ScriptCause::ScriptForm => b"ScriptForm",
-        ScriptCause::FirstState => b"FirstState",
-        ScriptCause::StepTimes => b"StepTimes",
-        ScriptCause::StepCount => b"StepCount",
-        ScriptCause::Moment => b"Moment",
-        ScriptCause::Hex => b"Hex",
-        ScriptCause::Members(_) => b"Members",
-        ScriptCause::EntriesDiffer => b"EntriesDiffer",
-        ScriptCause::NotSpellable => b"NotSpellable",
-        ScriptCause::WouldNotFit => b"WouldNotFit",
     }
 }

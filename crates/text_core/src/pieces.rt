@@ -5,8 +5,8 @@ ghost use Rattle.std.specs.Fmt.{decimal, signed_decimal};
 ghost use Rattle.hex.specs.Hex.{encode_lower};
 ghost use Rattle.text_core.specs.Pieces.{octet_bits, bits_text, escaped, quoted, boolean_text, four_digits};
 
-use frame_core::{hexadecimal_digit, write_digits};
 use itoa::Buffer;
+use list_core::{hexadecimal_digit, write_digits};
 use std::alloc::{AllocError, Allocator};
 
 /// Appends a number in decimal.

@@ -13,7 +13,7 @@ use Rattle.clap.specs.Simple.{entered, label_of, names_of, rows_at}
 use Rattle.clap.specs.Walk.{Names, Walk, answers_to, idle, nothing_held, stop_after, subcommand_met, walk_from, walked}
 use Rattle.clap.proofs.OnLiterals.{clap_on_literals}
 use Rattle.clap.proofs.WalkLemmas.{find-map}
-use Rattle.subscribe_core.specs.declared.block.Block.{Block}
+use Rattle.block_core.specs.declared.block.Block.{Block}
 use Rattle.words_core.specs.CommandLine.{Asked, Asks, AsksByName, Meaning, Subcommand, blocks_in, check, command_line, faults, first_bad, import, is_plain, name_of, number_said, plain, publish, replay, replay_of, replay_shape, replaying, rewrite, show, subcommands, task_asked, task_of_words, watch, watch_shape, watching}
 use Rattle.words_core.proofs.KeptRows.{first_none, leaf, then_none}
 use Rattle.words_core.proofs.LoneFlags.{Behind, behind, dashes, help_flag, lone_mark, version_flag}

@@ -9,7 +9,7 @@ use Rattle.clap.specs.Words.{Shape, Text, all_of, takes}
 use Rattle.clap.specs.Simple.{entered}
 use Rattle.clap.specs.Takes.{default_passes, is_valid, level_passes, settle_passes, walk_passes}
 use Rattle.clap.specs.Walk.{Walk, finished, nothing_held, positional, rows_after, walk, walk_from, walked}
-use Rattle.subscribe_core.specs.declared.block.Block.{Block}
+use Rattle.block_core.specs.declared.block.Block.{Block}
 use Rattle.words_core.specs.CommandLine.{AsksReplay, Meaning, command_line, is_flag, replay, replay_of, replay_shape, task_asked, task_of_words}
 use Rattle.words_core.proofs.KeptRows.{leaf}
 use Rattle.words_core.proofs.AskingWords.{line, stops}

@@ -17,7 +17,7 @@ use Rattle.clap.specs.Walk.{Held, Walk, finished, idle, nothing_held, rows_after
 use Rattle.clap.specs.declared.builder.value_parser.ValueParser.TheVariants as parses
 use Rattle.clap.proofs.ValueTestLemmas.{Accepts-accepts}
 use Rattle.clap.proofs.WalkLemmas.{both}
-use Rattle.subscribe_core.specs.Watch.{IsPeriod}
+use Rattle.block_core.specs.Period.{IsPeriod}
 use Rattle.words_core.specs.CommandLine.{AsksWatch, SayBoth, SaysOption, command_line, is_flag, number_said, task_asked, task_of_words, watch, watch_asked}
 use Rattle.words_core.proofs.AskingWords.{line, stops}
 use Rattle.words_core.proofs.KeptRows.{no_defaults}

@@ -9,13 +9,13 @@ use Rattle.clap.specs.Lexer.{usize_max}
 use Rattle.clap.specs.Words.{App, IsAmong, Kinds, Row, Rule, Shape, Text, all_of, fault_of, first_of, kind_of, new_app, new_rule, one_of, subcommand_of, with_rule, with_subcommand}
 use Rattle.clap.specs.ValueTests.{is_unsigned_in}
 use Rattle.clap.specs.declared.builder.value_parser.ValueParser.TheVariants as parses
-use Rattle.subscribe_core.specs.declared.block.Block.{Block}
-use Rattle.subscribe_core.specs.Watch.{IsPeriod}
+use Rattle.block_core.specs.declared.block.Block.{Block}
+use Rattle.block_core.specs.Period.{IsPeriod}
 use Rattle.words_core.specs.declared.words.Task.{Task}
 use Rattle.words_core.specs.declared.words.Task.TheVariants.{Show, Check, Rewrite, Publish, Import, Replay, Watch}
 use Rattle.words_core.specs.declared.words.WordsError.{WordsError}
 use Rattle.words_core.specs.declared.words.WordsError.TheVariants as refused
-use Rattle.script_core.specs.BlockText.{block_in}
+use Rattle.block_core.specs.BlockText.{block_in}
 
 -- what words may ask for; a replay of these control blocks, in this order; a watch over the stream with this
 -- svID, whose counter has this period

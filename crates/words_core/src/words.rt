@@ -5,11 +5,10 @@ ghost use Rattle.clap.specs.Walk.{texts};
 ghost use Rattle.clap.specs.declared.error.kind.ErrorKind.TheVariants.{OutOfMemory};
 ghost use Rattle.words_core.specs.CommandLine.{AnswersWords, AnswersBadBlock, AnswersTask, Asked, Asks, HasPeriod, IsNoMistake, MayAnswer, MayRefuse, bare_program, block_rule, command_line, faults, id_rule, is_plain, period_rule, replay_of, replay_shape, said, task_asked, task_of_words, watch, watch_asked, watch_shape};
 
+use block_core::{Block, BlockError, read_block};
 use clap::error::ErrorKind;
 use clap::{Arg, ArgMatches, Command, value_parser};
-use script_core::{BlockError, read_block};
 use std::alloc::{AllocError, Global};
-use subscribe_core::Block;
 use thiserror::Error;
 
 /// What a command line asks for.

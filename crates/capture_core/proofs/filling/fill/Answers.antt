@@ -1,6 +1,6 @@
 use Rattle.std.proofs.Common.{length, ◌-◌, inl, sym, rules}
-use Rattle.frame_core.proofs.Devices.{Consumes-append}
-use Rattle.frame_core.proofs.Readers.{OnlyOpen-append}
+use Rattle.list_core.proofs.Devices.{Consumes-append}
+use Rattle.list_core.proofs.Readers.{OnlyOpen-append}
 use Rattle.capture_core.proofs.Filled.{take-put_mid}
 use Rattle.capture_core.proofs.filling.fill.Goals as goal
 

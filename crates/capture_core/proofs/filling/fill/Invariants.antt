@@ -1,6 +1,6 @@
 use Rattle.std.proofs.Common.{◌-◌, ◌≤◌, length, take}
 use Rattle.std.specs.Io.KnownBytes.{Consumes}
-use Rattle.frame_core.specs.Device.{OnlyOpen}
+use Rattle.list_core.specs.Device.{OnlyOpen}
 use Rattle.capture_core.proofs.filling.fill.Given as goal
 
 abbrev pub invariant-reads : goal.invariant-reads

@@ -1,6 +1,6 @@
 use Rattle.std.proofs.Common.{◌≡◌, ℕ, ◌+◌, List, length}
 use Rattle.std.specs.Io.KnownBytes.{Consumes}
-use Rattle.frame_core.specs.Device.{OnlyOpen}
+use Rattle.list_core.specs.Device.{OnlyOpen}
 use Rattle.capture_core.proofs.filling.pass.Given as goal
 
 abbrev pub invariant-pieces : goal.invariant-pieces

@@ -1,4 +1,4 @@
-use Rattle.frame_core.proofs.Devices.{Gives-from_Consumes}
+use Rattle.list_core.proofs.Devices.{Gives-from_Consumes}
 use Rattle.capture_core.proofs.Headers.{capture_first}
 use Rattle.capture_core.proofs.header.read_header.Goals as goal
 

@@ -1,6 +1,6 @@
 use Rattle.std.proofs.Common.{Err, ◌≡◌, length, take, refl, sym, arith}
 use Rattle.std.proofs.lemmas.List.{length-take-le}
-use Rattle.frame_core.proofs.Devices.{Gives-from_Consumes}
+use Rattle.list_core.proofs.Devices.{Gives-from_Consumes}
 use Rattle.capture_core.proofs.Records.{answered_many, answered_short, behind_head}
 use Rattle.capture_core.proofs.record.read_record.Goals as goal
 

@@ -7,7 +7,7 @@ use Rattle.subscribe_core.specs.Standing.{AreApart, Standing}
 use Rattle.subscribe_core.specs.Steps.{expired_entries, said_of, switched_entries}
 use Rattle.subscribe_core.specs.Content.{content_of}
 use Rattle.subscribe_core.proofs.Due.{expired_counted}
-use Rattle.subscribe_core.proofs.Quiet.{back_nil, front_nil}
+use Rattle.list_core.proofs.Emptiness.{back_nil, front_nil}
 use Rattle.subscribe_core.proofs.subscriber.Subscriber.take_counted.Goals as goal
 
 pub returns-in_err-entries-clause-quiet : goal.returns-in_err-entries-clause-quiet

@@ -1,5 +1,5 @@
 use Rattle.std.proofs.Common.{◌++◌, List, ap, sym, ◌∙◌, append-nil}
-use Rattle.frame_core.specs.declared.event.EventKind.{EventKind}
+use Rattle.list_core.specs.declared.event.EventKind.{EventKind}
 use Rattle.subscribe_core.specs.declared.entry.Entry.{Entry}
 use Rattle.subscribe_core.specs.Content.{content_of}
 use Rattle.subscribe_core.specs.Steps.{registers_by, said_of, switched_entries}

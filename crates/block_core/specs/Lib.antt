@@ -1,0 +1,4 @@
+pub mod Commas
+pub mod BlockText
+pub mod BlockView
+pub mod Period

@@ -1,6 +1,0 @@
-use Rattle.engine_core.specs.PublishStep.{publish_text}
-use Rattle.engine_core.proofs.PublishLemmas.{publish_is}
-use Rattle.engine_core.proofs.engines.publish.publish.Goals as goal
-
-pub returns-clause-text : goal.returns-clause-text
-returns-clause-text g c = let r = c.run.ensures.text in (r.0, r.1, (publish_text, publish_is, r.2))

@@ -1,0 +1,216 @@
+//! The run of an engine over a list: a line is asked for once the text of the line before stands
+//! written.
+ghost use Rattle.std.specs.Prelude.{◌≡◌, ◌++◌, ℕ, List, [], Some, None, Ok, false, IsOk, OnOk, if◌then◌else◌};
+ghost use Rattle.list_core.specs.declared.device.InputEnd.{InputEnd};
+ghost use Rattle.list_core.specs.Device.{GivesOctets};
+ghost use Rattle.list_core.specs.ItemReader.{Answer, AnswersItem, item_place};
+ghost use Rattle.engine_core.specs.EngineText.{LeavesRefused, Text, Writes, ending_of, ending_at, is_write_fault};
+ghost use Rattle.engine_core.specs.EngineStep.{StepWrites, Stops, Takes, stops_by};
+
+use crate::ending::Ending;
+use list_core::{
+    ItemError, ItemFault, ItemReader, LineError, LineRules, ListCause, Sink, Source, put_all,
+};
+use std::alloc::{AllocError, Allocator};
+
+/// What an engine writes for an item, and last on a fault. A value stands after some items.
+pub trait Engine<A: Allocator> {
+    /// What a line gives.
+    type Item: Drop;
+
+    /// Why a line or an item is refused.
+    type Cause: Drop;
+
+    /// The text, as a function of items and of those before them.
+    ghost text: { Self → Text Self.Item Self.Cause };
+
+    /// The engine was handed these items.
+    ghost stands: { Self → List (ℕ × Self.Item) → Type 0 };
+
+    /// Appends the text of the next item, and answers whether the item is a finding; or why it is
+    /// refused. Memory is wanted for a text alone: an item that writes nothing asks for none.
+    fn put_item(
+        &mut self,
+        line: &mut Vec<u8, A>,
+        number: u64,
+        item: Self::Item,
+    ) -> Result<bool, LineError<Self::Cause>>
+        ensures same { text self.new ≡ text self.old }
+        ensures step { (before : List (ℕ × Self.Item)) → stands self.old before →
+            Takes (text self.old) (stands self.new) before (number, item) result line.old.items line.new.items };
+
+    /// Appends the last text on a fault.
+    fn put_last(
+        &self,
+        line: &mut Vec<u8, A>,
+        fault: &ItemFault<Self::Cause>,
+    ) -> Result<(), AllocError>
+        ensures text { OnOk result (line.new.items ≡ line.old.items ++ (text self.now).last fault.now) }
+        ensures quiet { (text self.now).last fault.now ≡ [] → IsOk result };
+}
+
+/// How a run goes on after an answer of the reader.
+#[derive(Clone, Copy, Debug, PartialEq, Eq)]
+pub enum Next {
+    /// An item's text was written; the item is a finding or not.
+    Wrote(bool),
+    /// The list has ended.
+    Ended,
+    /// The run ends here.
+    Stop(Ending),
+}
+
+// The ending at a fault of the lines.
+fn ending_by(cause: ListCause) -> Ending
+    ensures { result ≡ ending_of cause }
+{
+    match cause {
+        ListCause::ReadFailed => Ending::ReadFault,
+        _ => Ending::InputFault,
+    }
+}
+
+// The ending at a fault.
+fn ending_for<C>(fault: &ItemFault<C>) -> Ending
+    ensures { result ≡ ending_at fault.now }
+{
+    match fault {
+        ItemFault::Lines(fault) => ending_by(fault.cause),
+        ItemFault::Line(_, _) => Ending::InputFault,
+    }
+}
+
+// Writes the last text on a fault, with which the run ends.
+fn answer_fault<A: Allocator, E: Engine<A>, W: Sink>(
+    engine: &E,
+    line: &mut Vec<u8, A>,
+    fault: &ItemFault<E::Cause>,
+    writer: &mut W,
+) -> Ending
+    requires { W.failed writer.old ≡ false }
+    ensures stops { Stops ((E.text engine.now).last fault.now ≡ [] → ⊥) ((E.text engine.now).last fault.now) (Some fault.now) result (W.contents writer.old) (W.contents writer.new) }
+    ensures fails { W.failed writer.new ≡ is_write_fault result }
+{
+    line.clear();
+    match engine.put_last(line, fault) {
+        Ok(()) => match put_all(writer, line.as_slice()) {
+            Ok(()) => ending_for(fault),
+            Err(_) => Ending::WriteFault,
+        },
+        Err(_) => Ending::Memory,
+    }
+}
+
+// Writes the text of an item, or the last text where it is refused.
+fn answer_item<A: Allocator, E: Engine<A>, W: Sink>(
+    engine: &mut E,
+    line: &mut Vec<u8, A>,
+    number: u64,
+    item: E::Item,
+    writer: &mut W,
+) -> Next
+    requires { W.failed writer.old ≡ false }
+    ensures same { E.text engine.new ≡ E.text engine.old }
+    ensures step { (before : List (ℕ × E.Item)) → E.stands engine.old before →
+        StepWrites (E.text engine.old) (E.stands engine.new) before (Ok (Some (number, item))) result (W.contents writer.old) (W.contents writer.new) }
+    ensures fails { W.failed writer.new ≡ stops_by is_write_fault result }
+{
+    line.clear();
+    match engine.put_item(line, number, item) {
+        Ok(found) => match put_all(writer, line.as_slice()) {
+            Ok(()) => Next::Wrote(found),
+            Err(_) => Next::Stop(Ending::WriteFault),
+        },
+        Err(LineError::Cause(cause)) => {
+            Next::Stop(answer_fault(engine, line, &ItemFault::Line(number, cause), writer))
+        }
+        Err(LineError::Memory(_)) => Next::Stop(Ending::Memory),
+    }
+}
+
+// Takes the next item of the list and writes its text, or the last text on a fault.
+fn answer_next<
+    A: Allocator + Copy,
+    G: LineRules<A>,
+    E: Engine<A, Item = G::Item, Cause = G::Cause>,
+    R: Source,
+    W: Sink,
+>(
+    alloc: A,
+    engine: &mut E,
+    line: &mut Vec<u8, A>,
+    items: &mut ItemReader<R, G>,
+    writer: &mut W,
+) -> Next
+    requires { W.failed writer.old ≡ false }
+    ensures same { E.text engine.new ≡ E.text engine.old }
+    ensures step { (answer : Answer G.Item G.Cause) × AnswersItem G.rules (item_place R.left R.ending items.old) answer (item_place R.left R.ending items.new)
+        × ((before : List (ℕ × G.Item)) → E.stands engine.old before →
+        StepWrites (E.text engine.old) (E.stands engine.new) before answer result (W.contents writer.old) (W.contents writer.new)) }
+    ensures fails { W.failed writer.new ≡ stops_by is_write_fault result }
+{
+    match items.next(alloc) {
+        Ok(None) => Next::Ended,
+        Ok(Some(item)) => answer_item(engine, line, items.line_number(), item, writer),
+        Err(ItemError::Fault(fault)) => Next::Stop(answer_fault(engine, line, &fault, writer)),
+        Err(ItemError::Memory(_)) => Next::Stop(Ending::Memory),
+    }
+}
+
+/// The ending of a run that answered its whole input.
+pub fn ending_where(found: bool) -> Ending
+    ensures { result ≡ (if found then Ending.Findings else Ending.Done) }
+{
+    if found {
+        Ending::Findings
+    } else {
+        Ending::Done
+    }
+}
+
+/// Writes the first text, then the text of each item of a list in its turn, and the last text where
+/// the list has a fault or an item is refused.
+pub fn run<
+    A: Allocator + Copy,
+    G: LineRules<A> + Drop,
+    E: Engine<A, Item = G::Item, Cause = G::Cause> + Drop,
+    R: Source,
+    W: Sink,
+>(alloc: A, rules: G, mut engine: E, first: &[u8], reader: R, writer: &mut W) -> (Ending, R)
+    requires open { R.ending reader ≡ InputEnd.Open }
+    requires works { W.failed writer.old ≡ false }
+    requires first { first.now ≡ (E.text engine).first }
+    requires fresh { E.stands engine [] }
+    ensures text { (given : List ℕ) × GivesOctets (R.left reader) (R.left result.1) given
+        × Writes G.rules rules (E.text engine) result.0 (R.ending result.1) given (W.contents writer.old) (W.contents writer.new) }
+    ensures read_fault { result.0 ≡ Ending.ReadFault → R.ending result.1 ≡ InputEnd.Failed }
+    ensures fault { W.failed writer.new ≡ is_write_fault result.0 }
+{
+    match put_all(writer, first) {
+        Ok(()) => {}
+        Err(_) => return (Ending::WriteFault, reader),
+    }
+    let mut line = Vec::new(alloc);
+    let mut items = ItemReader::new(reader, rules);
+    let mut found = false;
+    'answers: loop {
+        match answer_next(alloc, &mut engine, &mut line, &mut items, writer) {
+            Next::Wrote(is_finding) => found |= is_finding,
+            Next::Ended => return (ending_where(found), items.into_reader()),
+            Next::Stop(ending) => return (ending, items.into_reader()),
+        }
+    }
+}
+
+/// Writes one text alone and reads nothing, where a run is refused.
+pub fn refuse<R, W: Sink>(text: &[u8], reader: R, writer: &mut W) -> (Ending, R)
+    requires { W.failed writer.old ≡ false }
+    ensures text { LeavesRefused text.now result.0 (W.contents writer.old) (W.contents writer.new) }
+    ensures reader { result.1 ≡ reader }
+    ensures fault { W.failed writer.new ≡ is_write_fault result.0 }
+{
+    match put_all(writer, text) {
+        Ok(()) => (Ending::InputFault, reader),
+        Err(_) => (Ending::WriteFault, reader),
+    }
+}

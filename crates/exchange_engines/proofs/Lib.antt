@@ -1,0 +1,6 @@
+pub mod ReplayLemmas
+pub mod WatchLemmas
+pub mod PublishLemmas
+pub mod NonEmpty
+pub mod WorkedLines
+pub mod WorkedExamples

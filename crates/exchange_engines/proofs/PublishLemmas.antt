@@ -1,0 +1,260 @@
+-- A publisher that is handed the items of a script one by one, and the text that follows.
+use Rattle.std.proofs.Common.{◌≡◌, ℕ, zero, suc, ◌<◌, List, [], ◌∷◌, ◌++◌, length, map, true, false, Option, Some, None, Result, Ok, Err, inl, inr, ap, subst, sym, ◌∙◌, refl, append_assoc, arith}
+use Rattle.std.specs.Prelude.{◌&&◌, nat_lt, nat_le, IfErr, IfOk, OnOk, codes}
+use Rattle.std.specs.Fmt.{decimal}
+use Rattle.std.specs.List.{list_all}
+use Rattle.std.proofs.lemmas.Bool.{and_from, and_parts, eq-eqb, le-leb, lt-ltb, ltb-true, ne_eqb}
+use Rattle.std.proofs.lemmas.List.{append-nil}
+use Rattle.arrayvec.specs.ArrayVec.{ArrayVec}
+use Rattle.hex.specs.Hex.{encode_lower}
+use Rattle.frame_core.specs.declared.frame.Frame.{Frame as SentFrame}
+use Rattle.frame_core.specs.Written.{written_frame}
+use Rattle.publish_core.specs.declared.control.Control.{Control}
+use Rattle.publish_core.specs.declared.fault.PublishFault.{PublishFault}
+use Rattle.publish_core.specs.declared.table.Step.{Step}
+use Rattle.publish_core.specs.Frames.{Change, Setup, setup}
+use Rattle.publish_core.specs.Judgement.{IsJudged, refusal}
+use Rattle.publish_core.specs.Refusal.{Accepts, Refuses, next_state}
+use Rattle.publish_core.specs.Run.{Act, Call, Changed, Polled, IsAnswer, PublishesNone, PublishesOctets, call, greatest_call_moment, trace_of_calls}
+use Rattle.publish_core.specs.Standing.{PublisherStanding, PublisherStandsAfter}
+use Rattle.publish_core.specs.Step.{act_frame, act_state, fresh_publisher}
+use Rattle.publish_core.specs.Table.{AreSteps, IsGood, step_at}
+use Rattle.publish_core.proofs.Judged.{judged, judged_only}
+use Rattle.publish_core.proofs.Runs.{act_ok, answer_one, fresh_stands}
+use Rattle.exchange_engines.specs.declared.engines.publish.Stage.{Stage}
+use Rattle.exchange_engines.specs.declared.engines.publish.Stage.TheVariants as stage
+use Rattle.script_core.specs.declared.script.ScriptCause.{ScriptCause}
+use Rattle.script_core.specs.declared.script.ScriptCause.TheVariants as cause
+use Rattle.script_core.specs.declared.script.ScriptItem.{ScriptItem}
+use Rattle.script_core.specs.declared.script.ScriptItem.TheVariants as item
+use Rattle.list_core.specs.declared.line_rules.LineError.{LineError}
+use Rattle.list_core.specs.declared.line_rules.LineError.TheVariants as line
+use Rattle.engine_core.specs.EngineStep.{Takes}
+use Rattle.engine_core.specs.EngineText.{step_text}
+use Rattle.exchange_engines.specs.PublishText.{IsCallText, IsPublishText, IsScriptSound, answer_text, item_of_act, item_of_call, items_of_lines, script_cause, script_of}
+use Rattle.exchange_engines.specs.PublishStep.{Progress, nothing, setting_up, calling, Holds, Runs, TakesCall, TakesItem, call_at, call_step, called, is_good, item_step, next_progress, progress_after, progress_from, publish_text, setup_cause, standing_from, text_unless_refused, unless_unsound, with_step}
+
+-- ---- how far a script has come
+
+pub items-push : {A : Type 0} (before : List (ℕ × ScriptItem A)) (e : ℕ × ScriptItem A) → items_of_lines (before ++ e ∷ []) ≡ items_of_lines before ++ e.1 ∷ []
+items-push [] e = refl
+items-push (x ∷ before) e = ap (λ (l : List (ScriptItem _)). x.1 ∷ l) (items-push before e)
+
+progress-append : {A : Type 0} (g : Progress A) (xs ys : List (ScriptItem A)) → progress_from g (xs ++ ys) ≡ progress_from (progress_from g xs) ys
+progress-append g [] ys = refl
+progress-append g (x ∷ xs) ys = progress-append (next_progress x g) xs ys
+
+progress-push : {A : Type 0} (before : List (ℕ × ScriptItem A)) (e : ℕ × ScriptItem A) → progress_after (before ++ e ∷ []) ≡ next_progress e.1 (progress_after before)
+progress-push before e = ap (progress_from nothing) (items-push before e) ∙ progress-append nothing (items_of_lines before) (e.1 ∷ [])
+
+-- the item of a call
+
+next_act : {A : Type 0} (g : Progress A) (m : ℕ) (a : Act) → next_progress (item_of_act m a) g ≡ called g (call m a)
+next_act g m (Changed change) = refl
+next_act g m Polled = refl
+
+step_act : {A : Type 0} (g : Progress A) (m : ℕ) (a : Act) → item_step (item_of_act m a) g ≡ call_at g (call m a)
+step_act g m (Changed change) = refl
+step_act g m Polled = refl
+
+-- steps behind a control line
+steps_progress : {A : Type 0} (p : Setup A) (steps : List Step) (rest : List (ScriptItem A)) →
+    progress_from (setting_up p) (map item.Step steps ++ rest) ≡ progress_from (setting_up (setup p.control (p.table ++ steps) p.first)) rest
+steps_progress p [] rest = ap (λ (l : List Step). progress_from (setting_up (setup p.control l p.first)) rest) (sym (append-nil p.table))
+steps_progress p (s ∷ steps) rest =
+    steps_progress (with_step p s) steps rest ∙ ap (λ (l : List Step). progress_from (setting_up (setup p.control l p.first)) rest) (append_assoc p.table (s ∷ []) steps)
+
+script_progress : {A : Type 0} (p : Setup A) (calls : List Call) → progress_from nothing (script_of p calls) ≡ progress_from (setting_up p) (map item_of_call calls)
+script_progress p calls = steps_progress (setup p.control [] p.first) p.table (map item_of_call calls)
+
+-- calls behind others
+calls_progress : {A : Type 0} (p : Setup A) (before calls : List Call) → progress_from (calling p before) (map item_of_call calls) ≡ calling p (before ++ calls)
+calls_progress p before [] = ap (calling p) (sym (append-nil before))
+calls_progress p before (c ∷ calls) =
+    ap (λ (g : Progress _). progress_from g (map item_of_call calls)) (next_act (calling p before) c.moment c.act)
+    ∙ calls_progress p (before ++ c ∷ []) calls ∙ ap (calling p) (append_assoc before (c ∷ []) calls)
+
+-- ---- setups
+
+good_true : (s : Step) → IsGood s → is_good s ≡ true
+good_true s g = and_from _ _ (lt-ltb 0 s.wait_ms g.0) (lt-ltb s.wait_ms s.live_ms g.1)
+
+good_is : (s : Step) → is_good s ≡ true → IsGood s
+good_is s e = let a = and_parts (nat_lt 0 s.wait_ms) _ e in (ltb-true 0 s.wait_ms a.0, ltb-true s.wait_ms s.live_ms a.1)
+
+all_good : (steps : List Step) → ((i : ℕ) → i < length steps → IsGood (step_at steps i)) → list_all is_good steps ≡ true
+all_good [] each = refl
+all_good (s ∷ steps) each = and_from _ _ (good_true s (each 0 (omega arith))) (all_good steps (λ i lt. each (suc i) (omega (arith, lt))))
+
+pub good_each : (steps : List Step) → list_all is_good steps ≡ true → (i : ℕ) → i < length steps → IsGood (step_at steps i)
+good_each [] e i lt = absurd (omega (arith, lt))
+good_each (s ∷ steps) e zero lt = good_is s (and_parts (is_good s) _ e).0
+good_each (s ∷ steps) e (suc i) lt = good_each steps (and_parts (is_good s) _ e).1 i (omega (arith, lt))
+
+counted : {A : Type 0} (p : Setup A) → AreSteps p.table → (nat_lt 0 (length p.table) && nat_le (length p.table) 16) ≡ true
+counted p steps = and_from _ _ (lt-ltb 0 (length p.table) (omega (arith, steps.some))) (le-leb (length p.table) 16 steps.most)
+
+sound_setup : {A : Type 0} (p : Setup A) → IsScriptSound p → setup_cause p ≡ None
+sound_setup p sound =
+    let n : ¬ (p.first ≡ 0) = λ e. absurd (omega (arith, e, sound.some)) in
+    rw (counted p sound.steps, all_good p.table sound.steps.good, ne_eqb p.first 0 n) refl
+
+-- no first status number
+pub first_cause : {A : Type 0} (p : Setup A) → AreSteps p.table → p.first ≡ 0 → setup_cause p ≡ Some cause.FirstState
+first_cause p steps none = rw (counted p steps, all_good p.table steps.good, eq-eqb p.first 0 none) refl
+
+-- ---- calls
+
+standing_behind : {A : Type 0} (p : Setup A) (before calls : List Call) (s : PublisherStanding A) → PublisherStandsAfter p before s → PublisherStandsAfter p (before ++ calls) (standing_from s calls)
+standing_behind p before [] s w = subst (λ (l : List Call). PublisherStandsAfter p l s) (sym (append-nil before)) w
+standing_behind p before (c ∷ calls) s w =
+    subst (λ (l : List Call). PublisherStandsAfter p l (standing_from s (c ∷ calls))) (append_assoc before (c ∷ []) calls)
+    (standing_behind p (before ++ c ∷ []) calls (act_state s c.act c.moment) (act_ok p before s c.act c.moment w).1)
+
+standing_after : {A : Type 0} (p : Setup A) (calls : List Call) → IsScriptSound p → PublisherStandsAfter p calls (standing_from (fresh_publisher p) calls)
+standing_after p calls sound = standing_behind p [] calls (fresh_publisher p) (fresh_stands p sound.some sound.most)
+
+-- what a call is answered, by what is held
+answered : {A : Type 0} (p : Setup A) (calls : List Call) (c : Call) → IsScriptSound p → IsAnswer p (trace_of_calls (calls ++ c ∷ [])) (length calls) (act_frame (standing_from (fresh_publisher p) calls) c.act c.moment)
+answered p calls c sound = (act_ok p calls (standing_from (fresh_publisher p) calls) c.act c.moment (standing_after p calls sound)).0
+
+-- the text of a call is what the whole list of calls says
+act_is : {A : Type 0} (p : Setup A) (calls : List Call) (m : ℕ) (a : Act) → IsScriptSound p → IsCallText p calls (call m a) (call_step p calls (call m a))
+act_is p calls m Polled sound = inl (tt, (act_frame (standing_from (fresh_publisher p) calls) Polled m, answered p calls (call m Polled) sound, refl))
+act_is {A} p calls m (Changed change) sound = in_case (refusal p.control p.table (next_state p calls) change) (judged p.control p.table (next_state p calls) change sound.steps)
+  where
+    given : Option (SentFrame A)
+    given = act_frame (standing_from (fresh_publisher p) calls) (Changed change) m
+
+    in_case : (answer : Option PublishFault) → IsJudged p.control p.table (next_state p calls) change answer →
+        IsCallText p calls (call m (Changed change)) (text_unless_refused answer (answer_text (greatest_call_moment (calls ++ call m (Changed change) ∷ [])) (act_frame (standing_from (fresh_publisher p) calls) (Changed change) m)))
+    in_case None accepted = inl (accepted, (act_frame (standing_from (fresh_publisher p) calls) (Changed change) m, answered p calls (call m (Changed change)) sound, refl))
+    in_case (Some why) refused = inr (why, refused, refl)
+
+-- a call behind a script
+call_behind : {A : Type 0} (p : Setup A) (calls : List Call) (c : Call) → IsScriptSound p → call_at (progress_from (setting_up p) (map item_of_call calls)) c ≡ call_step p calls c
+call_behind p [] c sound = ap (λ (o : Option ScriptCause). unless_unsound o (call_step p [] c)) (sound_setup p sound)
+call_behind p (d ∷ calls) c sound =
+    ap (λ (g : Progress _). call_at (progress_from g (map item_of_call calls)) c) (next_act (setting_up p) d.moment d.act)
+    ∙ ap (λ (g : Progress _). call_at g c) (calls_progress p (d ∷ []) calls)
+
+-- the text as it is computed is that of the whole script
+pub publish_is : {A : Type 0} → IsPublishText {A = A} publish_text
+publish_is {A} = record {
+  first = refl;
+  control = λ n first control. refl;
+  step = λ p before is few n s.
+      ap (λ (l : List (ScriptItem A)). item_step (item.Step s) (progress_from nothing l)) is
+      ∙ ap (item_step (item.Step s)) (script_progress p [])
+      ∙ (rw (lt-ltb (length p.table) 16 few) refl);
+  call = λ p calls before is sound n c.
+      let said : item_step (item_of_call c) (progress_after before) ≡ call_step p calls c =
+      step_act (progress_after before) c.moment c.act
+      ∙ ap (λ (l : List (ScriptItem A)). call_at (progress_from nothing l) c) is
+      ∙ ap (λ (g : Progress A). call_at g c) (script_progress p calls)
+      ∙ call_behind p calls c sound in
+      subst (IsCallText p calls c) (sym said) (act_is p calls c.moment c.act sound);
+  last = λ f. refl;
+}
+
+-- ---- what the engine does
+
+-- a publisher is set up from what was said, or none can be
+pub runs_first : {A : Type 0} (g : Progress A) (control : Control A) (first : ℕ) (steps : ArrayVec Step) (items : List Step) (r : Result (PublisherStanding A) ScriptCause) → Holds (stage.Setup control first steps) g →
+    items ≡ steps.items → IfOk r (λ s. PublisherStandsAfter (setup control items first) [] s) → OnOk r (IsScriptSound (setup control items first)) → IfErr r (λ why. setup_cause (setup control items first) ≡ Some why) → Runs g r
+runs_first nothing control first steps items r h e stands sound fails = absurd h
+runs_first {A} (setting_up p) control first steps items (Ok s) h e stands sound fails =
+    let q : Setup A = setup control items first in
+    let same : q ≡ p = ap (λ (l : List Step). setup control l first) e ∙ h in (
+      q,
+      [],
+      sound,
+      stands,
+      λ c. (
+        ap (λ (x : Setup A). call_at (setting_up x) c) (sym same) ∙ ap (λ (o : Option ScriptCause). unless_unsound o (call_step q [] c)) (sound_setup q sound),
+        ap (λ (x : Setup A). called (setting_up x) c) (sym same),
+      ),
+    )
+runs_first {A} (setting_up p) control first steps items (Err why) h e stands sound fails = λ c.
+    let q : Setup A = setup control items first in
+    let same : q ≡ p = ap (λ (l : List Step). setup control l first) e ∙ h in
+    ap (λ (x : Setup A). call_at (setting_up x) c) (sym same) ∙ ap (λ (o : Option ScriptCause). unless_unsound o (call_step q [] c)) fails
+runs_first (calling p calls) control first steps items r h e stands sound fails = absurd h
+
+-- the line of a frame
+published_line : {A : Type 0} (moment now : ℕ) (octets : List ℕ) (f : SentFrame A) → moment ≡ now → octets ≡ written_frame f →
+    codes "F " ++ decimal moment ++ codes " " ++ encode_lower octets ++ codes "\n" ≡ answer_text now (Some f)
+published_line moment now octets f e h = rw (e, h) refl
+
+-- a change was refused
+pub refused : {A : Type 0} (p : Setup A) (calls : List Call) (m : ℕ) (change : Change) (why : PublishFault) → IsScriptSound p → Refuses p calls change why → call_step p calls (call m (Changed change)) ≡ Err (script_cause why)
+refused p calls m change why sound refuses =
+    let c = call m (Changed change) in
+    ap (λ (o : Option PublishFault). text_unless_refused o (answer_text (greatest_call_moment (calls ++ c ∷ [])) (act_frame (standing_from (fresh_publisher p) calls) (Changed change) m)))
+    (sym (judged_only p.control p.table (next_state p calls) change sound.steps (Some why) refuses))
+
+module _ {A : Type 0} (p : Setup A) (calls : List Call) (sound : IsScriptSound p) (old new : List ℕ) (s : PublisherStanding A) where
+  -- a change was accepted, and the frame that it gives was appended
+  pub changed : (m : ℕ) (change : Change) (moment : ℕ) (octets : List ℕ) → Accepts p calls change → PublishesOctets p (calls ++ call m (Changed change) ∷ []) (length calls) octets →
+      PublisherStandsAfter p (calls ++ call m (Changed change) ∷ []) s → moment ≡ greatest_call_moment (calls ++ call m (Changed change) ∷ []) →
+      new ≡ old ++ (codes "F " ++ decimal moment ++ codes " " ++ encode_lower octets ++ codes "\n") →
+      TakesCall p calls (call m (Changed change)) (Ok tt) old new s
+  changed m change moment octets accepted published stands now wrote =
+      let c = call m (Changed change) in
+      let time = greatest_call_moment (calls ++ c ∷ []) in
+      let held = act_frame (standing_from (fresh_publisher p) calls) (Changed change) m in
+      let same = answer_one p (trace_of_calls (calls ++ c ∷ [])) (length calls) (Some published.0) held published.1 (answered p calls c sound) in
+      let not_refused = sym (judged_only p.control p.table (next_state p calls) change sound.steps None accepted) in (
+        answer_text time (Some published.0),
+        ap (λ (o : Option PublishFault). text_unless_refused o (answer_text time held)) not_refused ∙ ap (λ (o : Option (SentFrame A)). Ok (answer_text time o, false)) (sym same),
+        wrote ∙ ap (λ (l : List ℕ). old ++ l) (published_line moment time octets published.0 now published.2),
+        stands,
+      )
+
+  -- a poll gave a frame
+  pub polled_one : (m moment : ℕ) (octets : List ℕ) → PublishesOctets p (calls ++ call m Polled ∷ []) (length calls) octets →
+      PublisherStandsAfter p (calls ++ call m Polled ∷ []) s → moment ≡ greatest_call_moment (calls ++ call m Polled ∷ []) →
+      new ≡ old ++ (codes "F " ++ decimal moment ++ codes " " ++ encode_lower octets ++ codes "\n") →
+      TakesCall p calls (call m Polled) (Ok tt) old new s
+  polled_one m moment octets published stands now wrote =
+      let c = call m Polled in
+      let time = greatest_call_moment (calls ++ c ∷ []) in
+      let held = act_frame (standing_from (fresh_publisher p) calls) Polled m in
+      let same = answer_one p (trace_of_calls (calls ++ c ∷ [])) (length calls) (Some published.0) held published.1 (answered p calls c sound) in (
+        answer_text time (Some published.0),
+        ap (λ (o : Option (SentFrame A)). Ok (answer_text time o, false)) (sym same),
+        wrote ∙ ap (λ (l : List ℕ). old ++ l) (published_line moment time octets published.0 now published.2),
+        stands,
+      )
+
+  -- it gave none
+  pub polled_none : (m : ℕ) → PublishesNone p (calls ++ call m Polled ∷ []) (length calls) → PublisherStandsAfter p (calls ++ call m Polled ∷ []) s → TakesCall p calls (call m Polled) (Ok tt) old old s
+  polled_none m none stands =
+      let c = call m Polled in
+      let time = greatest_call_moment (calls ++ c ∷ []) in
+      let held = act_frame (standing_from (fresh_publisher p) calls) Polled m in
+      let same = answer_one p (trace_of_calls (calls ++ c ∷ [])) (length calls) None held none (answered p calls c sound) in (
+        [],
+        ap (λ (o : Option (SentFrame A)). Ok (answer_text time o, false)) (sym same),
+        sym (append-nil old),
+        stands,
+      )
+
+-- a poll that gives a frame has a text
+pub polled_there : {A : Type 0} (p : Setup A) (calls : List Call) (m : ℕ) (octets : List ℕ) → IsScriptSound p → PublishesOctets p (calls ++ call m Polled ∷ []) (length calls) octets →
+    (n : ℕ) → step_text (publish_text {A = A}) n (call_step p calls (call m Polled)) ≡ [] → ⊥
+polled_there {A} p calls m octets sound published n none =
+    let c = call m Polled in
+    let same = answer_one p (trace_of_calls (calls ++ c ∷ [])) (length calls) (Some published.0) _ published.1 (answered p calls c sound) in
+    let h = ap (answer_text {A = A} (greatest_call_moment (calls ++ c ∷ []))) same ∙ none in cc
+
+-- a poll that is not taken leaves the item so
+pub poll_fails : {A : Type 0} (g : Progress A) (p : Setup A) (calls : List Call) (m : ℕ) (e : LineError ScriptCause) (old new : List ℕ) (s : PublisherStanding A) →
+    call_at g (call m Polled) ≡ call_step p calls (call m Polled) → TakesCall p calls (call m Polled) (Err e) old new s → TakesItem g (item.Poll m) (Err e) old new
+poll_fails g p calls m (line.Cause why) old new s same t = same ∙ t
+poll_fails {A} g p calls m (line.Memory x) old new s same t = λ n none. t n (ap (step_text (publish_text {A = A}) n) (sym same) ∙ none)
+
+-- an item was taken, and the engine stands after it
+pub publishes : {A : Type 0} (before : List (ℕ × ScriptItem A)) (n : ℕ) (i : ScriptItem A) (s : Stage A) (old new : List ℕ) → TakesItem (progress_after before) i (Ok s) old new →
+    Takes publish_text (λ (items : List (ℕ × ScriptItem A)). Holds s (progress_after items)) before (n, i) (Ok false) old new
+publishes before n i s old new t = (t.0, t.1, t.2, subst (Holds s) (sym (progress-push before (n, i))) t.3)

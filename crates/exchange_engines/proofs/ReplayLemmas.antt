@@ -1,0 +1,79 @@
+-- A subscriber that is handed the events of a list one by one, and the text that follows.
+use Rattle.std.proofs.Common.{◌≡◌, ℕ, List, [], ◌∷◌, ◌++◌, length, false, Ok, ap, subst, sym, ◌∙◌, refl, append_assoc}
+use Rattle.std.proofs.lemmas.List.{append-nil, length-replicate}
+use Rattle.list_core.specs.declared.event.Event.{Event}
+use Rattle.block_core.specs.declared.block.Block.{Block}
+use Rattle.subscribe_core.specs.declared.entry.Entry.{Entry}
+use Rattle.subscribe_core.specs.Content.{reading_of}
+use Rattle.subscribe_core.specs.Entries.{AreEntriesAt}
+use Rattle.subscribe_core.specs.Standing.{State, StandsAfter, fresh_state, idle}
+use Rattle.subscribe_core.specs.Steps.{step_entries, step_state}
+use Rattle.subscribe_core.proofs.Readings.{is_read}
+use Rattle.subscribe_core.proofs.Runs.{entries_step, fresh_stands, registers_length, stands_step}
+use Rattle.engine_core.specs.EngineStep.{Takes}
+use Rattle.exchange_engines.specs.EntryText.{entry_lines}
+use Rattle.exchange_engines.specs.ReplayText.{IsReplayText, events_of}
+use Rattle.exchange_engines.proofs.NonEmpty.{no_entry}
+use Rattle.exchange_engines.specs.ReplayStep.{kept_after, replay_text, state_after_list}
+
+state_push : {A : Type 0} (s : State A) (es : List (Event A)) (e : Event A) → state_after_list s (es ++ e ∷ []) ≡ step_state (state_after_list s es) (reading_of e)
+state_push s [] e = refl
+state_push s (x ∷ es) e = state_push (step_state s (reading_of x)) es e
+
+pub events_push : {A : Type 0} (before : List (ℕ × Event A)) (e : ℕ × Event A) → events_of (before ++ e ∷ []) ≡ events_of before ++ e.1 ∷ []
+events_push [] e = refl
+events_push (x ∷ before) e = ap (λ (es : List (Event _)). x.1 ∷ es) (events_push before e)
+
+-- what is kept after one event more
+kept_push : {A : Type 0} (blocks : List (Block A)) (before : List (ℕ × Event A)) (e : ℕ × Event A) → kept_after blocks (before ++ e ∷ []) ≡ step_state (kept_after blocks before) (reading_of e.1)
+kept_push blocks before e = ap (state_after_list (fresh_state blocks)) (events_push before e) ∙ state_push (fresh_state blocks) (events_of before) e.1
+
+-- a subscriber took an event, and its entries were appended
+pub replays : {A : Type 0} (s t : State A) (before : List (ℕ × Event A)) (n : ℕ) (event : Event A) (entries : List (Entry A)) (old new : List ℕ) →
+    s ≡ kept_after s.blocks before → entries ≡ step_entries s (reading_of event) → t ≡ step_state s (reading_of event) → new ≡ old ++ entry_lines n entries →
+    Takes (replay_text s.blocks) (λ (items : List (ℕ × Event A)). t ≡ kept_after t.blocks items) before (n, event) (Ok false) old new
+replays s t before n event entries old new stands said then_ wrote = (
+  entry_lines n entries,
+  ap (λ (k : State _). Ok (entry_lines n (step_entries k (reading_of event)), false)) (sym stands) ∙ ap (λ (es : List (Entry _)). Ok (entry_lines n es, false)) (sym said),
+  wrote,
+  then_ ∙ ap (λ (k : State _). step_state k (reading_of event)) stands ∙ sym (kept_push s.blocks before (n, event)) ∙ ap (λ (bs : List (Block _)). kept_after bs (before ++ (n, event) ∷ [])) (sym (ap (λ (k : State _). k.blocks) then_)),
+)
+
+-- what is kept after events stands after them
+record Keeps {A : Type 0} (blocks : List (Block A)) (events : List (Event A)) (s : State A) : Type 0 where
+  pub stands : StandsAfter events s
+  pub sizes : length s.registers ≡ length s.blocks
+  pub same : s.blocks ≡ blocks
+
+keeps_all : {A : Type 0} (blocks : List (Block A)) (es before : List (Event A)) (s : State A) → Keeps blocks before s → Keeps blocks (before ++ es) (state_after_list s es)
+keeps_all blocks [] before s k = subst (λ (l : List (Event _)). Keeps blocks l s) (sym (append-nil before)) k
+keeps_all blocks (e ∷ es) before s k =
+    let next : Keeps blocks (before ++ e ∷ []) (step_state s (reading_of e)) = record {
+      stands = stands_step before e (reading_of e) s (is_read e) k.sizes k.stands;
+      sizes = registers_length _ s.mode (reading_of e).content s.blocks s.registers k.sizes;
+      same = k.same;
+    } in
+    subst (λ (l : List (Event _)). Keeps blocks l (state_after_list s (e ∷ es))) (append_assoc before (e ∷ []) es) (keeps_all blocks es (before ++ e ∷ []) (step_state s (reading_of e)) next)
+
+kept_keeps : {A : Type 0} (blocks : List (Block A)) (items : List (ℕ × Event A)) → Keeps blocks (events_of items) (kept_after blocks items)
+kept_keeps blocks items = keeps_all blocks (events_of items) [] (fresh_state blocks) (record { stands = fresh_stands blocks; sizes = length-replicate (length blocks) idle; same = refl })
+
+-- the text as it is computed is that of the entries of the whole list
+pub replay_is : {A : Type 0} (blocks : List (Block A)) → IsReplayText blocks (replay_text blocks)
+replay_is blocks = record {
+  first = refl;
+  step = λ before e.
+      let k = kept_keeps blocks before in
+      let s = kept_after blocks before in (
+        step_entries s (reading_of e.1),
+        subst (λ (bs : List (Block _)). AreEntriesAt bs (events_of before ++ e.1 ∷ []) (length (events_of before)) (step_entries s (reading_of e.1))) k.same
+            (entries_step (events_of before) e.1 (reading_of e.1) s (is_read e.1) k.sizes k.stands),
+        refl,
+      );
+  last = λ f. refl;
+}
+
+-- where nothing is written of an event, it has no entry
+pub no_entries : {A : Type 0} (s : State A) (blocks : List (Block A)) (before : List (ℕ × Event A)) (n : ℕ) (e : Event A) → s ≡ kept_after blocks before →
+    entry_lines n (step_entries (kept_after blocks before) (reading_of e)) ≡ [] → step_entries s (reading_of e) ≡ []
+no_entries s blocks before n e stands none = ap (λ (x : State _). step_entries x (reading_of e)) stands ∙ no_entry n _ none

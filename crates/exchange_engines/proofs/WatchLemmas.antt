@@ -1,0 +1,170 @@
+-- The counts of a stream, event by event and ASDU by ASDU.
+use Rattle.std.proofs.Common.{◌≡◌, ℕ, suc, ◌+◌, ◌≤◌, min, add-zero, zero-add, List, [], ◌∷◌, ◌++◌, length, map, Bool, ◌||◌, Option, None, Result, Ok, Err, ap, ap₂, subst, sym, ◌∙◌, refl, append_assoc, arith}
+use Rattle.std.specs.List.{list_any}
+use Rattle.std.proofs.lemmas.List.{append-nil, length-append, length_push}
+use Rattle.std.proofs.lemmas.List.Folds.{list_any-append}
+use Rattle.ber_core.specs.declared.fault.Fault.{Fault}
+use Rattle.pdu_core.specs.declared.sampled.asdu.Asdu.{Asdu}
+use Rattle.pdu_core.specs.declared.sampled.view.AsduView.{AsduView}
+use Rattle.pdu_core.specs.declared.sampled.view.SvView.{SvView}
+use Rattle.pdu_core.specs.SampledViews.{asdu_of, asdus_left}
+use Rattle.list_core.specs.declared.event.Event.{Event}
+use Rattle.list_core.specs.declared.event.EventKind.{EventKind}
+use Rattle.list_core.specs.declared.event.EventKind.TheVariants as kinds
+use Rattle.frame_core.specs.declared.frame.Frame.{Frame}
+use Rattle.frame_core.specs.FrameReading.{frame_at}
+use Rattle.subscribe_core.specs.declared.watch.Seen.{Seen}
+use Rattle.subscribe_core.specs.Watch.{AreSeen, last_by, seen_after, seen_all}
+use Rattle.subscribe_core.proofs.Counts.{none_last, none_seen, seen_from}
+use Rattle.engine_core.specs.EngineStep.{Takes}
+use Rattle.exchange_engines.specs.SampleLine.{sample_line}
+use Rattle.exchange_engines.specs.WatchText.{IsWatchText, counts, counts_of, frame_watched, is_unexpected, sample_at, sample_lines, samples_from, samples_in, samples_of, samples_read, watched}
+use Rattle.exchange_engines.specs.WatchStep.{SamplesSaid, last_of, watch_text}
+use Rattle.exchange_engines.proofs.NonEmpty.{fault_there, no_sample}
+
+pub seen-append : (p : ℕ) (last : Option ℕ) (xs ys : List ℕ) → seen_all p last (xs ++ ys) ≡ seen_all p last xs ++ seen_all p (last_of p last xs) ys
+seen-append p last [] ys = refl
+seen-append p last (x ∷ xs) ys = ap (λ (l : List Seen). seen_after p last x ∷ l) (seen-append p (last_by last x (seen_after p last x)) xs ys)
+
+pub last-append : (p : ℕ) (last : Option ℕ) (xs ys : List ℕ) → last_of p last (xs ++ ys) ≡ last_of p (last_of p last xs) ys
+last-append p last [] ys = refl
+last-append p last (x ∷ xs) ys = last-append p (last_by last x (seen_after p last x)) xs ys
+
+pub seen-length : (p : ℕ) (last : Option ℕ) (xs : List ℕ) → length (seen_all p last xs) ≡ length xs
+seen-length p last [] = refl
+seen-length p last (x ∷ xs) = ap suc (seen-length p (last_by last x (seen_after p last x)) xs)
+
+counts-append : (xs ys : List (ℕ × ℕ)) → counts (xs ++ ys) ≡ counts xs ++ counts ys
+counts-append [] ys = refl
+counts-append (x ∷ xs) ys = ap (λ (l : List ℕ). x.1 ∷ l) (counts-append xs ys)
+
+counts-length : (xs : List (ℕ × ℕ)) → length (counts xs) ≡ length xs
+counts-length [] = refl
+counts-length (x ∷ xs) = ap suc (counts-length xs)
+
+-- the ASDUs behind others
+pub samples-append : {A : Type 0} (k : ℕ) (id : List ℕ) (xs ys : List (Asdu A)) → samples_from k id (xs ++ ys) ≡ samples_from k id xs ++ samples_from (k + length xs) id ys
+samples-append k id [] ys = ap (λ (j : ℕ). samples_from j id ys) (sym (add-zero k))
+samples-append k id (x ∷ xs) ys =
+    let place : k + 1 + length xs ≡ k + length (x ∷ xs) = omega arith in
+    ap (λ (l : List (ℕ × ℕ)). sample_at k id x ++ l) (samples-append (k + 1) id xs ys ∙ ap (λ (j : ℕ). samples_from (k + 1) id xs ++ samples_from j id ys) place)
+    ∙ sym (append_assoc (sample_at k id x) (samples_from (k + 1) id xs) (samples_from (k + length (x ∷ xs)) id ys))
+
+-- one ASDU behind others
+pub samples-push : {A : Type 0} (id : List ℕ) (xs : List (Asdu A)) (a : Asdu A) → samples_from 0 id (xs ++ a ∷ []) ≡ samples_from 0 id xs ++ sample_at (length xs) id a
+samples-push id xs a =
+    samples-append 0 id xs (a ∷ []) ∙ ap (λ (j : ℕ). samples_from 0 id xs ++ samples_from j id (a ∷ [])) (zero-add (length xs))
+    ∙ ap (λ (l : List (ℕ × ℕ)). samples_from 0 id xs ++ l) (append-nil (sample_at (length xs) id a))
+
+lines-append : (n : ℕ) (xs ys : List (ℕ × ℕ)) (answers others : List Seen) → length answers ≡ length xs → sample_lines n (xs ++ ys) (answers ++ others) ≡ sample_lines n xs answers ++ sample_lines n ys others
+lines-append n [] ys [] others e = refl
+lines-append n [] ys (a ∷ answers) others e = absurd (omega arith)
+lines-append n (x ∷ xs) ys [] others e = absurd (omega arith)
+lines-append n (x ∷ xs) ys (a ∷ answers) others e =
+    ap (λ (l : List ℕ). sample_line n x a ++ l) (lines-append n xs ys answers others (omega arith))
+    ∙ sym (append_assoc (sample_line n x a) (sample_lines n xs answers) (sample_lines n ys others))
+
+-- samples behind others
+pub said_after : (p n : ℕ) (last mid after : Option ℕ) (xs ys : List (ℕ × ℕ)) (a b c : List ℕ) (f g : Bool) → SamplesSaid p n last xs a b f mid → SamplesSaid p n mid ys b c g after
+    → SamplesSaid p n last (xs ++ ys) a c (f || g) after
+said_after p n last mid after xs ys a b c f g u v =
+    let first = seen_all p last (counts xs) in
+    let second = seen_all p mid (counts ys) in
+    let all : seen_all p last (counts (xs ++ ys)) ≡ first ++ second =
+    ap (seen_all p last) (counts-append xs ys) ∙ seen-append p last (counts xs) (counts ys) ∙ ap (λ (o : Option ℕ). first ++ seen_all p o (counts ys)) (sym u.2) in
+    let sizes : length first ≡ length xs = seen-length p last (counts xs) ∙ counts-length xs in
+    let lines : sample_lines n (xs ++ ys) (seen_all p last (counts (xs ++ ys))) ≡ sample_lines n xs first ++ sample_lines n ys second =
+    ap (sample_lines n (xs ++ ys)) all ∙ lines-append n xs ys first second sizes in (
+      v.0 ∙ ap (λ (l : List ℕ). l ++ sample_lines n ys second) u.0 ∙ append_assoc a (sample_lines n xs first) (sample_lines n ys second) ∙ ap (λ (l : List ℕ). a ++ l) (sym lines),
+      ap₂ (λ (x : Bool) (y : Bool). x || y) u.1 v.1 ∙ sym (list_any-append is_unexpected first second) ∙ ap (list_any is_unexpected) (sym all),
+      v.2 ∙ ap (λ (o : Option ℕ). last_of p o (counts ys)) u.2 ∙ sym (last-append p last (counts xs) (counts ys)) ∙ ap (last_of p last) (sym (counts-append xs ys)),
+    )
+
+-- one event more
+pub counts-push : {A : Type 0} (id : List ℕ) (before : List (ℕ × Event A)) (e : ℕ × Event A) → counts_of id (before ++ e ∷ []) ≡ counts_of id before ++ counts (samples_of id e.1.kind)
+counts-push id [] e = append-nil (counts (samples_of id e.1.kind))
+counts-push id (x ∷ before) e =
+    ap (λ (l : List ℕ). counts (samples_of id x.1.kind) ++ l) (counts-push id before e)
+    ∙ sym (append_assoc (counts (samples_of id x.1.kind)) (counts_of id before) (counts (samples_of id e.1.kind)))
+
+-- the last count after one event more
+pub last-push : {A : Type 0} (p : ℕ) (id : List ℕ) (before : List (ℕ × Event A)) (e : ℕ × Event A) (last : Option ℕ) → last ≡ last_of p None (counts_of id before)
+    → last_of p last (counts (samples_of id e.1.kind)) ≡ last_of p None (counts_of id (before ++ e ∷ []))
+last-push p id before e last is =
+    ap (λ (o : Option ℕ). last_of p o (counts (samples_of id e.1.kind))) is
+    ∙ sym (last-append p None (counts_of id before) (counts (samples_of id e.1.kind))) ∙ ap (last_of p None) (sym (counts-push id before e))
+
+-- the text as it is computed is that of the counts of the whole list
+pub watch_is : {A : Type 0} (p : ℕ) (id : List ℕ) → IsWatchText {A = A} p id (watch_text p id)
+watch_is p id = record {
+  first = refl;
+  step = λ before e.
+      let c = counts_of id before in
+      let d = counts (samples_of id e.1.kind) in (
+        seen_all p None c,
+        seen_all p (last_of p None c) d,
+        subst (λ (answers : List Seen). AreSeen p (c ++ d) answers) (seen-append p None c d) (seen_from p (c ++ d) [] [] None (none_seen p) none_last),
+        seen-length p (last_of p None c) d ∙ counts-length (samples_of id e.1.kind),
+        refl,
+      );
+  last = λ f. refl;
+}
+
+-- an event was written, and the watch stands after it
+pub watches : {A : Type 0} (p q n : ℕ) (id : List ℕ) (before : List (ℕ × Event A)) (event : Event A) (last after : Option ℕ) (found : Bool) (old new : List ℕ) → last ≡ last_of p None (counts_of id before) → q ≡ p
+    → new ≡ old ++ (watched n id event.kind (seen_all p last (counts (samples_of id event.kind)))).0 → found ≡ (watched n id event.kind (seen_all p last (counts (samples_of id event.kind)))).1
+    → after ≡ last_of p last (counts (samples_of id event.kind))
+    → Takes (watch_text p id) (λ (items : List (ℕ × Event A)). after ≡ last_of q None (counts_of id items)) before (n, event) (Ok found) old new
+watches p q n id before event last after found old new stands same wrote finds keeps =
+    let said = watched n id event.kind (seen_all p last (counts (samples_of id event.kind))) in (
+      said.0,
+      ap (λ (o : Option ℕ). Ok (watched n id event.kind (seen_all p o (counts (samples_of id event.kind))))) (sym stands) ∙ ap (λ (f : Bool). Ok (said.0, f)) (sym finds),
+      wrote,
+      keeps ∙ last-push p id before (n, event) last stands ∙ ap (λ (k : ℕ). last_of k None (counts_of id (before ++ (n, event) ∷ []))) (sym same),
+    )
+
+-- where nothing is written of an event, it has no sample
+pub no_samples : {A : Type 0} (p n : ℕ) (id : List ℕ) (last : Option ℕ) (k : EventKind A) → (watched n id k (seen_all p last (counts (samples_of id k)))).0 ≡ [] → samples_of id k ≡ []
+no_samples p n id last kinds.Clock none = refl
+no_samples p n id last (kinds.Mode on) none = refl
+no_samples p n id last (kinds.Frame octets) none = of_frame (frame_at octets) none
+  where
+    of_frame : (r : Result (Frame (Unit {0})) Fault) → (frame_watched n id r (seen_all p last (counts (samples_read id r)))).0 ≡ [] → samples_read id r ≡ []
+    of_frame (Ok f) none = no_sample n (samples_in id f.apdu) _ (seen-length p last (counts (samples_in id f.apdu)) ∙ counts-length (samples_in id f.apdu)) none
+    of_frame (Err f) none = absurd (fault_there n f none)
+
+map-push : {X Y : Type 0} (f : X → Y) (xs : List X) (x : X) → map f (xs ++ x ∷ []) ≡ map f xs ++ f x ∷ []
+map-push f [] x = refl
+map-push f (y ∷ xs) x = ap (λ (l : List _). f y ∷ l) (map-push f xs x)
+
+map-length : {X Y : Type 0} (f : X → Y) (xs : List X) → length (map f xs) ≡ length xs
+map-length f [] = refl
+map-length f (x ∷ xs) = ap suc (map-length f xs)
+
+-- one ASDU more
+pub asdu_more : (p q n : ℕ) (id : List ℕ) (v : SvView) (yielded : List AsduView) (asdu : AsduView) (rest others : List (Asdu (Unit {0}))) (last mid after : Option ℕ) (a b c : List ℕ) (f g : Bool) (position next : ℕ)
+    → map (asdu_of {A = Unit {0}}) yielded ++ rest ≡ asdus_left v.asdus → rest ≡ asdu_of asdu ∷ others
+    → SamplesSaid p n last (samples_from 0 id (map (asdu_of {A = Unit {0}}) yielded)) a b f mid → q ≡ p → position ≡ length yielded
+    → SamplesSaid q n mid (sample_at position id (asdu_of {A = Unit {0}} asdu)) b c g after → next ≡ min v.count (position + 1)
+    → (map (asdu_of {A = Unit {0}}) (yielded ++ asdu ∷ []) ++ others ≡ asdus_left v.asdus)
+    × SamplesSaid p n last (samples_from 0 id (map (asdu_of {A = Unit {0}}) (yielded ++ asdu ∷ []))) a c (f || g) after
+    × (next ≡ length (yielded ++ asdu ∷ []))
+asdu_more p q n id v yielded asdu rest others last mid after a b c f g position next parts first said same at more goes =
+    let one = asdu_of {A = Unit {0}} asdu in
+    let seen = map (asdu_of {A = Unit {0}}) yielded in
+    let pushed : map (asdu_of {A = Unit {0}}) (yielded ++ asdu ∷ []) ≡ seen ++ one ∷ [] = map-push asdu_of yielded asdu in
+    let whole : seen ++ one ∷ others ≡ asdus_left v.asdus = ap (λ (l : List (Asdu (Unit {0}))). seen ++ l) (sym first) ∙ parts in
+    let here : position ≡ length seen = at ∙ sym (map-length (asdu_of {A = Unit {0}}) yielded) in
+    let mine : SamplesSaid p n mid (sample_at (length seen) id one) b c g after =
+    subst (λ (k : ℕ). SamplesSaid p n mid (sample_at k id one) b c g after) here (subst (λ (k : ℕ). SamplesSaid k n mid (sample_at position id one) b c g after) same more) in
+    let both = said_after p n last mid after (samples_from 0 id seen) (sample_at (length seen) id one) a b c f g said mine in
+    let samples : samples_from 0 id seen ++ sample_at (length seen) id one ≡ samples_from 0 id (map (asdu_of {A = Unit {0}}) (yielded ++ asdu ∷ [])) =
+    sym (samples-push id seen one) ∙ ap (samples_from 0 id) (sym pushed) in
+    let count : length (seen ++ one ∷ others) ≡ v.count = ap length whole ∙ sym v.counted in
+    let sizes : length (seen ++ one ∷ others) ≡ length seen + length (one ∷ others) = length-append seen (one ∷ others) in
+    let size : length (yielded ++ asdu ∷ []) ≡ length yielded + 1 = length_push yielded asdu in
+    let room : position + 1 ≤ v.count = omega (arith, count, sizes, here) in (
+      ap (λ (l : List (Asdu (Unit {0}))). l ++ others) pushed ∙ append_assoc seen (one ∷ []) others ∙ whole,
+      subst (λ (l : List (ℕ × ℕ)). SamplesSaid p n last l a c (f || g) after) samples both,
+      omega (arith, goes, room, at, size),
+    )

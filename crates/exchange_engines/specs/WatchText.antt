@@ -1,0 +1,89 @@
+-- The text of `watch`: what the counter of a stream of samples (IEC 61850-9-2, smpCnt) does, ASDU by ASDU.
+use Rattle.std.specs.Prelude.{◌≡◌, ℕ, ◌+◌, List, [], ◌∷◌, ◌++◌, length, map, Bool, true, false, if◌then◌else◌, Result, Ok, Err}
+use Rattle.std.specs.List.{flat_map, list_any}
+use Rattle.std.specs.Str.{bytes_eq}
+use Rattle.ber_core.specs.declared.fault.Fault.{Fault}
+use Rattle.pdu_core.specs.declared.sampled.asdu.Asdu.{Asdu}
+use Rattle.list_core.specs.declared.event.Event.{Event}
+use Rattle.list_core.specs.declared.event.EventKind.{EventKind}
+use Rattle.list_core.specs.declared.event.EventKind.TheVariants as kinds
+use Rattle.frame_core.specs.declared.frame.Apdu.{Apdu}
+use Rattle.frame_core.specs.declared.frame.Apdu.TheVariants as apdus
+use Rattle.frame_core.specs.declared.frame.Frame.{Frame}
+use Rattle.list_core.specs.declared.line_rules.ItemFault.{ItemFault}
+use Rattle.list_core.specs.declared.list_fault.ListCause.{ListCause}
+use Rattle.frame_core.specs.FrameReading.{frame_at}
+use Rattle.list_core.specs.ListReader.{list_fault_of}
+use Rattle.subscribe_core.specs.declared.watch.Seen.{Seen}
+use Rattle.subscribe_core.specs.declared.watch.Seen.TheVariants as seen
+use Rattle.subscribe_core.specs.Watch.{AreSeen}
+use Rattle.engine_core.specs.EngineText.{Text}
+use Rattle.text_core.specs.LineText.{fault_line, list_line}
+use Rattle.exchange_engines.specs.SampleLine.{sample_line}
+
+-- the position and smpCnt of an ASDU, if it is of the stream with this svID
+abbrev pub sample_at : {A : Type 0} → ℕ → List ℕ → Asdu A → List (ℕ × ℕ)
+sample_at k id a = if bytes_eq a.sv_id id then (k, a.smp_cnt) ∷ [] else []
+
+-- those of ASDUs from a position on
+abbrev pub samples_from : {A : Type 0} → ℕ → List ℕ → List (Asdu A) → List (ℕ × ℕ)
+samples_from k id [] = []
+samples_from k id (a ∷ others) = sample_at k id a ++ samples_from (k + 1) id others
+
+-- those of what a frame carries
+abbrev pub samples_in : {A : Type 0} → List ℕ → Apdu A → List (ℕ × ℕ)
+samples_in id (apdus.Goose p) = []
+samples_in id (apdus.Sampled p) = samples_from 0 id p.asdus
+
+-- those of octets, which read so
+abbrev pub samples_read : {A : Type 0} → List ℕ → Result (Frame A) Fault → List (ℕ × ℕ)
+samples_read id (Ok f) = samples_in id f.apdu
+samples_read id (Err f) = []
+
+-- those of an event
+abbrev pub samples_of : {A : Type 0} → List ℕ → EventKind A → List (ℕ × ℕ)
+samples_of id (kinds.Frame octets) = samples_read {A = Unit {0}} id (frame_at octets)
+samples_of id kinds.Clock = []
+samples_of id (kinds.Mode on) = []
+
+-- their counts
+abbrev pub counts : List (ℕ × ℕ) → List ℕ
+counts samples = map (λ s. s.1) samples
+
+-- the counts of a stream over several events
+abbrev pub counts_of : {A : Type 0} → List ℕ → List (ℕ × Event A) → List ℕ
+counts_of id items = flat_map (λ e. counts (samples_of id e.1.kind)) items
+
+-- the lines of samples with these answers
+abbrev pub sample_lines : ℕ → List (ℕ × ℕ) → List Seen → List ℕ
+sample_lines n [] answers = []
+sample_lines n (s ∷ samples) [] = []
+sample_lines n (s ∷ samples) (answer ∷ answers) = sample_line n s answer ++ sample_lines n samples answers
+
+-- neither the first count nor the next one
+abbrev pub is_unexpected : Seen → Bool
+is_unexpected seen.First = false
+is_unexpected seen.Next = false
+is_unexpected (seen.Skipped missing) = true
+is_unexpected seen.Same = true
+is_unexpected seen.Late = true
+is_unexpected seen.OutOfRange = true
+
+-- what is written of octets, which read so, and whether it is a finding: a fault, or a count that is unexpected
+abbrev pub frame_watched : {A : Type 0} → ℕ → List ℕ → Result (Frame A) Fault → List Seen → List ℕ × Bool
+frame_watched n id (Err f) answers = (fault_line n f, true)
+frame_watched n id (Ok f) answers = (sample_lines n (samples_in id f.apdu) answers, list_any is_unexpected answers)
+
+-- what is written of an event, with the answers to its counts: nothing of the clock and of modes
+abbrev pub watched : {A : Type 0} → ℕ → List ℕ → EventKind A → List Seen → List ℕ × Bool
+watched n id (kinds.Frame octets) answers = frame_watched {A = Unit {0}} n id (frame_at octets) answers
+watched n id kinds.Clock answers = ([], false)
+watched n id (kinds.Mode on) answers = ([], false)
+
+-- What `watch` writes of the stream with this svID: for each of its ASDUs what its count is, over all counts of the stream up to it.
+pub record IsWatchText {A : Type 0} (period : ℕ) (id : List ℕ) (t : Text (Event A) ListCause) : Type 0 where
+  pub first : t.first ≡ []
+  pub step : (before : List (ℕ × Event A)) (e : ℕ × Event A) → (earlier : List Seen) × (answers : List Seen)
+      × AreSeen period (counts_of id before ++ counts (samples_of id e.1.kind)) (earlier ++ answers)
+      × (length answers ≡ length (samples_of id e.1.kind)) × (t.step before e ≡ Ok (watched e.0 id e.1.kind answers))
+  pub last : (f : ItemFault ListCause) → t.last f ≡ list_line (list_fault_of f)

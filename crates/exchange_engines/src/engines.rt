@@ -1,0 +1,5 @@
+//! What each subcommand reads and writes.
+
+pub mod publish;
+pub mod replay;
+pub mod watch;

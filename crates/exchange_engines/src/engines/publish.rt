@@ -1,0 +1,275 @@
+//! `publish`: the list of what a publisher sends that a script sets up and calls.
+ghost use Rattle.std.specs.Prelude.{◌≡◌, [], ℕ, List, IfErr, IfOk, OnOk, Some, false};
+ghost use Rattle.list_core.specs.declared.device.InputEnd.{InputEnd};
+ghost use Rattle.list_core.specs.Device.{GivesOctets};
+ghost use Rattle.publish_core.specs.Frames.{Setup, change, setup};
+ghost use Rattle.publish_core.specs.Run.{Call, Changed, Polled, call};
+ghost use Rattle.publish_core.specs.Standing.{PublisherStandsAfter};
+ghost use Rattle.script_core.specs.declared.script.ScriptCause.{ScriptCause as SpecCause};
+ghost use Rattle.script_core.specs.declared.script.ScriptItem.{ScriptItem as SpecItem};
+ghost use Rattle.script_core.specs.declared.script.ScriptLines.TheVariants.{First};
+ghost use Rattle.engine_core.specs.EngineText.{Text, Writes, is_write_fault};
+ghost use Rattle.exchange_engines.specs.PublishText.{IsPublishText, IsScriptSound, script_cause};
+ghost use Rattle.exchange_engines.specs.PublishStep.{Holds, Progress, Runs, TakesCall, TakesItem, progress_after, publish_text, setup_cause};
+ghost use Rattle.script_core.specs.Script.{script_rules};
+
+use crate::texts::script::put_script_line;
+use arrayvec::ArrayVec;
+use engine_core::{Ending, Engine, run};
+use frame_core::{ItemFault, LineError, Sink, Source};
+use mms_data::{UtcTime, ValueList};
+use publish_core::{Control, PublishFault, Publisher, Step, Table};
+use script_core::{ScriptCause, ScriptItem, ScriptLines};
+use std::alloc::{AllocError, Allocator};
+use std::mem;
+use text_core::event::put_frame_event;
+
+/// How far a script has come.
+#[derive(Drop)]
+pub enum Stage<A: Allocator> {
+    /// Nothing was said.
+    Start,
+    /// The control line was read, with the status number of the first state, and these steps.
+    Setup(Control<A>, u32, ArrayVec<Step, 16>),
+    /// A call was made.
+    Running(Publisher<A>),
+}
+
+// How a script names why something is refused.
+fn cause_of(fault: PublishFault) -> ScriptCause
+    ensures { result ≡ script_cause fault }
+{
+    match fault {
+        PublishFault::StepCount => ScriptCause::StepCount,
+        PublishFault::StepTimes(_) => ScriptCause::StepTimes,
+        PublishFault::FirstState => ScriptCause::FirstState,
+        PublishFault::EntriesDiffer => ScriptCause::EntriesDiffer,
+        PublishFault::NotSpellable => ScriptCause::NotSpellable,
+        PublishFault::WouldNotFit => ScriptCause::WouldNotFit,
+    }
+}
+
+// A publisher that is set up so.
+fn set_up<A: Allocator>(
+    control: Control<A>,
+    first: u32,
+    steps: &[Step],
+) -> Result<Publisher<A>, ScriptCause>
+    ensures stands { IfOk result (λ s. PublisherStandsAfter (setup control steps.now first) [] s) }
+    ensures sound { OnOk result (IsScriptSound (setup control steps.now first)) }
+    ensures cause { IfErr result (λ why. setup_cause (setup control steps.now first) ≡ Some why) }
+{
+    let table = match Table::new(steps) {
+        Ok(table) => table,
+        Err(fault) => return Err(cause_of(fault)),
+    };
+    match Publisher::new(control, table, first) {
+        Ok(publisher) => Ok(publisher),
+        Err(fault) => Err(cause_of(fault)),
+    }
+}
+
+// The publisher that runs from the first call on.
+fn running<A: Allocator>(stage: Stage<A>) -> Result<Publisher<A>, ScriptCause>
+    ensures { (g : Progress A) → Holds stage g → Runs g result }
+{
+    match stage {
+        Stage::Start => Err(ScriptCause::ScriptForm),
+        Stage::Setup(control, first, steps) => set_up(control, first, steps.as_slice()),
+        Stage::Running(publisher) => Ok(publisher),
+    }
+}
+
+// Changes the data set, and appends the line of the frame that this gives.
+fn put_change<A: Allocator>(
+    publisher: &mut Publisher<A>,
+    line: &mut Vec<u8, A>,
+    moment: u64,
+    t: UtcTime,
+    values: ValueList<A>,
+) -> Result<(), LineError<ScriptCause>>
+    ensures { (p : Setup A) (calls : List Call) → IsScriptSound p → PublisherStandsAfter p calls publisher.old →
+        TakesCall p calls (call moment (Changed (change t values))) result line.old.items line.new.items publisher.new }
+{
+    let first = match publisher.change(moment, t, values) {
+        Ok(first) => first,
+        Err((fault, _values)) => return Err(LineError::Cause(cause_of(fault))),
+    };
+    match put_frame_event(line, publisher.moment(), first.as_slice()) {
+        Ok(()) => Ok(()),
+        Err(error) => Err(LineError::Memory(error)),
+    }
+}
+
+// Asks for a frame, and appends its line where there is one.
+fn put_poll<A: Allocator>(
+    publisher: &mut Publisher<A>,
+    line: &mut Vec<u8, A>,
+    moment: u64,
+) -> Result<(), LineError<ScriptCause>>
+    ensures { (p : Setup A) (calls : List Call) → IsScriptSound p → PublisherStandsAfter p calls publisher.old →
+        TakesCall p calls (call moment Polled) result line.old.items line.new.items publisher.new }
+{
+    let Some(next) = publisher.poll(moment) else {
+        return Ok(());
+    };
+    match put_frame_event(line, publisher.moment(), next.as_slice()) {
+        Ok(()) => Ok(()),
+        Err(error) => Err(LineError::Memory(error)),
+    }
+}
+
+// Takes the control line.
+fn take_control<A: Allocator>(
+    stage: Stage<A>,
+    control: Control<A>,
+    first: u32,
+) -> Result<Stage<A>, LineError<ScriptCause>>
+    ensures { (g : Progress A) → Holds stage g → (text : List ℕ) → TakesItem g (SpecItem.Control control first) result text text }
+{
+    match stage {
+        Stage::Start => Ok(Stage::Setup(control, first, ArrayVec::new())),
+        _ => Err(LineError::Cause(ScriptCause::ScriptForm)),
+    }
+}
+
+// Takes a step of the table.
+fn take_step<A: Allocator>(stage: Stage<A>, step: Step) -> Result<Stage<A>, LineError<ScriptCause>>
+    ensures { (g : Progress A) → Holds stage g → (text : List ℕ) → TakesItem g (SpecItem.Step step) result text text }
+{
+    match stage {
+        Stage::Setup(control, first, mut steps) => match steps.try_push(step) {
+            Ok(()) => Ok(Stage::Setup(control, first, steps)),
+            Err(_) => Err(LineError::Cause(ScriptCause::StepCount)),
+        },
+        _ => Err(LineError::Cause(ScriptCause::ScriptForm)),
+    }
+}
+
+// Takes a change, and appends what it writes.
+fn take_change<A: Allocator>(
+    stage: Stage<A>,
+    line: &mut Vec<u8, A>,
+    moment: u64,
+    t: UtcTime,
+    values: ValueList<A>,
+) -> Result<Stage<A>, LineError<ScriptCause>>
+    ensures { (g : Progress A) → Holds stage g → TakesItem g (SpecItem.Change moment t values) result line.old.items line.new.items }
+{
+    match running(stage) {
+        Ok(mut publisher) => match put_change(&mut publisher, line, moment, t, values) {
+            Ok(()) => Ok(Stage::Running(publisher)),
+            Err(error) => Err(error),
+        },
+        Err(cause) => Err(LineError::Cause(cause)),
+    }
+}
+
+// Takes a poll, and appends what it writes.
+fn take_poll<A: Allocator>(
+    stage: Stage<A>,
+    line: &mut Vec<u8, A>,
+    moment: u64,
+) -> Result<Stage<A>, LineError<ScriptCause>>
+    ensures { (g : Progress A) → Holds stage g → TakesItem g (SpecItem.Poll moment) result line.old.items line.new.items }
+{
+    match running(stage) {
+        Ok(mut publisher) => match put_poll(&mut publisher, line, moment) {
+            Ok(()) => Ok(Stage::Running(publisher)),
+            Err(error) => Err(error),
+        },
+        Err(cause) => Err(LineError::Cause(cause)),
+    }
+}
+
+// Takes an item, and appends what it writes.
+fn take_item<A: Allocator>(
+    stage: Stage<A>,
+    line: &mut Vec<u8, A>,
+    item: ScriptItem<A>,
+) -> Result<Stage<A>, LineError<ScriptCause>>
+    ensures { (g : Progress A) → Holds stage g → TakesItem g item result line.old.items line.new.items }
+{
+    match item {
+        ScriptItem::Control(control, first) => take_control(stage, control, first),
+        ScriptItem::Step(step) => take_step(stage, step),
+        ScriptItem::Change(moment, t, values) => take_change(stage, line, moment, t, values),
+        ScriptItem::Poll(moment) => take_poll(stage, line, moment),
+    }
+}
+
+/// What `publish` writes: what a publisher answers.
+#[derive(Drop)]
+struct Publishing<A: Allocator> {
+    stage: Stage<A>,
+}
+
+impl<A: Allocator> Engine<A> for Publishing<A> {
+    type Item = ScriptItem<A>;
+
+    type Cause = ScriptCause;
+
+    ghost text = { λ _. publish_text };
+
+    ghost stands = { λ s before. Holds s.stage (progress_after before) };
+
+    fn put_item(
+        &mut self,
+        line: &mut Vec<u8, A>,
+        _number: u64,
+        item: ScriptItem<A>,
+    ) -> Result<bool, LineError<ScriptCause>> {
+        let stage = mem::replace(&mut self.stage, Stage::Start);
+        match take_item(stage, line, item) {
+            Ok(stage) => {
+                self.stage = stage;
+                Ok(false)
+            }
+            Err(error) => Err(error),
+        }
+    }
+
+    fn put_last(
+        &self,
+        line: &mut Vec<u8, A>,
+        fault: &ItemFault<ScriptCause>,
+    ) -> Result<(), AllocError> {
+        put_script_line(line, fault)
+    }
+}
+
+/// Runs a publisher by a script, and writes the list of what it sends: first the line `V2`, before
+/// anything is read; then, for each accepted change and each poll that gives a frame, the line of
+/// that frame with the publisher's moment, in microseconds. A poll that gives none writes nothing.
+/// Where the script has a fault, or a change is refused, the last line is a comment with the number
+/// of the line and the cause, and the run ends with `InputFault`.
+///
+/// The reader is Open and the writer has not failed. The text is that of the octets that the reader
+/// gave: whole at `Done`, `InputFault` and `ReadFault`, a front of it at `WriteFault`, and the line
+/// `V2` with the lines of the earlier calls at `Memory`. At `Memory` and `WriteFault` at most 8,192
+/// of the octets given stand from the start of the line on at which the run stopped. `Memory` is for
+/// a control line, a change or a line to be written, never for a step, for a poll that gives no frame
+/// or for the script's end.
+pub fn publish<A: Allocator + Copy, R: Source, W: Sink>(
+    alloc: A,
+    reader: R,
+    writer: &mut W,
+) -> (Ending, R)
+    requires open { R.ending reader ≡ InputEnd.Open }
+    requires works { W.failed writer.old ≡ false }
+    ensures text { (given : List ℕ) × GivesOctets (R.left reader) (R.left result.1) given
+        × ((t : Text (SpecItem A) SpecCause) × IsPublishText t × Writes script_rules First t result.0 (R.ending result.1) given (W.contents writer.old) (W.contents writer.new)) }
+    ensures read_fault { result.0 ≡ Ending.ReadFault → R.ending result.1 ≡ InputEnd.Failed }
+    ensures fault { W.failed writer.new ≡ is_write_fault result.0 }
+{
+    run(
+        alloc,
+        ScriptLines::First,
+        Publishing {
+            stage: Stage::Start,
+        },
+        b"V2\n",
+        reader,
+        writer,
+    )
+}

@@ -1,0 +1,193 @@
+//! `watch`: what the counter of a stream of samples does.
+ghost use Rattle.std.specs.Prelude.{◌≡◌, ◌++◌, [], ℕ, List, None, false, IsOk, MatchResult};
+ghost use Rattle.list_core.specs.declared.device.InputEnd.{InputEnd};
+ghost use Rattle.list_core.specs.declared.event.Event.{Event as SpecEvent};
+ghost use Rattle.list_core.specs.declared.event_lines.EventLines.TheVariants.{First};
+ghost use Rattle.list_core.specs.declared.list_fault.ListCause.{ListCause as SpecCause};
+ghost use Rattle.list_core.specs.Device.{GivesOctets};
+ghost use Rattle.list_core.specs.EventLine.{event_rules};
+ghost use Rattle.pdu_core.specs.SampledViews.{asdu_of, asdus_left};
+ghost use Rattle.block_core.specs.Period.{IsPeriod};
+ghost use Rattle.subscribe_core.specs.Watch.{seen_all};
+ghost use Rattle.engine_core.specs.EngineText.{Text, Writes, is_write_fault};
+ghost use Rattle.exchange_engines.specs.WatchText.{IsWatchText, counts, counts_of, is_unexpected as unexpected, sample_at, samples_from, samples_of, watched};
+ghost use Rattle.exchange_engines.specs.WatchStep.{SamplesSaid, last_of, watch_text};
+
+use crate::texts::watched::put_sample;
+use engine_core::{Ending, Engine, run};
+use frame_core::{
+    ApduView, Event, EventKind, EventLines, ItemFault, LineError, ListCause, Sink, Source,
+    fault_of_list, view_frame,
+};
+use pdu_core::{AsduView, SvView};
+use std::alloc::{AllocError, Allocator};
+use subscribe_core::{Seen, Watch};
+use text_core::line::{put_fault_line, put_list_line};
+
+// Whether a count is neither the first nor the next one.
+fn is_unexpected(seen: Seen) -> bool
+    ensures { result ≡ unexpected seen }
+{
+    match seen {
+        Seen::First | Seen::Next => false,
+        Seen::Skipped(_) | Seen::Same | Seen::Late | Seen::OutOfRange => true,
+    }
+}
+
+// Appends the line of an ASDU's count, if it is of the stream, and answers whether the count is unexpected.
+fn put_asdu<A: Allocator>(
+    watch: &mut Watch,
+    id: &[u8],
+    line: &mut Vec<u8, A>,
+    number: u64,
+    position: u64,
+    asdu: &AsduView<'_>,
+) -> Result<bool, AllocError>
+    ensures said { MatchResult result
+        (λ found. SamplesSaid watch.old.period number watch.old.last (sample_at position id.now (asdu_of {A = Unit {0}} asdu.now)) line.old.items line.new.items found watch.new.last)
+        (λ _. Unit {0}) }
+    ensures quiet { sample_at position id.now (asdu_of {A = Unit {0}} asdu.now) ≡ [] → IsOk result }
+    ensures period { watch.new.period ≡ watch.old.period }
+{
+    if asdu.sv_id != id {
+        return Ok(false);
+    }
+    let seen = watch.see(asdu.smp_cnt);
+    put_sample(line, number, position, asdu.smp_cnt, seen)?;
+    Ok(is_unexpected(seen))
+}
+
+// Appends the lines of the stream's ASDUs, and answers whether one of their counts is unexpected.
+fn put_asdus<A: Allocator>(
+    watch: &mut Watch,
+    id: &[u8],
+    line: &mut Vec<u8, A>,
+    number: u64,
+    sampled: &SvView<'_>,
+) -> Result<bool, AllocError>
+    ensures said { MatchResult result
+        (λ found. SamplesSaid watch.old.period number watch.old.last (samples_from 0 id.now (asdus_left {A = Unit {0}} sampled.now.asdus)) line.old.items line.new.items found watch.new.last)
+        (λ _. Unit {0}) }
+    ensures quiet { samples_from 0 id.now (asdus_left {A = Unit {0}} sampled.now.asdus) ≡ [] → IsOk result }
+    ensures period { watch.new.period ≡ watch.old.period }
+{
+    let count = sampled.count as u64;
+    let mut position = 0;
+    let mut found = false;
+    for asdu in sampled.asdus {
+        found |= put_asdu(watch, id, line, number, position, &asdu)?;
+        position = count.min(position + 1);
+    }
+    Ok(found)
+}
+
+// Appends what is written of an event, and answers whether it is a finding.
+fn put_event<A: Allocator>(
+    watch: &mut Watch,
+    id: &[u8],
+    line: &mut Vec<u8, A>,
+    number: u64,
+    kind: &EventKind<A>,
+) -> Result<bool, AllocError>
+    ensures said { MatchResult result
+        (λ found. (line.new.items ≡ line.old.items ++ (watched number id.now kind.now (seen_all watch.old.period watch.old.last (counts (samples_of id.now kind.now)))).0)
+        × (found ≡ (watched number id.now kind.now (seen_all watch.old.period watch.old.last (counts (samples_of id.now kind.now)))).1)
+        × (watch.new.last ≡ last_of watch.old.period watch.old.last (counts (samples_of id.now kind.now))))
+        (λ _. Unit {0}) }
+    ensures quiet { (watched number id.now kind.now (seen_all watch.old.period watch.old.last (counts (samples_of id.now kind.now)))).0 ≡ [] → IsOk result }
+    ensures period { watch.new.period ≡ watch.old.period }
+{
+    let EventKind::Frame(octets) = kind else {
+        return Ok(false);
+    };
+    match view_frame(octets.as_slice()) {
+        Err(fault) => {
+            put_fault_line(line, number, fault)?;
+            Ok(true)
+        }
+        Ok(view) => match &view.apdu {
+            ApduView::Goose(_) => Ok(false),
+            ApduView::Sampled(sampled) => put_asdus(watch, id, line, number, sampled),
+        },
+    }
+}
+
+/// What `watch` writes: what a watch over the stream's counts sees.
+#[derive(Drop)]
+struct Watching<'a> {
+    watch: Watch,
+    id: &'a [u8],
+}
+
+impl<A: Allocator> Engine<A> for Watching<'_> {
+    type Item = Event<A>;
+
+    type Cause = ListCause;
+
+    ghost text = { λ s. watch_text s.watch.period s.id.now };
+
+    ghost stands = { λ s before. s.watch.last ≡ last_of s.watch.period None (counts_of s.id.now before) };
+
+    fn put_item(
+        &mut self,
+        line: &mut Vec<u8, A>,
+        number: u64,
+        event: Event<A>,
+    ) -> Result<bool, LineError<ListCause>> {
+        match put_event(&mut self.watch, self.id, line, number, &event.kind) {
+            Ok(found) => Ok(found),
+            Err(error) => Err(LineError::Memory(error)),
+        }
+    }
+
+    fn put_last(
+        &self,
+        line: &mut Vec<u8, A>,
+        fault: &ItemFault<ListCause>,
+    ) -> Result<(), AllocError> {
+        put_list_line(line, fault_of_list(fault))
+    }
+}
+
+/// Writes what the counter of a stream of samples does: a line for each ASDU with this svID, with its
+/// position in the frame and its count, and whether that is the first one, the next one, so many later,
+/// the same, a late one or out of range; and a line for each faulty frame. One counter runs over all
+/// ASDUs and frames of the stream; it begins at 0 again after `period` counts, 2 to 65,536. Where the
+/// list has a fault, a last line tells it.
+///
+/// Ends with `Findings` where a line other than `first` or `next` was written, and else with `Done`,
+/// unless the list has a fault.
+///
+/// The reader is Open and the writer has not failed. The text is that of the octets that the reader
+/// gave: whole at `Done`, `Findings`, `InputFault` and `ReadFault`, a front of it at `WriteFault`, and
+/// whole lines of the earlier events at `Memory`. At `Memory` and `WriteFault` at most 8,192 of the
+/// octets given stand from the start of the line on at which the run stopped. `Memory` is for a frame or a
+/// line to be written, never for the clock, a mode or the list's end.
+pub fn watch<A: Allocator + Copy, R: Source, W: Sink>(
+    alloc: A,
+    reader: R,
+    period: u32,
+    id: &[u8],
+    writer: &mut W,
+) -> (Ending, R)
+    requires open { R.ending reader ≡ InputEnd.Open }
+    requires works { W.failed writer.old ≡ false }
+    requires period { IsPeriod period }
+    ensures text { (given : List ℕ) × GivesOctets (R.left reader) (R.left result.1) given
+        × ((t : Text (SpecEvent A) SpecCause) × IsWatchText period id.now t × Writes event_rules First t result.0 (R.ending result.1) given (W.contents writer.old) (W.contents writer.new)) }
+    ensures read_fault { result.0 ≡ Ending.ReadFault → R.ending result.1 ≡ InputEnd.Failed }
+    ensures fault { W.failed writer.new ≡ is_write_fault result.0 }
+{
+    match Watch::new(period) {
+        Ok(watch) => run(
+            alloc,
+            EventLines::First,
+            Watching { watch, id },
+            b"",
+            reader,
+            writer,
+        ),
+        // The period is in range.
+        Err(_) => unreachable!(),
+    }
+}

@@ -1,0 +1,10 @@
+//! The engines that speak of what publishers and receiving devices do over a whole list or script: `replay`, `watch` and
+//! `publish`.
+#![tactic(auto)]
+
+mod engines;
+pub mod texts;
+
+pub use crate::engines::publish::publish;
+pub use crate::engines::replay::replay;
+pub use crate::engines::watch::watch;

@@ -1,0 +1,161 @@
+//! The lines of a subscriber's entries.
+ghost use Rattle.std.specs.Prelude.{◌≡◌, ◌++◌, [], IsOk, OnOk, codes};
+ghost use Rattle.subscribe_core.specs.declared.entry.Entry.TheVariants.{Refused};
+ghost use Rattle.exchange_engines.specs.EntryText.{entry_head, entry_line, entry_lines, pair_line, pair_text};
+ghost use Rattle.text_core.specs.ValueText.{members_text, time_text};
+
+use crate::texts::names::reason_name;
+use mms_data::{UtcTime, ValueList};
+use std::alloc::{AllocError, Allocator};
+use subscribe_core::{Entry, Reason};
+use text_core::fields::put_number;
+use text_core::line::put_fault_line;
+use text_core::owned::put_values;
+use text_core::pieces::put_decimal;
+use text_core::value::put_utc;
+
+// Appends the number of a line, a word, and the position of a block.
+fn put_head<A: Allocator>(
+    out: &mut Vec<u8, A>,
+    number: u64,
+    word: &[u8],
+    block: usize,
+) -> Result<(), AllocError>
+    ensures { OnOk result (out.new.items ≡ out.old.items ++ entry_head number word.now block) }
+{
+    put_decimal(out, number)?;
+    out.extend_from_slice(word)?;
+    put_decimal(out, block as u64)
+}
+
+// Appends a line of a word and the position of a block.
+fn put_word<A: Allocator>(
+    out: &mut Vec<u8, A>,
+    number: u64,
+    word: &[u8],
+    block: usize,
+) -> Result<(), AllocError>
+    ensures { OnOk result (out.new.items ≡ out.old.items ++ (entry_head number word.now block ++ codes "\n")) }
+{
+    put_head(out, number, word, block)?;
+    out.extend_from_slice(b"\n")
+}
+
+// Appends a frame's stNum and sqNum.
+fn put_pair<A: Allocator>(out: &mut Vec<u8, A>, state: u32, sequence: u32) -> Result<(), AllocError>
+    ensures { OnOk result (out.new.items ≡ out.old.items ++ pair_text state sequence) }
+{
+    put_number(out, b" st=", state)?;
+    put_number(out, b" sq=", sequence)
+}
+
+// Appends a line about a frame's numbers.
+fn put_pair_line<A: Allocator>(
+    out: &mut Vec<u8, A>,
+    number: u64,
+    word: &[u8],
+    block: usize,
+    state: u32,
+    sequence: u32,
+) -> Result<(), AllocError>
+    ensures { OnOk result (out.new.items ≡ out.old.items ++ pair_line number word.now block state sequence) }
+{
+    put_head(out, number, word, block)?;
+    put_pair(out, state, sequence)?;
+    out.extend_from_slice(b"\n")
+}
+
+// Appends what was published with a state: its time and its members.
+fn put_data<A: Allocator>(
+    out: &mut Vec<u8, A>,
+    t: UtcTime,
+    members: &ValueList<A>,
+) -> Result<(), AllocError>
+    ensures { OnOk result (out.new.items ≡ out.old.items ++ ((codes " t=" ++ time_text t) ++ (codes " " ++ members_text members.now) ++ codes "\n")) }
+{
+    out.extend_from_slice(b" t=")?;
+    put_utc(out, t)?;
+    out.extend_from_slice(b" ")?;
+    put_values(out, members)?;
+    out.extend_from_slice(b"\n")
+}
+
+// Appends the line of a frame that is refused.
+fn put_refused<A: Allocator>(
+    out: &mut Vec<u8, A>,
+    number: u64,
+    block: usize,
+    reason: Reason,
+) -> Result<(), AllocError>
+    ensures { OnOk result (out.new.items ≡ out.old.items ++ entry_line {A = Unit {0}} number (Refused block reason)) }
+{
+    put_head(out, number, b" refused ", block)?;
+    out.extend_from_slice(b" ")?;
+    out.extend_from_slice(reason_name(reason))?;
+    out.extend_from_slice(b"\n")
+}
+
+// Appends the line of an entry.
+fn put_entry<A: Allocator>(
+    out: &mut Vec<u8, A>,
+    number: u64,
+    entry: &Entry<A>,
+) -> Result<(), AllocError>
+    ensures { OnOk result (out.new.items ≡ out.old.items ++ entry_line number entry.now) }
+{
+    match entry {
+        Entry::Expired { block } => put_word(out, number, b" expired ", *block),
+        Entry::Switched { block } => put_word(out, number, b" switched ", *block),
+        Entry::Act {
+            block,
+            state,
+            sequence,
+            t,
+            members,
+        } => {
+            put_head(out, number, b" act ", *block)?;
+            put_pair(out, *state, *sequence)?;
+            put_data(out, *t, members)
+        }
+        Entry::Refreshed {
+            block,
+            state,
+            sequence,
+        } => put_pair_line(out, number, b" refreshed ", *block, *state, *sequence),
+        Entry::Repeated {
+            block,
+            state,
+            sequence,
+        } => put_pair_line(out, number, b" repeated ", *block, *state, *sequence),
+        Entry::Older {
+            block,
+            state,
+            sequence,
+        } => put_pair_line(out, number, b" old ", *block, *state, *sequence),
+        Entry::Refused { block, reason } => put_refused(out, number, *block, *reason),
+        Entry::NotSubscribed => {
+            put_decimal(out, number)?;
+            out.extend_from_slice(b" not-subscribed\n")
+        }
+        Entry::Sampled => {
+            put_decimal(out, number)?;
+            out.extend_from_slice(b" sampled\n")
+        }
+        Entry::Faulty(fault) => put_fault_line(out, number, *fault),
+    }
+}
+
+/// Appends the lines of the entries of an event.
+pub fn put_entries<A: Allocator>(
+    out: &mut Vec<u8, A>,
+    number: u64,
+    entries: &[Entry<A>],
+) -> Result<(), AllocError>
+    ensures text { OnOk result (out.new.items ≡ out.old.items ++ entry_lines number entries.now) }
+    ensures quiet { entries.now ≡ [] → IsOk result }
+{
+    for entry in entries {
+        put_entry(out, number, entry)?;
+    }
+    Ok(())
+}

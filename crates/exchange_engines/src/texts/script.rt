@@ -1,0 +1,56 @@
+//! The last line of a publisher's list, where its script has a fault.
+ghost use Rattle.std.specs.Prelude.{◌≡◌, ◌++◌, OnOk, codes};
+ghost use Rattle.std.specs.Fmt.{decimal};
+ghost use Rattle.exchange_engines.specs.ScriptLine.{cause_detail, script_line};
+
+use crate::texts::names::script_cause_name;
+use frame_core::ItemFault;
+use script_core::ScriptCause;
+use std::alloc::{AllocError, Allocator};
+use text_core::names::{cause_name, list_cause_name};
+use text_core::pieces::put_decimal;
+
+// Appends the place and cause of a fault in the members.
+fn put_detail<A: Allocator>(out: &mut Vec<u8, A>, cause: ScriptCause) -> Result<(), AllocError>
+    ensures { OnOk result (out.new.items ≡ out.old.items ++ cause_detail cause) }
+{
+    match cause {
+        ScriptCause::Members(fault) => {
+            out.extend_from_slice(b" ")?;
+            put_decimal(out, fault.place as u64)?;
+            out.extend_from_slice(b" ")?;
+            out.extend_from_slice(cause_name(fault.cause))
+        }
+        _ => Ok(()),
+    }
+}
+
+// Appends how the line begins: that it is a comment, and the number of the bad line.
+fn put_start<A: Allocator>(out: &mut Vec<u8, A>, number: u64) -> Result<(), AllocError>
+    ensures { OnOk result (out.new.items ≡ out.old.items ++ (codes "# " ++ decimal number ++ codes " script ")) }
+{
+    out.extend_from_slice(b"# ")?;
+    put_decimal(out, number)?;
+    out.extend_from_slice(b" script ")
+}
+
+/// Appends the last line, on a fault of the script or where a change is refused.
+pub fn put_script_line<A: Allocator>(
+    out: &mut Vec<u8, A>,
+    fault: &ItemFault<ScriptCause>,
+) -> Result<(), AllocError>
+    ensures { OnOk result (out.new.items ≡ out.old.items ++ script_line fault.now) }
+{
+    match fault {
+        ItemFault::Lines(fault) => {
+            put_start(out, fault.line)?;
+            out.extend_from_slice(list_cause_name(fault.cause))?;
+        }
+        ItemFault::Line(number, cause) => {
+            put_start(out, *number)?;
+            out.extend_from_slice(script_cause_name(*cause))?;
+            put_detail(out, *cause)?;
+        }
+    }
+    out.extend_from_slice(b"\n")
+}

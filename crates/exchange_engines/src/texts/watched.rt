@@ -1,0 +1,44 @@
+//! The lines of the samples of a stream.
+ghost use Rattle.std.specs.Prelude.{◌≡◌, ◌++◌, OnOk};
+ghost use Rattle.exchange_engines.specs.SampleLine.{sample_line, seen_word};
+
+use std::alloc::{AllocError, Allocator};
+use subscribe_core::Seen;
+use text_core::pieces::put_decimal;
+
+// Appends what a count is after those before it.
+fn put_seen<A: Allocator>(out: &mut Vec<u8, A>, seen: Seen) -> Result<(), AllocError>
+    ensures { OnOk result (out.new.items ≡ out.old.items ++ seen_word seen) }
+{
+    match seen {
+        Seen::First => out.extend_from_slice(b" first"),
+        Seen::Next => out.extend_from_slice(b" next"),
+        Seen::Skipped(missing) => {
+            out.extend_from_slice(b" skipped ")?;
+            put_decimal(out, missing as u64)
+        }
+        Seen::Same => out.extend_from_slice(b" same"),
+        Seen::Late => out.extend_from_slice(b" late"),
+        Seen::OutOfRange => out.extend_from_slice(b" out-of-range"),
+    }
+}
+
+/// Appends the line of a sample: the number of the event's line, the position of the ASDU from 0, its
+/// count, and what that is.
+pub fn put_sample<A: Allocator>(
+    out: &mut Vec<u8, A>,
+    number: u64,
+    position: u64,
+    count: u16,
+    seen: Seen,
+) -> Result<(), AllocError>
+    ensures { OnOk result (out.new.items ≡ out.old.items ++ sample_line number (position, count) seen) }
+{
+    put_decimal(out, number)?;
+    out.extend_from_slice(b" ")?;
+    put_decimal(out, position)?;
+    out.extend_from_slice(b" ")?;
+    put_decimal(out, count as u64)?;
+    put_seen(out, seen)?;
+    out.extend_from_slice(b"\n")
+}

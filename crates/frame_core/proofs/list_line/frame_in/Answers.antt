@@ -1,8 +1,0 @@
-use Rattle.std.proofs.Common.{sym, ◌∙◌}
-use Rattle.frame_core.proofs.LineFields.{frame_more}
-use Rattle.frame_core.proofs.list_line.frame_in.Goals as goal
-
-pub returns-then-is_some : goal.returns-then-is_some
-returns-then-is_some g c =
-    let first = rw c.in-Some.is at c.first_field.ensures in
-    frame_more c.args.unit 70 c.args.rest.now c.first_field.result.0.now c.in-Some.rest.now c.first_field-2.result.0.now c.first_field-2.result.1 first c.first_field-2.ensures (sym c.is_some.ensures ∙ c.if-is_some.true)

@@ -1,0 +1,5 @@
+pub mod RewriteLemmas
+pub mod CheckLemmas
+pub mod ImportLemmas
+pub mod WorkedLines
+pub mod WorkedExamples

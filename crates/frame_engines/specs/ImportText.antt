@@ -1,0 +1,82 @@
+-- The text of `import`: a capture as a list of version 2, of which each record is the line of its frame, or a comment where no list can hold it.
+use Rattle.std.specs.Prelude.{◌≡◌, ◌⊎◌, ℕ, Bool, true, false, not, ◌&&◌, nat_le, nat_lt, List, [], ◌++◌, length, Option, codes, if◌then◌else◌}
+use Rattle.std.specs.List.{flat_map, list_any}
+use Rattle.std.specs.Fmt.{decimal}
+use Rattle.std.specs.Io.KnownBytes.{Appends}
+use Rattle.list_core.specs.declared.device.InputEnd.{InputEnd}
+use Rattle.list_core.specs.Device.{AppendsFront}
+use Rattle.list_core.specs.EventLine.{event_text}
+use Rattle.list_core.specs.Lines.{Stop, finished, unfinished, faulty}
+use Rattle.list_core.specs.declared.event.EventKind.TheVariants.{Frame}
+use Rattle.capture_core.specs.Capture.{Capture, CaptureRecord, capture}
+use Rattle.capture_core.specs.declared.capture_fault.CaptureCause.{CaptureCause}
+use Rattle.capture_core.specs.declared.capture_fault.CaptureCause.TheVariants.{CaptureHeader, CaptureShort, RecordLength, TooManyRecords, ReadFailed}
+use Rattle.capture_core.specs.declared.capture_fault.CaptureFault.{CaptureFault}
+use Rattle.engine_core.specs.EngineText.{IsUntouched}
+use Rattle.engine_core.specs.declared.ending.Ending.{Ending}
+use Rattle.engine_core.specs.declared.ending.Ending.TheVariants.{Done, Findings, InputFault, ReadFault, WriteFault, Memory}
+use Rattle.frame_engines.specs.CaptureNames.{name_of_capture_cause}
+
+-- whether a record is left out, since a list has frames of 1 to 2,000 octets alone
+abbrev pub is_left_out : ℕ × CaptureRecord → Bool
+is_left_out r = not (nat_lt 0 (length r.1.octets) && nat_le (length r.1.octets) 2000)
+
+-- the comment on a record of so many octets that is left out
+abbrev pub left_out_line : ℕ → ℕ → List ℕ
+left_out_line n size = codes "# record " ++ decimal n ++ codes " of " ++ decimal size ++ codes " octets left out\n"
+
+-- the line of a frame at a moment
+abbrev pub imported_line : ℕ → List ℕ → List ℕ
+imported_line moment octets = event_text {A = Unit {0}} (record { moment = moment; kind = Frame octets })
+
+-- the line of a record
+abbrev pub record_line : ℕ × CaptureRecord → List ℕ
+record_line r = if is_left_out r then left_out_line r.0 (length r.1.octets) else imported_line r.1.moment r.1.octets
+
+-- the last line, on a fault: a comment
+abbrev pub capture_line : CaptureFault → List ℕ
+capture_line f = codes "# " ++ decimal f.number ++ codes " capture " ++ name_of_capture_cause f.cause ++ codes "\n"
+
+-- what is written last: nothing, unless there is a fault
+abbrev pub last_line : Stop CaptureFault → List ℕ
+last_line finished = []
+last_line unfinished = []
+last_line (faulty f) = capture_line f
+
+-- the text behind the first line
+abbrev pub text_behind : Capture → List ℕ
+text_behind c = flat_map record_line c.records ++ last_line c.stop
+
+-- the whole text
+abbrev pub import_text : Capture → List ℕ
+import_text c = codes "V2\n" ++ text_behind c
+
+-- the ending at a fault: the reader's where it failed, and else the input's
+abbrev pub ending_of_capture : CaptureCause → Ending
+ending_of_capture ReadFailed = ReadFault
+ending_of_capture CaptureHeader = InputFault
+ending_of_capture CaptureShort = InputFault
+ending_of_capture RecordLength = InputFault
+ending_of_capture TooManyRecords = InputFault
+
+-- the capture has a fault with this ending, and the whole text was written
+abbrev pub ImportsToFault : Ending → Capture → Option (List ℕ) → Option (List ℕ) → Type 0
+ImportsToFault ending c old new = (f : CaptureFault) × (c.stop ≡ faulty f) × (ending_of_capture f.cause ≡ ending) × Appends old new (import_text c)
+
+-- the capture has no fault, a record was left out or none was, and the whole text was written
+abbrev pub ImportsToEnd : Bool → Capture → Option (List ℕ) → Option (List ℕ) → Type 0
+ImportsToEnd found c old new = (c.stop ≡ finished) × (list_any is_left_out c.records ≡ found) × Appends old new (import_text c)
+
+-- a front of the text of these octets was written; the reader, which told such an ending before, is untouched, or the first line had been written whole
+abbrev pub ImportsFront : InputEnd → InputEnd → List ℕ → Option (List ℕ) → Option (List ℕ) → Type 0
+ImportsFront before z given old new = AppendsFront old new (import_text (capture z given))
+    × (IsUntouched before z given ⊎ ((held : Option (List ℕ)) × Appends old held (codes "V2\n") × AppendsFront held new (text_behind (capture z given))))
+
+-- What `import` leaves written of the octets that a reader gave, with the endings that it told before and tells after: the whole text at Done, Findings, InputFault and ReadFault, a front of it at WriteFault. It never wants memory.
+abbrev pub Imports : InputEnd → Ending → InputEnd → List ℕ → Option (List ℕ) → Option (List ℕ) → Type 0
+Imports before Done z given old new = ImportsToEnd false (capture z given) old new
+Imports before Findings z given old new = ImportsToEnd true (capture z given) old new
+Imports before InputFault z given old new = ImportsToFault InputFault (capture z given) old new
+Imports before ReadFault z given old new = ImportsToFault ReadFault (capture z given) old new
+Imports before WriteFault z given old new = ImportsFront before z given old new
+Imports before Memory z given old new = ⊥

@@ -1,0 +1,181 @@
+//! `check`: a line for each note on a frame.
+ghost use Rattle.std.specs.Prelude.{◌≡◌, ◌++◌, [], ℕ, List, true, false, ⊤, IsOk, OnOk, MatchResult, Ok};
+ghost use Rattle.list_core.specs.declared.device.InputEnd.{InputEnd};
+ghost use Rattle.list_core.specs.declared.event_lines.EventLines.TheVariants.{First};
+ghost use Rattle.list_core.specs.Device.{GivesOctets};
+ghost use Rattle.list_core.specs.EventLine.{event_rules};
+ghost use Rattle.frame_core.specs.FrameViews.{frame_of};
+ghost use Rattle.frame_core.specs.Written.{ApduIsSpellable};
+ghost use Rattle.frame_engines.specs.CheckText.{check_text, goes_where_recommended, has_text, is_form, note_unless, notes, octets_notes};
+ghost use Rattle.engine_core.specs.EngineText.{Writes, is_write_fault};
+ghost use Rattle.frame_engines.specs.WrittenForm.{fitting_form};
+
+use arrayvec::ArrayVec;
+use byteorder::{BigEndian, ByteOrder};
+use engine_core::{Ending, Engine, run};
+use frame_core::{
+    ApduView, Event, EventKind, EventLines, FrameView, ItemFault, LineError, ListCause, Sink,
+    Source, encode_view, fault_of_list, view_frame,
+};
+use std::alloc::{AllocError, Allocator};
+use text_core::line::{put_fault_line, put_list_line};
+use text_core::pieces::put_decimal;
+
+/// The first recommended destination of GOOSE, 01-0C-CD-01-00-00, and the last.
+const GOOSE_DESTINATIONS: (u64, u64) = (0x010C_CD01_0000, 0x010C_CD01_01FF);
+
+/// The first recommended destination of Sampled Values, 01-0C-CD-04-00-00, and the last.
+const SAMPLED_DESTINATIONS: (u64, u64) = (0x010C_CD04_0000, 0x010C_CD04_01FF);
+
+// Whether octets are those of the written form of the frame that they spell, and this form fits.
+fn is_in_written_form(view: &FrameView<'_>, octets: &[u8]) -> bool
+    requires { ApduIsSpellable (frame_of {A = Unit {0}} view.now).apdu }
+    ensures { result ≡ is_form (fitting_form (Ok (frame_of {A = Unit {0}} view.now))) octets.now }
+{
+    let mut form = ArrayVec::new();
+    match encode_view(view, &mut form) {
+        Ok(()) => form.as_slice() == octets,
+        Err(_) => false,
+    }
+}
+
+// Whether a frame is sent to a destination that is recommended for what it carries.
+fn has_recommended_destination(view: &FrameView<'_>) -> bool
+    ensures { result ≡ goes_where_recommended (frame_of {A = Unit {0}} view.now) }
+{
+    let destination = BigEndian::read_u48(&view.destination);
+    let (first, last) = match view.apdu {
+        ApduView::Goose(_) => GOOSE_DESTINATIONS,
+        ApduView::Sampled(_) => SAMPLED_DESTINATIONS,
+    };
+    first <= destination && destination <= last
+}
+
+// Appends a line with this word where something does not hold.
+fn put_note<A: Allocator>(
+    line: &mut Vec<u8, A>,
+    holds: bool,
+    number: u64,
+    word: &[u8],
+) -> Result<(), AllocError>
+    ensures text { OnOk result (line.new.items ≡ line.old.items ++ note_unless holds number word.now) }
+    ensures quiet { holds ≡ true → IsOk result }
+{
+    if holds {
+        return Ok(());
+    }
+    put_decimal(line, number)?;
+    line.extend_from_slice(word)
+}
+
+// Appends what is noted of the octets of a frame.
+fn put_notes<A: Allocator>(
+    line: &mut Vec<u8, A>,
+    number: u64,
+    octets: &[u8],
+) -> Result<(), AllocError>
+    ensures text { OnOk result (line.new.items ≡ line.old.items ++ octets_notes number octets.now) }
+    ensures quiet { octets_notes number octets.now ≡ [] → IsOk result }
+{
+    match view_frame(octets) {
+        Err(fault) => put_fault_line(line, number, fault),
+        Ok(view) => {
+            put_note(
+                line,
+                is_in_written_form(&view, octets),
+                number,
+                b" not-written\n",
+            )?;
+            put_note(
+                line,
+                has_recommended_destination(&view),
+                number,
+                b" destination\n",
+            )
+        }
+    }
+}
+
+// Appends what is noted of an event, and answers whether something is.
+fn put_event_notes<A: Allocator>(
+    line: &mut Vec<u8, A>,
+    number: u64,
+    kind: &EventKind<A>,
+) -> Result<bool, AllocError>
+    ensures noted { MatchResult result
+        (λ found. (line.new.items ≡ line.old.items ++ notes number kind.now) × (found ≡ has_text (notes number kind.now)))
+        (λ _. Unit {0}) }
+    ensures quiet { notes number kind.now ≡ [] → IsOk result }
+{
+    let EventKind::Frame(octets) = kind else {
+        return Ok(false);
+    };
+    let before = line.len();
+    put_notes(line, number, octets.as_slice())?;
+    Ok(line.len() > before)
+}
+
+/// What `check` writes.
+#[derive(Drop)]
+struct CheckText;
+
+impl<A: Allocator> Engine<A> for CheckText {
+    type Item = Event<A>;
+
+    type Cause = ListCause;
+
+    ghost text = { λ _. check_text };
+
+    ghost stands = { λ _ _. ⊤ };
+
+    fn put_item(
+        &mut self,
+        line: &mut Vec<u8, A>,
+        number: u64,
+        event: Event<A>,
+    ) -> Result<bool, LineError<ListCause>> {
+        match put_event_notes(line, number, &event.kind) {
+            Ok(found) => Ok(found),
+            Err(error) => Err(LineError::Memory(error)),
+        }
+    }
+
+    fn put_last(
+        &self,
+        line: &mut Vec<u8, A>,
+        fault: &ItemFault<ListCause>,
+    ) -> Result<(), AllocError> {
+        put_list_line(line, fault_of_list(fault))
+    }
+}
+
+/// Writes what is to be noted of the frames of a list. Of a faulty frame that is its fault, with
+/// place and cause. Of a grammatical one it is `not-written`, where its octets are not those of its
+/// written form or this form would be too long, which is a note on encoding and no fault; and then
+/// `destination`, where its destination is outside the range that is recommended for what it carries
+/// (IEC 61850-8-1, IEC 61850-9-2). Nothing is noted of the clock and of modes. Where the list has a
+/// fault, a last line tells it.
+///
+/// Ends with `Findings` where a line was written for an event, and else with `Done`, unless the list
+/// has a fault.
+///
+/// The reader is Open and the writer has not failed. The text is that of the octets that the reader
+/// gave: whole at `Done`, `Findings`, `InputFault` and `ReadFault`, a front of it at `WriteFault`,
+/// and whole lines of it at `Memory`. At `Memory`, and at `WriteFault` if anything was read, the
+/// lines of all earlier events stand written, and at most 8,192 of the octets given stand from the
+/// start of the line on at which the run stopped. `Memory` is for a frame or a line to be written,
+/// never for the clock, a mode or the list's end.
+pub fn check<A: Allocator + Copy, R: Source, W: Sink>(
+    alloc: A,
+    reader: R,
+    writer: &mut W,
+) -> (Ending, R)
+    requires open { R.ending reader ≡ InputEnd.Open }
+    requires works { W.failed writer.old ≡ false }
+    ensures text { (given : List ℕ) × GivesOctets (R.left reader) (R.left result.1) given
+        × Writes event_rules First (check_text {A = A}) result.0 (R.ending result.1) given (W.contents writer.old) (W.contents writer.new) }
+    ensures read_fault { result.0 ≡ Ending.ReadFault → R.ending result.1 ≡ InputEnd.Failed }
+    ensures fault { W.failed writer.new ≡ is_write_fault result.0 }
+{
+    run(alloc, EventLines::First, CheckText, b"", reader, writer)
+}

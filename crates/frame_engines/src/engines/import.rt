@@ -1,0 +1,171 @@
+//! `import`: a capture as a list.
+ghost use Rattle.std.specs.Prelude.{◌≡◌, ◌≤◌, ℕ, List, Option, Result, [], false};
+ghost use Rattle.list_core.specs.declared.device.InputEnd.{InputEnd};
+ghost use Rattle.list_core.specs.Device.{GivesOctets};
+ghost use Rattle.capture_core.specs.Capture.{CaptureRecord};
+ghost use Rattle.capture_core.specs.Reading.{ReadsRecord};
+ghost use Rattle.capture_core.specs.declared.capture_fault.CaptureFault as fault;
+ghost use Rattle.engine_core.specs.EngineStep.{stops_by};
+ghost use Rattle.engine_core.specs.EngineText.{is_write_fault};
+ghost use Rattle.frame_engines.specs.ImportStep.{FaultWrites, ImportWrites};
+ghost use Rattle.frame_engines.specs.ImportText.{Imports, capture_line, ending_of_capture, left_out_line};
+
+use crate::texts::names::capture_cause_name;
+use arrayvec::ArrayVec;
+use capture_core::{
+    CaptureCause, CaptureFault, CaptureForm, Captured, LONGEST_FRAME, read_header, read_record,
+};
+use engine_core::{Ending, Next, ending_where};
+use frame_core::{Sink, Source, put_all, write_frame};
+use itoa::Buffer;
+use std::alloc::Allocator;
+
+/// The most octets of a comment.
+const LONGEST_COMMENT: usize = 80;
+
+// The comment on a record that is left out.
+#[tactic(auto, using(list_core::proofs::Decimals::decimal_fits))]
+fn left_out_comment(number: u64, size: u64) -> ArrayVec<u8, LONGEST_COMMENT>
+    ensures { result.items ≡ left_out_line number size }
+{
+    let mut comment = ArrayVec::new();
+    comment.try_extend_from_slice(b"# record ").unwrap();
+    comment
+        .try_extend_from_slice(Buffer::new().format(number).as_bytes())
+        .unwrap();
+    comment.try_extend_from_slice(b" of ").unwrap();
+    comment
+        .try_extend_from_slice(Buffer::new().format(size).as_bytes())
+        .unwrap();
+    comment
+        .try_extend_from_slice(b" octets left out\n")
+        .unwrap();
+    comment
+}
+
+// The comment on a fault.
+#[tactic(auto, using(list_core::proofs::Decimals::decimal_fits))]
+fn fault_comment(fault: CaptureFault) -> ArrayVec<u8, LONGEST_COMMENT>
+    ensures { result.items ≡ capture_line fault }
+{
+    let mut comment = ArrayVec::new();
+    comment.try_extend_from_slice(b"# ").unwrap();
+    comment
+        .try_extend_from_slice(Buffer::new().format(fault.number).as_bytes())
+        .unwrap();
+    comment.try_extend_from_slice(b" capture ").unwrap();
+    comment
+        .try_extend_from_slice(capture_cause_name(fault.cause))
+        .unwrap();
+    comment.try_extend_from_slice(b"\n").unwrap();
+    comment
+}
+
+// The ending at a fault.
+fn ending_by(cause: CaptureCause) -> Ending
+    ensures { result ≡ ending_of_capture cause }
+{
+    match cause {
+        CaptureCause::ReadFailed => Ending::ReadFault,
+        _ => Ending::InputFault,
+    }
+}
+
+// Writes the comment on a fault, with which the text ends.
+fn answer_fault<W: Sink>(fault: CaptureFault, writer: &mut W) -> Ending
+    requires { W.failed writer.old ≡ false }
+    ensures writes { FaultWrites fault result (W.contents writer.old) (W.contents writer.new) }
+    ensures fails { W.failed writer.new ≡ is_write_fault result }
+{
+    match put_all(writer, fault_comment(fault).as_slice()) {
+        Ok(()) => ending_by(fault.cause),
+        Err(_) => Ending::WriteFault,
+    }
+}
+
+// Reads the record behind others and writes its line, or the comment on a fault.
+fn answer_record<R: Source, W: Sink>(
+    reader: &mut R,
+    form: CaptureForm,
+    before: u64,
+    frame: &mut [u8; LONGEST_FRAME],
+    writer: &mut W,
+) -> Next
+    requires few { before ≤ 999999 }
+    requires works { W.failed writer.old ≡ false }
+    ensures step { (answer : Result (Option CaptureRecord) fault.CaptureFault)
+        × ReadsRecord form before [] (R.left reader.old) (R.ending reader.old) answer (R.left reader.new) (R.ending reader.new)
+        × ImportWrites before answer result (W.contents writer.old) (W.contents writer.new) }
+    ensures read_fault { result ≡ Next.Stop Ending.ReadFault → R.ending reader.new ≡ InputEnd.Failed }
+    ensures fails { W.failed writer.new ≡ stops_by is_write_fault result }
+{
+    match read_record(reader, form, before, frame) {
+        Ok(None) => Next::Ended,
+        Ok(Some(Captured::Frame { moment, size })) => {
+            match write_frame(writer, moment, &frame[..size]) {
+                Ok(()) => Next::Wrote(false),
+                Err(_) => Next::Stop(Ending::WriteFault),
+            }
+        }
+        Ok(Some(Captured::LeftOut { size })) => {
+            match put_all(writer, left_out_comment(before + 1, size as u64).as_slice()) {
+                Ok(()) => Next::Wrote(true),
+                Err(_) => Next::Stop(Ending::WriteFault),
+            }
+        }
+        Err(fault) => Next::Stop(answer_fault(fault, writer)),
+    }
+}
+
+// Writes the first line, then each record of the capture in its turn.
+fn import_all<R: Source, W: Sink>(reader: &mut R, writer: &mut W) -> Ending
+    requires { W.failed writer.old ≡ false }
+    ensures text { (given : List ℕ) × GivesOctets (R.left reader.old) (R.left reader.new) given
+        × Imports (R.ending reader.old) result (R.ending reader.new) given (W.contents writer.old) (W.contents writer.new) }
+    ensures read_fault { result ≡ Ending.ReadFault → R.ending reader.new ≡ InputEnd.Failed }
+    ensures fault { W.failed writer.new ≡ is_write_fault result }
+{
+    match put_all(writer, b"V2\n") {
+        Ok(()) => {}
+        Err(_) => return Ending::WriteFault,
+    }
+    let form = match read_header(reader) {
+        Ok(form) => form,
+        Err(fault) => return answer_fault(fault, writer),
+    };
+    let mut frame = [0u8; LONGEST_FRAME];
+    let mut count = 0;
+    let mut found = false;
+    'records: loop {
+        match answer_record(reader, form, count, &mut frame, writer) {
+            Next::Wrote(is_left_out) => {
+                found |= is_left_out;
+                count += 1;
+            }
+            Next::Ended => return ending_where(found),
+            Next::Stop(ending) => return ending,
+        }
+    }
+}
+
+/// Writes a capture as a list of version 2: each record as the line of its frame, or as a comment where its size is
+/// not that of a frame in a list; and where the capture has a fault, a comment with it at last.
+///
+/// The writer has not failed. The text is that of the octets that the reader gave: whole at
+/// `Done`, `Findings`, `InputFault` and `ReadFault`, a front of it at `WriteFault`. `Findings` is answered where a record
+/// was left out. One record is held at a time, on the stack: no memory is taken of the allocator, and `Memory` is
+/// never answered.
+pub fn import<A: Allocator + Copy, R: Source, W: Sink>(
+    _alloc: A,
+    mut reader: R,
+    writer: &mut W,
+) -> (Ending, R)
+    requires { W.failed writer.old ≡ false }
+    ensures text { (given : List ℕ) × GivesOctets (R.left reader) (R.left result.1) given
+        × Imports (R.ending reader) result.0 (R.ending result.1) given (W.contents writer.old) (W.contents writer.new) }
+    ensures read_fault { result.0 ≡ Ending.ReadFault → R.ending result.1 ≡ InputEnd.Failed }
+    ensures fault { W.failed writer.new ≡ is_write_fault result.0 }
+{
+    let ending = import_all(&mut reader, writer);
+    (ending, reader)
+}

@@ -1,0 +1,165 @@
+//! `rewrite`: the list again, each grammatical frame in its written form.
+ghost use Rattle.std.specs.Prelude.{◌≡◌, ◌++◌, ℕ, List, true, false, not, is_some, Some, None, ⊤, OnOk, IfOk, MatchResult, codes, if◌then◌else◌};
+ghost use Rattle.std.specs.Fmt.{decimal};
+ghost use Rattle.hex.specs.Hex.{encode_lower};
+ghost use Rattle.list_core.specs.declared.device.InputEnd.{InputEnd};
+ghost use Rattle.list_core.specs.Device.{GivesOctets};
+ghost use Rattle.list_core.specs.EventLine.{event_rules, kind_text, mode_text};
+ghost use Rattle.list_core.specs.declared.event_lines.EventLines.TheVariants.{First};
+ghost use Rattle.engine_core.specs.EngineText.{Writes, is_write_fault};
+ghost use Rattle.frame_engines.specs.RewriteText.{form_or, is_kept, rewritten, rewrite_text};
+ghost use Rattle.frame_engines.specs.WrittenForm.{written_form};
+
+use arrayvec::ArrayVec;
+use engine_core::{Ending, Engine, run};
+use frame_core::{
+    Event, EventKind, EventLines, ItemFault, LineError, ListCause, Sink, Source, encode_view,
+    fault_of_list, view_frame,
+};
+use std::alloc::{AllocError, Allocator};
+use text_core::event::put_frame_event;
+use text_core::line::{put_list_line, put_mode_word};
+use text_core::pieces::put_decimal;
+
+// Puts the written form of the frame that octets spell into `form`, where there is one and it fits, and answers whether.
+fn put_form(form: &mut ArrayVec<u8, 1600>, octets: &[u8]) -> bool
+    ensures { written_form octets.now ≡ (if result then Some form.new.items else None) }
+{
+    match view_frame(octets) {
+        Ok(view) => encode_view(&view, form).is_ok(),
+        Err(_) => false,
+    }
+}
+
+// Appends the line of a clock moment in a list.
+fn put_clock<A: Allocator>(line: &mut Vec<u8, A>, moment: u64) -> Result<(), AllocError>
+    ensures { OnOk result (line.new.items ≡ line.old.items ++ (codes "C " ++ decimal moment ++ codes "\n")) }
+{
+    line.extend_from_slice(b"C ")?;
+    put_decimal(line, moment)?;
+    line.extend_from_slice(b"\n")
+}
+
+// Appends the line of a frame in its written form, or else of its own octets, and answers whether
+// it keeps these.
+fn put_rewritten<A: Allocator>(
+    line: &mut Vec<u8, A>,
+    moment: u64,
+    octets: &[u8],
+) -> Result<bool, AllocError>
+    ensures text { OnOk result (line.new.items ≡ line.old.items
+        ++ (codes "F " ++ decimal moment ++ codes " " ++ encode_lower (form_or (written_form octets.now) octets.now) ++ codes "\n")) }
+    ensures kept { IfOk result (λ kept. kept ≡ not (is_some (written_form octets.now))) }
+{
+    let mut form = ArrayVec::new();
+    if put_form(&mut form, octets) {
+        put_frame_event(line, moment, form.as_slice())?;
+        Ok(false)
+    } else {
+        put_frame_event(line, moment, octets)?;
+        Ok(true)
+    }
+}
+
+// Appends the line of a mode in a list.
+fn put_mode_event<A: Allocator>(
+    line: &mut Vec<u8, A>,
+    moment: u64,
+    on: bool,
+) -> Result<(), AllocError>
+    ensures { OnOk result (line.new.items ≡ line.old.items ++ (codes "M " ++ decimal moment ++ codes " " ++ mode_text on ++ codes "\n")) }
+{
+    line.extend_from_slice(b"M ")?;
+    put_decimal(line, moment)?;
+    line.extend_from_slice(b" ")?;
+    put_mode_word(line, on)?;
+    line.extend_from_slice(b"\n")
+}
+
+// Appends the line of an event, a frame in its written form, and answers whether a frame keeps its own octets.
+fn put_event<A: Allocator>(line: &mut Vec<u8, A>, event: &Event<A>) -> Result<bool, AllocError>
+    ensures { MatchResult result
+        (λ found. (line.new.items ≡ line.old.items ++ kind_text (decimal event.now.moment) (rewritten event.now.kind)) × (found ≡ is_kept event.now.kind))
+        (λ _. Unit {0}) }
+{
+    match &event.kind {
+        EventKind::Clock => {
+            put_clock(line, event.moment)?;
+            Ok(false)
+        }
+        EventKind::Frame(octets) => put_rewritten(line, event.moment, octets.as_slice()),
+        EventKind::Mode(on) => {
+            put_mode_event(line, event.moment, *on)?;
+            Ok(false)
+        }
+    }
+}
+
+/// What `rewrite` writes.
+#[derive(Drop)]
+struct RewriteText;
+
+impl<A: Allocator> Engine<A> for RewriteText {
+    type Item = Event<A>;
+
+    type Cause = ListCause;
+
+    ghost text = { λ _. rewrite_text };
+
+    ghost stands = { λ _ _. ⊤ };
+
+    fn put_item(
+        &mut self,
+        line: &mut Vec<u8, A>,
+        _number: u64,
+        event: Event<A>,
+    ) -> Result<bool, LineError<ListCause>> {
+        match put_event(line, &event) {
+            Ok(kept) => Ok(kept),
+            Err(error) => Err(LineError::Memory(error)),
+        }
+    }
+
+    fn put_last(
+        &self,
+        line: &mut Vec<u8, A>,
+        fault: &ItemFault<ListCause>,
+    ) -> Result<(), AllocError> {
+        line.extend_from_slice(b"# ")?;
+        put_list_line(line, fault_of_list(fault))
+    }
+}
+
+/// Writes a list again, in microseconds: first the line `V2`, before anything is read; then each
+/// event as its one line, a grammatical frame with the octets of its written form, and a frame that
+/// is faulty, or whose written form would be too long, with its own octets. Where the list has a
+/// fault, the last line is a comment with it.
+///
+/// Ends with `Findings` where a frame kept its own octets for one of these two reasons, and else
+/// with `Done`, unless the list has a fault.
+///
+/// The reader is Open and the writer has not failed. The text is that of the octets that the reader
+/// gave: whole at `Done`, `Findings`, `InputFault` and `ReadFault`, a front of it at `WriteFault`,
+/// and the line `V2` with the lines of the earlier events at `Memory`, which is for an event alone,
+/// never for the list's end.
+pub fn rewrite<A: Allocator + Copy, R: Source, W: Sink>(
+    alloc: A,
+    reader: R,
+    writer: &mut W,
+) -> (Ending, R)
+    requires open { R.ending reader ≡ InputEnd.Open }
+    requires works { W.failed writer.old ≡ false }
+    ensures text { (given : List ℕ) × GivesOctets (R.left reader) (R.left result.1) given
+        × Writes event_rules First (rewrite_text {A = A}) result.0 (R.ending result.1) given (W.contents writer.old) (W.contents writer.new) }
+    ensures read_fault { result.0 ≡ Ending.ReadFault → R.ending result.1 ≡ InputEnd.Failed }
+    ensures fault { W.failed writer.new ≡ is_write_fault result.0 }
+{
+    run(
+        alloc,
+        EventLines::First,
+        RewriteText,
+        b"V2\n",
+        reader,
+        writer,
+    )
+}

@@ -1,0 +1,112 @@
+//! `show`: one line an event.
+ghost use Rattle.std.specs.Prelude.{◌≡◌, ◌++◌, ℕ, List, false, ⊤, OnOk, codes};
+ghost use Rattle.std.specs.Fmt.{decimal};
+ghost use Rattle.list_core.specs.EventLine.{event_rules, mode_text};
+ghost use Rattle.list_core.specs.declared.event_lines.EventLines.TheVariants.{First};
+ghost use Rattle.list_core.specs.declared.device.InputEnd.{InputEnd};
+ghost use Rattle.list_core.specs.Device.{GivesOctets};
+ghost use Rattle.engine_core.specs.EngineText.{Writes, is_write_fault};
+ghost use Rattle.frame_engines.specs.ShowText.{octets_line, show_text};
+
+use crate::texts::frame::put_frame;
+use engine_core::{Ending, Engine, run};
+use frame_core::{
+    Event, EventKind, EventLines, ItemFault, LineError, ListCause, Sink, Source, fault_of_list,
+    view_frame,
+};
+use std::alloc::{AllocError, Allocator};
+use text_core::line::{put_clock_line, put_fault_line, put_list_line, put_mode_word};
+use text_core::pieces::put_decimal;
+
+// Appends the line of the octets of a frame.
+fn put_octets<A: Allocator>(
+    line: &mut Vec<u8, A>,
+    number: u64,
+    octets: &[u8],
+) -> Result<(), AllocError>
+    ensures { OnOk result (line.new.items ≡ line.old.items ++ octets_line number octets.now) }
+{
+    match view_frame(octets) {
+        Ok(frame) => put_frame(line, number, &frame),
+        Err(fault) => put_fault_line(line, number, fault),
+    }
+}
+
+// Appends the line of a mode.
+fn put_mode<A: Allocator>(
+    line: &mut Vec<u8, A>,
+    number: u64,
+    moment: u64,
+    on: bool,
+) -> Result<(), AllocError>
+    ensures { OnOk result (line.new.items ≡ line.old.items
+        ++ (decimal number ++ codes " mode " ++ decimal moment ++ codes " " ++ mode_text on ++ codes "\n")) }
+{
+    put_decimal(line, number)?;
+    line.extend_from_slice(b" mode ")?;
+    put_decimal(line, moment)?;
+    line.extend_from_slice(b" ")?;
+    put_mode_word(line, on)?;
+    line.extend_from_slice(b"\n")
+}
+
+/// What `show` writes.
+#[derive(Drop)]
+struct ShowText;
+
+impl<A: Allocator> Engine<A> for ShowText {
+    type Item = Event<A>;
+
+    type Cause = ListCause;
+
+    ghost text = { λ _. show_text };
+
+    ghost stands = { λ _ _. ⊤ };
+
+    fn put_item(
+        &mut self,
+        line: &mut Vec<u8, A>,
+        number: u64,
+        event: Event<A>,
+    ) -> Result<bool, LineError<ListCause>> {
+        let put = match &event.kind {
+            EventKind::Clock => put_clock_line(line, number, event.moment),
+            EventKind::Frame(octets) => put_octets(line, number, octets.as_slice()),
+            EventKind::Mode(on) => put_mode(line, number, event.moment, *on),
+        };
+        match put {
+            Ok(()) => Ok(false),
+            Err(error) => Err(LineError::Memory(error)),
+        }
+    }
+
+    fn put_last(
+        &self,
+        line: &mut Vec<u8, A>,
+        fault: &ItemFault<ListCause>,
+    ) -> Result<(), AllocError> {
+        put_list_line(line, fault_of_list(fault))
+    }
+}
+
+/// Writes one line for each event of a list: the clock moment, the mode, the frame, or the frame's
+/// fault; and where the list has a fault, a last line with it. Moments are in microseconds.
+///
+/// The reader is Open and the writer has not failed. The text is that of the octets that the reader
+/// gave: whole at `Done`, `InputFault` and `ReadFault`, a front of it at `WriteFault`, and whole
+/// lines of the earlier events at `Memory`, which is for an event alone, never for the list's end.
+/// One line of the list and one event are held at a time.
+pub fn show<A: Allocator + Copy, R: Source, W: Sink>(
+    alloc: A,
+    reader: R,
+    writer: &mut W,
+) -> (Ending, R)
+    requires open { R.ending reader ≡ InputEnd.Open }
+    requires works { W.failed writer.old ≡ false }
+    ensures text { (given : List ℕ) × GivesOctets (R.left reader) (R.left result.1) given
+        × Writes event_rules First (show_text {A = A}) result.0 (R.ending result.1) given (W.contents writer.old) (W.contents writer.new) }
+    ensures read_fault { result.0 ≡ Ending.ReadFault → R.ending result.1 ≡ InputEnd.Failed }
+    ensures fault { W.failed writer.new ≡ is_write_fault result.0 }
+{
+    run(alloc, EventLines::First, ShowText, b"", reader, writer)
+}

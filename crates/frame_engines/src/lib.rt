@@ -1,0 +1,10 @@
+//! The engines that speak of frames one by one: `show`, `check` and `rewrite` of a list, and `import` of a capture.
+#![tactic(auto)]
+
+mod engines;
+pub mod texts;
+
+pub use crate::engines::check::check;
+pub use crate::engines::import::import;
+pub use crate::engines::rewrite::rewrite;
+pub use crate::engines::show::show;

@@ -1,0 +1,4 @@
+//! The texts that these engines alone write.
+
+pub mod frame;
+pub mod names;

@@ -1,0 +1,65 @@
+-- What several reads and several writes leave together.
+use Rattle.std.proofs.Common.{◌≡◌, ℕ, ◌+◌, List, [], ◌++◌, Option, Some, None, take, drop, ap, sym, ◌∙◌, refl, arith}
+use Rattle.std.proofs.lemmas.List.{append_assoc, append-nil, take-append-drop, drop-take, take-take}
+use Rattle.std.specs.Io.KnownBytes.{Appends, Consumes}
+use Rattle.list_core.specs.Device.{AppendsFront, GivesOctets, KeepsOrForgets}
+
+-- one write after another
+pub Appends-append : (a b c : Option (List ℕ)) (xs ys : List ℕ) → Appends a b xs → Appends b c ys → Appends a c (xs ++ ys)
+Appends-append None b c xs ys p q = tt
+Appends-append (Some os) None c xs ys p q = absurd p
+Appends-append (Some os) (Some ps) None xs ys p q = absurd q
+Appends-append (Some os) (Some ps) (Some qs) xs ys p q = q ∙ ap (λ l. l ++ ys) p ∙ append_assoc os xs ys
+
+-- a write of a front, after whole ones
+pub AppendsFront-append : (a b c : Option (List ℕ)) (xs ys : List ℕ) → Appends a b xs → AppendsFront b c ys → AppendsFront a c (xs ++ ys)
+AppendsFront-append None b c xs ys p q = tt
+AppendsFront-append (Some os) None c xs ys p q = absurd p
+AppendsFront-append (Some os) (Some ps) None xs ys p q = tt
+AppendsFront-append (Some os) (Some ps) (Some qs) xs ys p q =
+    (xs ++ q.0, q.1, ap (λ l. xs ++ l) q.2 ∙ sym (append_assoc xs q.0 q.1), q.3 ∙ ap (λ l. l ++ q.0) p ∙ append_assoc os xs q.0)
+
+-- nothing was written of ys
+pub AppendsFront-none : (a b : Option (List ℕ)) (ys : List ℕ) → KeepsOrForgets a b → AppendsFront a b ys
+AppendsFront-none None b ys p = tt
+AppendsFront-none (Some os) None ys p = tt
+AppendsFront-none (Some os) (Some ps) ys p = ([], ys, refl, p ∙ sym (append-nil os))
+
+-- what follows was not written
+pub AppendsFront-more : (a b : Option (List ℕ)) (xs ys : List ℕ) → AppendsFront a b xs → AppendsFront a b (xs ++ ys)
+AppendsFront-more None b xs ys p = tt
+AppendsFront-more (Some os) None xs ys p = tt
+AppendsFront-more (Some os) (Some ps) xs ys p = (p.0, p.1 ++ ys, ap (λ l. l ++ ys) p.2 ∙ append_assoc p.0 p.1 ys, p.3)
+
+pub take-add : (m n : ℕ) (s : List ℕ) → take (m + n) s ≡ take m s ++ take n (drop m s)
+take-add m n s =
+    let front : take m (take (m + n) s) ≡ take m s = take-take m (m + n) s (omega arith) in
+    let back : drop m (take (m + n) s) ≡ take n (drop m s) = drop-take m n s in
+    sym (take-append-drop m (take (m + n) s)) ∙ cc
+
+-- one read after another
+pub Consumes-append : (a b c : Option (List ℕ)) (xs ys : List ℕ) → Consumes a b xs → Consumes b c ys → Consumes a c (xs ++ ys)
+Consumes-append None b c xs ys p q = tt
+Consumes-append (Some os) None c xs ys p q = absurd p
+Consumes-append (Some os) (Some ps) None xs ys p q = absurd q
+Consumes-append (Some os) (Some ps) (Some qs) xs ys p q = p ∙ ap (λ l. xs ++ l) q ∙ sym (append_assoc xs ys qs)
+
+-- a last read, after which what is left may no longer be told
+pub Gives-append : (a b c : Option (List ℕ)) (xs ys : List ℕ) → Consumes a b xs → GivesOctets b c ys → GivesOctets a c (xs ++ ys)
+Gives-append None b c xs ys p q = tt
+Gives-append (Some os) None c xs ys p q = absurd p
+Gives-append (Some os) (Some ps) None xs ys p q = (q.0, p ∙ ap (λ l. xs ++ l) q.1 ∙ sym (append_assoc xs ys q.0))
+Gives-append (Some os) (Some ps) (Some qs) xs ys p q = p ∙ ap (λ l. xs ++ l) q ∙ sym (append_assoc xs ys qs)
+
+pub Gives-from_Consumes : (a b : Option (List ℕ)) (xs : List ℕ) → Consumes a b xs → GivesOctets a b xs
+Gives-from_Consumes None b xs p = tt
+Gives-from_Consumes (Some os) None xs p = absurd p
+Gives-from_Consumes (Some os) (Some ps) xs p = p
+
+pub Consumes-none : (a : Option (List ℕ)) → Consumes a a []
+Consumes-none None = tt
+Consumes-none (Some os) = refl
+
+pub Appends-none : (a : Option (List ℕ)) → Appends a a []
+Appends-none None = tt
+Appends-none (Some os) = sym (append-nil os)

@@ -1,0 +1,15 @@
+pub mod Devices
+pub mod Cuts
+pub mod Lines
+pub mod MomentDigits
+pub mod Decimals
+pub mod LineFields
+pub mod FirstLines
+pub mod Readers
+pub mod ItemReaders
+pub mod Stops
+pub mod WrittenLines
+pub mod LineShapes
+pub mod Pairs
+pub mod Emptiness
+pub mod StandardFacts

@@ -1,0 +1,40 @@
+-- What a call of a source or a sink leaves.
+use Rattle.std.specs.Prelude.{◌≡◌, ℕ, List, [], ◌++◌, ◌⊎◌, Option, Some, None, Result, Ok, Err, ⊤}
+use Rattle.std.proofs.Common.{zero, suc}
+use Rattle.std.specs.Io.KnownBytes.{Consumes}
+use Rattle.list_core.specs.declared.device.InputEnd.{InputEnd}
+use Rattle.list_core.specs.declared.device.InputEnd.TheVariants.{Open, End, Failed}
+
+-- whether more can come after a read
+abbrev pub ending_after : {E : Type 0} → Result ℕ E → InputEnd
+ending_after (Ok zero) = End
+ending_after (Ok (suc n)) = Open
+ending_after (Err e) = Failed
+
+-- what was told stays, or is no longer told
+abbrev pub KeepsOrForgets : Option (List ℕ) → Option (List ℕ) → Type 0
+KeepsOrForgets None new = ⊤
+KeepsOrForgets (Some xs) None = ⊤
+KeepsOrForgets (Some xs) (Some ys) = ys ≡ xs
+
+-- these octets were given, and the others are left or no longer told
+abbrev pub GivesOctets : Option (List ℕ) → Option (List ℕ) → List ℕ → Type 0
+GivesOctets None new bs = ⊤
+GivesOctets (Some xs) None bs = (ys : List ℕ) × (xs ≡ bs ++ ys)
+GivesOctets (Some xs) (Some ys) bs = xs ≡ bs ++ ys
+
+-- a front of these octets was appended, or what is held is no longer told
+abbrev pub AppendsFront : Option (List ℕ) → Option (List ℕ) → List ℕ → Type 0
+AppendsFront None new bs = ⊤
+AppendsFront (Some xs) None bs = ⊤
+AppendsFront (Some xs) (Some ys) bs = (front : List ℕ) × (rest : List ℕ) × (bs ≡ front ++ rest) × (ys ≡ xs ++ front)
+
+-- these octets were taken, after which the source tells this ending
+abbrev pub TakesTo : InputEnd → Option (List ℕ) → Option (List ℕ) → List ℕ → Type 0
+TakesTo Failed old new os = GivesOctets old new os
+TakesTo End old new os = Consumes old new os
+TakesTo Open old new os = Consumes old new os
+
+-- octets are given by an open source alone
+abbrev pub OnlyOpen : InputEnd → List ℕ → InputEnd → Type 0
+OnlyOpen old given new = (old ≡ Open) ⊎ ((given ≡ []) × (new ≡ old))

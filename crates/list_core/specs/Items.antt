@@ -1,0 +1,71 @@
+-- What the lines of a list say, over a whole input, by rules that the kind of list brings.
+use Rattle.std.specs.Prelude.{◌≡◌, ℕ, ◌+◌, Bool, true, List, [], ◌∷◌, ◌++◌, Option, Some, None, Result, Ok, Err}
+use Rattle.list_core.specs.declared.device.InputEnd.{InputEnd}
+use Rattle.list_core.specs.declared.list_fault.ListFault.{ListFault}
+use Rattle.list_core.specs.declared.line_rules.ItemFault.{ItemFault}
+use Rattle.list_core.specs.declared.line_rules.ItemFault.TheVariants as fault
+use Rattle.list_core.specs.declared.line_rules.LineError.{LineError}
+use Rattle.list_core.specs.declared.line_rules.LineError.TheVariants as line
+use Rattle.list_core.specs.Lines.{Reading, Stop, finished, unfinished, faulty, reading}
+
+-- what lines say, one after another; S is what the lines before settled, X what a line gives, C why one is refused
+pub record Rules (S X C : Type 0) : Type 0 where
+  -- what a line gives, if it gives anything, and what is settled after it
+  pub said : S → List ℕ → Result (Option X × S) C
+  -- whether a line has something to keep in memory
+  pub keeps : S → List ℕ → Bool
+  -- what is missing where the input ends
+  pub lacks : S → Option C
+
+-- numbered items up to the first bad line, and how they stop
+pub record Listing (X C : Type 0) : Type 0 where
+  pub items : List (ℕ × X)
+  pub stop : Stop (ItemFault C)
+
+-- a numbered item before the others
+abbrev pub put_item : {X C : Type 0} → ℕ × X → Listing X C → Listing X C
+put_item e l = record { items = e ∷ l.items; stop = l.stop }
+
+-- numbered items before the others
+abbrev pub put_items : {X C : Type 0} → List (ℕ × X) → Listing X C → Listing X C
+put_items es l = record { items = es ++ l.items; stop = l.stop }
+
+-- no item before this stop
+abbrev pub stops : {X C : Type 0} → Stop (ItemFault C) → Listing X C
+stops s = record { items = []; stop = s }
+
+-- the end of the input after n lines, where this is missing
+abbrev pub missing : {C : Type 0} → ℕ → Option C → Stop (ItemFault C)
+missing n None = finished
+missing n (Some why) = faulty (fault.Line (n + 1) why)
+
+-- how items stop where n lines stop so
+abbrev pub close : {S X C : Type 0} → Rules S X C → S → ℕ → Stop ListFault → Stop (ItemFault C)
+close r s n finished = missing n (r.lacks s)
+close r s n unfinished = unfinished
+close r s n (faulty f) = faulty (fault.Lines f)
+
+-- what a line says, before what the lines after it say; n lines stand before it
+abbrev pub put_said : {S X C : Type 0} → ℕ → Result (Option X × S) C → (S → Listing X C) → Listing X C
+put_said n (Ok (None, s)) rest = rest s
+put_said n (Ok (Some x, s)) rest = put_item (n + 1, x) (rest s)
+put_said n (Err why) rest = stops (faulty (fault.Line (n + 1) why))
+
+-- the items of lines that follow n others, which settled s
+unfoldable pub items_said : {S X C : Type 0} → Rules S X C → S → ℕ → List (List ℕ) → Stop ListFault → Listing X C
+items_said r s n [] stop = stops (close r s n stop)
+items_said r s n (l ∷ ls) stop = put_said n (r.said s l) (λ t. items_said r t (n + 1) ls stop)
+
+-- the items of a reading that follows n lines
+abbrev pub items_in : {S X C : Type 0} → Rules S X C → S → ℕ → Reading → Listing X C
+items_in r s n l = items_said r s n l.lines l.stop
+
+-- the items of a text that follows n lines, with the ending of its source
+abbrev pub listing : {S X C : Type 0} → Rules S X C → S → InputEnd → ℕ → List ℕ → Listing X C
+listing r s z n text = items_in r s n (reading z n text)
+
+-- what reading one line answers and leaves settled; memory is wanted only where there is something to keep
+abbrev pub Says : {S X C : Type 0} → Rules S X C → S → List ℕ → Result (Option X) (LineError C) → S → Type 0
+Says r s l (Ok x) t = r.said s l ≡ Ok (x, t)
+Says r s l (Err (line.Cause why)) t = (r.said s l ≡ Err why) × (t ≡ s)
+Says r s l (Err (line.Memory e)) t = (r.keeps s l ≡ true) × (t ≡ s)

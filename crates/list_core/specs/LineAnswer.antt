@@ -1,0 +1,18 @@
+-- What reading a line for its event answers.
+use Rattle.std.specs.Prelude.{◌≡◌, ℕ, Bool, true, List, Option, Result, Ok, Err}
+use Rattle.std.specs.Borrow.{Bor}
+use Rattle.list_core.specs.declared.event.Event.{Event}
+use Rattle.list_core.specs.declared.list_fault.ListCause.{ListCause}
+use Rattle.list_core.specs.declared.line_rules.LineError.{LineError}
+use Rattle.list_core.specs.declared.line_rules.LineError.TheVariants as line
+use Rattle.list_core.specs.Cuts.{parts_after}
+
+-- the answer is what the line says, or memory was wanted where the line has something to keep
+abbrev pub Answers : {A : Type 0} → Result (Option (Event A)) (LineError ListCause) → Result (Option (Event A)) ListCause → Bool → Type 0
+Answers (Ok event) said keeps = said ≡ Ok event
+Answers (Err (line.Cause why)) said keeps = said ≡ Err why
+Answers (Err (line.Memory e)) said keeps = keeps ≡ true
+
+-- the fields after a first one, where a space follows it
+abbrev pub fields_after : Option (Bor (List ℕ)) → List (List ℕ)
+fields_after rest = parts_after 32 rest

@@ -1,0 +1,64 @@
+//! The octet that divides lines or fields.
+ghost use Rattle.std.specs.Prelude.{◌≡◌, ◌≤◌, ◌<◌, ◌∷◌, length, take, true};
+ghost use Rattle.list_core.specs.Cuts.{HasNo, IsFirst, cut_at, parts_after};
+
+/// How many octets are passed over at once where none of them is the wanted one.
+const PIECE: usize = 64;
+
+/// The same where fewer are left.
+const SHORT_PIECE: usize = 16;
+
+/// The place of the first such octet.
+pub(crate) fn find(octets: &[u8], wanted: u8) -> Option<usize>
+    ensures { IsFirst wanted octets.now result }
+{
+    let start = pass_pieces(octets, 0, PIECE, wanted);
+    let start = pass_pieces(octets, start, SHORT_PIECE, wanted);
+    match find_each(&octets[start..], wanted) {
+        Some(at) => Some(start + at),
+        None => None,
+    }
+}
+
+/// The part in front of the first divider, and what follows that; or all, where there is none.
+pub fn cut_first(octets: &[u8], divider: u8) -> (&[u8], Option<&[u8]>)
+    ensures { cut_at divider octets.now ≡ result.0.now ∷ parts_after divider result.1 }
+{
+    match find(octets, divider) {
+        Some(at) => (&octets[..at], Some(&octets[at + 1..])),
+        None => (octets, None),
+    }
+}
+
+/// The same, octet by octet.
+fn find_each(octets: &[u8], wanted: u8) -> Option<usize>
+    ensures { IsFirst wanted octets.now result }
+{
+    octets.iter().position(|octet| *octet == wanted)
+}
+
+/// Where the first piece of this size with the wanted octet begins, of those behind octets without it.
+fn pass_pieces(octets: &[u8], from: usize, piece: usize, wanted: u8) -> usize
+    requires some { 0 < piece }
+    requires from { from ≤ length octets.now }
+    requires passed { HasNo wanted (take from octets.now) }
+    ensures within { result ≤ length octets.now }
+    ensures before { HasNo wanted (take result octets.now) }
+{
+    let mut start = from;
+    'pieces: while octets.len() - start >= piece && lacks(&octets[start..start + piece], wanted) {
+        start += piece;
+    }
+    start
+}
+
+/// Whether none of the octets is the wanted one. It looks at each, which the compiler does for several at once.
+fn lacks(octets: &[u8], wanted: u8) -> bool
+    ensures { result ≡ true → HasNo wanted octets.now }
+{
+    let mut lacks = true;
+    for octet in octets {
+        lacks &= *octet != wanted;
+    }
+    lacks
+}

@@ -1,0 +1,134 @@
+//! The items of a list, one at a time, by the rules of its kind.
+ghost use Rattle.std.specs.Prelude.{◌≡◌, []};
+
+use crate::device::Source;
+use crate::line_reader::LineReader;
+use crate::line_rules::{ItemFault, LineError, LineRules};
+use std::alloc::{AllocError, Allocator};
+
+/// Why a list gives no further item.
+#[derive(Drop)]
+pub enum ItemError<C> {
+    /// The list's first fault.
+    Fault(ItemFault<C>),
+    /// Memory was wanted. The next call tries the same line again.
+    Memory(AllocError),
+}
+
+/// What one line gave.
+#[derive(Drop)]
+enum Tried<X, C> {
+    /// The line has no item and was taken off.
+    Skipped,
+    /// The answer to the caller.
+    Answered(Result<Option<X>, ItemError<C>>),
+}
+
+/// Reads a list item by item. It holds 8,192 octets at most.
+#[derive(Drop)]
+pub struct ItemReader<R, G> {
+    lines: LineReader<R>,
+    rules: G,
+    number: u64,
+}
+
+impl<R: Source, G> ItemReader<R, G> {
+    ghost use Rattle.list_core.specs.ItemReader.{AnswersItem, Tries, answer_of, item_number, item_place, item_number_told};
+
+    /// A reader of the list that the source gives.
+    pub fn new(reader: R, rules: G) -> Self
+        ensures left { (item_place R.left R.ending result).left ≡ R.left reader }
+        ensures ending { (item_place R.left R.ending result).ending ≡ R.ending reader }
+        ensures held { (item_place R.left R.ending result).held ≡ [] }
+        ensures taken { (item_place R.left R.ending result).taken ≡ 0 }
+        ensures settled { (item_place R.left R.ending result).settled ≡ rules }
+        ensures number { item_number result ≡ 0 }
+    {
+        ItemReader {
+            lines: LineReader::new(reader),
+            rules,
+            number: 0,
+        }
+    }
+
+    /// The number of the line last answered or refused, 0 before the first.
+    pub fn line_number(&self) -> u64
+        ensures { result ≡ item_number self.now }
+    {
+        self.number
+    }
+
+    /// Tries the next line.
+    fn try_line<A: Allocator + Copy>(&mut self, alloc: A) -> Tried<G::Item, G::Cause>
+    where
+        G: LineRules<A>,
+        ensures { Tries G.rules (item_place R.left R.ending self.old) (item_number self.old) result (item_place R.left R.ending self.new) (item_number self.new) }
+    {
+        match self.lines.fill() {
+            Err(fault) => {
+                self.number = fault.line;
+                Tried::Answered(Err(ItemError::Fault(ItemFault::Lines(fault))))
+            }
+            Ok(None) => match self.rules.lacks() {
+                None => Tried::Answered(Ok(None)),
+                Some(cause) => {
+                    self.number = self.lines.next_number();
+                    Tried::Answered(Err(ItemError::Fault(ItemFault::Line(self.number, cause))))
+                }
+            },
+            Ok(Some(size)) => match self.rules.say(alloc, self.lines.front(size)) {
+                Ok(None) => {
+                    self.lines.take(size);
+                    Tried::Skipped
+                }
+                Ok(Some(item)) => {
+                    self.lines.take(size);
+                    self.number = self.lines.line_number();
+                    Tried::Answered(Ok(Some(item)))
+                }
+                Err(LineError::Memory(error)) => Tried::Answered(Err(ItemError::Memory(error))),
+                Err(LineError::Cause(cause)) => {
+                    self.number = self.lines.next_number();
+                    Tried::Answered(Err(ItemError::Fault(ItemFault::Line(self.number, cause))))
+                }
+            },
+        }
+    }
+
+    /// The next item, or None at the list's end. Lines without items are passed over. After a
+    /// fault every later call answers the same fault, and after None it answers None. After want
+    /// of memory the next call tries the same line again.
+    pub fn next<A: Allocator + Copy>(
+        &mut self,
+        alloc: A,
+    ) -> Result<Option<G::Item>, ItemError<G::Cause>>
+    where
+        G: LineRules<A>,
+        ensures item { AnswersItem G.rules (item_place R.left R.ending self.old) (answer_of (item_number self.new) result) (item_place R.left R.ending self.new) }
+        ensures number { item_number self.new ≡ item_number_told (answer_of (item_number self.new) result) (item_number self.old) }
+    {
+        'tries: loop {
+            match self.try_line(alloc) {
+                Tried::Skipped => {}
+                Tried::Answered(answer) => return answer,
+            }
+        }
+    }
+}
+
+impl<R: Source, G: Drop> ItemReader<R, G> {
+    ghost use Rattle.list_core.specs.ItemReader.{item_place};
+
+    /// The source as it stands.
+    pub fn into_reader(self) -> R
+        ensures left { R.left result ≡ (item_place R.left R.ending self).left }
+        ensures ending { R.ending result ≡ (item_place R.left R.ending self).ending }
+    {
+        let ItemReader {
+            lines,
+            rules: _,
+            number: _,
+        } = self;
+        lines.into_reader()
+    }
+}

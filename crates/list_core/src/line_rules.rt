@@ -1,0 +1,45 @@
+//! What the lines of a list say: the rules that a kind of list brings.
+ghost use Rattle.std.specs.Prelude.{◌≡◌};
+ghost use Rattle.list_core.specs.Items.{Rules, Says};
+
+use crate::list_fault::ListFault;
+use std::alloc::{AllocError, Allocator};
+
+/// Why a line gives no item.
+#[derive(Drop)]
+pub enum LineError<C> {
+    /// The line is refused.
+    Cause(C),
+    /// Memory was wanted.
+    Memory(AllocError),
+}
+
+/// The first fault of a list of items.
+#[derive(Drop)]
+pub enum ItemFault<C> {
+    /// Its lines end by a fault, whatever they say.
+    Lines(ListFault),
+    /// The line of this number is refused for what it says; or what must stand there is missing.
+    Line(u64, C),
+}
+
+/// Rules for the lines of a list. A value stands between two lines, and tells what those before it
+/// settled.
+pub trait LineRules<A: Allocator> {
+    /// What a line can give.
+    type Item: Drop;
+
+    /// Why a line can be refused.
+    type Cause: Drop;
+
+    /// The rules, as functions of a line and of what those before it settled.
+    ghost rules: { Rules Self Self.Item Self.Cause };
+
+    /// Reads a line. Nothing is settled by a line that is refused, and none for want of memory.
+    fn say(&mut self, alloc: A, line: &[u8]) -> Result<Option<Self::Item>, LineError<Self::Cause>>
+        ensures { Says rules self.old line.now result self.new };
+
+    /// What is missing where the input ends.
+    fn lacks(&self) -> Option<Self::Cause>
+        ensures { result ≡ rules.lacks self.now };
+}

@@ -1,0 +1,201 @@
+//! One line of a list: the event that it says.
+ghost use Rattle.std.specs.Prelude.{◌≡◌, ◌&&◌, true, ◌<◌, is_some, length, ◌∷◌, []};
+ghost use Rattle.list_core.specs.EventLine.{event_of, event_of_fields, fields, fields_keep, frame_event, is_moment, mode_of, moment_of, frame_octets_by};
+ghost use Rattle.list_core.specs.LineAnswer.{Answers, fields_after};
+
+use crate::cutting::cut_first;
+use crate::decimal::decimal_in;
+use crate::event::{Event, EventKind};
+use crate::event_lines::MomentUnit;
+use crate::hexadecimal::read_digits;
+use crate::line_rules::LineError;
+use crate::list_fault::ListCause;
+use ber_core::Octets;
+use std::alloc::Allocator;
+
+/// The most digits of a moment in milliseconds.
+const MOST_MILLISECOND_DIGITS: usize = 15;
+
+/// The most digits of a moment in microseconds.
+const MOST_MICROSECOND_DIGITS: usize = 18;
+
+/// Microseconds in a millisecond.
+const MICROSECONDS: u64 = 1000;
+
+/// The most hexadecimal digits of a frame.
+const MOST_HEX_DIGITS: usize = 4000;
+
+/// The event that a line says, if it is neither empty nor a comment.
+pub(crate) fn event_in<A: Allocator + Copy>(
+    alloc: A,
+    unit: MomentUnit,
+    line: &[u8],
+) -> Result<Option<Event<A>>, LineError<ListCause>>
+    ensures { Answers result (event_of unit line.now) (fields_keep unit (fields line.now)) }
+{
+    match line {
+        [] | [b'#', ..] => Ok(None),
+        _ => event_in_fields(alloc, unit, line),
+    }
+}
+
+/// The event that the fields of a line say.
+fn event_in_fields<A: Allocator + Copy>(
+    alloc: A,
+    unit: MomentUnit,
+    line: &[u8],
+) -> Result<Option<Event<A>>, LineError<ListCause>>
+    ensures { Answers result (event_of_fields unit (fields line.now)) (fields_keep unit (fields line.now)) }
+{
+    let (name, rest) = first_field(line);
+    let Some(rest) = rest else {
+        return Err(LineError::Cause(ListCause::LineForm));
+    };
+    if name == b"C".as_slice() {
+        clock_in(unit, rest)
+    } else if name == b"F".as_slice() {
+        frame_in(alloc, unit, rest)
+    } else if name == b"M".as_slice() {
+        mode_in(unit, rest)
+    } else {
+        Err(LineError::Cause(ListCause::LineForm))
+    }
+}
+
+/// The clock event whose moment is the one field here.
+fn clock_in<A: Allocator>(
+    unit: MomentUnit,
+    rest: &[u8],
+) -> Result<Option<Event<A>>, LineError<ListCause>>
+    ensures { Answers result (event_of_fields unit ((67 ∷ []) ∷ fields rest.now)) (fields_keep unit ((67 ∷ []) ∷ fields rest.now)) }
+{
+    let (moment, more) = first_field(rest);
+    if more.is_some() {
+        return Err(LineError::Cause(ListCause::LineForm));
+    }
+    if moment.is_empty() {
+        return Err(LineError::Cause(ListCause::LineForm));
+    }
+    match moment_in(unit, moment) {
+        Some(moment) => Ok(Some(Event {
+            moment,
+            kind: EventKind::Clock,
+        })),
+        None => Err(LineError::Cause(ListCause::Moment)),
+    }
+}
+
+/// The frame event whose moment and octets are the two fields here.
+fn frame_in<A: Allocator + Copy>(
+    alloc: A,
+    unit: MomentUnit,
+    rest: &[u8],
+) -> Result<Option<Event<A>>, LineError<ListCause>>
+    ensures { Answers result (event_of_fields unit ((70 ∷ []) ∷ fields rest.now)) (fields_keep unit ((70 ∷ []) ∷ fields rest.now)) }
+{
+    let (moment, rest) = first_field(rest);
+    let Some(rest) = rest else {
+        return Err(LineError::Cause(ListCause::LineForm));
+    };
+    let (digits, more) = first_field(rest);
+    if more.is_some() {
+        return Err(LineError::Cause(ListCause::LineForm));
+    }
+    if moment.is_empty() {
+        return Err(LineError::Cause(ListCause::LineForm));
+    }
+    if digits.is_empty() {
+        return Err(LineError::Cause(ListCause::LineForm));
+    }
+    frame_event(alloc, unit, moment, digits)
+}
+
+/// The frame event of these two fields.
+fn frame_event<A: Allocator + Copy>(
+    alloc: A,
+    unit: MomentUnit,
+    moment: &[u8],
+    digits: &[u8],
+) -> Result<Option<Event<A>>, LineError<ListCause>>
+    ensures { Answers result (frame_event (moment_of unit moment.now) (frame_octets_by digits.now)) (is_moment unit moment.now && is_some (frame_octets_by digits.now)) }
+{
+    let Some(moment) = moment_in(unit, moment) else {
+        return Err(LineError::Cause(ListCause::Moment));
+    };
+    if digits.is_empty() || digits.len() > MOST_HEX_DIGITS || digits.len() % 2 != 0 {
+        return Err(LineError::Cause(ListCause::Hex));
+    }
+    let mut room = [0; MOST_HEX_DIGITS / 2];
+    let octets = &mut room[..digits.len() / 2];
+    if !read_digits(digits, octets) {
+        return Err(LineError::Cause(ListCause::Hex));
+    }
+    match Octets::try_from_slice(alloc, octets) {
+        Ok(octets) => Ok(Some(Event {
+            moment,
+            kind: EventKind::Frame(octets),
+        })),
+        Err(error) => Err(LineError::Memory(error)),
+    }
+}
+
+/// The mode event whose moment and mode are the two fields here.
+fn mode_in<A: Allocator>(
+    unit: MomentUnit,
+    rest: &[u8],
+) -> Result<Option<Event<A>>, LineError<ListCause>>
+    ensures { Answers result (event_of_fields unit ((77 ∷ []) ∷ fields rest.now)) (fields_keep unit ((77 ∷ []) ∷ fields rest.now)) }
+{
+    let (moment, rest) = first_field(rest);
+    let Some(rest) = rest else {
+        return Err(LineError::Cause(ListCause::LineForm));
+    };
+    let (mode, more) = first_field(rest);
+    if more.is_some() {
+        return Err(LineError::Cause(ListCause::LineForm));
+    }
+    if moment.is_empty() {
+        return Err(LineError::Cause(ListCause::LineForm));
+    }
+    let Some(on) = mode_named(mode) else {
+        return Err(LineError::Cause(ListCause::LineForm));
+    };
+    match moment_in(unit, moment) {
+        Some(moment) => Ok(Some(Event {
+            moment,
+            kind: EventKind::Mode(on),
+        })),
+        None => Err(LineError::Cause(ListCause::Moment)),
+    }
+}
+
+/// The mode that a field names.
+fn mode_named(field: &[u8]) -> Option<bool>
+    ensures { result ≡ mode_of field.now }
+{
+    match field {
+        [b'o', b'n'] => Some(true),
+        [b'o', b'f', b'f'] => Some(false),
+        _ => None,
+    }
+}
+
+/// The first field, and what follows its space if there is one.
+fn first_field(octets: &[u8]) -> (&[u8], Option<&[u8]>)
+    ensures { fields octets.now ≡ result.0.now ∷ fields_after result.1 }
+{
+    cut_first(octets, b' ')
+}
+
+/// The moment that a field writes, in microseconds.
+pub fn moment_in(unit: MomentUnit, digits: &[u8]) -> Option<u64>
+    ensures { result ≡ moment_of unit digits.now }
+{
+    match unit {
+        MomentUnit::Milliseconds => match decimal_in(digits, MOST_MILLISECOND_DIGITS) {
+            Some(number) => Some(number * MICROSECONDS),
+            None => None,
+        },
+        MomentUnit::Microseconds => decimal_in(digits, MOST_MICROSECOND_DIGITS),
+    }
+}
