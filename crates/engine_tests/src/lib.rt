@@ -1,4 +1,4 @@
-//! Tests of `script_core`, `words_core`, `engine_core` and `goose_cmd` by their public calls.
+//! Tests of `block_core`, `script_core`, `words_core`, the crates of engines and `goose_cmd` by their public calls.
 #![tactic(auto)]
 
 #[cfg(test)]

@@ -1,5 +1,5 @@
 -- What is noted of a frame that was read.
-use Rattle.std.proofs.Common.{◌≡◌, ◌++◌, ℕ, List, [], Bool, true, Ok, Err, Result, ap, sym, ◌∙◌, refl}
+use Rattle.std.proofs.Common.{◌≡◌, ◌++◌, ℕ, List, [], Bool, true, false, Ok, Err, Result, ap, sym, ◌∙◌, refl}
 use Rattle.std.specs.Prelude.{Option, ◌∷◌, ◌↔◌, IsErr, OnOk, codes}
 use Rattle.std.specs.Fmt.{decimal}
 use Rattle.std.specs.Str.{bytes_eq}
