@@ -48,8 +48,8 @@ pub enum ScriptCause {
     /// The count of values is not the control's.
     #[error("the count of values is not that of the control's entries")]
     EntriesDiffer,
-    /// A value or a text has no spelling.
-    #[error("a value or a text has no spelling")]
+    /// A value, the moment of the change or a text of the control has no spelling.
+    #[error("a value, the time or a text has no spelling")]
     NotSpellable,
     /// A frame of the new state would be too long.
     #[error("a frame of the new state would be too long")]

@@ -37,7 +37,7 @@ pub enum Entry<A: Allocator> {
     Switched {
         block: usize,
     },
-    /// The frame is acted on: it is the first of a new state.
+    /// The frame is acted on: it is the first good one of its epoch, or its status number is above all earlier ones of it.
     Act {
         block: usize,
         state: u32,

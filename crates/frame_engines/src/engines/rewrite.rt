@@ -140,7 +140,7 @@ impl<A: Allocator> Engine<A> for RewriteText {
 ///
 /// The reader is Open and the writer has not failed. The text is that of the octets that the reader
 /// gave: whole at `Done`, `Findings`, `InputFault` and `ReadFault`, a front of it at `WriteFault`,
-/// and the line `V2` with the lines of the earlier events at `Memory`, which is for an event alone,
+/// and the line `V2` with the lines of the earlier events at `Memory`, which is for an event or a fault's line,
 /// never for the list's end.
 pub fn rewrite<A: Allocator + Copy, R: Source, W: Sink>(
     alloc: A,

@@ -94,7 +94,7 @@ impl<A: Allocator> Engine<A> for ShowText {
 ///
 /// The reader is Open and the writer has not failed. The text is that of the octets that the reader
 /// gave: whole at `Done`, `InputFault` and `ReadFault`, a front of it at `WriteFault`, and whole
-/// lines of the earlier events at `Memory`, which is for an event alone, never for the list's end.
+/// lines of the earlier events at `Memory`, which is for an event or a fault's line, never for the list's end.
 /// One line of the list and one event are held at a time.
 pub fn show<A: Allocator + Copy, R: Source, W: Sink>(
     alloc: A,
