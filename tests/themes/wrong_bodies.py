@@ -99,7 +99,7 @@ class Tries:
 def each_in_its_crate(tree):
     """The wrong bodies are tried in a copy, crate by crate, in place of those of the gate."""
     lines, said, status = tree.run("--at-once", "3")
-    heads = ["low: 2 wrong bodies, crate 1 of 2", "high: 1 wrong bodies, crate 2 of 2"]
+    heads = ["low: 2 to try, crate 1 of 2", "high: 1 to try, crate 2 of 2"]
     yield "output", ([*heads, "3 refused, 0 not refused, 0 not tried"], "", 0), (lines, said, status)
     names = ("high/must-fail/drops_the_last", "low/must-fail/adds_one", "low/must-fail/swaps_two")
     edits = " ".join(f"crates/{it}.edit" for it in names)
@@ -120,7 +120,7 @@ def some_crates(tree):
 def not_refused(tree):
     """What is not refused is told, and so is what was refused by a limit alone."""
     lines, said, status = tree.run()
-    yield "output", ["low: 3 wrong bodies, crate 1 of 1",
+    yield "output", ["low: 3 to try, crate 1 of 1",
                      "low/changes_nothing: NOT REFUSED: the crate is still proved with this edit",
                      "low/never_ends: refused, as it must be (only by a limit of the prover, which gave no verdict)",
                      "2 refused, 1 not refused, 0 not tried"], lines
@@ -130,9 +130,9 @@ def not_refused(tree):
 def not_tried(tree):
     """What cannot be applied, what the prover gave no word on, and what belongs to no crate is told, and counts as not tried."""
     lines, said, status = tree.run()
-    yield "output", ["low: 4 wrong bodies, crate 1 of 2", "low/has_no_file: BAD EDIT: there is no file src/gone.rt",
+    yield "output", ["low: 4 to try, crate 1 of 2", "low/has_no_file: BAD EDIT: there is no file src/gone.rt",
                      "low/is_killed: NOT TRIED: its check was killed", "low/is_silent: NOT TRIED: rt must-fail said nothing of it",
-                     "lost: 1 wrong bodies, crate 2 of 2", "lost: NOT TRIED: there is no crate lost",
+                     "lost: 1 to try, crate 2 of 2", "lost: NOT TRIED: there is no crate lost",
                      "1 refused, 0 not refused, 4 not tried"], lines
     yield "message and status", ("", 1), (said, status)
 
@@ -141,8 +141,8 @@ def unproved(tree):
     """In a crate that is not proved as it stands nothing is tried, for it would be refused with any body."""
     tree.put("crates/low/src/open.rt", "")
     lines, said, status = tree.run()
-    yield "output", ["low: 2 wrong bodies, crate 1 of 2", "a goal is open", "low: NOT TRIED: low is not proved as it stands",
-                     "high: 1 wrong bodies, crate 2 of 2", "1 refused, 0 not refused, 2 not tried"], lines
+    yield "output", ["low: 2 to try, crate 1 of 2", "a goal is open", "low: NOT TRIED: low is not proved as it stands",
+                     "high: 1 to try, crate 2 of 2", "1 refused, 0 not refused, 2 not tried"], lines
     yield "message and status", ("", 1), (said, status)
     yield "tries", ["must-fail high"], [line.split(" in ")[0] for line in tree.ran() if line.startswith("must-fail")]
 
@@ -160,7 +160,7 @@ def ended(tree):
     """Where it is ended early, so is `rt`, the copy is removed, and what was not tried is counted."""
     tree.put("crates/low/src/slow.rt", "")
     lines, said, status = tree.run(end_it=True)
-    yield "output", ["low: 2 wrong bodies, crate 1 of 2", "It was ended before all were tried.",
+    yield "output", ["low: 2 to try, crate 1 of 2", "It was ended before all were tried.",
                      "0 refused, 0 not refused, 3 not tried"], lines
     yield "message and status", ("", 1), (said, status)
     yield "what is left of the copy", [], list(tree.room.iterdir())
