@@ -60,7 +60,7 @@ fn is_refused(
     }
 }
 
-// Whether changes are refused in the order of their faults.
+// Whether changes are refused in the order of their faults, and the publisher is then as it was.
 fn are_refused_in_order(alloc: Global, publisher: &mut Publisher<Global>) -> Result<bool, Fail> {
     let two = booleans(alloc, 2, true)?;
     let is_two = is_refused(publisher, WIDE, two, PublishFault::EntriesDiffer, 2);
@@ -70,15 +70,20 @@ fn are_refused_in_order(alloc: Global, publisher: &mut Publisher<Global>) -> Res
     let is_odd = is_refused(publisher, NO_TIME, odd, PublishFault::NotSpellable, 1);
     let long = alone(alloc, Value::Octets(octets(alloc, 1439)?))?;
     let is_long = is_refused(publisher, NO_TIME, long, PublishFault::WouldNotFit, 1);
-    Ok(is_two && is_wide && is_odd && is_long)
+    Ok(
+        is_two
+            && is_wide
+            && is_odd
+            && is_long
+            && publisher.moment() == 0
+            && is_changed(alloc, publisher, 0, (1, true))?,
+    )
 }
 
 #[test]
 fn changes_are_refused_in_this_order(rt: HostRuntime) -> Result<(), Fail> {
     let mut publisher = publisher(control(rt.alloc(), 1)?, &[step(10, 2000)])?;
     assert!(rt; are_refused_in_order(rt.alloc(), &mut publisher)?);
-    assert!(rt; publisher.moment() == 0);
-    assert!(rt; is_changed(rt.alloc(), &mut publisher, 0, (1, true))?);
     Ok(())
 }
 

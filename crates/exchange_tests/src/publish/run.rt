@@ -2,7 +2,7 @@
 
 use crate::publish::frames::{control, frame, is_changed, publisher, step};
 use publish_core::Publisher;
-use std::alloc::Global;
+use std::alloc::{AllocError, Global};
 use std::test::Fail;
 
 /// Whether a poll at a moment in microseconds gives the frame with these numbers and this boolean, or none.
@@ -37,20 +37,28 @@ const FIRST_STATE: [(u64, Option<(u8, u8, bool)>); 4] = [
     (1_010_005, Some((1, 2, true))),
 ];
 
+/// Whether two states and the first frame of a third come where they are due. A poll before the first change counts its
+/// moment; a moment that goes back counts as the greatest so far.
+fn is_run_given(alloc: Global, publisher: &mut Publisher<Global>) -> Result<bool, AllocError> {
+    Ok(
+        publisher.moment() == 0
+            && are_polled(publisher, &[(5, None)])
+            && is_changed(alloc, publisher, 0, (1, true))?
+            && are_polled(publisher, &FIRST_STATE)
+            && is_changed(alloc, publisher, 1_500_000, (2, false))?
+            && are_polled(publisher, &[(7, None)])
+            && publisher.moment() == 1_500_000
+            && are_polled(publisher, &[(u64::MAX, Some((2, 1, false)))])
+            && is_changed(alloc, publisher, 0, (3, true))?
+            && are_polled(publisher, &[(u64::MAX, None)])
+            && publisher.moment() == u64::MAX,
+    )
+}
+
 #[test]
 fn frames_come_where_they_are_due(rt: HostRuntime) -> Result<(), Fail> {
     let steps = [step(10, 2000), step(1000, 3000)];
     let mut publisher = publisher(control(rt.alloc(), 1)?, &steps)?;
-    assert!(rt; publisher.moment() == 0);
-    assert!(rt; are_polled(&mut publisher, &[(5, None)]));
-    assert!(rt; is_changed(rt.alloc(), &mut publisher, 0, (1, true))?);
-    assert!(rt; are_polled(&mut publisher, &FIRST_STATE));
-    assert!(rt; is_changed(rt.alloc(), &mut publisher, 1_500_000, (2, false))?);
-    assert!(rt; are_polled(&mut publisher, &[(7, None)]));
-    assert!(rt; publisher.moment() == 1_500_000);
-    assert!(rt; are_polled(&mut publisher, &[(u64::MAX, Some((2, 1, false)))]));
-    assert!(rt; is_changed(rt.alloc(), &mut publisher, 0, (3, true))?);
-    assert!(rt; are_polled(&mut publisher, &[(u64::MAX, None)]));
-    assert!(rt; publisher.moment() == u64::MAX);
+    assert!(rt; is_run_given(rt.alloc(), &mut publisher)?);
     Ok(())
 }
