@@ -2,11 +2,12 @@
 
 use publish_core::PublishFault;
 use std::alloc::{AllocError, Global};
+use std::fmt::Display;
 use std::test::Fail;
 use subscribe_core::{SubscribeFault, WatchFault};
 
 /// Whether the fault says this.
-fn says(alloc: Global, fault: PublishFault, sentence: &str) -> Result<bool, AllocError> {
+fn says<F: Display>(alloc: Global, fault: &F, sentence: &str) -> Result<bool, AllocError> {
     Ok(fault.to_string(alloc)?.as_str() == sentence)
 }
 
@@ -42,11 +43,19 @@ fn faults_of_a_publisher(rt: HostRuntime) -> Result<(), Fail> {
 
 #[test]
 fn faults_of_a_subscriber_and_a_watch(rt: HostRuntime) -> Result<(), Fail> {
-    let twice = SubscribeFault::SameBlockTwice(2).to_string(rt.alloc())?;
-    assert!(rt; twice.as_str() == "block 2 has the APPID and the gocbRef of an earlier one");
-    let memory = SubscribeFault::Memory(AllocError).to_string(rt.alloc())?;
-    assert!(rt; memory.as_str() == "out of memory");
-    let period = WatchFault::Period.to_string(rt.alloc())?;
-    assert!(rt; period.as_str() == "the period is not 2 to 65536");
+    let (twice, memory) = (
+        SubscribeFault::SameBlockTwice(2),
+        SubscribeFault::Memory(AllocError),
+    );
+    let sentence = "block 2 has the APPID and the gocbRef of an earlier one";
+    assert!(rt; says(rt.alloc(), &twice, sentence)?);
+    assert!(rt; says(rt.alloc(), &memory, "out of memory")?);
+    assert!(rt;
+        says(
+            rt.alloc(),
+            &WatchFault::Period,
+            "the period is not 2 to 65536"
+        )?
+    );
     Ok(())
 }

@@ -22,7 +22,10 @@ fn refuses_each_growth_of_a_vector_in_turn(rt: HostRuntime) {
         (3, false, false),
     ] {
         let alloc = RefusingAlloc::new(rt.alloc(), first_refused);
-        assert!(rt; grow_and_shrink(&alloc).is_err() == is_error, "at {first_refused}");
+        assert!(rt;
+            grow_and_shrink(&alloc).is_err() == is_error,
+            "at {first_refused}"
+        );
         assert!(rt; alloc.has_refused() == has_refused, "at {first_refused}");
     }
 }

@@ -1,7 +1,8 @@
 //! A control block, its frames with one boolean, and what makes them.
 
+use arrayvec::ArrayVec;
 use mms_data::{Octets, UtcTime, Value, ValueList};
-use publish_core::{Control, Publisher, Step};
+use publish_core::{Control, PublishFault, Publisher, Step, Table};
 use std::alloc::{AllocError, Global};
 use worked_frames::FRAME;
 
@@ -58,15 +59,38 @@ pub fn booleans(alloc: Global, count: u32, value: bool) -> Result<ValueList<Glob
     Ok(ValueList::from(values))
 }
 
-/// Whether a change at a moment in microseconds gives these octets.
-pub fn is_changed(
+/// A publisher whose first status number is 1.
+pub fn publisher(
+    control: Control<Global>,
+    steps: &[Step],
+) -> Result<Publisher<Global>, PublishFault> {
+    let table = Table::new(steps)?;
+    Publisher::new(control, table, 1)
+}
+
+/// What a change gives: its octets, or its fault and how many values are handed back.
+pub fn changed(
     publisher: &mut Publisher<Global>,
     moment: u64,
+    t: UtcTime,
     values: ValueList<Global>,
-    wanted: &[u8],
-) -> bool {
-    match publisher.change(moment, NO_TIME, values) {
-        Ok(octets) => octets.as_slice() == wanted,
-        Err((_fault, _values)) => false,
+) -> Result<ArrayVec<u8, 1600>, (PublishFault, usize)> {
+    match publisher.change(moment, t, values) {
+        Ok(octets) => Ok(octets),
+        Err((fault, values)) => Err((fault, values.as_slice().len())),
+    }
+}
+
+/// Whether a change to a boolean at a moment in microseconds gives the first frame of this state.
+pub fn is_changed(
+    alloc: Global,
+    publisher: &mut Publisher<Global>,
+    moment: u64,
+    (state, value): (u8, bool),
+) -> Result<bool, AllocError> {
+    let values = booleans(alloc, 1, value)?;
+    match changed(publisher, moment, NO_TIME, values) {
+        Ok(octets) => Ok(octets.as_slice() == frame(state, 0, value).as_slice()),
+        Err(_refused) => Ok(false),
     }
 }

@@ -1,6 +1,6 @@
 //! What is refused, in which order, and what is left as it was.
 
-use crate::publish::frames::{NO_TIME, booleans, control, frame, is_changed, step};
+use crate::publish::frames::{NO_TIME, booleans, changed, control, is_changed, publisher, step};
 use mms_data::{Octets, UtcTime, Value, ValueList};
 use publish_core::{PublishFault, Publisher, Step, Table};
 use std::alloc::{AllocError, Global};
@@ -39,7 +39,11 @@ fn alone(alloc: Global, value: Value<Global>) -> Result<ValueList<Global>, Alloc
 
 // So many octets.
 fn octets(alloc: Global, size: usize) -> Result<Octets<Global>, AllocError> {
-    Ok(Octets::from(vec![in alloc; 7; size]?))
+    let mut octets = Vec::new(alloc);
+    for _ in 0..size {
+        octets.push(7)?;
+    }
+    Ok(Octets::from(octets))
 }
 
 // Whether a change to these values is refused for this reason, and hands so many values back.
@@ -50,43 +54,45 @@ fn is_refused(
     wanted: PublishFault,
     count: usize,
 ) -> bool {
-    match publisher.change(7, t, values) {
+    match changed(publisher, 7, t, values) {
         Ok(_octets) => false,
-        Err((fault, values)) => fault == wanted && values.as_slice().len() == count,
+        Err((fault, handed_back)) => fault == wanted && handed_back == count,
     }
 }
 
-// Whether changes are refused in the order of their faults.
+// Whether changes are refused in the order of their faults, and the publisher is then as it was.
 fn are_refused_in_order(alloc: Global, publisher: &mut Publisher<Global>) -> Result<bool, Fail> {
     let two = booleans(alloc, 2, true)?;
-    let long = alone(alloc, Value::Octets(octets(alloc, 1500)?))?;
+    let is_two = is_refused(publisher, WIDE, two, PublishFault::EntriesDiffer, 2);
+    let wide = alone(alloc, Value::Octets(octets(alloc, 1500)?))?;
+    let is_wide = is_refused(publisher, WIDE, wide, PublishFault::NotSpellable, 1);
     let odd = alone(alloc, Value::BinaryTime(octets(alloc, 5)?))?;
-    let longer = alone(alloc, Value::Octets(octets(alloc, 1439)?))?;
+    let is_odd = is_refused(publisher, NO_TIME, odd, PublishFault::NotSpellable, 1);
+    let long = alone(alloc, Value::Octets(octets(alloc, 1439)?))?;
+    let is_long = is_refused(publisher, NO_TIME, long, PublishFault::WouldNotFit, 1);
     Ok(
-        is_refused(publisher, WIDE, two, PublishFault::EntriesDiffer, 2)
-            && is_refused(publisher, WIDE, long, PublishFault::NotSpellable, 1)
-            && is_refused(publisher, NO_TIME, odd, PublishFault::NotSpellable, 1)
-            && is_refused(publisher, NO_TIME, longer, PublishFault::WouldNotFit, 1),
+        is_two
+            && is_wide
+            && is_odd
+            && is_long
+            && publisher.moment() == 0
+            && is_changed(alloc, publisher, 0, (1, true))?,
     )
 }
 
 #[test]
 fn changes_are_refused_in_this_order(rt: HostRuntime) -> Result<(), Fail> {
-    let one = booleans(rt.alloc(), 1, true)?;
-    let table = Table::new(&[step(10, 2000)])?;
-    let mut publisher = Publisher::new(control(rt.alloc(), 1)?, table, 1)?;
+    let mut publisher = publisher(control(rt.alloc(), 1)?, &[step(10, 2000)])?;
     assert!(rt; are_refused_in_order(rt.alloc(), &mut publisher)?);
-    assert!(rt; publisher.moment() == 0);
-    assert!(rt; is_changed(&mut publisher, 0, one, &frame(1, 0, true)));
     Ok(())
 }
 
 #[test]
 fn a_control_with_a_text_without_a_spelling(rt: HostRuntime) -> Result<(), Fail> {
-    let one = booleans(rt.alloc(), 1, true)?;
     let mut odd = control(rt.alloc(), 1)?;
-    odd.dat_set = Octets::from(vec![in rt.alloc(); 0x7f; 1]?);
-    let mut publisher = Publisher::new(odd, Table::new(&[step(10, 2000)])?, 1)?;
+    odd.dat_set = Octets::from(Vec::from_slice(rt.alloc(), &[0x7f])?);
+    let mut publisher = publisher(odd, &[step(10, 2000)])?;
+    let one = booleans(rt.alloc(), 1, true)?;
     assert!(rt; is_refused(&mut publisher, NO_TIME, one, PublishFault::NotSpellable, 1));
     Ok(())
 }

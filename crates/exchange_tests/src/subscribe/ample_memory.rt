@@ -1,11 +1,10 @@
 //! Any count of members, and many blocks, with ample memory.
 
 use super::given::{block, event_with_frame};
-use crate::publish::frames::{NO_TIME, booleans, control, step};
+use crate::publish::frames::{NO_TIME, booleans, changed, control, publisher, step};
 use arrayvec::ArrayVec;
 use frame_core::{Event, EventKind};
 use mms_data::Octets;
-use publish_core::{Publisher, Table};
 use std::alloc::{AllocError, Global};
 use std::test::Fail;
 use subscribe_core::{Entry, Subscriber};
@@ -33,16 +32,12 @@ fn first_frame(
     count: u16,
     is_simulated: bool,
 ) -> Result<Option<ArrayVec<u8, 1600>>, Fail> {
-    let values = booleans(alloc, u32::from(count), true)?;
-    let table = Table::new(&[step(10, 2000)])?;
     let mut control = control(alloc, u32::from(count))?;
     control.app_id = count;
     control.simulation = is_simulated;
-    let mut publisher = Publisher::new(control, table, 1)?;
-    match publisher.change(0, NO_TIME, values) {
-        Ok(octets) => Ok(Some(octets)),
-        Err((_fault, _values)) => Ok(None),
-    }
+    let mut publisher = publisher(control, &[step(10, 2000)])?;
+    let values = booleans(alloc, u32::from(count), true)?;
+    Ok(changed(&mut publisher, 0, NO_TIME, values).ok())
 }
 
 /// How many members are acted on, where the last entry is an action.
