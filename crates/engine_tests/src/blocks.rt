@@ -20,9 +20,10 @@ pub(super) struct Fields {
 
 /// Whether a block has these fields.
 pub(super) fn has_fields<A: Allocator>(block: &Block<A>, wanted: &Fields) -> bool {
-    let has_its_id = match &block.go_id {
-        Some(go_id) => wanted.go_id == Some(go_id.as_slice()),
-        None => wanted.go_id.is_none(),
+    let has_its_id = match (&block.go_id, wanted.go_id) {
+        (Some(go_id), Some(text)) => go_id.as_slice() == text,
+        (None, None) => true,
+        _ => false,
     };
     has_its_id
         && block.app_id == wanted.app_id

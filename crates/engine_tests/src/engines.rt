@@ -5,8 +5,10 @@ ghost use Rattle.list_core.specs.declared.device.InputEnd.{InputEnd};
 use frame_core::{Sink, Source};
 use goose_cmd::{Ending, check, import, publish, read_block, replay, rewrite, show, watch};
 use std::alloc::Allocator;
+use subscribe_core::Block;
 
-/// An engine, and which input it is given: one without a fault of its lines, or, where a list ends by one, `FAULTY`.
+/// An engine, and which input it is given: one without a fault of its lines; where a list ends by one, `FAULTY`; or one that
+/// wants no memory.
 #[derive(Clone, Copy)]
 pub(super) enum Example {
     Show,
@@ -21,9 +23,17 @@ pub(super) enum Example {
     FaultyCheck,
     FaultyReplay,
     FaultyWatch,
+    QuietShow,
+    QuietRewrite,
+    QuietCheck,
+    QuietPublish,
+    QuietReplay,
+    QuietWatch,
+    EmptyReplay,
+    CutImport,
 }
 
-/// All of them.
+/// Those of which something is written beside the version.
 pub(super) const EXAMPLES: [Example; 12] = [
     Example::Show,
     Example::Rewrite,
@@ -39,6 +49,17 @@ pub(super) const EXAMPLES: [Example; 12] = [
     Example::FaultyWatch,
 ];
 
+/// Those that want no memory.
+pub(super) const FREE: [Example; 7] = [
+    Example::QuietShow,
+    Example::QuietRewrite,
+    Example::QuietCheck,
+    Example::QuietPublish,
+    Example::QuietWatch,
+    Example::Import,
+    Example::CutImport,
+];
+
 // Four frames in written form: with a goID and members of many kinds, of which texts have quotes; with a tag and a trailer;
 // of Sampled Values, one ASDU of all fields and one of few; and with a wrong count of entries.
 const FRAMES: &[u8] =
@@ -49,7 +70,17 @@ const FRAMES: &[u8] =
 const FAULTY: &[u8] =
     b"F 0 010ccd01000102000000000188b80001003500000000612b800147810207d0820144840800000000000000008501018601008701008801018901008a0101ab03830101\nF 1 010ccd04000102000000000188ba4000002800000000601e800101a2193017800153820200038304000000018501028702002a880100\nF 2 0\nC 3\n";
 
-// An input of more than one line, or record.
+// A list of a version, a clock moment, the mode, a comment and another clock moment.
+const QUIET: &[u8] = b"V2\nC 1\nM 2 on\n# nothing\nC 3\n";
+
+// A list without events.
+const EMPTY: &[u8] = b"# nothing\n\n";
+
+// A publisher without texts, which is asked for a frame before its first change.
+const UNCHANGED: &[u8] =
+    b"control,010ccd010001,020000000001,,0001,,,,1,1,0,0,1\nstep,10,2000\nstep,20,2000\npoll,5\n";
+
+// What the engine is given.
 pub(super) fn input_of(example: Example) -> &'static [u8] {
     match example {
         Example::Show | Example::Rewrite => FRAMES,
@@ -71,6 +102,12 @@ pub(super) fn input_of(example: Example) -> &'static [u8] {
         | Example::FaultyCheck
         | Example::FaultyReplay
         | Example::FaultyWatch => FAULTY,
+        Example::QuietCheck | Example::QuietReplay | Example::QuietWatch => QUIET,
+        Example::QuietShow | Example::QuietRewrite | Example::EmptyReplay => EMPTY,
+        Example::QuietPublish => UNCHANGED,
+        Example::CutImport => {
+            b"\xd4\xc3\xb2\xa1\x02\x00\x04\x00\x00\x00\x00\x00\x00\x00\x00\x00\xff\xff\x00\x00\x01\x00\x00\x00\x05\x00\x00\x00\x06\x00\x00\x00\x03\x00\x00\x00\x09\x00\x00\x00\xaa\xbb\xcc\x00"
+        }
     }
 }
 
@@ -103,15 +140,27 @@ pub(super) fn text_of(example: Example) -> &'static [u8] {
             b"1 act 0 st=1 sq=0 t=0000000000000000 {true}\n2 sampled\n3 list Hex\n"
         }
         Example::FaultyWatch => b"2 0 3 first\n3 list Hex\n",
+        Example::QuietRewrite | Example::QuietPublish => b"V2\n",
+        Example::CutImport => b"V2\nF 5000006 aabbcc\n# 2 capture CaptureShort\n",
+        Example::QuietShow
+        | Example::QuietCheck
+        | Example::QuietReplay
+        | Example::QuietWatch
+        | Example::EmptyReplay => b"",
     }
 }
 
 // With what it ends then.
 pub(super) fn ending_of(example: Example) -> Ending {
     match example {
-        Example::Show | Example::Publish | Example::Replay => Ending::Done,
         Example::Rewrite | Example::Check | Example::Watch | Example::Import => Ending::Findings,
-        _ => Ending::InputFault,
+        Example::FaultyShow
+        | Example::FaultyRewrite
+        | Example::FaultyCheck
+        | Example::FaultyReplay
+        | Example::FaultyWatch
+        | Example::CutImport => Ending::InputFault,
+        _ => Ending::Done,
     }
 }
 
@@ -123,6 +172,18 @@ pub(super) fn begins_with_version(example: Example) -> bool {
     )
 }
 
+// The block of the examples, or none where memory is refused.
+fn one_block<A: Allocator + Copy>(alloc: A) -> Option<Vec<Block<A>, A>> {
+    let Ok(block) = read_block(alloc, "0001,G,D,,1,1") else {
+        return None;
+    };
+    let mut blocks = Vec::new(alloc);
+    match blocks.push(block) {
+        Ok(()) => Some(blocks),
+        Err(_) => None,
+    }
+}
+
 // Replays with one block. Want of memory for the block counts as the run's.
 fn replay_one<A: Allocator + Copy, R: Source, W: Sink>(
     alloc: A,
@@ -132,13 +193,9 @@ fn replay_one<A: Allocator + Copy, R: Source, W: Sink>(
     requires open { R.ending reader ≡ InputEnd.Open }
     requires works { W.failed writer.old ≡ false }
 {
-    let mut blocks = Vec::new(alloc);
-    match read_block(alloc, "0001,G,D,,1,1") {
-        Ok(block) => match blocks.push(block) {
-            Ok(()) => replay(alloc, reader, blocks, writer),
-            Err(_) => (Ending::Memory, reader),
-        },
-        Err(_) => (Ending::Memory, reader),
+    match one_block(alloc) {
+        Some(blocks) => replay(alloc, reader, blocks, writer),
+        None => (Ending::Memory, reader),
     }
 }
 
@@ -153,12 +210,17 @@ pub(super) fn run<A: Allocator + Copy, R: Source, W: Sink>(
     requires works { W.failed writer.old ≡ false }
 {
     match example {
-        Example::Show | Example::FaultyShow => show(alloc, reader, writer),
-        Example::Rewrite | Example::FaultyRewrite => rewrite(alloc, reader, writer),
-        Example::Check | Example::FaultyCheck => check(alloc, reader, writer),
-        Example::Publish => publish(alloc, reader, writer),
-        Example::Replay | Example::FaultyReplay => replay_one(alloc, reader, writer),
-        Example::Watch | Example::FaultyWatch => watch(alloc, reader, 9, b"S", writer),
-        Example::Import => import(alloc, reader, writer),
+        Example::Show | Example::FaultyShow | Example::QuietShow => show(alloc, reader, writer),
+        Example::Rewrite | Example::FaultyRewrite | Example::QuietRewrite => rewrite(
+            alloc, reader, writer,
+        ),
+        Example::Check | Example::FaultyCheck | Example::QuietCheck => check(alloc, reader, writer),
+        Example::Publish | Example::QuietPublish => publish(alloc, reader, writer),
+        Example::Replay | Example::FaultyReplay | Example::QuietReplay | Example::EmptyReplay =>
+            replay_one(alloc, reader, writer),
+        Example::Watch | Example::FaultyWatch | Example::QuietWatch => watch(
+            alloc, reader, 9, b"S", writer,
+        ),
+        Example::Import | Example::CutImport => import(alloc, reader, writer),
     }
 }

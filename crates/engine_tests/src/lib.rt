@@ -8,12 +8,12 @@ mod command_line;
 #[cfg(test)]
 mod devices;
 #[cfg(test)]
+mod endings;
+#[cfg(test)]
 mod engines;
 #[cfg(test)]
 mod laws;
 #[cfg(test)]
 mod limits;
-#[cfg(test)]
-mod owed_memory;
 #[cfg(test)]
 mod scripts;

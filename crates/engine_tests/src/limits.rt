@@ -2,6 +2,7 @@
 
 use goose_cmd::{Ending, publish};
 use std::alloc::Global;
+use std::process::Abort;
 use std::test::Fail;
 use test_devices::{NEVER, sink_of, source_of};
 
@@ -19,22 +20,41 @@ fn script_of(alloc: Global, size: &[u8], octets: u32) -> Result<Vec<u8>, Fail> {
     Ok(script)
 }
 
+// Whether `publish` ends so with a change to so many octets, and what it writes begins so.
+fn publishes<R: Abort>(
+    rt: &R,
+    alloc: Global,
+    (size, octets): (&[u8], u32),
+    ending: &Ending,
+    text: &[u8],
+) -> Result<(), Fail> {
+    let script = script_of(alloc, size, octets)?;
+    let mut sink = sink_of(alloc, 8192, NEVER);
+    let (ended, _source) = publish(alloc, source_of(script.as_slice(), 8192, NEVER), &mut sink);
+    assert!(rt; ended == *ending, "{octets} octets");
+    assert!(rt; sink.octets.as_slice().starts_with(text), "{octets} octets");
+    Ok(())
+}
+
 #[test]
 fn a_state_is_refused_for_its_longest_retransmission(rt: HostRuntime) -> Result<(), Fail> {
     // With 1,438 octets the longest retransmission has a Length of 1,500, and with 1,440 the first frame one of 1,498.
-    let fits = script_of(rt.alloc(), b"059e", 1438)?;
-    let mut sink = sink_of(rt.alloc(), 8192, NEVER);
-    let source = source_of(fits.as_slice(), 8192, NEVER);
-    let (ending, _source) = publish(rt.alloc(), source, &mut sink);
-    assert!(rt; ending == Ending::Done);
-    let begins = b"V2\nF 0 010ccd01000102000000000188b8000105d8";
-    assert!(rt; sink.octets.as_slice().starts_with(begins));
-    let exceeds = script_of(rt.alloc(), b"05a0", 1440)?;
-    let mut sink = sink_of(rt.alloc(), 8192, NEVER);
-    let source = source_of(exceeds.as_slice(), 8192, NEVER);
-    let (ending, _source) = publish(rt.alloc(), source, &mut sink);
-    assert!(rt; ending == Ending::InputFault);
-    let text = b"V2\n# 3 script WouldNotFit\n".as_slice();
-    assert!(rt; sink.octets.as_slice() == text);
-    Ok(())
+    let first = b"V2\nF 0 010ccd01000102000000000188b8000105d8";
+    publishes(&rt, rt.alloc(), (b"059e", 1438), &Ending::Done, first)?;
+    let refused = b"V2\n# 3 script WouldNotFit\n";
+    publishes(
+        &rt,
+        rt.alloc(),
+        (b"05a0", 1440),
+        &Ending::InputFault,
+        refused,
+    )?;
+    // No line has more: it has 4,096 octets.
+    publishes(
+        &rt,
+        rt.alloc(),
+        (b"07ef", 2031),
+        &Ending::InputFault,
+        refused,
+    )
 }

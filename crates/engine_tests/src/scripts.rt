@@ -2,8 +2,6 @@
 
 use ber_core::Cause;
 use frame_core::{ItemError, ItemFault, ItemReader, Source};
-use mms_data::Value;
-use publish_core::Control;
 use refusing_alloc::RefusingAlloc;
 use script_core::{ScriptCause, ScriptItem, ScriptLines};
 use std::alloc::{Allocator, Global};
@@ -16,55 +14,26 @@ const SCRIPT: &[u8] =
     b"V2\n# a comment\ncontrol,010ccd010001,020000000001,,0001,G,D,I,1,3,0,0,7\nstep,10,2000\nchange,5,0000000000000000,8301ff89020102a203830100\npoll,6\nchange,7,0000000000000000,8300\n";
 
 // What the reader answers, as far as the answers differ here.
-#[derive(Clone, Copy, Debug, PartialEq, Eq)]
+#[derive(Clone, Copy, PartialEq, Eq)]
 enum Answer {
-    // The control line of `SCRIPT`, with the status number of its first state.
+    // A control line, with the status number of its first state.
     Control(u32),
     Step(u32, u32),
-    // The first change of `SCRIPT`, at this moment.
-    Change(u64),
+    // A change at this moment, to so many values.
+    Change(u64, usize),
     Poll(u64),
     Fault(u64, ScriptCause),
     Memory,
     Other,
 }
 
-// Whether the values are those of the script's first change.
-fn are_values<A: Allocator>(values: &[Value<A>]) -> bool {
-    match values {
-        [
-            Value::Boolean(true),
-            Value::Octets(octets),
-            Value::Structure(inner),
-        ] => {
-            octets.as_slice() == [1, 2].as_slice()
-                && matches!(inner.as_slice(), [Value::Boolean(false)])
-        }
-        _ => false,
-    }
-}
-
-// Whether the control line has the texts of the script's.
-fn has_its_texts<A: Allocator>(control: &Control<A>) -> bool {
-    let has_its_id = match &control.go_id {
-        Some(id) => id.as_slice() == b"I".as_slice(),
-        None => false,
-    };
-    has_its_id
-        && control.gocb_ref.as_slice() == b"G".as_slice()
-        && control.dat_set.as_slice() == b"D".as_slice()
-}
-
 // What the item says.
 fn item_told<A: Allocator>(item: &ScriptItem<A>) -> Answer {
     match item {
-        ScriptItem::Control(control, first) if has_its_texts(control) => Answer::Control(*first),
+        ScriptItem::Control(_, first) => Answer::Control(*first),
         ScriptItem::Step(step) => Answer::Step(step.wait_ms, step.live_ms),
-        ScriptItem::Change(moment, _, values) if are_values(values.as_slice()) => {
-            Answer::Change(*moment)
-        }
+        ScriptItem::Change(moment, _, values) => Answer::Change(*moment, values.as_slice().len()),
         ScriptItem::Poll(moment) => Answer::Poll(*moment),
-        _ => Answer::Other,
     }
 }
 
@@ -109,7 +78,7 @@ fn each_line_is_read_again(rt: HostRuntime) -> Result<(), Fail> {
         for (answer, number) in [
             (Answer::Control(7), 3),
             (Answer::Step(10, 2000), 4),
-            (Answer::Change(5), 5),
+            (Answer::Change(5, 3), 5),
             (Answer::Poll(6), 6),
             (Answer::Fault(7, ScriptCause::Members(fault)), 7),
         ] {
