@@ -13,8 +13,8 @@ fn is_listed_as<A: Allocator>(texts: Global, event: &Event<A>, line: &[u8]) -> b
         && sink.octets.as_slice().strip_suffix(b"\n") == Some(line)
 }
 
-/// Whether the next answer is this one: an event's line, `end`, or what the fault says. None where memory is refused, by
-/// the second allocator.
+/// Whether the next answer is this one: an event's line, `end`, or what the fault says. None where the second allocator
+/// refuses memory.
 pub fn is_next<A: Allocator + Copy, R: Source>(
     texts: Global,
     alloc: A,
@@ -142,8 +142,8 @@ const PARTED: &[u8; 23] = b"V2\nF 5 0aff\nC 7\nM 8 on\n";
 /// What it tells before its end.
 const PARTS: [(&str, u64); 3] = [("F 5 0aff", 2), ("C 7", 3), ("M 8 on", 4)];
 
-/// Whether the list, of which a read fails behind so many octets, tells so many events and then this fault in this line,
-/// for good.
+/// Whether the list, of which a read fails behind so many octets, tells so many events and then this fault in this
+/// line, for good.
 fn fails(alloc: Global, size: usize, events: usize, line: u64, fault: &str) -> bool {
     let mut list = ListReader::new(source_of(PARTED, size.max(1), 1));
     tells(alloc, &mut list, PARTS.get(..events).unwrap_or(&PARTS))

@@ -1,6 +1,6 @@
-//! Frames made in memory of their own, whatever they hold: of each kind of member, with each field that may be absent, and
-//! without. What is made is written as the octets that it was made of. Each growth is refused in turn; then, granted
-//! memory, the same call makes the frame.
+//! Frames made in memory of their own, whatever they hold: of each kind of member, with each field that may be absent,
+//! and without. What is made is written as the octets that it was made of. Each growth is refused in turn; then,
+//! granted memory, the same call makes the frame.
 
 use crate::frame::frames::{TAGGED, is_written_as};
 use crate::frame::sampled_frames::TAGGED_SAMPLED;
