@@ -33,10 +33,7 @@ fn faults_of_a_publisher(rt: HostRuntime) -> Result<(), Fail> {
             "a frame of the new state would be too long",
         ),
     ] {
-        assert!(rt;
-            fault.to_string(rt.alloc())?.as_str() == sentence,
-            "{sentence}"
-        );
+        assert!(rt; says(rt.alloc(), &fault, sentence)?, "{sentence}");
     }
     Ok(())
 }
