@@ -20,7 +20,8 @@ use Rattle.engine_core.specs.EngineStep.{Takes}
 use Rattle.exchange_engines.specs.SampleLine.{sample_line}
 use Rattle.exchange_engines.specs.WatchText.{IsWatchText, counts, counts_of, frame_watched, is_unexpected, sample_at, sample_lines, samples_from, samples_in, samples_of, samples_read, watched}
 use Rattle.exchange_engines.specs.WatchStep.{SamplesSaid, last_of, watch_text}
-use Rattle.exchange_engines.proofs.NonEmpty.{fault_there, no_sample}
+use Rattle.text_core.proofs.NonEmpty.{fault_there}
+use Rattle.exchange_engines.proofs.NonEmpty.{no_sample}
 
 pub seen-append : (p : ℕ) (last : Option ℕ) (xs ys : List ℕ) → seen_all p last (xs ++ ys) ≡ seen_all p last xs ++ seen_all p (last_of p last xs) ys
 seen-append p last [] ys = refl
