@@ -19,10 +19,11 @@ const DEEP: [u8; 35] = [
     0x83, 0x01, 0xff,
 ];
 
-// A boolean, two numbers, bits of which three are unused and set, a text, a moment.
-const SIX: [u8; 31] = [
-    0x83, 1, 5, 0x85, 2, 0xff, 0xfb, 0x86, 2, 0, 0xc8, 0x84, 3, 3, 0xff, 0xff, 0x8a, 3, 0x41, 0x42,
-    0x43, 0x91, 8, 0x60, 0, 0, 1, 0x80, 0, 0, 0x0a,
+// Each kind once; true is spelled by 05, the integer by an octet more than it needs, and the unused bits are set.
+const EACH_KIND: [u8; 55] = [
+    0x83, 1, 5, 0x84, 3, 3, 0xff, 0xff, 0x85, 2, 0xff, 0xfb, 0x86, 2, 0, 0xc8, 0x87, 5, 8, 0x41,
+    0x20, 0, 0, 0x89, 2, 1, 2, 0x8a, 3, 0x41, 0x42, 0x43, 0x8c, 4, 0, 0, 0, 1, 0x90, 1, 0x43, 0x91,
+    8, 0x60, 0, 0, 1, 0x80, 0, 0, 0x0a, 0xa1, 0, 0xa2, 0,
 ];
 
 const MOMENT: UtcTime = UtcTime {
@@ -31,47 +32,56 @@ const MOMENT: UtcTime = UtcTime {
     quality: 0x0a,
 };
 
-// Whether they are the six.
-fn are_six(values: &[Value<Global>]) -> bool {
+// Whether they are those values without members.
+fn are_simple(values: &[Value<Global>]) -> bool {
     let [
         Value::Boolean(true),
+        Value::Bits(bits),
         Value::Integer(-5),
         Value::Unsigned(200),
-        Value::Bits(bits),
+        Value::Floating(_),
+        Value::Octets(octets),
         Value::Visible(text),
+        Value::BinaryTime(_),
+        Value::MmsText(_),
         Value::Utc(time),
+        ..
     ] = values
     else {
         return false;
     };
     bits.unused == 3
         && bits.octets.as_slice() == [0xff, 0xf8].as_slice()
+        && octets.as_slice() == [1, 2].as_slice()
         && text.as_slice() == b"ABC".as_slice()
         && *time == MOMENT
 }
 
 #[test]
 fn values_are_those_that_are_spelled(rt: HostRuntime) -> Result<(), Fail> {
-    let values = read_members(rt.alloc(), &SIX, 0, 31, 1)?;
-    assert!(rt; are_six(values.as_slice()));
+    let values = read_members(rt.alloc(), &EACH_KIND, 0, 55, 1)?;
+    assert!(rt; are_simple(values.as_slice()));
+    assert!(rt; matches!(values.get(10), Some(Value::Array(_))));
+    assert!(rt; matches!(values.get(11), Some(Value::Structure(_))));
     Ok(())
 }
 
 #[test]
 fn views_are_those_that_are_spelled(rt: HostRuntime) -> Result<(), Fail> {
-    assert!(rt; check_members(&SIX, 0, 31, 1) == Ok(6));
-    check_members(&SIX, 0, 31, 1)?;
-    let mut views = members(&SIX, 0, 31, 1);
+    assert!(rt; check_members(&EACH_KIND, 0, 55, 1) == Ok(12));
+    check_members(&EACH_KIND, 0, 55, 1)?;
+    let mut views = members(&EACH_KIND, 0, 55, 1);
     assert!(rt; matches!(views.next(), Some(View::Boolean(true))));
+    assert!(rt; matches!(views.next(), Some(View::Bits(_))));
     assert!(rt; matches!(views.next(), Some(View::Integer(-5))));
-    assert!(rt; views.count() == 4);
+    assert!(rt; views.count() == 9);
     Ok(())
 }
 
 #[test]
 fn a_time_has_eight_octets(rt: HostRuntime) -> Result<(), Fail> {
-    let header = header(&SIX, 21, 31)?;
-    assert!(rt; utc::utc_time(&SIX, &header) == Ok(MOMENT));
+    let header = header(&EACH_KIND, 41, 51)?;
+    assert!(rt; utc::utc_time(&EACH_KIND, &header) == Ok(MOMENT));
     assert!(rt; MOMENT.to_octets() == [0x60, 0, 0, 1, 0x80, 0, 0, 0x0a]);
     Ok(())
 }

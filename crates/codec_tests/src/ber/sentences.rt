@@ -8,49 +8,52 @@ use std::test::Fail;
 #[test]
 fn each_cause_has_its_sentence(rt: HostRuntime) -> Result<(), Fail> {
     for (cause, sentence) in [
-        (Cause::Ends, "the octets end inside a length"),
-        (Cause::HighTag, "an identifier of more than one octet"),
-        (Cause::Indefinite, "a length of the indefinite form"),
+        (Cause::Ends, b"the octets end inside a length".as_slice()),
+        (Cause::HighTag, b"an identifier of more than one octet"),
+        (Cause::Indefinite, b"a length of the indefinite form"),
         (
             Cause::LengthForm,
-            "a length of over four octets, or of the reserved form",
+            b"a length of over four octets, or of the reserved form",
         ),
-        (Cause::LengthPastEnd, "contents that reach past the end"),
+        (Cause::LengthPastEnd, b"contents that reach past the end"),
         (
             Cause::IntegerLength,
-            "an integer of no octets, or of over nine",
+            b"an integer of no octets, or of over nine",
         ),
         (
             Cause::UnexpectedTag,
-            "an identifier that may not stand here",
+            b"an identifier that may not stand here",
         ),
-        (Cause::BooleanLength, "a boolean that has not one octet"),
-        (Cause::IntegerRange, "an integer out of its range"),
-        (Cause::BitUnused, "a wrong count of unused bits"),
-        (Cause::FixedLength, "contents of a wrong count of octets"),
-        (Cause::NotVisible, "an octet that no visible text has"),
-        (Cause::TooDeep, "a member nested deeper than sixteen levels"),
+        (Cause::BooleanLength, b"a boolean that has not one octet"),
+        (Cause::IntegerRange, b"an integer out of its range"),
+        (Cause::BitUnused, b"a wrong count of unused bits"),
+        (Cause::FixedLength, b"contents of a wrong count of octets"),
+        (Cause::NotVisible, b"an octet that no visible text has"),
+        (
+            Cause::TooDeep,
+            b"a member nested deeper than sixteen levels",
+        ),
         (
             Cause::ElementMissing,
-            "a field that is always there is missing",
+            b"a field that is always there is missing",
         ),
-        (Cause::ExtraOctets, "octets behind the last field"),
+        (Cause::ExtraOctets, b"octets behind the last field"),
         (
             Cause::EntryCount,
-            "numDatSetEntries is not the count of members",
+            b"numDatSetEntries is not the count of members",
         ),
-        (Cause::AsduCount, "noASDU is not the count of ASDUs"),
-        (Cause::FrameTooLong, "a frame of over 1600 octets"),
+        (Cause::AsduCount, b"noASDU is not the count of ASDUs"),
+        (Cause::FrameTooLong, b"a frame of over 1600 octets"),
         (
             Cause::EtherType,
-            "an EtherType that announces no APDU that is read",
+            b"an EtherType that announces no APDU that is read",
         ),
-        (Cause::LengthField, "a field Length below 8 or over 1500"),
-        (Cause::Truncated, "the frame ends too early"),
+        (Cause::LengthField, b"a field Length below 8 or over 1500"),
+        (Cause::Truncated, b"the frame ends too early"),
     ] {
         assert!(rt;
-            cause.to_string(rt.alloc())?.as_str() == sentence,
-            "{sentence}"
+            cause.to_string(rt.alloc())?.as_bytes() == sentence,
+            "{cause:?}"
         );
     }
     Ok(())

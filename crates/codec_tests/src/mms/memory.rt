@@ -146,13 +146,13 @@ fn members_of_each_count_are_answered(rt: HostRuntime) -> Result<(), Fail> {
     let ample = RefusingAlloc::new(rt.alloc(), usize::MAX);
     for step in 0..=310 {
         let octets = empty_values(count_at(step))?;
-        are_owned(&rt, &ample, octets.as_slice())?;
+        are_answered(&rt, &ample, octets.as_slice());
         for identifier in [0xa1, 0xa2] {
-            are_owned(
+            are_answered(
                 &rt,
                 &ample,
                 element(identifier, octets.as_slice())?.as_slice(),
-            )?;
+            );
         }
     }
     Ok(())

@@ -1,6 +1,6 @@
 // Written forms of members from where they stand, and of elements.
 
-use crate::mms::{DEEP, SIX};
+use crate::mms::{DEEP, EACH_KIND};
 use arrayvec::ArrayVec;
 use ber_core::Full;
 use mms_data::{View, check_members, members, put_element, put_members};
@@ -34,10 +34,11 @@ pub(super) const WRITTEN: [&[u8]; 18] = [
     ],
 ];
 
-// The six in their written form.
-const SIX_WRITTEN: [u8; 30] = [
-    0x83, 1, 0xff, 0x85, 1, 0xfb, 0x86, 2, 0, 0xc8, 0x84, 3, 3, 0xff, 0xf8, 0x8a, 3, 0x41, 0x42,
-    0x43, 0x91, 8, 0x60, 0, 0, 1, 0x80, 0, 0, 0x0a,
+// The values of each kind in their written form.
+const EACH_WRITTEN: [u8; 54] = [
+    0x83, 1, 0xff, 0x84, 3, 3, 0xff, 0xf8, 0x85, 1, 0xfb, 0x86, 2, 0, 0xc8, 0x87, 5, 8, 0x41, 0x20,
+    0, 0, 0x89, 2, 1, 2, 0x8a, 3, 0x41, 0x42, 0x43, 0x8c, 4, 0, 0, 0, 1, 0x90, 1, 0x43, 0x91, 8,
+    0x60, 0, 0, 1, 0x80, 0, 0, 0x0a, 0xa1, 0, 0xa2, 0,
 ];
 
 // The element of this identifier and these contents, its length in the fewest octets.
@@ -109,8 +110,8 @@ fn members_are_written_from_where_they_stand(rt: HostRuntime) -> Result<(), Fail
         );
     }
     assert!(rt; written(&[])?.as_slice() == [0xab, 0].as_slice());
-    let wanted = element(0xab, &SIX_WRITTEN)?;
-    assert!(rt; written(&SIX)?.as_slice() == wanted.as_slice());
+    let wanted = element(0xab, &EACH_WRITTEN)?;
+    assert!(rt; written(&EACH_KIND)?.as_slice() == wanted.as_slice());
     let mut deep = DEEP;
     deep[34] = 7;
     let wanted = element(0xab, &DEEP[2..])?;

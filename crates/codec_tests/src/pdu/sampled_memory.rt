@@ -33,17 +33,18 @@ fn gives(call: Call, memory: Memory<'_>, octets: &[u8]) -> Result<bool, ReadFaul
     let pdu = match call {
         Call::ReadSv => read_sv(memory, octets, 0, octets.len())?,
         Call::ToPdu => view_sv(octets, 0, octets.len())?.to_pdu(memory)?,
-        Call::ToAsdu => made_one_by_one(memory, octets)?,
+        Call::ToAsdu => with_the_first(memory, octets)?,
     };
     Ok(is_written(&pdu, octets))
 }
 
-// The APDU of the octets, its ASDUs made one by one.
-fn made_one_by_one<'a>(memory: Memory<'a>, octets: &[u8]) -> Result<SvPdu<Memory<'a>>, ReadFault> {
+// An APDU of the first ASDU of the octets alone.
+fn with_the_first<'a>(memory: Memory<'a>, octets: &[u8]) -> Result<SvPdu<Memory<'a>>, ReadFault> {
     let view = view_sv(octets, 0, octets.len())?;
-    let mut asdus = Vec::with_capacity(memory, view.count as usize)?;
-    for asdu in view.asdus {
-        asdus.push(asdu.to_asdu(memory)?)?;
+    let mut views = view.asdus;
+    let mut asdus = Vec::with_capacity(memory, 1)?;
+    if let Some(first) = views.next() {
+        asdus.push(first.to_asdu(memory)?)?;
     }
     Ok(SvPdu {
         asdus: AsduList::from(asdus),
