@@ -103,6 +103,14 @@ class Unheard(Case):
             return run(program, self.words, stdin=stdin, stderr=stderr)
 
 
+class Unsaid(Case):
+    """Standard error is a disk that is full, and so the message is not compared."""
+
+    def run(self, program):
+        with descriptor("/dev/full", os.O_WRONLY) as stderr:
+            return run(program, self.words, self.stdin, stderr=stderr)
+
+
 # The words that run each command, and what it writes before it reads and before the fault of its list or script.
 WORDS = {"replay": ["replay", "0001,G,D,,1,1"], "watch": ["watch", "--period", "4000", "--id", "S"]}
 BEFORE = {"show": ("", ""), "check": ("", ""), "rewrite": ("V2\n", "# "), "replay": ("", ""), "watch": ("", ""),
@@ -198,6 +206,8 @@ def writing():
     yield Full("rewrite of good frames on a full disk", ["rewrite"], listed(*[WORKED] * 2000), None, 4, FAULT)
     yield Full("check of good frames writes nothing", ["check"], listed(*[WORKED] * 2000), None, 0)
     yield Full("help on a full disk", ["--help"], b"", None, 4, FAULT)
+    for asked in (["bogus"], ["show", "more"], ["replay", "no block"], []):
+        yield Unsaid(f"a mistake in the arguments that cannot be told, {asked}", asked, b"", b"", 2)
 
 
 def importing():

@@ -36,15 +36,21 @@ fn advice(kind: WordsErrorKind) -> Option<&'static str> {
     }
 }
 
-// Says what the parser says of the words, and answers the exit status.
+// Says what the parser says of the words, and answers the exit status. Help that cannot be written is a write fault; a
+// mistake in the words stays one, whether it can be told or not.
 fn answer_words(rt: &HostRuntime, error: &clap::Error) -> u8 {
+    let code = error.exit_code() as u8;
     if error.print(rt).is_err() {
-        return status(&Ending::WriteFault);
+        return if code == 0 {
+            status(&Ending::WriteFault)
+        } else {
+            code
+        };
     }
     if let Some(text) = advice(error.kind()) {
         let _ = rt.eprintln(text);
     }
-    error.exit_code() as u8
+    code
 }
 
 // The words as texts, or the exit status where they can't be had.
