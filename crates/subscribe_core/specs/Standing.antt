@@ -20,6 +20,12 @@ pub record Standing (A : Type 0) : Type 0 where
   pub state : State A
   pub looks : ℕ
 
+-- the same, and how often a block or its register was reached in all
+pub record Counted (A : Type 0) : Type 0 where
+  pub state : State A
+  pub looks : ℕ
+  pub reaches : ℕ
+
 -- it keeps what the events say, as they are read
 pub record StandsAfterRead {A : Type 0} (events : List EventRead) (s : State A) : Type 0 where
   pub moment : s.moment ≡ greatest_event_moment events
