@@ -383,7 +383,6 @@ impl<A: Allocator + Copy> Keeper<A> {
         ensures err_looks { OnErr result (self.new.looks ≡ self.old.looks) }
         ensures quiet { IsFrame event.now.kind ⊎ (step_entries self.old.state (reading_of event.now) ≡ [] → IsOk result) }
         ensures count { IsMode event.now.kind ⊎ IfOk result (λ entries. self.new.reaches ≤ self.old.reaches + (expired_count entries.items + 2)) }
-        ensures sizes { length self.old.state.registers ≡ length self.old.state.blocks }
         ensures apart { AreApart self.old.state.blocks }
     {
         let now = self.moment.max(event.moment);
@@ -403,7 +402,6 @@ impl<A: Allocator + Copy> Keeper<A> {
         ensures quiet { IsFrame event.now.kind ⊎ (step_entries self.old.state (reading_of event.now) ≡ [] → IsOk result) }
         ensures counted { OnOk result (self.new.looks ≡ self.new.reaches - self.old.reaches) }
         ensures looks { IsMode event.now.kind ⊎ IfOk result (λ entries. self.new.looks ≤ expired_count entries.items + 2) }
-        ensures sizes { length self.old.state.registers ≡ length self.old.state.blocks }
         ensures apart { AreApart self.old.state.blocks }
     {
         let before = self.rows.reaches();

@@ -1,4 +1,4 @@
-use Rattle.std.proofs.Common.{◌≡◌, ◌++◌, ◌∷◌, [], List, inl, inr, length, ap, ◌∙◌, sym, subst}
+use Rattle.std.proofs.Common.{◌++◌, ◌∷◌, [], List, inl, inr, length, ap, ◌∙◌, sym, subst}
 use Rattle.std.proofs.lemmas.Result.{on_ok_weaker}
 use Rattle.std.specs.Prelude.{IfOk, Result, Ok, Err}
 use Rattle.subscribe_core.specs.declared.entry.Entry.{Entry}
@@ -24,7 +24,7 @@ returns-clause-entries g c = λ events stands.
     subst (λ (t : State _). IfOk c.step.result (λ entries. AreEntriesAt t.blocks (events ++ e ∷ []) (length events) entries.items)) same
     (if_ok_weaker c.step.result _ _
     (λ x is. subst (λ (es : List (Entry _)). AreEntriesAt s.blocks (events ++ e ∷ []) (length events) es) (sym is)
-    (entries_step events e (reading_of e) s (is_read e) c.step.ensures.sizes here))
+    (entries_step events e (reading_of e) s (is_read e) here))
     c.step.ensures.entries)
 
 pub returns-clause-stands : goal.returns-clause-stands
@@ -33,7 +33,7 @@ returns-clause-stands g c = λ events stands.
     let e = c.args.event.now in
     let here = subst (λ (t : Standing _). StandsAfter events t.state) (sym c.self.view_is) stands in
     on_ok_weaker c.step.result
-    (λ is. subst (λ (t : State _). StandsAfter (events ++ e ∷ []) t) (sym is) (stands_step events e (reading_of e) s (is_read e) c.step.ensures.sizes here))
+    (λ is. subst (λ (t : State _). StandsAfter (events ++ e ∷ []) t) (sym is) (stands_step events e (reading_of e) s (is_read e) here))
     c.step.ensures.state
 
 pub returns-clause-quiet_step : goal.returns-clause-quiet_step
@@ -45,5 +45,4 @@ pub returns-clause-quiet : goal.returns-clause-quiet
 returns-clause-quiet g c = λ events stands none.
     let s = c.args.self.now.state in
     let apart = subst (λ (t : Standing _). AreApart t.state.blocks) c.self.view_is c.step.ensures.apart in
-    let sizes = subst (λ (t : Standing _). length t.state.registers ≡ length t.state.blocks) c.self.view_is c.step.ensures.sizes in
-    returns-clause-quiet_step g c (quiet_step events c.args.event.now s apart sizes stands none)
+    returns-clause-quiet_step g c (quiet_step events c.args.event.now s apart stands none)
