@@ -1,15 +1,15 @@
 -- A subscriber that is handed the events of a list one by one, and the text that follows.
 use Rattle.std.proofs.Common.{◌≡◌, ℕ, List, [], ◌∷◌, ◌++◌, length, false, Ok, ap, subst, sym, ◌∙◌, refl, append_assoc}
-use Rattle.std.proofs.lemmas.List.{append-nil, length-replicate}
+use Rattle.std.proofs.lemmas.List.{append-nil}
 use Rattle.list_core.specs.declared.event.Event.{Event}
 use Rattle.block_core.specs.declared.block.Block.{Block}
 use Rattle.subscribe_core.specs.declared.entry.Entry.{Entry}
 use Rattle.subscribe_core.specs.Content.{reading_of}
 use Rattle.subscribe_core.specs.Entries.{AreEntriesAt}
-use Rattle.subscribe_core.specs.Standing.{State, StandsAfter, fresh_state, idle}
+use Rattle.subscribe_core.specs.Standing.{State, StandsAfter, fresh_state}
 use Rattle.subscribe_core.specs.Steps.{step_entries, step_state}
 use Rattle.subscribe_core.proofs.Readings.{is_read}
-use Rattle.subscribe_core.proofs.Runs.{entries_step, fresh_stands, registers_length, stands_step}
+use Rattle.subscribe_core.proofs.Runs.{entries_step, fresh_stands, stands_step}
 use Rattle.engine_core.specs.EngineStep.{Takes}
 use Rattle.exchange_engines.specs.EntryText.{entry_lines}
 use Rattle.exchange_engines.specs.ReplayText.{IsReplayText, events_of}
@@ -42,21 +42,19 @@ replays s t before n event entries old new stands said then_ wrote = (
 -- what is kept after events stands after them
 record Keeps {A : Type 0} (blocks : List (Block A)) (events : List (Event A)) (s : State A) : Type 0 where
   pub stands : StandsAfter events s
-  pub sizes : length s.registers ≡ length s.blocks
   pub same : s.blocks ≡ blocks
 
 keeps_all : {A : Type 0} (blocks : List (Block A)) (es before : List (Event A)) (s : State A) → Keeps blocks before s → Keeps blocks (before ++ es) (state_after_list s es)
 keeps_all blocks [] before s k = subst (λ (l : List (Event _)). Keeps blocks l s) (sym (append-nil before)) k
 keeps_all blocks (e ∷ es) before s k =
     let next : Keeps blocks (before ++ e ∷ []) (step_state s (reading_of e)) = record {
-      stands = stands_step before e (reading_of e) s (is_read e) k.sizes k.stands;
-      sizes = registers_length _ s.mode (reading_of e).content s.blocks s.registers k.sizes;
+      stands = stands_step before e (reading_of e) s (is_read e) k.stands;
       same = k.same;
     } in
     subst (λ (l : List (Event _)). Keeps blocks l (state_after_list s (e ∷ es))) (append_assoc before (e ∷ []) es) (keeps_all blocks es (before ++ e ∷ []) (step_state s (reading_of e)) next)
 
 kept_keeps : {A : Type 0} (blocks : List (Block A)) (items : List (ℕ × Event A)) → Keeps blocks (events_of items) (kept_after blocks items)
-kept_keeps blocks items = keeps_all blocks (events_of items) [] (fresh_state blocks) (record { stands = fresh_stands blocks; sizes = length-replicate (length blocks) idle; same = refl })
+kept_keeps blocks items = keeps_all blocks (events_of items) [] (fresh_state blocks) (record { stands = fresh_stands blocks; same = refl })
 
 -- the text as it is computed is that of the entries of the whole list
 pub replay_is : {A : Type 0} (blocks : List (Block A)) → IsReplayText blocks (replay_text blocks)
@@ -67,7 +65,7 @@ replay_is blocks = record {
       let s = kept_after blocks before in (
         step_entries s (reading_of e.1),
         subst (λ (bs : List (Block _)). AreEntriesAt bs (events_of before ++ e.1 ∷ []) (length (events_of before)) (step_entries s (reading_of e.1))) k.same
-            (entries_step (events_of before) e.1 (reading_of e.1) s (is_read e.1) k.sizes k.stands),
+            (entries_step (events_of before) e.1 (reading_of e.1) s (is_read e.1) k.stands),
         refl,
       );
   last = λ f. refl;

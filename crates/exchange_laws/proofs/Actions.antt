@@ -1,5 +1,6 @@
 -- The actions of an epoch that stems from one publisher's run.
-use Rattle.std.proofs.Common.{◌≡◌, ℕ, ◌+◌, ◌<◌, ◌≤◌, Some, List, [], length, map, slice_get, get_or, Contains, sym, refl, ap, ap₂, ◌∙◌, subst, arith}
+use Rattle.std.proofs.Common.{◌≡◌, ℕ, ◌+◌, ◌<◌, ◌≤◌, inl, inr, Some, List, [], length, map, slice_get, get_or, Contains, sym, refl, ap, ap₂, ◌∙◌, subst, arith}
+use Rattle.std.proofs.lemmas.Bool.{cases_order}
 use Rattle.std.proofs.lemmas.Option.{same_Some, slice_get-get_or, slice_get_within}
 use Rattle.list_core.specs.declared.event.Event.{Event}
 use Rattle.mms_data.specs.Data.{Data}
@@ -125,7 +126,7 @@ good_number block events readings s p calls are from i f good =
     (told.c, record { facts = f; good = good; numbered = state }, state)
 
 pub changes_acted_on : {A B : Type 0} → ChangesActedOn A B
-changes_acted_on {A} {B} blocks events readings b block s p calls apart at are from = (λ c. (acted c, comes c), rise)
+changes_acted_on {A} {B} blocks events readings b block s p calls apart at are from = (λ c. (acted c, comes c), order, once)
   where
     acted : (c : ℕ) → (i : ℕ) × ActsOnChange blocks events readings b block s p.first c i → ChangeComesInTime (trace_of_block block readings) s p.first c
     acted c w =
@@ -162,3 +163,24 @@ changes_acted_on {A} {B} blocks events readings b block s p calls apart at are f
         let first : x.0.state ≡ p.first + c = x.3 in
         let second : y.0.state ≡ p.first + d = y.3 in
         omega arith
+
+    order : (c d i j : ℕ) → ActsOnChange blocks events readings b block s p.first c i → ActsOnChange blocks events readings b block s p.first d j → i ≤ j → c ≤ d
+    order c d i j u v le = elim (cases_order i j) [
+      | inl same ↦
+          let x = acted_number blocks events readings b block s p.first c i apart at are u in
+          let y = acted_number blocks events readings b block s p.first d j apart at are v in
+          let facts : x.0 ≡ y.0 = same_Some x.0 y.0 (sym x.1.good ∙ (ap (trace_of_block block readings).good same ∙ y.1.good)) in
+          let state : x.0.state ≡ y.0.state = ap (λ (f : Facts). f.state) facts in
+          let first : x.0.state ≡ p.first + c = x.3 in
+          let second : y.0.state ≡ p.first + d = y.3 in
+          omega arith
+      | inr (inl lt) ↦ let less : c < d = rise c d i j u v lt in omega arith
+      | inr (inr gt) ↦ absurd (omega arith)
+    ]
+
+    once : (c i j : ℕ) → ActsOnChange blocks events readings b block s p.first c i → ActsOnChange blocks events readings b block s p.first c j → i ≡ j
+    once c i j u v = elim (cases_order i j) [
+      | inl same ↦ same
+      | inr (inl lt) ↦ let less : c < c = rise c c i j u v lt in absurd (omega arith)
+      | inr (inr gt) ↦ let less : c < c = rise c c j i v u gt in absurd (omega arith)
+    ]

@@ -46,14 +46,15 @@ pub record ActsOnChange {B : Type 0} (blocks : List (Block B)) (events : List (E
   pub members : List Data
   pub has : Contains entries (says.Act b (first + c) sequence t members)
 
--- In such an epoch the changes acted on are those of which a good frame comes before any of a later change, and they are
--- acted on in their order, so each of them once.
+-- In such an epoch the changes acted on are those of which a good frame comes before any of a later change. They are acted on
+-- in their order, and each of them at one event.
 abbrev pub ChangesActedOn : Type 0 → Type 0 → Type 0
 ChangesActedOn A B =
     (blocks : List (Block B)) (events : List (Event B)) (readings : List EventRead) (b : ℕ) (block : Block B) (s : ℕ) (p : Setup A) (calls : List Call) →
     AreApart blocks → slice_get blocks b ≡ Some block → AreRead events readings → StemsFromRun block events readings s p calls →
     ((c : ℕ) → ((i : ℕ) × ActsOnChange blocks events readings b block s p.first c i) ↔ ChangeComesInTime (trace_of_block block readings) s p.first c) ×
-    ((c d i j : ℕ) → ActsOnChange blocks events readings b block s p.first c i → ActsOnChange blocks events readings b block s p.first d j → i < j → c < d)
+    ((c d i j : ℕ) → ActsOnChange blocks events readings b block s p.first c i → ActsOnChange blocks events readings b block s p.first d j → i ≤ j → c ≤ d) ×
+    ((c i j : ℕ) → ActsOnChange blocks events readings b block s p.first c i → ActsOnChange blocks events readings b block s p.first c j → i ≡ j)
 
 -- the octets that a publisher gives, whose changes were accepted, are of its run
 abbrev pub WhatIsPublishedIsOfTheRun : Type 0 → Type 0

@@ -12,8 +12,8 @@ pub fn actions_carry_what_was_published<P: Allocator, S: Allocator>()
     ensures one { PublishedIsOne P }
 {}
 
-/// The changes that are acted on in such an epoch are, each once and in their order, those of which a good frame comes
-/// before any of a later change.
+/// The changes that are acted on in such an epoch are, each at one event and in their order, those of which a good frame
+/// comes before any of a later change.
 pub fn changes_are_acted_on_in_order<P: Allocator, S: Allocator>()
     ensures { ChangesActedOn P S }
 {}

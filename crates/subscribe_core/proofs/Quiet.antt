@@ -1,5 +1,5 @@
 -- Where there is no entry.
-use Rattle.std.proofs.Common.{◌≡◌, ℕ, List, [], ◌∷◌, ◌++◌, length, refl}
+use Rattle.std.proofs.Common.{◌≡◌, ℕ, List, [], ◌∷◌, ◌++◌, length}
 use Rattle.frame_core.specs.FrameReading.{frame_at}
 use Rattle.list_core.specs.declared.event.Event.{Event}
 use Rattle.list_core.specs.declared.event.EventKind.{EventKind}
@@ -40,7 +40,7 @@ pub no_frame : {A : Type 0} (s : State A) (e : Event A) → step_entries s (read
 no_frame s e none frame = said_frame _ s.mode s.blocks s.registers e.kind frame (back_nil _ _ (back_nil _ _ none))
 
 -- where the list has no entry at an event, the step gives none
-pub quiet_step : {A : Type 0} (events : List (Event A)) (e : Event A) (s : State A) → AreApart s.blocks → length s.registers ≡ length s.blocks → StandsAfter events s
+pub quiet_step : {A : Type 0} (events : List (Event A)) (e : Event A) (s : State A) → AreApart s.blocks → StandsAfter events s
     → AreEntriesAt s.blocks (events ++ e ∷ []) (length events) [] → step_entries s (reading_of e) ≡ []
-quiet_step events e s apart same stands none =
-    entries_are_one s.blocks (events ++ e ∷ []) (length events) (step_entries s (reading_of e)) [] apart (entries_step events e (reading_of e) s (is_read e) same stands) none
+quiet_step events e s apart stands none =
+    entries_are_one s.blocks (events ++ e ∷ []) (length events) (step_entries s (reading_of e)) [] apart (entries_step events e (reading_of e) s (is_read e) stands) none

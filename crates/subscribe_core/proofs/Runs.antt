@@ -1,5 +1,5 @@
 -- One event of a list, and a run of steps: the entries of the whole list.
-use Rattle.std.proofs.Common.{◌≡◌, ℕ, zero, suc, ◌+◌, inl, max, Bool, List, [], ◌∷◌, ◌++◌, length, map, Some, slice_get, replicate, sym, refl, ap, ◌∙◌, subst, arith, append_assoc}
+use Rattle.std.proofs.Common.{◌≡◌, ℕ, zero, suc, ◌+◌, inl, List, [], ◌∷◌, ◌++◌, length, map, Some, slice_get, replicate, sym, refl, ap, ◌∙◌, subst, arith, append_assoc}
 use Rattle.std.proofs.lemmas.Option.{none-some, same_Some}
 use Rattle.std.proofs.lemmas.List.{length-replicate, length_push}
 use Rattle.list_core.specs.declared.event.Event.{Event}
@@ -7,13 +7,13 @@ use Rattle.block_core.specs.declared.block.Block.{Block}
 use Rattle.subscribe_core.specs.declared.entry.Entry.{Entry}
 use Rattle.subscribe_core.specs.declared.registers.Register.{Register}
 use Rattle.subscribe_core.specs.Epoch.{BlockHolds}
-use Rattle.subscribe_core.specs.Reading.{Content, EventRead, IsRead, AreRead}
+use Rattle.subscribe_core.specs.Reading.{EventRead, IsRead, AreRead}
 use Rattle.subscribe_core.specs.Content.{reading_of}
 use Rattle.subscribe_core.specs.Entries.{AreReadEntriesAt, AreEntriesAt, AreEntries}
 use Rattle.subscribe_core.specs.Laws.{BlocksAreAlone, EntriesAreOne, EntriesStay, EntriesExist}
 use Rattle.subscribe_core.specs.Sight.{trace_of_block}
 use Rattle.subscribe_core.specs.Standing.{State, StandsAfterRead, StandsAfter, fresh_state, idle}
-use Rattle.subscribe_core.specs.Steps.{registers_by, step_entries, step_state, run_events}
+use Rattle.subscribe_core.specs.Steps.{step_entries, step_state, run_events}
 use Rattle.subscribe_core.proofs.Alone.{read_entries_are_one, read_blocks_are_alone}
 use Rattle.subscribe_core.proofs.Readings.{all_read, reads_one, read_append, read_length}
 use Rattle.subscribe_core.proofs.Stay.{read_entries_stay}
@@ -29,6 +29,7 @@ get_idle (suc n) (suc b) r e = get_idle n b r e
 pub fresh_stands_read : {A : Type 0} (blocks : List (Block A)) → StandsAfterRead [] (fresh_state blocks)
 fresh_stands_read blocks =
     record {
+      sizes = length-replicate (length blocks) idle;
       moment = refl;
       mode = refl;
       holds = λ b block r p q.
@@ -44,44 +45,38 @@ fresh_stands blocks = ([], tt, fresh_stands_read blocks)
 read_push : {A : Type 0} (events : List (Event A)) (e : Event A) (rs : List EventRead) (r : EventRead) → AreRead events rs → IsRead e r → AreRead (events ++ e ∷ []) (rs ++ r ∷ [])
 read_push events e rs r a b = read_append events (e ∷ []) rs (r ∷ []) a (b, tt)
 
-pub entries_step : {A : Type 0} (events : List (Event A)) (e : Event A) (r : EventRead) (s : State A) → IsRead e r → length s.registers ≡ length s.blocks → StandsAfter events s → AreEntriesAt s.blocks (events ++ e ∷ []) (length events) (step_entries s r)
-entries_step events e r s read same w =
-    let x = step_ok w.0 r s same w.2 in (
+pub entries_step : {A : Type 0} (events : List (Event A)) (e : Event A) (r : EventRead) (s : State A) → IsRead e r → StandsAfter events s → AreEntriesAt s.blocks (events ++ e ∷ []) (length events) (step_entries s r)
+entries_step events e r s read w =
+    let x = step_ok w.0 r s w.2 in (
       w.0 ++ r ∷ [],
       read_push events e w.0 r w.1 read,
       subst (λ n. AreReadEntriesAt s.blocks (w.0 ++ r ∷ []) n (step_entries s r)) (read_length events w.0 w.1) x.0,
     )
 
-pub stands_step : {A : Type 0} (events : List (Event A)) (e : Event A) (r : EventRead) (s : State A) → IsRead e r → length s.registers ≡ length s.blocks → StandsAfter events s → StandsAfter (events ++ e ∷ []) (step_state s r)
-stands_step events e r s read same w =
-    (w.0 ++ r ∷ [], read_push events e w.0 r w.1 read, (step_ok w.0 r s same w.2).1)
+pub stands_step : {A : Type 0} (events : List (Event A)) (e : Event A) (r : EventRead) (s : State A) → IsRead e r → StandsAfter events s → StandsAfter (events ++ e ∷ []) (step_state s r)
+stands_step events e r s read w =
+    (w.0 ++ r ∷ [], read_push events e w.0 r w.1 read, (step_ok w.0 r s w.2).1)
 
 -- a run of steps
-
-pub registers_length : {A : Type 0} (now : ℕ) (mode : Bool) (k : Content) (xs : List (Block A)) (rs : List Register) → length rs ≡ length xs → length (registers_by now mode k xs rs) ≡ length xs
-registers_length now mode k [] [] same = refl
-registers_length now mode k [] (r ∷ rs) same = refl
-registers_length now mode k (x ∷ xs) [] same = same
-registers_length now mode k (x ∷ xs) (r ∷ rs) same = ap suc (registers_length now mode k xs rs (omega arith))
 
 run_length : {A : Type 0} (es : List EventRead) (s : State A) → length (run_events s es) ≡ length es
 run_length [] s = refl
 run_length (e ∷ es) s = ap suc (run_length es (step_state s e))
 
 -- from a subscriber that stands after the events before
-run_from : {A : Type 0} (es before : List EventRead) (s : State A) → length s.registers ≡ length s.blocks → StandsAfterRead before s → (i : ℕ) (x : List (Entry A)) → slice_get (run_events s es) i ≡ Some x → AreReadEntriesAt s.blocks (before ++ es) (length before + i) x
-run_from [] before s same w i x e = absurd (none-some x e)
-run_from {A} (e ∷ es) before s same w zero x is =
-    let step = step_ok before e s same w in
+run_from : {A : Type 0} (es before : List EventRead) (s : State A) → StandsAfterRead before s → (i : ℕ) (x : List (Entry A)) → slice_get (run_events s es) i ≡ Some x → AreReadEntriesAt s.blocks (before ++ es) (length before + i) x
+run_from [] before s w i x e = absurd (none-some x e)
+run_from {A} (e ∷ es) before s w zero x is =
+    let step = step_ok before e s w in
     let here : AreReadEntriesAt s.blocks ((before ++ e ∷ []) ++ es) (length before) (step_entries s e) =
     read_entries_stay s.blocks (before ++ e ∷ []) es (length before) (step_entries s e) step.0 in
     let there : AreReadEntriesAt s.blocks (before ++ e ∷ es) (length before) (step_entries s e) =
     subst (λ (l : List EventRead). AreReadEntriesAt s.blocks l (length before) (step_entries s e)) (append_assoc before (e ∷ []) es) here in
     subst (λ n. AreReadEntriesAt s.blocks (before ++ e ∷ es) n x) (omega arith)
     (subst (λ (y : List (Entry A)). AreReadEntriesAt s.blocks (before ++ e ∷ es) (length before) y) (same_Some (step_entries s e) x is) there)
-run_from (e ∷ es) before s same w (suc i) x is =
-    let step = step_ok before e s same w in
-    let rest = run_from es (before ++ e ∷ []) (step_state s e) (registers_length (max s.moment e.moment) s.mode e.content s.blocks s.registers same) step.1 i x is in
+run_from (e ∷ es) before s w (suc i) x is =
+    let step = step_ok before e s w in
+    let rest = run_from es (before ++ e ∷ []) (step_state s e) step.1 i x is in
     subst (λ n. AreReadEntriesAt s.blocks (before ++ e ∷ es) n x) (omega (arith, length_push before e))
     (subst (λ (l : List EventRead). AreReadEntriesAt s.blocks l (length (before ++ e ∷ []) + i) x) (append_assoc before (e ∷ []) es) rest)
 
@@ -93,7 +88,7 @@ runs_are_whole blocks events =
         map reading_of events,
         all_read events,
         subst (λ n. AreReadEntriesAt blocks (map reading_of events) n x) (omega arith)
-            (run_from (map reading_of events) [] (fresh_state blocks) (length-replicate (length blocks) idle) (fresh_stands_read blocks) i x is),
+            (run_from (map reading_of events) [] (fresh_state blocks) (fresh_stands_read blocks) i x is),
       );
     }
 

@@ -168,9 +168,16 @@ said_ok events e now mode xs rs same all (OfFault z) is = refl
 said_ok events e now mode xs rs same all OfClock is = refl
 said_ok events e now mode xs rs same all (OfMode on) is = refl
 
+registers_length : {A : Type 0} (now : ℕ) (mode : Bool) (k : Content) (xs : List (Block A)) (rs : List Register) → length rs ≡ length xs → length (registers_by now mode k xs rs) ≡ length xs
+registers_length now mode k [] [] same = refl
+registers_length now mode k [] (r ∷ rs) same = refl
+registers_length now mode k (x ∷ xs) [] same = same
+registers_length now mode k (x ∷ xs) (r ∷ rs) same = ap suc (registers_length now mode k xs rs (omega arith))
+
 -- the theorem for one event
-pub step_ok : {A : Type 0} → (events : List EventRead) (e : EventRead) (s : State A) → length s.registers ≡ length s.blocks → StandsAfterRead events s → AreReadEntriesAt s.blocks (events ++ e ∷ []) (length events) (step_entries s e) × StandsAfterRead (events ++ e ∷ []) (step_state s e)
-step_ok {A} events e s same w =
+pub step_ok : {A : Type 0} → (events : List EventRead) (e : EventRead) (s : State A) → StandsAfterRead events s → AreReadEntriesAt s.blocks (events ++ e ∷ []) (length events) (step_entries s e) × StandsAfterRead (events ++ e ∷ []) (step_state s e)
+step_ok {A} events e s w =
+    let same = w.sizes in
     let all : AllAgree events e (max s.moment e.moment) s.mode s.blocks s.registers = agrees events e s w in (
       record {
         event = e;
@@ -183,6 +190,7 @@ step_ok {A} events e s same w =
             (switched_ok events e (max s.moment e.moment) s.mode 0 s.blocks s.registers same all);
       },
       record {
+        sizes = registers_length (max s.moment e.moment) s.mode e.content s.blocks s.registers same;
         moment = ap (λ m. max m e.moment) w.moment ∙ sym (greatest-push events e);
         mode = ap (mode_by e.content) w.mode ∙ sym (mode_kept events e);
         holds = λ b x y p q.

@@ -20,8 +20,15 @@ pub record Standing (A : Type 0) : Type 0 where
   pub state : State A
   pub looks : ℕ
 
--- it keeps what the events say, as they are read
+-- the same, and how often a block or its register was reached in all
+pub record Counted (A : Type 0) : Type 0 where
+  pub state : State A
+  pub looks : ℕ
+  pub reaches : ℕ
+
+-- it keeps what the events say, as they are read: a register for each block, and each says what its block holds and takes
 pub record StandsAfterRead {A : Type 0} (events : List EventRead) (s : State A) : Type 0 where
+  pub sizes : length s.registers ≡ length s.blocks
   pub moment : s.moment ≡ greatest_event_moment events
   pub mode : s.mode ≡ last_mode false events
   pub holds : (b : ℕ) (block : Block A) (r : Register) → slice_get s.blocks b ≡ Some block → slice_get s.registers b ≡ Some r → BlockHolds (trace_of_block block events) (length events) r.held

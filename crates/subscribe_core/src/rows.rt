@@ -13,7 +13,8 @@ pub struct Reach {
 }
 
 /// The blocks and what is kept of each. The only ways to a block or to a register are a look, which takes a reach that was
-/// counted, and the two writes, which count one each. The count stays at its greatest number.
+/// counted, and the two writes, which count one each. Nothing lowers the count: it is of all reaches ever, and stays at its
+/// greatest number.
 #[derive(Drop)]
 pub struct Rows<A: Allocator> {
     blocks: Vec<Block<A>, A>,
@@ -40,23 +41,11 @@ impl<A: Allocator> Rows<A> {
         self.blocks.len()
     }
 
-    // How often a block or its register was reached.
+    // How often a block or its register was reached in all.
     pub(crate) fn reaches(&self) -> u64
         ensures { result ≡ self.now.reaches }
     {
         self.reaches
-    }
-
-    // Has the count of reaches go on from a number, and gives what it was.
-    pub(crate) fn count_from(&mut self, reaches: u64) -> u64
-        ensures was { result ≡ self.old.reaches }
-        ensures reaches { self.new.reaches ≡ reaches }
-        ensures blocks { self.new.blocks ≡ self.old.blocks }
-        ensures registers { self.new.registers ≡ self.old.registers }
-    {
-        let was = self.reaches;
-        self.reaches = reaches;
-        was
     }
 
     // Reaches for the block at a position.

@@ -1,38 +1,7 @@
-use Rattle.std.proofs.Common.{ap, ◌∙◌, length, replicate}
-use Rattle.std.proofs.lemmas.Bool.{false≢true}
-use Rattle.subscribe_core.specs.Standing.{idle}
-use Rattle.subscribe_core.proofs.Fresh.{fresh_indexed}
+use Rattle.std.proofs.Common.{[], sym, subst}
+use Rattle.subscribe_core.specs.Standing.{State, StandsAfter}
 use Rattle.subscribe_core.proofs.Runs.{fresh_stands}
 use Rattle.subscribe_core.proofs.subscriber.Subscriber.new.Goals as goal
 
-pub returns-in-Some-clause-fault : goal.returns-in-Some-clause-fault
-returns-in-Some-clause-fault g c = rw c.deref.ensures.value at c.in-Some.ensures
-
-pub returns-in-Err-clause-fault : goal.returns-in-Err-clause-fault
-returns-in-Err-clause-fault g c = (
-  rw c.deref.ensures.value at c.in_default.ensures,
-  λ none. absurd (false≢true (c.in-Err.ensures.quiet (c.len.ensures ∙ c.args.blocks.ok.0 ∙ ap length none))),
-)
-
-pub returns-in-Err-sorted-clause-fault : goal.returns-in-Err-sorted-clause-fault
-returns-in-Err-sorted-clause-fault g c = (
-  rw c.deref.ensures.value at c.in_default.ensures,
-  λ none. absurd (false≢true (c.in-Err-sorted.ensures.quiet (c.deref-2.ensures.value ∙ none))),
-)
-
-pub invariant_of-result : goal.invariant_of-result
-invariant_of-result g c =
-    let size = c.len.ensures ∙ c.args.blocks.ok.0 in
-    rw c.new.ensures
-    (fresh_indexed c.args.blocks.items c.in-Ok.registers.items c.in-Ok-sorted.names.items c.new-2.result
-    (c.in-Ok.ensures.registers ∙ ap (λ n. replicate n idle) size) c.new-2.ensures.empty
-    (rw c.deref.ensures.value at c.in_default.ensures) c.in-Ok-sorted.ensures.order (rw c.deref-2.ensures.value at c.in-Ok-sorted.ensures.named))
-
 pub returns-clause-stands : goal.returns-clause-stands
-returns-clause-stands g c =
-    let size = c.len.ensures ∙ c.args.blocks.ok.0 in
-    let registers = c.in-Ok.ensures.registers ∙ ap (λ n. replicate n idle) size in
-    rw (c.new.ensures, registers) (fresh_stands c.args.blocks.items)
-
-pub returns-clause-apart : goal.returns-clause-apart
-returns-clause-apart g c = rw c.deref.ensures.value at c.in_default.ensures
+returns-clause-stands g c = subst (λ (s : State _). StandsAfter [] s) (sym c.in_ok-keeper.ensures.fresh) (fresh_stands c.args.blocks.items)

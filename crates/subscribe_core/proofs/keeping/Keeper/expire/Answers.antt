@@ -1,0 +1,38 @@
+use Rattle.std.proofs.Common.{List, ap, sym, ◌∙◌, arith}
+use Rattle.subscribe_core.specs.declared.registers.Register.{Register}
+use Rattle.subscribe_core.specs.Deadlines.{due_count, helds}
+use Rattle.subscribe_core.specs.Indexed.{registers_after_clock}
+use Rattle.subscribe_core.specs.Standing.{Counted}
+use Rattle.subscribe_core.proofs.Clearing.{cleared_set, count_set, cleared_none, due_within, helds_set, held_of, indexed_write, let_go, register_of}
+use Rattle.subscribe_core.proofs.keeping.Keeper.expire.Goals as goal
+
+pub let_go-requires : goal.let_go-requires
+let_go-requires g c =
+    let registers = c.loop-at.self-inside.rows.registers.items in
+    record { within = due_within registers c.in-Some.at c.args.now (c.in-Some.ensures.due (helds registers) c.loop-at.invariant.indexed.timed) }
+
+pub loop-at-preserved : goal.loop-at-preserved
+loop-at-preserved g c =
+    let registers = c.loop-at.self-inside.rows.registers.items in
+    let at = c.in-Some.at in
+    let due = c.in-Some.ensures.due (helds registers) c.loop-at.invariant.indexed.timed in
+    let here = register_of registers at (due_within registers at c.args.now due) in
+    let is = c.let_go.ensures.registers here.0 here.1 in
+    let over = rw (held_of registers at here.0 here.1) at due in
+    let counted = count_set (helds registers) at c.args.now due in
+    let after = ap (λ (rs : List Register). due_count c.args.now (helds rs)) is ∙ ap (due_count c.args.now) (helds_set registers at (let_go here.0)) in
+    record {
+      indexed = indexed_write _ _ registers _ _ at (let_go here.0) _ _ (ap (λ b. b.items) c.let_go.ensures.blocks) is c.loop-at.invariant.indexed
+          (c.in-Some.ensures.taken (helds registers) c.loop-at.invariant.indexed.timed);
+      same = ap (registers_after_clock c.args.now) is ∙ (cleared_set registers at c.args.now here.0 here.1 over ∙ c.loop-at.invariant.same);
+      counted = omega (arith, c.loop-at.invariant.counted);
+      blocks_stay = ap (λ b. b.items) c.let_go.ensures.blocks ∙ c.loop-at.invariant.blocks_stay;
+      mode_stays = c.loop-at.invariant.mode_stays;
+      moment_stays = c.loop-at.invariant.moment_stays;
+    }
+
+pub returns-clause-registers : goal.returns-clause-registers
+returns-clause-registers g c =
+    let registers = c.loop-at.self-inside.rows.registers.items in
+    let none = cleared_none registers c.args.now (λ at. c.in_default.ensures.none (helds registers) at c.loop-at.invariant.indexed.timed) in
+    sym none ∙ (c.loop-at.invariant.same ∙ ap (λ (s : Counted _). registers_after_clock c.args.now s.state.registers) c.self.view_is)

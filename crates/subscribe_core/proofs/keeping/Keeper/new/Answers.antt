@@ -1,0 +1,31 @@
+use Rattle.std.proofs.Common.{ap, ◌∙◌, length, replicate}
+use Rattle.std.proofs.lemmas.Bool.{false≢true}
+use Rattle.subscribe_core.specs.Standing.{idle}
+use Rattle.subscribe_core.proofs.Fresh.{fresh_indexed}
+use Rattle.subscribe_core.proofs.keeping.Keeper.new.Goals as goal
+
+pub returns-in-Some-clause-fault : goal.returns-in-Some-clause-fault
+returns-in-Some-clause-fault g c = rw c.deref.ensures.value at c.in-Some.ensures
+
+pub returns-in-Err-clause-fault : goal.returns-in-Err-clause-fault
+returns-in-Err-clause-fault g c = (
+  rw c.deref.ensures.value at c.in_default.ensures,
+  λ none. absurd (false≢true (c.in-Err.ensures.quiet (c.len.ensures ∙ c.args.blocks.ok.0 ∙ ap length none))),
+)
+
+pub returns-in-Err-sorted-clause-fault : goal.returns-in-Err-sorted-clause-fault
+returns-in-Err-sorted-clause-fault g c = (
+  rw c.deref.ensures.value at c.in_default.ensures,
+  λ none. absurd (false≢true (c.in-Err-sorted.ensures.quiet (c.deref-2.ensures.value ∙ none))),
+)
+
+pub invariant_of-result : goal.invariant_of-result
+invariant_of-result g c =
+    let size = c.len.ensures ∙ c.args.blocks.ok.0 in
+    rw c.new.ensures
+    (fresh_indexed c.args.blocks.items c.in-Ok.registers.items c.in-Ok-sorted.names.items c.new-2.result
+    (c.in-Ok.ensures.registers ∙ ap (λ n. replicate n idle) size) c.new-2.ensures.empty
+    (rw c.deref.ensures.value at c.in_default.ensures) c.in-Ok-sorted.ensures.order (rw c.deref-2.ensures.value at c.in-Ok-sorted.ensures.named))
+
+pub returns-clause-apart : goal.returns-clause-apart
+returns-clause-apart g c = rw c.deref.ensures.value at c.in_default.ensures

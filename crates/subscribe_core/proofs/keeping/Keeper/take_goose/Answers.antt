@@ -1,0 +1,139 @@
+use Rattle.std.proofs.Common.{◌≡◌, ℕ, ◌≤◌, ◌||◌, ◌++◌, Bool, Some, None, List, ap, ap₂, sym, ◌∙◌, arith, subst, set, slice_get}
+use Rattle.std.proofs.lemmas.Result.{on_ok_weaker}
+use Rattle.std.specs.Prelude.{Result, Ok, Err, OnOk}
+use Rattle.subscribe_core.specs.declared.entry.Entry.{Entry}
+use Rattle.subscribe_core.specs.declared.registers.Register.{Register}
+use Rattle.subscribe_core.specs.Deadlines.{due_count, helds}
+use Rattle.subscribe_core.specs.Indexed.{registers_after_clock}
+use Rattle.subscribe_core.specs.Received.{received_frame}
+use Rattle.subscribe_core.specs.Standing.{State}
+use Rattle.subscribe_core.proofs.Frames.{answer_good, answer_none, answer_refused, new_lives, reason_told, registers_good, registers_kept, registers_refused, written_fewer, written_new, written_none}
+use Rattle.subscribe_core.proofs.keeping.Keeper.take_goose.Goals.{then-old, else-old}
+use Rattle.subscribe_core.proofs.keeping.Keeper.take_goose.Goals as goal
+
+both_ok : {T E : Type 0} (r : Result T E) (P Q R : Type 0) → (P → Q → R) → OnOk r P → OnOk r Q → OnOk r R
+both_ok (Ok x) P Q R f p q = f p q
+both_ok (Err e) P Q R f p q = tt
+
+pub returns-in_default-clause-entries : goal.returns-in_default-clause-entries
+returns-in_default-clause-entries g c =
+    let s = c.args.self.now.state in
+    c.in_ok-push.ensures.items
+    ∙ ap (λ (es : List (Entry _)). c.args.entries.now.items ++ es) (answer_none c.args.now s.mode s.blocks s.registers (received_frame c.args.frame.now) (sym c.in_default.ensures.found))
+
+pub returns-in_default-clause-registers : goal.returns-in_default-clause-registers
+returns-in_default-clause-registers g c =
+    let s = c.args.self.now.state in
+    registers_kept c.args.now s.mode s.blocks s.registers (received_frame c.args.frame.now) c.find.ensures.sizes (sym c.in_default.ensures.found)
+
+pub returns-in-Some-first_reason-clause-entries : goal.returns-in-Some-first_reason-clause-entries
+returns-in-Some-first_reason-clause-entries g c =
+    let s = c.args.self.now.state in
+    let f = received_frame c.args.frame.now in
+    let x = c.look.result.0.now in
+    let r = c.look.result.1 in
+    let block = sym (ap₂ (λ (t : State _) (n : ℕ). slice_get t.blocks n) c.reach-reach.ensures.state c.reach-reach.ensures.at) ∙ c.look.ensures.block in
+    let register_is = sym (ap₂ (λ (t : State _) (n : ℕ). slice_get t.registers n) c.reach-reach.ensures.state c.reach-reach.ensures.at) ∙ c.look.ensures.register in
+    let told = reason_told x f c.is_against-is_against.result s.mode c.is_simulating-mode.result r.simulated (Some c.in-Some-first_reason.reason) c.is_against-is_against.ensures c.is_simulating-mode.ensures c.in-Some-first_reason.ensures in
+    c.in_ok-push-2.ensures.items
+    ∙ ap (λ (es : List (Entry _)). c.args.entries.now.items ++ es)
+    (answer_refused c.args.now s.mode s.blocks s.registers f c.in-Some.at x r c.in-Some-first_reason.reason c.find.ensures.apart (sym c.in-Some.ensures.found) block register_is told)
+
+pub returns-in-Some-first_reason-clause-registers : goal.returns-in-Some-first_reason-clause-registers
+returns-in-Some-first_reason-clause-registers g c =
+    let s = c.args.self.now.state in
+    let f = received_frame c.args.frame.now in
+    let x = c.look.result.0.now in
+    let r = c.look.result.1 in
+    let block = sym (ap₂ (λ (t : State _) (n : ℕ). slice_get t.blocks n) c.reach-reach.ensures.state c.reach-reach.ensures.at) ∙ c.look.ensures.block in
+    let register_is = sym (ap₂ (λ (t : State _) (n : ℕ). slice_get t.registers n) c.reach-reach.ensures.state c.reach-reach.ensures.at) ∙ c.look.ensures.register in
+    let told = reason_told x f c.is_against-is_against.result s.mode c.is_simulating-mode.result r.simulated (Some c.in-Some-first_reason.reason) c.is_against-is_against.ensures c.is_simulating-mode.ensures c.in-Some-first_reason.ensures in
+    ap (λ (t : State _). registers_after_clock c.args.now t.registers) c.reach-reach.ensures.state
+    ∙ registers_refused c.args.now s.mode s.blocks s.registers f c.in-Some.at x r c.in-Some-first_reason.reason c.find.ensures.sizes c.find.ensures.apart (sym c.in-Some.ensures.found) block register_is told
+
+pub returns-in-None-clause-entries : goal.returns-in-None-clause-entries
+returns-in-None-clause-entries g c =
+    let s = c.args.self.now.state in
+    let f = received_frame c.args.frame.now in
+    let x = c.look.result.0.now in
+    let r = c.look.result.1 in
+    let block = sym (ap₂ (λ (t : State _) (n : ℕ). slice_get t.blocks n) c.reach-reach.ensures.state c.reach-reach.ensures.at) ∙ c.look.ensures.block in
+    let register_is = sym (ap₂ (λ (t : State _) (n : ℕ). slice_get t.registers n) c.reach-reach.ensures.state c.reach-reach.ensures.at) ∙ c.look.ensures.register in
+    let told = reason_told x f c.is_against-is_against.result s.mode c.is_simulating-mode.result r.simulated None c.is_against-is_against.ensures c.is_simulating-mode.ensures c.in_default-first_reason.ensures in
+    c.in_ok-push_good.ensures.entries
+    ∙ ap (λ (es : List (Entry _)). c.args.entries.now.items ++ es)
+    (answer_good c.args.now s.mode s.blocks s.registers f c.in-Some.at x r c.find.ensures.apart (sym c.in-Some.ensures.found) block register_is told)
+
+pub returns-in-None-clause-registers : goal.returns-in-None-clause-registers
+returns-in-None-clause-registers g c =
+    let s = c.args.self.now.state in
+    let f = received_frame c.args.frame.now in
+    let x = c.look.result.0.now in
+    let r = c.look.result.1 in
+    let block = sym (ap₂ (λ (t : State _) (n : ℕ). slice_get t.blocks n) c.reach-reach.ensures.state c.reach-reach.ensures.at) ∙ c.look.ensures.block in
+    let register_is = sym (ap₂ (λ (t : State _) (n : ℕ). slice_get t.registers n) c.reach-reach.ensures.state c.reach-reach.ensures.at) ∙ c.look.ensures.register in
+    let told = reason_told x f c.is_against-is_against.result s.mode c.is_simulating-mode.result r.simulated None c.is_against-is_against.ensures c.is_simulating-mode.ensures c.in_default-first_reason.ensures in
+    let renewal = sym c.in_ok-push_good.ensures.held ∙ c.in-None.is in
+    ap (λ (t : State _). registers_after_clock c.args.now t.registers) c.reach-reach.ensures.state
+    ∙ (written_none c.args.now s.registers c.in-Some.at r f register_is renewal
+    ∙ registers_good c.args.now s.mode s.blocks s.registers f c.in-Some.at x r c.find.ensures.sizes c.find.ensures.apart (sym c.in-Some.ensures.found) block register_is told)
+
+pub returns-after-old-clause-entries : goal.returns-after-old-clause-entries
+returns-after-old-clause-entries g c =
+    let s = c.args.self.now.state in
+    let f = received_frame c.args.frame.now in
+    let x = c.look.result.0.now in
+    let r = c.look.result.1 in
+    let block = sym (ap₂ (λ (t : State _) (n : ℕ). slice_get t.blocks n) c.reach-reach.ensures.state c.reach-reach.ensures.at) ∙ c.look.ensures.block in
+    let register_is = sym (ap₂ (λ (t : State _) (n : ℕ). slice_get t.registers n) c.reach-reach.ensures.state c.reach-reach.ensures.at) ∙ c.look.ensures.register in
+    let told = reason_told x f c.is_against-is_against.result s.mode c.is_simulating-mode.result r.simulated None c.is_against-is_against.ensures c.is_simulating-mode.ensures c.in_default-first_reason.ensures in
+    let entries =
+    c.in_ok-push_good.ensures.entries
+    ∙ ap (λ (es : List (Entry _)). c.args.entries.now.items ++ es)
+    (answer_good c.args.now s.mode s.blocks s.registers f c.in-Some.at x r c.find.ensures.apart (sym c.in-Some.ensures.found) block register_is told) in
+    on_ok_weaker c.hold.result (λ _. entries) c.hold.ensures.count
+
+pub returns-after-old-clause-registers : goal.returns-after-old-clause-registers
+returns-after-old-clause-registers g c =
+    let s = c.args.self.now.state in
+    let f = received_frame c.args.frame.now in
+    let x = c.look.result.0.now in
+    let r = c.look.result.1 in
+    let block = sym (ap₂ (λ (t : State _) (n : ℕ). slice_get t.blocks n) c.reach-reach.ensures.state c.reach-reach.ensures.at) ∙ c.look.ensures.block in
+    let register_is = sym (ap₂ (λ (t : State _) (n : ℕ). slice_get t.registers n) c.reach-reach.ensures.state c.reach-reach.ensures.at) ∙ c.look.ensures.register in
+    let new = c.in-Some-2.held in
+    let told = reason_told x f c.is_against-is_against.result s.mode c.is_simulating-mode.result r.simulated None c.is_against-is_against.ensures c.is_simulating-mode.ensures c.in_default-first_reason.ensures in
+    let renewal = sym c.in_ok-push_good.ensures.held ∙ c.in-Some-2.is in
+    let flag : c.if-old.simulated ≡ (r.simulated || f.pdu.simulation) =
+    elim c.if-old.branch [
+      | then-old w ↦ w.simulated-is ∙ (w.if-old.true ∙ sym (ap (λ (b : Bool). b || f.pdu.simulation) w.if-old.true))
+      | else-old w ↦ w.simulated-is ∙ sym (ap (λ (b : Bool). b || f.pdu.simulation) w.if-old.false)
+    ] in
+    let fresh = new_lives c.args.now x r f _ new told renewal in
+    let after =
+    ap (λ (b : Bool). registers_after_clock c.args.now (set s.registers c.in-Some.at (record { held = Some new; simulated = b }))) flag
+    ∙ (written_new c.args.now s.registers c.in-Some.at r f new fresh renewal
+    ∙ registers_good c.args.now s.mode s.blocks s.registers f c.in-Some.at x r c.find.ensures.sizes c.find.ensures.apart (sym c.in-Some.ensures.found) block register_is told) in
+    let moved = ap (λ (t : State _). set t.registers c.in-Some.at (record { held = Some new; simulated = c.if-old.simulated })) c.reach-reach.ensures.state in
+    on_ok_weaker c.hold.result (λ e. ap (registers_after_clock c.args.now) (e ∙ moved) ∙ after) c.hold.ensures.registers
+
+pub returns-after-old-clause-count : goal.returns-after-old-clause-count
+returns-after-old-clause-count g c =
+    let s = c.args.self.now.state in
+    let f = received_frame c.args.frame.now in
+    let x = c.look.result.0.now in
+    let r = c.look.result.1 in
+    let block = sym (ap₂ (λ (t : State _) (n : ℕ). slice_get t.blocks n) c.reach-reach.ensures.state c.reach-reach.ensures.at) ∙ c.look.ensures.block in
+    let register_is = sym (ap₂ (λ (t : State _) (n : ℕ). slice_get t.registers n) c.reach-reach.ensures.state c.reach-reach.ensures.at) ∙ c.look.ensures.register in
+    let new = c.in-Some-2.held in
+    let told = reason_told x f c.is_against-is_against.result s.mode c.is_simulating-mode.result r.simulated None c.is_against-is_against.ensures c.is_simulating-mode.ensures c.in_default-first_reason.ensures in
+    let renewal = sym c.in_ok-push_good.ensures.held ∙ c.in-Some-2.is in
+    let register : Register = record { held = Some new; simulated = c.if-old.simulated } in
+    let fewer = written_fewer c.args.now s.registers c.in-Some.at register (new_lives c.args.now x r f _ new told renewal) in
+    let first = c.reach-reach.ensures.count in
+    let moved = ap (λ (t : State _). set t.registers c.in-Some.at register) c.reach-reach.ensures.state in
+    both_ok c.hold.result _ _ _
+    (λ e count.
+    let less = subst (λ (rs : List Register). due_count c.args.now (helds rs) ≤ due_count c.args.now (helds s.registers)) (sym (e ∙ moved)) fewer in
+    omega (arith, less, count, first))
+    c.hold.ensures.registers c.hold.ensures.count

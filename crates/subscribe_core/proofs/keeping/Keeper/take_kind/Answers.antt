@@ -1,0 +1,20 @@
+use Rattle.std.proofs.Common.{◌++◌, List, ap, sym, ◌∙◌, append-nil}
+use Rattle.list_core.specs.declared.event.EventKind.{EventKind}
+use Rattle.subscribe_core.specs.declared.entry.Entry.{Entry}
+use Rattle.subscribe_core.specs.Content.{content_of}
+use Rattle.subscribe_core.specs.Steps.{registers_by, said_of, switched_entries}
+use Rattle.subscribe_core.proofs.Switching.{registers_clock, switched_clock}
+use Rattle.subscribe_core.proofs.keeping.Keeper.take_kind.Goals as goal
+
+pub returns-in-Clock-clause-entries : goal.returns-in-Clock-clause-entries
+returns-in-Clock-clause-entries g c =
+    let s = c.args.self.now.state in
+    let none = ap (λ (k : EventKind _). switched_entries s.mode (content_of k) 0 s.blocks s.registers ++ said_of c.args.now s.mode s.blocks s.registers (content_of k)) c.in-Clock.is
+    ∙ (append-nil _ ∙ switched_clock s.mode s.blocks s.registers) in
+    sym (ap (λ (es : List (Entry _)). c.args.entries.now.items ++ es) none ∙ append-nil c.args.entries.now.items)
+
+pub returns-in-Clock-clause-registers : goal.returns-in-Clock-clause-registers
+returns-in-Clock-clause-registers g c =
+    let s = c.args.self.now.state in
+    registers_clock c.args.now s.mode s.blocks s.registers c.alloc.ensures
+    ∙ sym (ap (λ (k : EventKind _). registers_by c.args.now s.mode (content_of k) s.blocks s.registers) c.in-Clock.is)

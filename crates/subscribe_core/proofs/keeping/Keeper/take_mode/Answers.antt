@@ -1,0 +1,45 @@
+use Rattle.std.proofs.Common.{◌++◌, Bool, List, length, ap, sym, ◌∙◌, append-nil}
+use Rattle.std.proofs.lemmas.Bool.{false≢true}
+use Rattle.subscribe_core.specs.declared.entry.Entry.{Entry}
+use Rattle.subscribe_core.specs.Indexed.{registers_after_clock, switched_off}
+use Rattle.subscribe_core.specs.Reading.{OfMode}
+use Rattle.subscribe_core.specs.Standing.{State}
+use Rattle.subscribe_core.specs.Steps.{registers_by, switched_entries}
+use Rattle.subscribe_core.proofs.Switching.{registers_off, registers_on, switched_off_entries, switched_on}
+use Rattle.subscribe_core.proofs.keeping.Keeper.take_mode.Goals as goal
+
+pub returns-then-on-clause-entries : goal.returns-then-on-clause-entries
+returns-then-on-clause-entries g c =
+    let s = c.args.self.now.state in
+    let none = ap (λ (on : Bool). switched_entries s.mode (OfMode on) 0 s.blocks s.registers) c.if-on.true ∙ switched_on s.mode s.blocks s.registers in
+    sym (ap (λ (es : List (Entry _)). c.args.entries.now.items ++ es) none ∙ append-nil c.args.entries.now.items)
+
+pub returns-then-on-clause-registers : goal.returns-then-on-clause-registers
+returns-then-on-clause-registers g c = λ now.
+    let s = c.args.self.now.state in
+    let same = ap length (sym c.set_mode.ensures.registers) ∙ (c.set_mode.ensures.sizes ∙ ap length c.set_mode.ensures.blocks) in
+    ap (registers_after_clock now) c.set_mode.ensures.registers
+    ∙ (registers_on now s.mode s.blocks s.registers same
+    ∙ ap (λ (on : Bool). registers_by now s.mode (OfMode on) s.blocks s.registers) (sym c.if-on.true))
+
+pub returns-in_err-list_switched-clause-quiet : goal.returns-in_err-list_switched-clause-quiet
+returns-in_err-list_switched-clause-quiet g c = λ none.
+    let s = c.args.self.now.state in
+    let off = ap (λ (on : Bool). switched_entries s.mode (OfMode on) 0 s.blocks s.registers) (sym c.if-on.false) ∙ none in
+    absurd (false≢true (c.in_err-list_switched.ensures.quiet (sym (switched_off_entries s.mode 0 s.blocks s.registers c.list_switched.ensures.sizes) ∙ off)))
+
+pub returns-clause-entries : goal.returns-clause-entries
+returns-clause-entries g c =
+    let s = c.args.self.now.state in
+    let same = switched_off_entries s.mode 0 s.blocks s.registers c.list_switched.ensures.sizes in
+    c.in_ok-list_switched.ensures.entries
+    ∙ ap (λ (es : List (Entry _)). c.args.entries.now.items ++ es)
+    (sym (ap (λ (on : Bool). switched_entries s.mode (OfMode on) 0 s.blocks s.registers) c.if-on.false ∙ same))
+
+pub returns-clause-registers : goal.returns-clause-registers
+returns-clause-registers g c = λ now.
+    let s = c.args.self.now.state in
+    ap (registers_after_clock now)
+    (c.set_mode-2.ensures.registers ∙ (c.switch_off.ensures.registers ∙ ap (λ (t : State _). switched_off t.registers) c.list_switched.ensures.state))
+    ∙ sym (ap (λ (on : Bool). registers_by now s.mode (OfMode on) s.blocks s.registers) c.if-on.false
+    ∙ registers_off now s.mode s.blocks s.registers c.list_switched.ensures.sizes)

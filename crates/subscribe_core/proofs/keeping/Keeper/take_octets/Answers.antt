@@ -1,0 +1,40 @@
+use Rattle.std.proofs.Common.{◌++◌, List, ap, sym, ◌∙◌}
+use Rattle.frame_core.specs.FrameViews.{apdu_of}
+use Rattle.frame_core.specs.FrameReading.{frame_at}
+use Rattle.frame_core.specs.declared.frame_view.ApduView.{ApduView}
+use Rattle.subscribe_core.specs.declared.entry.Entry.{Entry}
+use Rattle.subscribe_core.specs.Content.{content_by, content_with}
+use Rattle.subscribe_core.specs.Reading.{Content, OfFault, OfSampled}
+use Rattle.subscribe_core.specs.Steps.{registers_by}
+use Rattle.subscribe_core.proofs.Switching.{answer_as, answer_fault, answer_sampled, registers_fault, registers_sampled}
+use Rattle.subscribe_core.proofs.keeping.Keeper.take_octets.Goals as goal
+
+pub returns-in_ok-push-in-Err-clause-entries : goal.returns-in_ok-push-in-Err-clause-entries
+returns-in_ok-push-in-Err-clause-entries g c =
+    let s = c.args.self.now.state in
+    c.in_ok-push-in-Err.ensures.items
+    ∙ ap (λ (es : List (Entry _)). c.args.entries.now.items ++ es)
+    (answer_as c.args.now s.mode s.blocks s.registers (OfFault c.in-Err.fault) (content_by (frame_at c.args.octets.now)) _ (ap content_by c.in-Err.ensures.exact)
+    (answer_fault c.args.now s.mode s.blocks s.registers c.in-Err.fault))
+
+pub returns-in_ok-push-in-Err-clause-registers : goal.returns-in_ok-push-in-Err-clause-registers
+returns-in_ok-push-in-Err-clause-registers g c =
+    let s = c.args.self.now.state in
+    registers_fault c.args.now s.mode s.blocks s.registers c.in-Err.fault c.alloc.ensures
+    ∙ ap (λ (k : Content). registers_by c.args.now s.mode k s.blocks s.registers) (sym (ap content_by c.in-Err.ensures.exact))
+
+pub returns-in_ok-push-in-Sampled-clause-entries : goal.returns-in_ok-push-in-Sampled-clause-entries
+returns-in_ok-push-in-Sampled-clause-entries g c =
+    let s = c.args.self.now.state in
+    let read = ap content_by c.in-Ok.ensures.exact ∙ ap (λ (a : ApduView). content_with c.in-Ok.view.app_id (apdu_of a)) c.in-Sampled.is in
+    c.in_ok-push-in-Sampled.ensures.items
+    ∙ ap (λ (es : List (Entry _)). c.args.entries.now.items ++ es)
+    (answer_as c.args.now s.mode s.blocks s.registers OfSampled (content_by (frame_at c.args.octets.now)) _ read
+    (answer_sampled c.args.now s.mode s.blocks s.registers))
+
+pub returns-in_ok-push-in-Sampled-clause-registers : goal.returns-in_ok-push-in-Sampled-clause-registers
+returns-in_ok-push-in-Sampled-clause-registers g c =
+    let s = c.args.self.now.state in
+    let read = ap content_by c.in-Ok.ensures.exact ∙ ap (λ (a : ApduView). content_with c.in-Ok.view.app_id (apdu_of a)) c.in-Sampled.is in
+    registers_sampled c.args.now s.mode s.blocks s.registers c.alloc.ensures
+    ∙ ap (λ (k : Content). registers_by c.args.now s.mode k s.blocks s.registers) (sym read)

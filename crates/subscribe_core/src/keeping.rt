@@ -1,0 +1,412 @@
+// What a subscriber keeps, and one event at it: blocks are found by name and by deadline, and each reach is counted.
+
+ghost use Rattle.std.specs.Prelude.{◌≡◌, ◌<◌, ◌≤◌, ◌+◌, ◌-◌, ◌++◌, [], ℕ, false, ◌⊎◌, None, Some, IfOk, OnOk, OnErr, IfErr, IsOk, length, max, position, replicate, slice_get, slice_set};
+ghost use Rattle.subscribe_core.specs.Content.{content_by, content_of, reading_of};
+ghost use Rattle.subscribe_core.specs.Deadlines.{due_count, helds};
+ghost use Rattle.subscribe_core.specs.Entries.{expired_count};
+ghost use Rattle.subscribe_core.specs.Faults.{IsFaultOf};
+ghost use Rattle.subscribe_core.specs.Indexed.{registers_after_clock, flagged_entries, switched_off};
+ghost use Rattle.subscribe_core.specs.Matching.{is_of};
+ghost use Rattle.subscribe_core.specs.Reading.{IsFrame, IsMode, OfGoose, OfMode};
+ghost use Rattle.subscribe_core.specs.Received.{received_frame};
+ghost use Rattle.subscribe_core.specs.Simulation.{mode_by};
+ghost use Rattle.subscribe_core.specs.Standing.{AreApart, fresh_state, idle};
+ghost use Rattle.subscribe_core.specs.Steps.{expired_entries, said_of, step_entries, step_state, switched_entries, registers_by};
+ghost use Rattle.frame_core.specs.FrameReading.{frame_at};
+ghost use Rattle.subscribe_core.specs.declared.registers.Register.{Register as Holding};
+
+use crate::answering::push_good;
+use crate::deadlines;
+use crate::entry::Entry;
+use crate::fault::SubscribeFault;
+use crate::matching::{Received, first_reason, is_against};
+use crate::names::{self, Name};
+use crate::registers::{Held, Register};
+use crate::rows::{Reach, Rows};
+use crate::twice::first_twice;
+use block_core::Block;
+use frame_core::{ApduView, Event, EventKind, view_frame};
+use std::alloc::{AllocError, Allocator};
+use std::collections::BTreeSet;
+use std::marker::Model;
+
+/// What a subscriber keeps, and how often the last event that was answered Ok reached a block or its register.
+#[derive(Drop)]
+pub struct Keeper<A: Allocator> {
+    alloc: A,
+    rows: Rows<A>,
+    names: Vec<Name<A>, A>,
+    deadlines: BTreeSet<(u128, usize), A>,
+    mode: bool,
+    moment: u64,
+    looks: u64,
+}
+
+impl<A: Allocator> Model for Keeper<A> {
+    ghost use Rattle.subscribe_core.specs.Standing.{Counted};
+    ghost use Rattle.subscribe_core.specs.Indexed.{IsIndexed};
+
+    ghost Value = { Counted A };
+
+    ghost view = { λ s. record { state = record { blocks = s.rows.blocks.items; registers = s.rows.registers.items; mode = s.mode; moment = s.moment }; looks = s.looks; reaches = s.rows.reaches } };
+
+    ghost invariant = { λ s. IsIndexed s.rows.blocks.items s.rows.registers.items s.names.items s.deadlines };
+}
+
+// Registers that hold nothing.
+fn idle_registers<A: Allocator>(alloc: A, count: usize) -> Result<Vec<Register, A>, AllocError>
+    ensures registers { IfOk result (λ registers. registers.items ≡ replicate count idle) }
+    ensures quiet { count ≡ 0 → IsOk result }
+{
+    let mut registers = Vec::new(alloc);
+    for _ in 0..count {
+        registers.push(Register {
+            held: None,
+            simulated: false,
+        })?;
+    }
+    Ok(registers)
+}
+
+impl<A: Allocator + Copy> Keeper<A> {
+    // What a subscriber of these blocks keeps before any event.
+    pub(crate) fn new(alloc: A, blocks: Vec<Block<A>, A>) -> Result<Keeper<A>, SubscribeFault>
+        ensures fresh { IfOk result (λ s. s.state ≡ fresh_state blocks.items) }
+        ensures looks { IfOk result (λ s. s.looks ≡ 0) }
+        ensures apart { OnOk result (AreApart blocks.items) }
+        ensures fault { IfErr result (λ e. IsFaultOf blocks.items e) }
+    {
+        if let Some(i) = first_twice(&blocks) {
+            return Err(SubscribeFault::SameBlockTwice(i));
+        }
+        let registers = match idle_registers(alloc, blocks.len()) {
+            Ok(registers) => registers,
+            Err(e) => return Err(SubscribeFault::Memory(e)),
+        };
+        let names = match names::sorted(alloc, &blocks) {
+            Ok(names) => names,
+            Err(e) => return Err(SubscribeFault::Memory(e)),
+        };
+        Ok(Keeper {
+            alloc,
+            rows: Rows::new(blocks, registers),
+            names,
+            deadlines: BTreeSet::new(alloc),
+            mode: false,
+            moment: 0,
+            looks: 0,
+        })
+    }
+
+    // How often the last event that was answered Ok reached a block or its register, 0 before the first.
+    pub(crate) fn looks(&self) -> u64
+        ensures { result ≡ self.now.looks }
+    {
+        self.looks
+    }
+
+    // The simulation mode.
+    fn is_simulating(&self) -> bool
+        ensures { result ≡ self.now.state.mode }
+    {
+        self.mode
+    }
+
+    // The position of the frame's block.
+    fn find(&self, frame: &Received<'_>) -> Option<usize>
+        ensures found { result ≡ position (is_of (received_frame frame.now)) self.now.state.blocks }
+        ensures sizes { length self.now.state.registers ≡ length self.now.state.blocks }
+        ensures apart { AreApart self.now.state.blocks }
+    {
+        names::find(&self.names, frame.app_id, frame.goose.gocb_ref)
+    }
+
+    // Reaches for the block at a position.
+    fn reach(&mut self, at: usize) -> Reach
+        ensures at { result.at ≡ at }
+        ensures state { self.new.state ≡ self.old.state }
+        ensures looks { self.new.looks ≡ self.old.looks }
+        ensures count { self.new.reaches ≤ self.old.reaches + 1 }
+    {
+        self.rows.reach(at)
+    }
+
+    // The block that was reached for, and its register.
+    fn look(&self, reach: Reach) -> (&Block<A>, Register)
+        requires { reach.at < length self.now.state.blocks }
+        ensures block { slice_get self.now.state.blocks reach.at ≡ Some result.0.now }
+        ensures register { slice_get self.now.state.registers reach.at ≡ Some result.1 }
+    {
+        self.rows.look(reach)
+    }
+
+    // An entry for each block that expires at the moment, in their order.
+    fn expired(&self, now: u64) -> Result<Vec<Entry<A>, A>, AllocError>
+        ensures entries { IfOk result (λ entries. entries.items ≡ expired_entries now 0 self.now.state.registers) }
+        ensures quiet { expired_entries {A = A} now 0 self.now.state.registers ≡ [] → IsOk result }
+    {
+        let mut entries = Vec::new(self.alloc);
+        let due = deadlines::due(self.alloc, &self.deadlines, now)?;
+        for at in due.iter() {
+            entries.push(Entry::Expired { block: *at })?;
+        }
+        Ok(entries)
+    }
+
+    // Lets go of what is over at the moment.
+    fn expire(&mut self, now: u64)
+        ensures registers { self.new.state.registers ≡ registers_after_clock now self.old.state.registers }
+        ensures blocks { self.new.state.blocks ≡ self.old.state.blocks }
+        ensures mode { self.new.state.mode ≡ self.old.state.mode }
+        ensures moment { self.new.state.moment ≡ self.old.state.moment }
+        ensures count { self.new.reaches ≤ self.old.reaches + due_count now (helds self.old.state.registers) }
+    {
+        while let Some(at) = deadlines::take_due(&mut self.deadlines, now) {
+            self.rows.let_go(at);
+        }
+    }
+
+    // Has a block hold something in place of what it held, and take simulated frames or real ones.
+    //
+    // The new deadline goes in first, the one growth here. If it is the old one, it stays.
+    fn hold(
+        &mut self,
+        at: usize,
+        old: Option<Held>,
+        held: Held,
+        simulated: bool,
+    ) -> Result<(), AllocError>
+        requires was { (r : Holding) × (slice_get self.old.state.registers at ≡ Some r) × (r.held ≡ old) }
+        ensures registers { OnOk result (self.new.state.registers ≡ slice_set self.old.state.registers at (record { held = Some held; simulated = simulated })) }
+        ensures blocks { OnOk result (self.new.state.blocks ≡ self.old.state.blocks) }
+        ensures mode { OnOk result (self.new.state.mode ≡ self.old.state.mode) }
+        ensures moment { OnOk result (self.new.state.moment ≡ self.old.state.moment) }
+        ensures count { OnOk result (self.new.reaches ≤ self.old.reaches + 1) }
+        ensures err { OnErr result (self.new.state ≡ self.old.state) }
+        ensures err_looks { OnErr result (self.new.looks ≡ self.old.looks) }
+    {
+        deadlines::swap(&mut self.deadlines, at, old, held.deadline)?;
+        self.rows.write(
+            at,
+            Register {
+                held: Some(held),
+                simulated,
+            },
+        );
+        Ok(())
+    }
+
+    // The allocator of the subscriber.
+    fn alloc(&self) -> A
+        ensures { length self.now.state.registers ≡ length self.now.state.blocks }
+    {
+        self.alloc
+    }
+
+    // Takes a frame of GOOSE: its entries, and what its block then holds.
+    fn take_goose(
+        &mut self,
+        now: u64,
+        frame: &Received<'_>,
+        entries: &mut Vec<Entry<A>, A>,
+    ) -> Result<(), AllocError>
+        ensures entries { OnOk result (entries.new.items ≡ entries.old.items ++ (switched_entries self.old.state.mode (OfGoose (received_frame frame.now)) 0 self.old.state.blocks self.old.state.registers ++ said_of now self.old.state.mode self.old.state.blocks self.old.state.registers (OfGoose (received_frame frame.now)))) }
+        ensures registers { OnOk result (registers_after_clock now self.new.state.registers ≡ registers_by now self.old.state.mode (OfGoose (received_frame frame.now)) self.old.state.blocks self.old.state.registers) }
+        ensures blocks { OnOk result (self.new.state.blocks ≡ self.old.state.blocks) }
+        ensures mode { OnOk result (self.new.state.mode ≡ self.old.state.mode) }
+        ensures moment { OnOk result (self.new.state.moment ≡ self.old.state.moment) }
+        ensures count { OnOk result (self.new.reaches + due_count now (helds self.new.state.registers) ≤ self.old.reaches + due_count now (helds self.old.state.registers) + 2) }
+        ensures err { OnErr result (self.new.state ≡ self.old.state) }
+        ensures err_looks { OnErr result (self.new.looks ≡ self.old.looks) }
+    {
+        let Some(at) = self.find(frame) else {
+            entries.push(Entry::NotSubscribed)?;
+            return Ok(());
+        };
+        let alloc = self.alloc();
+        let mode = self.is_simulating();
+        let reach = self.reach(at);
+        let (block, old) = self.look(reach);
+        let is_against = is_against(frame, mode, old.simulated);
+        if let Some(reason) = first_reason(block, frame, is_against) {
+            entries.push(Entry::Refused { block: at, reason })?;
+            return Ok(());
+        }
+        match push_good(alloc, at, now, &old, frame, entries)? {
+            None => Ok(()),
+            Some(held) => {
+                let simulated = old.simulated || frame.goose.simulation;
+                self.hold(at, old.held, held, simulated)
+            }
+        }
+    }
+
+    // Takes the octets of a frame, which may be faulty.
+    fn take_octets(
+        &mut self,
+        now: u64,
+        octets: &[u8],
+        entries: &mut Vec<Entry<A>, A>,
+    ) -> Result<(), AllocError>
+        ensures entries { OnOk result (entries.new.items ≡ entries.old.items ++ (switched_entries self.old.state.mode (content_by (frame_at octets.now)) 0 self.old.state.blocks self.old.state.registers ++ said_of now self.old.state.mode self.old.state.blocks self.old.state.registers (content_by (frame_at octets.now)))) }
+        ensures registers { OnOk result (registers_after_clock now self.new.state.registers ≡ registers_by now self.old.state.mode (content_by (frame_at octets.now)) self.old.state.blocks self.old.state.registers) }
+        ensures blocks { OnOk result (self.new.state.blocks ≡ self.old.state.blocks) }
+        ensures mode { OnOk result (self.new.state.mode ≡ mode_by (content_by (frame_at octets.now)) self.old.state.mode) }
+        ensures moment { OnOk result (self.new.state.moment ≡ self.old.state.moment) }
+        ensures count { OnOk result (self.new.reaches + due_count now (helds self.new.state.registers) ≤ self.old.reaches + due_count now (helds self.old.state.registers) + 2) }
+        ensures err { OnErr result (self.new.state ≡ self.old.state) }
+        ensures err_looks { OnErr result (self.new.looks ≡ self.old.looks) }
+    {
+        let _ = self.alloc();
+        match view_frame(octets) {
+            Err(fault) => {
+                entries.push(Entry::Faulty(fault))?;
+                Ok(())
+            }
+            Ok(view) => match view.apdu {
+                ApduView::Sampled(_) => {
+                    entries.push(Entry::Sampled)?;
+                    Ok(())
+                }
+                ApduView::Goose(goose) => {
+                    let frame = Received {
+                        app_id: view.app_id,
+                        goose,
+                    };
+                    self.take_goose(now, &frame, entries)
+                }
+            },
+        }
+    }
+
+    // Appends an entry for each block that takes simulated frames.
+    fn list_switched(&mut self, entries: &mut Vec<Entry<A>, A>) -> Result<(), AllocError>
+        ensures entries { OnOk result (entries.new.items ≡ entries.old.items ++ flagged_entries 0 self.old.state.registers) }
+        ensures quiet { flagged_entries {A = A} 0 self.old.state.registers ≡ [] → IsOk result }
+        ensures sizes { length self.old.state.registers ≡ length self.old.state.blocks }
+        ensures state { self.new.state ≡ self.old.state }
+        ensures looks { self.new.looks ≡ self.old.looks }
+    {
+        for at in 0..self.rows.count() {
+            let reach = self.rows.reach(at);
+            let (_, register) = self.rows.look(reach);
+            if register.simulated {
+                entries.push(Entry::Switched { block: at })?;
+            }
+        }
+        Ok(())
+    }
+
+    // Has no block take simulated frames. Those that did let go of what they hold.
+    fn switch_off(&mut self)
+        ensures registers { self.new.state.registers ≡ switched_off self.old.state.registers }
+        ensures blocks { self.new.state.blocks ≡ self.old.state.blocks }
+        ensures mode { self.new.state.mode ≡ self.old.state.mode }
+        ensures moment { self.new.state.moment ≡ self.old.state.moment }
+    {
+        for at in 0..self.rows.count() {
+            let reach = self.rows.reach(at);
+            let (_, old) = self.rows.look(reach);
+            if old.simulated {
+                deadlines::leave(&mut self.deadlines, at, old.held);
+                let idle = Register {
+                    held: None,
+                    simulated: false,
+                };
+                self.rows.write(at, idle);
+            }
+        }
+    }
+
+    // Sets the mode alone.
+    fn set_mode(&mut self, on: bool)
+        ensures registers { self.new.state.registers ≡ self.old.state.registers }
+        ensures blocks { self.new.state.blocks ≡ self.old.state.blocks }
+        ensures mode { self.new.state.mode ≡ on }
+        ensures moment { self.new.state.moment ≡ self.old.state.moment }
+        ensures sizes { length self.new.state.registers ≡ length self.new.state.blocks }
+    {
+        self.mode = on;
+    }
+
+    // Takes a mode event: blocks that take simulated frames are switched where the mode is set off.
+    fn take_mode(&mut self, on: bool, entries: &mut Vec<Entry<A>, A>) -> Result<(), AllocError>
+        ensures entries { OnOk result (entries.new.items ≡ entries.old.items ++ switched_entries self.old.state.mode (OfMode on) 0 self.old.state.blocks self.old.state.registers) }
+        ensures registers { OnOk result ((now : ℕ) → registers_after_clock now self.new.state.registers ≡ registers_by now self.old.state.mode (OfMode on) self.old.state.blocks self.old.state.registers) }
+        ensures blocks { OnOk result (self.new.state.blocks ≡ self.old.state.blocks) }
+        ensures mode { OnOk result (self.new.state.mode ≡ on) }
+        ensures moment { OnOk result (self.new.state.moment ≡ self.old.state.moment) }
+        ensures quiet { switched_entries self.old.state.mode (OfMode on) 0 self.old.state.blocks self.old.state.registers ≡ [] → IsOk result }
+        ensures err { OnErr result (self.new.state ≡ self.old.state) }
+        ensures err_looks { OnErr result (self.new.looks ≡ self.old.looks) }
+    {
+        if on {
+            self.set_mode(true);
+            return Ok(());
+        }
+        self.list_switched(entries)?;
+        self.switch_off();
+        self.set_mode(false);
+        Ok(())
+    }
+
+    // Takes what happened: the entries after the expiries, and what the blocks then hold.
+    fn take_kind(
+        &mut self,
+        now: u64,
+        kind: &EventKind<A>,
+        entries: &mut Vec<Entry<A>, A>,
+    ) -> Result<(), AllocError>
+        ensures entries { OnOk result (entries.new.items ≡ entries.old.items ++ (switched_entries self.old.state.mode (content_of kind.now) 0 self.old.state.blocks self.old.state.registers ++ said_of now self.old.state.mode self.old.state.blocks self.old.state.registers (content_of kind.now))) }
+        ensures registers { OnOk result (registers_after_clock now self.new.state.registers ≡ registers_by now self.old.state.mode (content_of kind.now) self.old.state.blocks self.old.state.registers) }
+        ensures blocks { OnOk result (self.new.state.blocks ≡ self.old.state.blocks) }
+        ensures mode { OnOk result (self.new.state.mode ≡ mode_by (content_of kind.now) self.old.state.mode) }
+        ensures moment { OnOk result (self.new.state.moment ≡ self.old.state.moment) }
+        ensures count { IsMode kind.now ⊎ OnOk result (self.new.reaches + due_count now (helds self.new.state.registers) ≤ self.old.reaches + due_count now (helds self.old.state.registers) + 2) }
+        ensures quiet { IsFrame kind.now ⊎ (switched_entries self.old.state.mode (content_of kind.now) 0 self.old.state.blocks self.old.state.registers ≡ [] → IsOk result) }
+        ensures err { OnErr result (self.new.state ≡ self.old.state) }
+        ensures err_looks { OnErr result (self.new.looks ≡ self.old.looks) }
+    {
+        let _ = self.alloc();
+        match kind {
+            EventKind::Frame(octets) => self.take_octets(now, octets.as_slice(), entries),
+            EventKind::Clock => Ok(()),
+            EventKind::Mode(on) => self.take_mode(*on, entries),
+        }
+    }
+
+    // Takes one event, by what is kept.
+    fn take_counted(&mut self, event: &Event<A>) -> Result<Vec<Entry<A>, A>, AllocError>
+        ensures entries { IfOk result (λ entries. entries.items ≡ step_entries self.old.state (reading_of event.now)) }
+        ensures state { OnOk result (self.new.state ≡ step_state self.old.state (reading_of event.now)) }
+        ensures err { OnErr result (self.new.state ≡ self.old.state) }
+        ensures err_looks { OnErr result (self.new.looks ≡ self.old.looks) }
+        ensures quiet { IsFrame event.now.kind ⊎ (step_entries self.old.state (reading_of event.now) ≡ [] → IsOk result) }
+        ensures count { IsMode event.now.kind ⊎ IfOk result (λ entries. self.new.reaches ≤ self.old.reaches + (expired_count entries.items + 2)) }
+        ensures apart { AreApart self.old.state.blocks }
+    {
+        let now = self.moment.max(event.moment);
+        let mut entries = self.expired(now)?;
+        self.take_kind(now, &event.kind, &mut entries)?;
+        self.expire(now);
+        self.moment = now;
+        Ok(entries)
+    }
+
+    // Takes one event, by what is kept. What `looks` then answers is by how much the count of all reaches grew.
+    pub(crate) fn step(&mut self, event: &Event<A>) -> Result<Vec<Entry<A>, A>, AllocError>
+        ensures entries { IfOk result (λ entries. entries.items ≡ step_entries self.old.state (reading_of event.now)) }
+        ensures state { OnOk result (self.new.state ≡ step_state self.old.state (reading_of event.now)) }
+        ensures err { OnErr result (self.new.state ≡ self.old.state) }
+        ensures err_looks { OnErr result (self.new.looks ≡ self.old.looks) }
+        ensures quiet { IsFrame event.now.kind ⊎ (step_entries self.old.state (reading_of event.now) ≡ [] → IsOk result) }
+        ensures counted { OnOk result (self.new.looks ≡ self.new.reaches - self.old.reaches) }
+        ensures looks { IsMode event.now.kind ⊎ IfOk result (λ entries. self.new.looks ≤ expired_count entries.items + 2) }
+        ensures apart { AreApart self.old.state.blocks }
+    {
+        let before = self.rows.reaches();
+        let entries = self.take_counted(event)?;
+        self.looks = self.rows.reaches().saturating_sub(before); // the count of all reaches never falls
+        Ok(entries)
+    }
+}
