@@ -9,7 +9,7 @@ import subprocess
 from harness import SECONDS, Skipped, first_difference
 
 TOP = pathlib.Path(__file__).resolve().parent.parent.parent
-DOCUMENTS = ["README.md", "examples/README.md", "docs/FORMATS.md", "docs/REPLAY.md", "docs/RECIPES.md"]
+DOCUMENTS = ["README.md", "examples/README.md", "docs/TUTORIAL.md", "docs/FORMATS.md", "docs/REPLAY.md", "docs/RECIPES.md"]
 # Tools that some commands ask for, and that may not be installed.
 TOOLS = ["editcap", "jq", "tshark"]
 
