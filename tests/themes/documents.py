@@ -6,9 +6,11 @@ import importlib.machinery
 import importlib.util
 import pathlib
 import re
+import shutil
 import subprocess
 
 import reference
+from harness import Skipped
 
 TOP = pathlib.Path(__file__).resolve().parent.parent.parent
 DEFINITIONS = TOP / "docs" / "DEFINITIONS.md"
@@ -174,6 +176,32 @@ def anchors(file):
     return {re.sub(r"[^\w\- ]", "", heading.lower()).replace(" ", "-") for heading in headings}
 
 
+class Glossary:
+    """The glossary of docs/FORMATS.md has each word of a shown line, and names fields that Wireshark has."""
+
+    name = "the glossary of docs/FORMATS.md"
+
+    def why_wrong(self, _program):
+        text = FORMATS.read_text()
+        rows = re.findall(r"(?m)^\| (.*?) \| .* \| (.*) \| .* \|$", text.partition("\n### Glossary\n")[2].split("\nOctets are")[0])
+        shown = set(re.findall(r"(\w+)=\.\.", text))
+        words = set(re.findall(r"`(\w+)`", " ".join(word for word, _ in rows)))
+        why = [f"no row has {it}" for it in sorted(shown - words)] + [f"no line has {it}" for it in sorted(words - shown)]
+        fields = wireshark_fields()
+        if not why and not fields:
+            raise Skipped("there is no tshark")
+        named = re.findall(r"`([\w.]+)`", " ".join(names for _, names in rows))
+        return why + [f"tshark has no field {it}" for it in named if fields and it not in fields]
+
+
+def wireshark_fields():
+    """The names of Wireshark's fields, where there is tshark."""
+    if not shutil.which("tshark"):
+        return set()
+    told = subprocess.run(["tshark", "-G", "fields"], stdout=subprocess.PIPE, stderr=subprocess.DEVNULL).stdout.decode()
+    return {line.split("\t")[2] for line in told.splitlines() if line.startswith("F\t")}
+
+
 class Commands:
     """docs/FORMATS.md has each command, and what its help says."""
 
@@ -190,7 +218,7 @@ def part(text, heading):
 
 
 def cases():
-    yield from (Commands(), Generated(), Short(), Guided(), Carried())
+    yield from (Commands(), Glossary(), Generated(), Short(), Guided(), Carried())
     folders = [TOP, TOP / "docs", TOP / "docs" / "tables", TOP / "examples", TOP / "tests", TOP / "bench",
                *(TOP / "crates").glob("*")]
     for folder in folders:
