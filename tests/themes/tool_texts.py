@@ -6,11 +6,13 @@ import csv
 import io
 import json
 import random
+import shutil
+import subprocess
 import tempfile
 
 import by_chance
 from asked_tools import EXAMPLES, Asked, ask
-from harness import clipped, listed, run, text
+from harness import SECONDS, Skipped, clipped, listed, run, text
 from themes import replaying
 
 SEED, COUNT = 8259, 400
@@ -132,6 +134,25 @@ def different(wanted, got, what):
     yield from [f"{what}: wanted {it}, got {other}" for it, other in zip(wanted, got) if it != other][:1]
 
 
+class Queried:
+    """jq reads as many objects as there are lines, of each command and each example."""
+
+    name = "jq reads each object"
+
+    def why_wrong(self, program):
+        if not shutil.which("jq"):
+            raise Skipped("there is no jq: run tests/get_tools")
+        for example in sorted(EXAMPLES.glob("*.list")):
+            for words in COMMANDS:
+                wrote, _, _ = run(program, words, example.read_bytes())
+                made, _, _ = ask(program, "to_json", given=wrote)
+                counted = subprocess.run(["jq", "-c", "keys"], input=made, stdout=subprocess.PIPE, stderr=subprocess.PIPE, timeout=SECONDS)
+                counts = (wrote.count(b"\n"), counted.stdout.count(b"\n"))
+                if counted.returncode or counts[0] != counts[1]:
+                    return [f"{example.name}, {words}: lines and objects are {counts}: {counted.stderr!r}"]
+        return []
+
+
 class Dated:
     """Each event's time is that of its line, as a number and as a date, in lists of both versions."""
 
@@ -166,6 +187,7 @@ def cases():
     yield Whole("a list by chance", replaying.some_list(chance, COUNT))
     for example in sorted(EXAMPLES.glob("*.list")):
         yield Whole(f"examples/{example.name}", example.read_bytes())
+    yield Queried()
     yield Dated()
     strange = b"3 acts 0 st=1\nx\n\n4 \xff\n"
     yield Asked("lines of other forms", "to_json", stdin=strange, status=1,
