@@ -1,165 +1,105 @@
-"""The documents name what there is: modules and words of definitions, files and headings that are linked to; crates.txt
-names the crates that sources use. And they name all of it: each public definition and each public call with a contract
-has a row, and the row each clause of the call that has a name. Each wrong body that the gate tries has
-a row, with the call and the clause that refuse it."""
+"""The documents name what there is. The tables of docs/tables are those that tools/tables writes of the sources. The words,
+modules, calls and clauses that are written by hand beside them stand in the sources; each wrong body that the gate tries
+has a row, with the call and the clause that refuse it; links lead somewhere; crates.txt names the crates that sources
+use. And the documents are short."""
+import importlib.machinery
+import importlib.util
 import pathlib
 import re
+import shutil
+import subprocess
 
 import reference
+from harness import Skipped
 
 TOP = pathlib.Path(__file__).resolve().parent.parent.parent
 DEFINITIONS = TOP / "docs" / "DEFINITIONS.md"
 PROOFS = TOP / "docs" / "PROOFS.md"
 FORMATS = TOP / "docs" / "FORMATS.md"
+TABLES = TOP / "tools" / "tables"
 PROGRAM = "goose"
 COMMENTS = {".rt": r"(?m)//.*$", ".antt": r"(?m)--.*$"}
-DECLARED = r"(?:(?:abbrev|unfoldable|opaque) +)*pub +(?:data +|record +)?([^\s:({]+)"
-OWNER = r"(?:pub |unsafe )?(trait|impl)(?:<.*?>)? (.* for )?(\w+)"
 NAMED = r"\bensures\*? (\w+) \{"
-# Of the calls of text_core docs/PROOFS.md says one sentence for all, and has rows for those alone whose clauses have names.
-ROWS = {"text_core": NAMED}
+MOST_WORDS = 26_000
 
 
-class Described:
-    """The definitions of one crate are described, each in a row of its module, and those that are described stand where it
-    is said."""
-
-    def __init__(self, crate, text):
-        self.name, self.text = f"the definitions of {crate}", text
-        self.specs = TOP / "crates" / crate / "specs"
-
-    def why_wrong(self, _program):
-        # What stands in specs/declared is generated.
-        modules = {file.stem: file.read_text() for file in self.specs.glob("*.antt") if file.stem != "Lib"}
-        described = re.split(r"(?m)^### ", self.text)[1:]
-        headed = {part.split("\n")[0].strip(): part for part in described}
-        named = set(headed) | set(re.findall(r"`(\w+)`", self.text))
-        why = [f"no word on specs/{module}.antt" for module in sorted(set(modules) - named)]
-        why += [f"there is no specs/{module}.antt" for module in sorted(set(headed) - set(modules))]
-        for module, source in sorted(modules.items()):
-            why += self.why_module_wrong(module, source, headed.get(module, ""))
-        return why
-
-    def why_module_wrong(self, module, source, part):
-        words = {word for row in re.findall(r"(?m)^\| (`.*?) \|", part) for word in re.findall(r"`([^`]+)`", row)}
-        defined = set(definitions(source))
-        yield from (f"specs/{module}.antt does not define {word}" for word in sorted(words - defined))
-        yield from (f"no row has {word} of specs/{module}.antt" for word in sorted(defined - words))
+def loaded(path):
+    """A tool of this repository as a module."""
+    spec = importlib.util.spec_from_loader(path.name, importlib.machinery.SourceFileLoader(path.name, str(path)))
+    module = importlib.util.module_from_spec(spec)
+    spec.loader.exec_module(module)
+    return module
 
 
-def definitions(source):
-    """The public names of a module, at the margin, or one step in under `mutual`. Fields of records stand further in."""
-    for block in re.split(r"(?m)^(?=\S)", source):
-        margin = "  " if re.match(r"(?:\w+ )*mutual\n", block) else ""
-        yield from re.findall(f"(?m)^{margin}{DECLARED}", block)
+tables = loaded(TABLES)
 
 
-class Claimed:
-    """The calls of one crate that docs/PROOFS.md names stand in the files that it names. They have the clauses that it names,
-    and it names each clause that they have. Those of a call from another crate are named in that one's rows."""
-
-    def __init__(self, crate, text):
-        self.name, self.text = f"the clauses of {crate}", text
-        self.crate = TOP / "crates" / crate
+class Generated:
+    name = "the tables of docs/tables are those of the sources"
 
     def why_wrong(self, _program):
-        return [why for row in rows(self.text) for why in self.why_row_wrong(*row)]
-
-    def why_row_wrong(self, calls, claims, _premise, files):
-        stated, own = {}, set()
-        for path in re.findall(r"\]\(([^)]*)\)", files):
-            file = (PROOFS.parent / path).resolve()
-            here = {}
-            for owner, name, contract in owned_contracts(file.read_text()):
-                here.setdefault((owner, name), set()).update(re.findall(NAMED, contract))
-            stated.update(here)
-            if self.crate in file.parents:
-                own |= set(here)
-        told = set(re.findall(r"`([a-z]\w*)`", claims))
-        for call, *names in named_calls(calls):
-            found = next((it for it in names if it in stated), None)
-            if found:
-                yield from (f"{call} has no clause {it}" for it in sorted(told - stated[found]))
-                yield from (f"no word on the clause {it} of {call}" for it in sorted(stated[found] - told) if found in own)
-            elif call not in ("FromRead", "ToWrite", "EventLines"):
-                yield f"there is no {call} in {files}"
+        ran = subprocess.run([TABLES, "--check"], stdin=subprocess.DEVNULL, stdout=subprocess.PIPE)
+        return ran.stdout.decode().splitlines() or ([f"ended with status {ran.returncode}"] if ran.returncode else [])
 
 
-class Listed:
-    """The public calls of one crate that have a contract stand in rows of docs/PROOFS.md. Those that it hands on from
-    another crate stand in that one's rows."""
+class Short:
+    """What is written by hand has at most so many words: without code blocks, and without the tables that a tool writes."""
 
-    def __init__(self, crate, text):
-        self.name, self.text = f"the public calls of {crate}", text
-        self.sources = TOP / "crates" / crate / "src"
-        self.contract = ROWS.get(crate, r"\b(?:requires|ensures)\b")
+    name = f"the documents have at most {MOST_WORDS} words"
 
     def why_wrong(self, _program):
-        named = {call for row in rows(self.text) for call in full_names(row[0])}
-        return [f"no row has {call} of {file.relative_to(TOP)}" for call, file in self.calls() if call not in named]
-
-    def calls(self):
-        """The full name of each call, and its file."""
-        public = dict(public_names(self.sources))
-        types = {name for _, name in public}
-        for file in sorted(self.sources.rglob("*.rt")):
-            for owner, name, contract in owned_contracts(file.read_text()):
-                call = f"{owner}::{name}" if owner in types else public.get((file, name))
-                if call and re.search(self.contract, contract):
-                    yield call, file
+        files = [TOP / "README.md", *sorted((TOP / "docs").glob("*.md")), TOP / "CONTRIBUTING.md", TOP / "CHANGELOG.md",
+                 TOP / "tests" / "README.md", TOP / "bench" / "README.md"]
+        counts = {str(file.relative_to(TOP)): words_in(file.read_text()) for file in files}
+        total = sum(counts.values())
+        return [] if total <= MOST_WORDS else [f"{total} words: {counts}"]
 
 
-def rows(text):
-    """The rows on calls: which they are, what is claimed of them, under which premise, and where they stand."""
-    cells = [row.strip("| ").split(" | ") for row in text.splitlines() if row.startswith("| `")]
-    return [row for row in cells if len(row) == 4]
+def words_in(text):
+    prose = re.sub(r"(?ms)^```.*?^```", "", text)
+    return sum(1 for word in prose.split() if re.search(r"\w", word))
 
 
-def full_names(calls):
-    """The calls in a cell, each also as one of the owner named last: behind `A::f` the name `g` may mean `A::g`."""
-    owner = ""
-    for call in re.findall(r"`([\w:]+)`", calls):
-        owner = call.rpartition("::")[0] or owner
-        yield from (call, f"{owner}::{call}")
+class Guided:
+    """The reading guide of docs/DEFINITIONS.md names modules that there are, and definitions of theirs."""
+
+    name = "the reading guide of docs/DEFINITIONS.md"
+
+    def why_wrong(self, _program):
+        rows = re.findall(r"(?m)^\| `(\w+)` ((?:`\w+`(?:, )?)+) \| (.*?) \|", DEFINITIONS.read_text())
+        return [why for row in rows for why in self.why_row_wrong(*row)] or ([] if rows else ["there are no rows"])
+
+    def why_row_wrong(self, crate, named, words):
+        modules = dict(tables.modules(crate))
+        defined = set()
+        for module in re.findall(r"`(\w+)`", named):
+            if module in modules:
+                defined.update(word for row, _ in tables.definitions(modules[module].read_text()) for word in row)
+            else:
+                yield f"there is no module {module} in {crate}"
+        yield from (f"{crate} {named} does not define {it}" for it in re.findall(r"`(\w+)`", words) if it not in defined)
 
 
-def named_calls(calls):
-    """The calls in a cell, each with what it may be: a call of the owner named last, or one at the margin of a file."""
-    owner = ""
-    for call in re.findall(r"`([\w:]+)`", calls):
-        owner = call.rpartition("::")[0] or owner
-        name = call.split("::")[-1]
-        yield call, (owner, name), (None, name)
+class Carried:
+    """The calls that docs/PROOFS.md names as those that carry a promise have the clauses that it names."""
 
+    name = "the promises of docs/PROOFS.md"
 
-def public_names(sources):
-    """What a crate makes public: each by its file and its name there, with its full name."""
-    lib = (sources / "lib.rt").read_text()
-    for module in re.findall(r"(?m)^pub mod (\w+);", lib):
-        file = sources / f"{module}.rt"
-        for name in re.findall(r"(?m)^pub (?:fn|struct|enum|trait) (\w+)", file.read_text()):
-            yield (file, name), f"{module}::{name}"
-    for path, names in re.findall(r"(?m)^pub use (?:crate::)?([\w:]+)::(\w+|\{[^}]*\});", lib):
-        file = sources.joinpath(*path.split("::")).with_suffix(".rt")
-        yield from (((file, name), name) for name in re.findall(r"\w+", names))
+    def why_wrong(self, _program):
+        stated = {}
+        for crate in tables.crates():
+            for file in (TOP / "crates" / crate / "src").rglob("*.rt"):
+                for owner, _, call, contract, _ in tables.owned_contracts(file.read_text()):
+                    stated.setdefault(call, set()).update(re.findall(NAMED, contract))
+        text = PROOFS.read_text()
+        rows = re.findall(r"(?m)^\| .* \| (.*) \|$", part(text, "The headline") + part(text, "The promises"))
+        return [why for row in rows for claim in re.split(r"; |\. ", row) for why in self.why_claim_wrong(claim, stated)]
 
-
-def owned_contracts(source):
-    """Each function at the margin, and each public one of a type or a trait, with its owner, its name and its contract."""
-    for part in re.split(r"(?m)^(?=(?:pub |unsafe )?(?:trait|impl)\b)", source):
-        head = re.match(OWNER, part)
-        for name, contract in contracts(part):
-            if not contract.startswith(" "):
-                yield None, name, contract
-            elif head and (head[1] == "trait" or head[2] or contract.lstrip().startswith("pub ")):
-                yield head[3], name, contract
-
-
-def contracts(source):
-    """Each function with the text up to its body, or to its end where a trait has it without one."""
-    for found in re.finditer(r"(?m)^( *)(?:pub )?fn (\w+)", source):
-        end = re.compile(rf"(?m)^{found[1]}\{{|\{{\}}?$|;$").search(source, found.end())
-        yield found[2], source[found.start():end.start() if end else len(source)]
+    def why_claim_wrong(self, claim, stated):
+        clauses, _, calls = claim.partition(" of ")
+        for call in re.findall(r"`(?:\w+::)*(\w+)`", calls):
+            missing = set(re.findall(r"`(\w+)`", clauses)) - stated.get(call, set())
+            yield from (f"{call} has no clause {it}" for it in sorted(missing) if call in stated)
 
 
 class Refused:
@@ -185,8 +125,10 @@ class Refused:
         stated = {}
         for file in (TOP / "crates" / crate / "src").rglob("*.rt"):
             source = file.read_text()
-            for call, contract in [*((it, "") for it in re.findall(r"\bfn (\w+)", source)), *contracts(source)]:
-                stated.setdefault(call, set()).update(re.findall(NAMED, contract))
+            for call in re.findall(r"\bfn (\w+)", source):
+                stated.setdefault(call, set())
+            for _, call, contract in tables.contracts(source):
+                stated[call].update(re.findall(NAMED, contract))
         call, clause = re.match(r"`([\w:]+)`(?:: `(\w+)`)?", by).groups()
         clauses = stated.get(call.split("::")[-1])
         if clauses is None:
@@ -234,6 +176,32 @@ def anchors(file):
     return {re.sub(r"[^\w\- ]", "", heading.lower()).replace(" ", "-") for heading in headings}
 
 
+class Glossary:
+    """The glossary of docs/FORMATS.md has each word of a shown line, and names fields that Wireshark has."""
+
+    name = "the glossary of docs/FORMATS.md"
+
+    def why_wrong(self, _program):
+        text = FORMATS.read_text()
+        rows = re.findall(r"(?m)^\| (.*?) \| .* \| (.*) \| .* \|$", text.partition("\n### Glossary\n")[2].split("\nOctets are")[0])
+        shown = set(re.findall(r"(\w+)=\.\.", text))
+        words = set(re.findall(r"`(\w+)`", " ".join(word for word, _ in rows)))
+        why = [f"no row has {it}" for it in sorted(shown - words)] + [f"no line has {it}" for it in sorted(words - shown)]
+        fields = wireshark_fields()
+        if not why and not fields:
+            raise Skipped("there is no tshark")
+        named = re.findall(r"`([\w.]+)`", " ".join(names for _, names in rows))
+        return why + [f"tshark has no field {it}" for it in named if fields and it not in fields]
+
+
+def wireshark_fields():
+    """The names of Wireshark's fields, where there is tshark."""
+    if not shutil.which("tshark"):
+        return set()
+    told = subprocess.run(["tshark", "-G", "fields"], stdout=subprocess.PIPE, stderr=subprocess.DEVNULL).stdout.decode()
+    return {line.split("\t")[2] for line in told.splitlines() if line.startswith("F\t")}
+
+
 class Commands:
     """docs/FORMATS.md has each command, and what its help says."""
 
@@ -244,14 +212,15 @@ class Commands:
         return [] if told == reference.HELP else [f"wanted {reference.HELP}, got {told}"]
 
 
-def parts(document):
-    """The parts of a document under headings of the second level."""
-    return {part.split("\n")[0].strip(): part for part in re.split(r"(?m)^## ", document.read_text())[1:]}
+def part(text, heading):
+    """The part of a document under a heading of the second level."""
+    return next((it for it in re.split(r"(?m)^## ", text)[1:] if it.split("\n")[0].strip() == heading), "")
 
 
 def cases():
-    yield Commands()
-    folders = [TOP, TOP / "docs", TOP / "examples", TOP / "tests", *(TOP / "crates").glob("*")]
+    yield from (Commands(), Glossary(), Generated(), Short(), Guided(), Carried())
+    folders = [TOP, TOP / "docs", TOP / "docs" / "tables", TOP / "examples", TOP / "tests", TOP / "bench",
+               *(TOP / "crates").glob("*")]
     for folder in folders:
         for document in sorted(folder.glob("*.md")):
             yield Linked(document)
@@ -261,12 +230,4 @@ def cases():
     others = set(lines).union(*lines.values()) - {PROGRAM}
     for crate, named in lines.items():
         yield StandsOn(crate, named, others)
-    defined, proved = parts(DEFINITIONS), parts(PROOFS)
-    yield Refused(proved.get("Wrong bodies", ""))
-    for crate in lines:
-        has_definitions = (TOP / "crates" / crate / "specs").is_dir()
-        if has_definitions:
-            yield Described(crate, defined.get(crate, ""))
-        if has_definitions or crate in proved:
-            yield Claimed(crate, proved.get(crate, ""))
-            yield Listed(crate, proved.get(crate, ""))
+    yield Refused(part(PROOFS.read_text(), "Wrong bodies"))

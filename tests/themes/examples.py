@@ -10,7 +10,7 @@ import tempfile
 from harness import SECONDS, Skipped, first_difference
 
 TOP = pathlib.Path(__file__).resolve().parent.parent.parent
-DOCUMENTS = ["README.md", "examples/README.md", "docs/FORMATS.md", "docs/REPLAY.md", "docs/RECIPES.md"]
+DOCUMENTS = ["README.md", "examples/README.md", "docs/TUTORIAL.md", "docs/FORMATS.md", "docs/REPLAY.md", "docs/RECIPES.md"]
 # Tools that some commands ask for, and that may not be installed; tests/get_tools says how they are.
 TOOLS = ["editcap", "jq", "parallel", "tcpdump", "tshark"]
 

@@ -1,4 +1,5 @@
-"""The manual page: its form, its examples, and that it has each command and each exit status."""
+"""The manual page: its form, its examples, and that it, docs/FORMATS.md and the program have the same commands, exit
+statuses and names of errors."""
 import pathlib
 import re
 import shlex
@@ -10,6 +11,15 @@ from harness import SECONDS, Skipped
 
 TOP = pathlib.Path(__file__).resolve().parent.parent.parent
 PAGE = TOP / "docs" / "goose.1"
+FORMATS = TOP / "docs" / "FORMATS.md"
+# What the program writes for a name is a definition, to which its code is proved; the number of a status too.
+NAMES = {
+    "Of a frame": ("text_core", "Names", "name_of_cause"),
+    "Of a list": ("text_core", "Names", "name_of_list_cause"),
+    "Of a capture": ("frame_engines", "CaptureNames", "name_of_capture_cause"),
+    "Of a script": ("exchange_engines", "ExchangeNames", "name_of_script_cause"),
+    "Why a frame of a block is refused": ("exchange_engines", "ExchangeNames", "name_of_reason"),
+}
 
 
 class Linted:
@@ -37,19 +47,51 @@ class Ran:
         return why + ([] if ran.stdout else ["wrote nothing"])
 
 
-class Whole:
-    name = "docs/goose.1 has each command and each exit status"
+class Commands:
+    name = "docs/goose.1 has each command"
 
     def why_wrong(self, _program):
-        text = PAGE.read_text()
-        commands = set(re.findall(r"(?m)^\.It Cm (\w+)", text))
-        statuses = re.findall(r"(?m)^\.It (\d)$", text)
-        why = [] if commands == set(reference.HELP) else [f"commands {sorted(commands)}"]
-        return why + ([] if statuses == list("012345") else [f"exit statuses {statuses}"])
+        commands = set(re.findall(r"(?m)^\.It Cm (\w+)", PAGE.read_text()))
+        return [] if commands == set(reference.HELP) else [f"commands {sorted(commands)}"]
+
+
+class Statuses:
+    """The program can also end with 2, where its arguments are rejected, which is no ending of a run."""
+
+    name = "docs/goose.1 and docs/FORMATS.md have each exit status"
+
+    def why_wrong(self, _program):
+        endings = (TOP / "crates" / "engine_core" / "specs" / "Ending.antt").read_text()
+        wanted = sorted({"2", *re.findall(r"(?m)^status_of \w+ = (\d)$", endings)})
+        told = {"goose.1": re.findall(r"(?m)^\.It (\d)$", PAGE.read_text()),
+                "FORMATS.md": re.findall(r"(?m)^\| (\d) \|", part(FORMATS.read_text(), "## Exit statuses"))}
+        return [f"{file} has {found}, and not {wanted}" for file, found in told.items() if found != wanted]
+
+
+class Named:
+    """The names under a heading of the page are those that the program writes, and a table of docs/FORMATS.md has each."""
+
+    def __init__(self, heading, crate, module, word):
+        self.name, self.heading = f"the names in docs/goose.1, {heading}", heading
+        self.source = TOP / "crates" / crate / "specs" / f"{module}.antt"
+        self.word = word
+
+    def why_wrong(self, _program):
+        wanted = set(re.findall(rf'(?m)^{self.word} .* = codes "(\w+)"', self.source.read_text()))
+        told = set(re.findall(r"(?m)^\.It Li (\w+)$", PAGE.read_text().partition(f".Ss {self.heading}\n")[2].split(".El")[0]))
+        listed = {name for cell in re.findall(r"(?m)^\| (\w+(?:, \w+)*) \|", FORMATS.read_text()) for name in cell.split(", ")}
+        why = [f"wanted {sorted(wanted)}, got {sorted(told)}"] if told != wanted or not wanted else []
+        return why + [f"docs/FORMATS.md has no {name}" for name in sorted(wanted - listed)]
+
+
+def part(text, heading):
+    """What follows a heading, up to the next one of its level."""
+    return text.partition(f"\n{heading}\n")[2].split("\n## ")[0]
 
 
 def cases():
-    yield Linted()
-    yield Whole()
+    yield from (Linted(), Commands(), Statuses())
+    for heading, where in NAMES.items():
+        yield Named(heading, *where)
     for command in re.findall(r"(?m)^\.Dl (goose .*)$", PAGE.read_text()):
         yield Ran(command)
