@@ -76,8 +76,8 @@ def entry(it):
 
 
 FORMS = {
-    "goose": shown_goose, "sv": shown_sampled, "clock": lambda it: f"clock {it['moment']}",
-    "mode": lambda it: f"mode {it['moment']} {it['mode']}", "fault": lambda it: f"fault {it['offset']} {it['error']}",
+    "goose": shown_goose, "sv": shown_sampled, "clock": lambda it: f"clock {it['microseconds']}",
+    "mode": lambda it: f"mode {it['microseconds']} {it['mode']}", "fault": lambda it: f"fault {it['offset']} {it['error']}",
     "list": lambda it: f"list {it['error']}", "act": lambda it: f"{entry(it)} t={it['t']} {members(it)}",
     "refused": lambda it: f"refused {it['block']} {it['reason']}",
     **dict.fromkeys(("refreshed", "repeated", "old"), entry),
@@ -173,7 +173,7 @@ class Dated:
                 recorded.write(octets)
                 recorded.flush()
                 made, _, _ = ask(program, "to_json", [recorded.name], wrote)
-            got = [(it["moment"], it["time"]) for it in map(json.loads, made.splitlines())]
+            got = [(it["microseconds"], it["time"]) for it in map(json.loads, made.splitlines())]
             unit = 1 if version == "version 2" else 1000
             wanted = [(moment // unit * unit, date and (date if unit == 1 else date[:-4] + "000Z")) for moment, date in self.events]
             if got != wanted:
