@@ -93,6 +93,10 @@ def cases():
     for name, line in (("LineForm", b"F 0  00"), ("Moment", b"F 1000000000000000 00"), ("Hex", b"F 0 0"), ("LineTooLong", b"#" * 4097)):
         yield Asked(f"a list that ends with {name}", "list_to_pcap", stdin=b"F 0 " + octets + b"\n" + line + b"\nF 0 00\n", status=3,
                     stdout=head + captures.record(0, 0, WORKED), stderr=[f"line 2: {name}".encode()])
+    full = b"\n" * 999999 + b"F 0 " + octets + b"\n"
+    yield Asked("the most lines", "list_to_pcap", stdin=full, stdout=head + captures.record(0, 0, WORKED))
+    yield Asked("a line too many", "list_to_pcap", stdin=full + b"#", stdout=head + captures.record(0, 0, WORKED), status=3,
+                stderr=[b"line 1000001: ListTooLong"])
     yield from dumped(chance)
     tshark = STYLES["tshark -x"]
     timed = [("    1 1700000000.123456789 02:00:00:00:00:01 -> 01:0c:cd:01:00:01 GOOSE 67", 1700000000123456),
