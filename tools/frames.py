@@ -1,4 +1,5 @@
-"""The parts of a frame: which field each octet belongs to, in valid frames and, as far as their octets tell it, in faulty ones."""
+"""The parts of a frame: which field each octet belongs to, in valid frames and, as far as their octets tell it, in
+faulty ones."""
 
 GOOSE = {0x80: "gocbRef", 0x81: "timeAllowedtoLive", 0x82: "datSet", 0x83: "goID", 0x84: "t", 0x85: "stNum", 0x86: "sqNum",
          0x87: "simulation", 0x88: "confRev", 0x89: "ndsCom", 0x8A: "numDatSetEntries", 0xAB: "allData"}

@@ -5,6 +5,9 @@ from running import Ended
 
 MOST_LINES, MOST_OCTETS, MOST_DIGITS = 1000000, 4096, 4000
 FIELDS = re.compile(rb"(F) ([^ ]+) ([^ ]+)|(C) ([^ ]+)|(M) ([^ ]+) (on|off)")
+OCTETS = re.compile(rb"(?:[0-9a-fA-F]{2})+")
+# The digits of a time, and the microseconds of its unit, by version.
+VERSIONS = {1: (re.compile(rb"[0-9]{1,15}"), 1000), 2: (re.compile(rb"[0-9]{1,18}"), 1)}
 
 
 class ListError(Ended):
@@ -22,7 +25,7 @@ def without(line, end):
 def events(file):
     """The events of a list in an open file of octets: the line's number, F, C or M, the time in microseconds, and the frame's
     octets, None, or whether the simulation mode is set."""
-    digits, unit = rb"[0-9]{1,15}", 1000
+    digits, unit = VERSIONS[1]
     for number, line in enumerate(file, 1):
         if number > MOST_LINES:
             raise ListError(number, "ListTooLong")
@@ -31,18 +34,18 @@ def events(file):
             raise ListError(number, "LineTooLong")
         line = without(line, b"\r")
         if number == 1 and line == b"V2":
-            digits, unit = rb"[0-9]{1,18}", 1
+            digits, unit = VERSIONS[2]
         elif line and not line.startswith(b"#"):
             found = FIELDS.fullmatch(line)
             if not found:
                 raise ListError(number, "LineForm")
             kind, moment, *last = [it for it in found.groups() if it is not None]
-            if not re.fullmatch(digits, moment):
+            if not digits.fullmatch(moment):
                 raise ListError(number, "Moment")
-            if kind == b"F" and not (len(last[0]) <= MOST_DIGITS and re.fullmatch(rb"(?:[0-9a-fA-F]{2})+", last[0])):
+            if kind == b"F" and not (len(last[0]) <= MOST_DIGITS and OCTETS.fullmatch(last[0])):
                 raise ListError(number, "Hex")
-            told = {b"F": lambda: bytes.fromhex(last[0].decode()), b"C": lambda: None, b"M": lambda: last[0] == b"on"}
-            yield number, kind.decode(), int(moment) * unit, told[kind]()
+            held = bytes.fromhex(last[0].decode()) if kind == b"F" else last[0] == b"on" if kind == b"M" else None
+            yield number, kind.decode(), int(moment) * unit, held
 
 
 def until_error(found):

@@ -1,13 +1,13 @@
 """The lines that goose writes, each as a record of named values, in the standard's words.
 
-The names of a record and their order are those of COLUMNS. A value that is absent in the frame is None. Members of a data set
-are true, false, a text, or an object of one name: bits, int, uint, float, oct, btime, mms, utc, array or structure. A line of
-another form is kept whole, under the name text.
+The names of a record and their order are those of COLUMNS. A value that is absent in the frame is None. Members of a
+data set are true, false, a text, or an object of one name: bits, int, uint, float, oct, btime, mms, utc, array or
+structure. A line of another form is kept whole, under the name text.
 """
 import datetime
 import re
 
-COLUMNS = ("line", "moment", "time", "kind", "block", "reason", "offset", "error", "mode", "destination", "source", "tag",
+COLUMNS = ("line", "microseconds", "time", "kind", "block", "reason", "offset", "error", "mode", "destination", "source", "tag",
            "appid", "reserved1", "reserved2", "gocbRef", "timeAllowedtoLive", "datSet", "goID", "t", "tTime", "stNum", "sqNum",
            "simulation", "confRev", "ndsCom", "members", "asdus", "trailer", "asdu", "smpCnt", "missing", "svID", "text")
 
@@ -24,7 +24,7 @@ EPOCH = datetime.datetime(1970, 1, 1)
 
 
 def date(moment):
-    """A time in microseconds since 1970 as a date, UTC; None behind the year 9999."""
+    """A time in microseconds since 1970 as a date, UTC; None after the year 9999."""
     try:
         return (EPOCH + datetime.timedelta(microseconds=moment)).isoformat(timespec="microseconds") + "Z"
     except OverflowError:
@@ -121,7 +121,7 @@ def spread(pattern, *names):
 
 # What follows the line's number and the kind.
 KINDS = {
-    "clock": spread(r"(\d+)", "moment"), "mode": spread(r"(\d+) (on|off)", "moment", "mode"),
+    "clock": spread(r"(\d+)", "microseconds"), "mode": spread(r"(\d+) (on|off)", "microseconds", "mode"),
     "fault": spread(r"(\d+) (\w+)", "offset", "error"), "list": spread(r"(\w+)", "error"),
     "goose": goose, "sv": sampled, "not-written": spread(""), "destination": spread(""),
     "expired": spread(r"(\d+)", "block"), "switched": spread(r"(\d+)", "block"),
@@ -156,7 +156,7 @@ def records(lines, times):
     """The records of lines, with the time of each line's event where it is known, and in the order of COLUMNS."""
     for line in lines:
         found = record(line[:-1] if line.endswith("\n") else line)
-        moment = found.get("moment", times.get(found.get("line")))
+        moment = found.get("microseconds", times.get(found.get("line")))
         if moment is not None:
-            found.update(moment=moment, time=date(moment))
+            found.update(microseconds=moment, time=date(moment))
         yield {name: found[name] for name in COLUMNS if name in found}

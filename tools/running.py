@@ -1,7 +1,7 @@
 """How the tools run: what they say of themselves, which program they ask, and how they end.
 
-A tool ends with status 0 where it did what it was asked for, 1 where it found or left out something, 2 where its arguments
-are wrong, 3 where its input has an error, and 127 where it needs goose and there is none.
+A tool ends with status 0 where it did what it was asked for, 1 where it found or left out something, 2 where its
+arguments are wrong, 3 where its input has an error, and 127 where it needs goose and there is none.
 """
 import argparse
 import os

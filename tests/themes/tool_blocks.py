@@ -1,4 +1,5 @@
-"""tools/scl_blocks, list_blocks, compare_blocks and what_was_lost: configured blocks, those of a list, and what is missing."""
+"""tools/scl_blocks, list_blocks, compare_blocks and what_was_lost: configured blocks, those of a list, and what is
+missing."""
 import random
 import re
 import resource
@@ -245,6 +246,7 @@ def lost():
     yield Lost("a restart", text([state(0, 3, 9), state(5000, 1, 1, 4)]), block, expired=1, states_lost=0, frames_lost=0, restarts=1)
     yield Lost("a link that was down", text([state(0, 3, 9), state(5000, 3, 14)]), block, expired=1, states_lost=0, frames_lost=0, restarts=0)
     yield Lost("delays", text([state(1, 1, 0), state(100, 2, 0), state(1002, 3, 0, 1), state(1100, 4, 1, 1)]), block, delay="100", frames_lost=1)
+    yield Lost("a frame before its change", text([state(0, 1, 0), state(1000, 2, 0, 2)]), block, status=0, delay="0")
     yield Lost("a clock that is not synchronised", text([state(1, 1, 0), state(100, 2, 0, 0, 0x2A)]), block, status=0, delay="1")
     yield Lost("clocks that are apart", text(["V2", state(7200000000, 1, 0)]), block, status=0, delay="-")
     yield Counted()

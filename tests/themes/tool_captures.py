@@ -34,9 +34,9 @@ class Back:
 # ---- Dumps to lists ----------------------------------------------------------
 
 
-def rows(frame):
-    """The rows of a dump: offset, and up to 16 octets."""
-    return [(at, frame[at:at + 16]) for at in range(0, len(frame), 16)]
+def rows(frame, most=16):
+    """The rows of a dump: offset, and up to so many octets."""
+    return [(at, frame[at:at + most]) for at in range(0, len(frame), most)]
 
 
 def visible(octets):
@@ -54,6 +54,8 @@ STYLES = {
     "tcpdump -xx": lambda frame: [f"\t0x{at:04x}:  {it.hex(' ', -2)}" for at, it in rows(frame)],
     "tcpdump -XX": lambda frame: [f"\t0x{at:04x}:  {it.hex(' ', -2):<39}  {visible(it)}" for at, it in rows(frame)],
     "xxd": lambda frame: [f"{at:08x}: {it.hex(' ', -2):<39}  {visible(it)}" for at, it in rows(frame)],
+    "xxd -c 8": lambda frame: [f"{at:08x}: {it.hex(' ', -2):<19}  {visible(it)}" for at, it in rows(frame, 8)],
+    "an old Wireshark": lambda frame: [f"{at:04x}  {halves(it):<48}  {visible(it)}" for at, it in rows(frame)],
     "hexdump -C": lambda frame: [f"{at:08x}  {halves(it):<48}  |{visible(it)}|" for at, it in rows(frame)] + [f"{len(frame):08x}"],
     "od -A x -t x1": lambda frame: [f"{at:06x} {it.hex(' ')}" for at, it in rows(frame)] + [f"{len(frame):06x}"],
     "a stream": lambda frame: [frame.hex()],
@@ -84,27 +86,31 @@ def cases():
     yield Back("examples/two_bays.list as a capture", (EXAMPLES / "two_bays.list").read_bytes())
     head, octets = captures.header(), WORKED.hex().encode()
     last = 2**32 * 10**6 - 1
-    yield Asked("clocks and modes", "list_to_pcap", stdin=b"C 1\nF 1 " + octets + b"\nM 2 on\n", stderr=[b"2 clock moments and modes left out"],
+    yield Asked("clocks and modes", "list_to_pcap", stdin=b"C 1\nF 1 " + octets + b"\nM 2 on\n", stderr=[b"2 clock times and modes left out"],
                 stdout=head + captures.record(0, 1000, WORKED))
     yield Asked("the latest time", "list_to_pcap", stdin=b"V2\nF %d %s\n" % (last, octets),
                 stdout=head + captures.record(2**32 - 1, 999999, WORKED))
     yield Asked("a time that is too late", "list_to_pcap", stdin=b"V2\nF %d %s\n" % (last + 1, octets), stdout=head, status=3,
                 stderr=[b"line 2: "])
-    for name, line in (("LineForm", b"F 0  00"), ("Moment", b"F 1000000000000000 00"), ("Hex", b"F 0 0"), ("LineTooLong", b"#" * 4097)):
+    for name, line in (("LineForm", b"F 0  00"), ("Moment", b"F 1000000000000000 00"), ("Hex", b"F 0 0"), ("Hex ", b"F 0 00\r\r"), ("LineTooLong", b"#" * 4097)):
         yield Asked(f"a list that ends with {name}", "list_to_pcap", stdin=b"F 0 " + octets + b"\n" + line + b"\nF 0 00\n", status=3,
-                    stdout=head + captures.record(0, 0, WORKED), stderr=[f"line 2: {name}".encode()])
+                    stdout=head + captures.record(0, 0, WORKED), stderr=[f"line 2: {name.strip()}".encode()])
+    full = b"\n" * 999999 + b"F 0 " + octets + b"\n"
+    yield Asked("the most lines", "list_to_pcap", stdin=full, stdout=head + captures.record(0, 0, WORKED))
+    yield Asked("a line too many", "list_to_pcap", stdin=full + b"#", stdout=head + captures.record(0, 0, WORKED), status=3,
+                stderr=[b"line 1000001: ListTooLong"])
     yield from dumped(chance)
     tshark = STYLES["tshark -x"]
     timed = [("    1 1700000000.123456789 02:00:00:00:00:01 -> 01:0c:cd:01:00:01 GOOSE 67", 1700000000123456),
              ("1700000001.000001 02:00:00:00:00:01 > 01:0c:cd:01:00:01, ethertype Unknown (0x88b8), length 67: ", 1700000001000001)]
     yield Asked("times above dumps", "hex_to_list", stdin=text(line for head, _ in timed for line in [head, "", *tshark(WORKED)]),
                 stdout=text(["V2", *(f"F {moment} {WORKED.hex()}" for _, moment in timed)]), stderr=[b"2 lines of other text passed over"])
-    yield Asked("times that are given", "hex_to_list", ["--moment", "5", "--step", "1000"], text(["0102", "0304", "0506"]),
+    yield Asked("times that are given", "hex_to_list", ["--time", "5", "--step", "1000"], text(["0102", "0304", "0506"]),
                 text(["V2", "F 5 0102", "F 1005 0304", "F 2005 0506"]))
     heads = ["Frame (67 bytes):", *tshark(WORKED), "Reassembled PDU (3 bytes):", *tshark(b"abc"), "Frame (67 bytes):", *tshark(WORKED)]
     yield Asked("a dump that is no frame", "hex_to_list", stdin=text(heads), stdout=text(["V2", *[f"F 0 {WORKED.hex()}"] * 2]))
     yield Asked("a dump that lacks a row", "hex_to_list", stdin=text([*tshark(WORKED)[:2], *tshark(WORKED)[3:]]), stdout=b"V2\n", status=3,
-                stderr=[b"line 3: offset 0030 stands behind 32 octets"])
+                stderr=[b"line 3: offset 0030 comes after 32 octets"])
     yield Asked("a frame that is too long", "hex_to_list", stdin=text(["00" * 2001, "00"]), status=1,
                 stdout=b"V2\n# frame 1 of 2001 octets left out\nF 0 00\n")
     yield Asked("half an octet", "hex_to_list", stdin=b"0102\n010\n", stdout=b"V2\nF 0 0102\n", status=3, stderr=[b"line 2: half an octet"])

@@ -71,7 +71,7 @@ def cases():
     extra = framed(WORKED[22:] + b"\0")
     yield told(extra, 67, "what follows the APDU within Length: octet 1 of 1")
     yield told(WORKED[:40], 39, "t, its contents: octet 4 of 4")
-    yield told(WORKED[:40], 40, "behind the last octet: the frame has 40 octets")
+    yield told(WORKED[:40], 40, "after the last octet: the frame has 40 octets")
     yield told(WORKED[:13] + b"\x06" + WORKED[14:], 30, "another protocol: octet 9 of 45")
     yield told(WORKED[:44] + b"\x99" + WORKED[45:], 44, "a field 99 that is none, its identifier: octet 1 of 1")
     yield told(WORKED[:9], 7, "source: octet 2 of 3")

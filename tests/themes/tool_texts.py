@@ -6,11 +6,13 @@ import csv
 import io
 import json
 import random
+import shutil
+import subprocess
 import tempfile
 
 import by_chance
 from asked_tools import EXAMPLES, Asked, ask
-from harness import clipped, listed, run, text
+from harness import SECONDS, Skipped, clipped, listed, run, text
 from themes import replaying
 
 SEED, COUNT = 8259, 400
@@ -74,8 +76,8 @@ def entry(it):
 
 
 FORMS = {
-    "goose": shown_goose, "sv": shown_sampled, "clock": lambda it: f"clock {it['moment']}",
-    "mode": lambda it: f"mode {it['moment']} {it['mode']}", "fault": lambda it: f"fault {it['offset']} {it['error']}",
+    "goose": shown_goose, "sv": shown_sampled, "clock": lambda it: f"clock {it['microseconds']}",
+    "mode": lambda it: f"mode {it['microseconds']} {it['mode']}", "fault": lambda it: f"fault {it['offset']} {it['error']}",
     "list": lambda it: f"list {it['error']}", "act": lambda it: f"{entry(it)} t={it['t']} {members(it)}",
     "refused": lambda it: f"refused {it['block']} {it['reason']}",
     **dict.fromkeys(("refreshed", "repeated", "old"), entry),
@@ -132,6 +134,25 @@ def different(wanted, got, what):
     yield from [f"{what}: wanted {it}, got {other}" for it, other in zip(wanted, got) if it != other][:1]
 
 
+class Queried:
+    """jq reads as many objects as there are lines, of each command and each example."""
+
+    name = "jq reads each object"
+
+    def why_wrong(self, program):
+        if not shutil.which("jq"):
+            raise Skipped("there is no jq: run tests/get_tools")
+        for example in sorted(EXAMPLES.glob("*.list")):
+            for words in COMMANDS:
+                wrote, _, _ = run(program, words, example.read_bytes())
+                made, _, _ = ask(program, "to_json", given=wrote)
+                counted = subprocess.run(["jq", "-c", "keys"], input=made, stdout=subprocess.PIPE, stderr=subprocess.PIPE, timeout=SECONDS)
+                counts = (wrote.count(b"\n"), counted.stdout.count(b"\n"))
+                if counted.returncode or counts[0] != counts[1]:
+                    return [f"{example.name}, {words}: lines and objects are {counts}: {counted.stderr!r}"]
+        return []
+
+
 class Dated:
     """Each event's time is that of its line, as a number and as a date, in lists of both versions."""
 
@@ -152,7 +173,7 @@ class Dated:
                 recorded.write(octets)
                 recorded.flush()
                 made, _, _ = ask(program, "to_json", [recorded.name], wrote)
-            got = [(it["moment"], it["time"]) for it in map(json.loads, made.splitlines())]
+            got = [(it["microseconds"], it["time"]) for it in map(json.loads, made.splitlines())]
             unit = 1 if version == "version 2" else 1000
             wanted = [(moment // unit * unit, date and (date if unit == 1 else date[:-4] + "000Z")) for moment, date in self.events]
             if got != wanted:
@@ -166,6 +187,7 @@ def cases():
     yield Whole("a list by chance", replaying.some_list(chance, COUNT))
     for example in sorted(EXAMPLES.glob("*.list")):
         yield Whole(f"examples/{example.name}", example.read_bytes())
+    yield Queried()
     yield Dated()
     strange = b"3 acts 0 st=1\nx\n\n4 \xff\n"
     yield Asked("lines of other forms", "to_json", stdin=strange, status=1,
