@@ -34,9 +34,9 @@ class Back:
 # ---- Dumps to lists ----------------------------------------------------------
 
 
-def rows(frame):
-    """The rows of a dump: offset, and up to 16 octets."""
-    return [(at, frame[at:at + 16]) for at in range(0, len(frame), 16)]
+def rows(frame, most=16):
+    """The rows of a dump: offset, and up to so many octets."""
+    return [(at, frame[at:at + most]) for at in range(0, len(frame), most)]
 
 
 def visible(octets):
@@ -54,6 +54,8 @@ STYLES = {
     "tcpdump -xx": lambda frame: [f"\t0x{at:04x}:  {it.hex(' ', -2)}" for at, it in rows(frame)],
     "tcpdump -XX": lambda frame: [f"\t0x{at:04x}:  {it.hex(' ', -2):<39}  {visible(it)}" for at, it in rows(frame)],
     "xxd": lambda frame: [f"{at:08x}: {it.hex(' ', -2):<39}  {visible(it)}" for at, it in rows(frame)],
+    "xxd -c 8": lambda frame: [f"{at:08x}: {it.hex(' ', -2):<19}  {visible(it)}" for at, it in rows(frame, 8)],
+    "an old Wireshark": lambda frame: [f"{at:04x}  {halves(it):<48}  {visible(it)}" for at, it in rows(frame)],
     "hexdump -C": lambda frame: [f"{at:08x}  {halves(it):<48}  |{visible(it)}|" for at, it in rows(frame)] + [f"{len(frame):08x}"],
     "od -A x -t x1": lambda frame: [f"{at:06x} {it.hex(' ')}" for at, it in rows(frame)] + [f"{len(frame):06x}"],
     "a stream": lambda frame: [frame.hex()],
@@ -90,9 +92,9 @@ def cases():
                 stdout=head + captures.record(2**32 - 1, 999999, WORKED))
     yield Asked("a time that is too late", "list_to_pcap", stdin=b"V2\nF %d %s\n" % (last + 1, octets), stdout=head, status=3,
                 stderr=[b"line 2: "])
-    for name, line in (("LineForm", b"F 0  00"), ("Moment", b"F 1000000000000000 00"), ("Hex", b"F 0 0"), ("LineTooLong", b"#" * 4097)):
+    for name, line in (("LineForm", b"F 0  00"), ("Moment", b"F 1000000000000000 00"), ("Hex", b"F 0 0"), ("Hex ", b"F 0 00\r\r"), ("LineTooLong", b"#" * 4097)):
         yield Asked(f"a list that ends with {name}", "list_to_pcap", stdin=b"F 0 " + octets + b"\n" + line + b"\nF 0 00\n", status=3,
-                    stdout=head + captures.record(0, 0, WORKED), stderr=[f"line 2: {name}".encode()])
+                    stdout=head + captures.record(0, 0, WORKED), stderr=[f"line 2: {name.strip()}".encode()])
     full = b"\n" * 999999 + b"F 0 " + octets + b"\n"
     yield Asked("the most lines", "list_to_pcap", stdin=full, stdout=head + captures.record(0, 0, WORKED))
     yield Asked("a line too many", "list_to_pcap", stdin=full + b"#", stdout=head + captures.record(0, 0, WORKED), status=3,
