@@ -1,9 +1,9 @@
-//! The seven engines, each with inputs, and what it writes of them.
+//! The eight engines, each with inputs, and what it writes of them.
 ghost use Rattle.std.specs.Prelude.{◌≡◌, false};
 ghost use Rattle.list_core.specs.declared.device.InputEnd.{InputEnd};
 
 use frame_core::{Sink, Source};
-use goose_cmd::{Ending, check, import, publish, read_block, replay, rewrite, show, watch};
+use goose_cmd::{Ending, blocks, check, import, publish, read_block, replay, rewrite, show, watch};
 use std::alloc::Allocator;
 use subscribe_core::Block;
 
@@ -14,6 +14,7 @@ pub(super) enum Example {
     Show,
     Rewrite,
     Check,
+    Blocks,
     Publish,
     Replay,
     Watch,
@@ -21,11 +22,13 @@ pub(super) enum Example {
     FaultyShow,
     FaultyRewrite,
     FaultyCheck,
+    FaultyBlocks,
     FaultyReplay,
     FaultyWatch,
     QuietShow,
     QuietRewrite,
     QuietCheck,
+    QuietBlocks,
     QuietPublish,
     QuietReplay,
     QuietWatch,
@@ -34,10 +37,11 @@ pub(super) enum Example {
 }
 
 /// Those of which something is written beside the version.
-pub(super) const EXAMPLES: [Example; 12] = [
+pub(super) const EXAMPLES: [Example; 14] = [
     Example::Show,
     Example::Rewrite,
     Example::Check,
+    Example::Blocks,
     Example::Publish,
     Example::Replay,
     Example::Watch,
@@ -45,15 +49,17 @@ pub(super) const EXAMPLES: [Example; 12] = [
     Example::FaultyShow,
     Example::FaultyRewrite,
     Example::FaultyCheck,
+    Example::FaultyBlocks,
     Example::FaultyReplay,
     Example::FaultyWatch,
 ];
 
 /// Those that want no memory.
-pub(super) const FREE: [Example; 7] = [
+pub(super) const FREE: [Example; 8] = [
     Example::QuietShow,
     Example::QuietRewrite,
     Example::QuietCheck,
+    Example::QuietBlocks,
     Example::QuietPublish,
     Example::QuietWatch,
     Example::Import,
@@ -88,7 +94,7 @@ pub(super) fn input_of(example: Example) -> &'static [u8] {
         Example::Publish => {
             b"control,010ccd010001,020000000001,,0001,G,D,,1,1,0,0,1\nstep,10,2000\nstep,1000,3000\nchange,0,0000000000000000,8301ff\npoll,9\npoll,10\npoll,1009\npoll,1010\nchange,1500,0000000000000000,830100\n"
         }
-        Example::Replay => {
+        Example::Replay | Example::Blocks => {
             b"F 0 010ccd01000102000000000188b80001003500000000612b800147810207d0820144840800000000000000008501018601008701008801018901008a0101ab038301ff\nF 1 010ccd01000102000000000188b80001003500000000612b800147810207d0820144840800000000000000008501018601008701008801018901008a0101ab038301ff\nM 2 on\nF 3 010ccd01000102000000000188b80001003500000000612b800147810203e8820144840800000000000000008501018601008701ff8801018901008a0101ab038301ff\nF 4 010ccd01000102000000000188b80001003500000000612b800147810207d0820144840800000000000000008501038601008701008801018901008a0101ab038301ff\nM 5 off\nF 6 010ccd01000102000000000188b80001003500000000612b800147810207d0820144840800000000000000008501038601048701008801018901008a0101ab038301ff\nF 7 010ccd01000102000000000188b80001003500000000612b800147810207d0820144840800000000000000008501038601058701008801028901008a0101ab038301ff\nC 2006\nF 2007 010ccd04000102000000000188ba4000002800000000601e800101a2193017800153820200038304000000018501028702002a880100\nF 2008 00\n"
         }
         Example::Watch => {
@@ -100,9 +106,12 @@ pub(super) fn input_of(example: Example) -> &'static [u8] {
         Example::FaultyShow
         | Example::FaultyRewrite
         | Example::FaultyCheck
+        | Example::FaultyBlocks
         | Example::FaultyReplay
         | Example::FaultyWatch => FAULTY,
-        Example::QuietCheck | Example::QuietReplay | Example::QuietWatch => QUIET,
+        Example::QuietCheck | Example::QuietBlocks | Example::QuietReplay | Example::QuietWatch => {
+            QUIET
+        }
         Example::QuietShow | Example::QuietRewrite | Example::EmptyReplay => EMPTY,
         Example::QuietPublish => UNCHANGED,
         Example::CutImport => {
@@ -127,6 +136,9 @@ pub(super) fn text_of(example: Example) -> &'static [u8] {
         Example::Replay => {
             b"1 act 0 st=1 sq=0 t=0000000000000000 {true}\n2 repeated 0 st=1 sq=0\n4 switched 0\n4 act 0 st=1 sq=0 t=0000000000000000 {true}\n5 refused 0 Simulated\n6 switched 0\n7 act 0 st=3 sq=4 t=0000000000000000 {true}\n8 refused 0 ConfRev\n9 expired 0\n10 sampled\n11 fault 1 Truncated\n"
         }
+        Example::Blocks => {
+            b"1 block 0001,G,D,,1,1\n8 block-changed 0001,G,D,,2,1\n10 stream id=\"S\" rev=1\n"
+        }
         Example::Watch => b"1 0 3 first\n1 1 4 next\n2 0 7 skipped 2\n",
         Example::Import => b"V2\n# record 1 of 0 octets left out\nF 5000006 aabbcc\n",
         Example::FaultyShow => {
@@ -136,6 +148,7 @@ pub(super) fn text_of(example: Example) -> &'static [u8] {
             b"V2\nF 0 010ccd01000102000000000188b80001003500000000612b800147810207d0820144840800000000000000008501018601008701008801018901008a0101ab038301ff\nF 1000 010ccd04000102000000000188ba4000002800000000601e800101a2193017800153820200038304000000018501028702002a880100\n# 3 list Hex\n"
         }
         Example::FaultyCheck => b"1 not-written\n3 list Hex\n",
+        Example::FaultyBlocks => { b"1 block 0001,G,D,,1,1\n2 stream id=\"S\" rev=1\n3 list Hex\n" }
         Example::FaultyReplay => {
             b"1 act 0 st=1 sq=0 t=0000000000000000 {true}\n2 sampled\n3 list Hex\n"
         }
@@ -144,6 +157,7 @@ pub(super) fn text_of(example: Example) -> &'static [u8] {
         Example::CutImport => b"V2\nF 5000006 aabbcc\n# 2 capture CaptureShort\n",
         Example::QuietShow
         | Example::QuietCheck
+        | Example::QuietBlocks
         | Example::QuietReplay
         | Example::QuietWatch
         | Example::EmptyReplay => b"",
@@ -157,6 +171,7 @@ pub(super) fn ending_of(example: Example) -> Ending {
         Example::FaultyShow
         | Example::FaultyRewrite
         | Example::FaultyCheck
+        | Example::FaultyBlocks
         | Example::FaultyReplay
         | Example::FaultyWatch
         | Example::CutImport => Ending::InputFault,
@@ -215,6 +230,9 @@ pub(super) fn run<A: Allocator + Copy, R: Source, W: Sink>(
             alloc, reader, writer,
         ),
         Example::Check | Example::FaultyCheck | Example::QuietCheck => check(alloc, reader, writer),
+        Example::Blocks | Example::FaultyBlocks | Example::QuietBlocks => blocks(
+            alloc, reader, writer,
+        ),
         Example::Publish | Example::QuietPublish => publish(alloc, reader, writer),
         Example::Replay | Example::FaultyReplay | Example::QuietReplay | Example::EmptyReplay =>
             replay_one(alloc, reader, writer),
