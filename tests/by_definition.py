@@ -1,4 +1,4 @@
-"""The slowest subscriber, written from docs/DEFINITIONS.md (subscribe_core) and, for its lines, docs/FORMATS.md: each
+"""The slowest subscriber, written from docs/tables/DEFINITIONS.md (subscribe_core) and, for its lines, docs/FORMATS.md: each
 definition is a function over the whole list, by positions from 0, and nothing is kept from event to event. It is for short
 lists."""
 import collections

@@ -33,7 +33,7 @@ class Judged:
     def why_wrong(self, program):
         tools = {name: shutil.which(name) for name in ("text2pcap", "tshark")}
         if not all(tools.values()):
-            raise Skipped("there is no text2pcap or no tshark")
+            raise Skipped("there is no text2pcap or no tshark: run tests/get_tools")
         chance = random.Random(SEED)
         moments = sorted(chance.randrange(10**9, 2 * 10**9) for _ in range(300))
         frames = [state(chance.randrange(1, 9), chance.randrange(9)) if chance.random() < 0.7 else SAMPLED for _ in moments]

@@ -27,7 +27,7 @@ class Linted:
 
     def why_wrong(self, _program):
         if not shutil.which("mandoc"):
-            raise Skipped("there is no mandoc")
+            raise Skipped("there is no mandoc: run tests/get_tools")
         ran = subprocess.run(["mandoc", "-T", "lint", PAGE], stdout=subprocess.PIPE, stderr=subprocess.STDOUT)
         return ran.stdout.decode().splitlines()
 

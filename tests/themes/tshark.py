@@ -7,6 +7,7 @@ import os
 import pathlib
 import random
 import re
+import shutil
 import subprocess
 import tempfile
 import time
@@ -17,7 +18,6 @@ from harness import SECONDS, Skipped, classic_pcap, listed, run
 from reference import APDUS_READ
 
 SEED, COUNT = 850, 1000
-GET = pathlib.Path(__file__).resolve().parent.parent / "get_tshark"
 
 
 # ---- The program's reading ---------------------------------------------------
@@ -48,10 +48,9 @@ def ours(line):
 
 def packets(frames):
     """What tshark makes of each frame, without the settings of whoever runs it."""
-    found = subprocess.run([str(GET)], stdout=subprocess.PIPE, timeout=5 * SECONDS)
-    if found.returncode:
-        raise Skipped("tshark is not here and cannot be installed")
-    tshark = found.stdout.decode().splitlines()[0]
+    tshark = shutil.which("tshark")
+    if not tshark:
+        raise Skipped("there is no tshark: run tests/get_tools")
     with tempfile.TemporaryDirectory() as folder:
         capture = pathlib.Path(folder) / "frames.pcap"
         capture.write_bytes(classic_pcap(frames))

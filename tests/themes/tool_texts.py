@@ -1,0 +1,201 @@
+"""tools/to_json and tools/to_csv: no line is lost or invented, and each says what it said.
+
+What JSON has of a line is written as a line again, by the formats of docs/FORMATS.md, and held against that line.
+"""
+import csv
+import io
+import json
+import random
+import shutil
+import subprocess
+import tempfile
+
+import by_chance
+from asked_tools import EXAMPLES, Asked, ask
+from harness import SECONDS, Skipped, clipped, listed, run, text
+from themes import replaying
+
+SEED, COUNT = 8259, 400
+REPLAYED = ["0001,G,D,,1,1", "0002,G,D,,1,1", "3001,BAY1PROT/LLN0$GO$gcbTrip,BAY1PROT/LLN0$dsTrip,BAY1_Trip,1,2"]
+COMMANDS = (["show"], ["check"], ["replay", *REPLAYED], ["replay", REPLAYED[0], REPLAYED[0]], ["watch", "--period", "4000", "--id", "MU01"])
+
+
+# ---- A record as a line ------------------------------------------------------
+
+
+def quoted(told):
+    return "-" if told is None else '"' + told.replace("\\", "\\\\").replace('"', '\\"') + '"'
+
+
+def plain(told):
+    return "-" if told is None else str(told).lower() if isinstance(told, bool) else str(told)
+
+
+def member(told):
+    """A member of a data set as it is shown."""
+    if isinstance(told, bool):
+        return "true" if told else "false"
+    if isinstance(told, str):
+        return quoted(told)
+    (kind, held), = told.items()
+    opens, closes = {"array": "[]", "structure": "()"}.get(kind, ("", ""))
+    return opens + " ".join(map(member, held)) + closes if opens else f"{kind}:{held}"
+
+
+def members(it):
+    return "{" + " ".join(map(member, it["members"])) + "}"
+
+
+def asdu(it):
+    return (f"(id={quoted(it['svID'])} set={quoted(it['datSet'])} cnt={it['smpCnt']} rev={it['confRev']} t={plain(it['refrTm'])} "
+            f"synch={it['smpSynch']} rate={plain(it['smpRate'])} sample={it['sample']} mod={plain(it['smpMod'])} "
+            f"f89={plain(it['field89'])})")
+
+
+def envelope(it):
+    return (f"{it['destination']} {it['source']} tag={plain(it['tag'])} appid={it['appid']} r1={it['reserved1']} "
+            f"r2={it['reserved2']}")
+
+
+def shown_goose(it):
+    return (f"goose {envelope(it)} ref={quoted(it['gocbRef'])} live={it['timeAllowedtoLive']} set={quoted(it['datSet'])} "
+            f"id={quoted(it['goID'])} t={it['t']} st={it['stNum']} sq={it['sqNum']} sim={plain(it['simulation'])} "
+            f"rev={it['confRev']} com={plain(it['ndsCom'])} {members(it)} trailer={plain(it['trailer'])}")
+
+
+def shown_sampled(it):
+    return f"sv {envelope(it)} {{{' '.join(map(asdu, it['asdus']))}}} trailer={plain(it['trailer'])}"
+
+
+def counted(it):
+    return f"{it['asdu']} {it['smpCnt']} {it['kind']}" + (f" {it['missing']}" if "missing" in it else "")
+
+
+def entry(it):
+    return f"{it['kind']} {it['block']} st={it['stNum']} sq={it['sqNum']}"
+
+
+FORMS = {
+    "goose": shown_goose, "sv": shown_sampled, "clock": lambda it: f"clock {it['microseconds']}",
+    "mode": lambda it: f"mode {it['microseconds']} {it['mode']}", "fault": lambda it: f"fault {it['offset']} {it['error']}",
+    "list": lambda it: f"list {it['error']}", "act": lambda it: f"{entry(it)} t={it['t']} {members(it)}",
+    "refused": lambda it: f"refused {it['block']} {it['reason']}",
+    **dict.fromkeys(("refreshed", "repeated", "old"), entry),
+    **dict.fromkeys(("expired", "switched"), lambda it: f"{it['kind']} {it['block']}"),
+    **dict.fromkeys(("first", "next", "skipped", "same", "late", "out-of-range"), counted),
+    **dict.fromkeys(("not-written", "destination", "not-subscribed", "sampled"), lambda it: it["kind"]),
+}
+
+
+def line_of(it):
+    """The line that a record was made of."""
+    if it.get("kind") == "blocks":
+        return f"blocks {it['error']} {it['block']}"
+    return f"{it['line']} {FORMS[it['kind']](it)}"
+
+
+# ---- Cases -------------------------------------------------------------------
+
+
+class Whole:
+    """Under each command, each line of a list's text is one object and one row, in its order, with all that it says."""
+
+    def __init__(self, name, octets):
+        self.name, self.octets = name, octets
+
+    def why_wrong(self, program):
+        return [f"{' '.join(words)}: {why}" for words in COMMANDS for why in self.why_command_wrong(program, words)]
+
+    def why_command_wrong(self, program, words):
+        wrote, _, _ = run(program, words, self.octets)
+        lines = wrote.decode("ascii").splitlines()
+        made, complained, status = ask(program, "to_json", given=wrote)
+        if status or complained:
+            yield f"to_json ended with status {status}: {clipped(complained)!r}"
+        records = [json.loads(it) for it in made.splitlines()]
+        yield from different(lines, [line_of(it) for it in records], "objects")
+        made, complained, status = ask(program, "to_csv", given=wrote)
+        if status or complained:
+            yield f"to_csv ended with status {status}: {clipped(complained)!r}"
+        head, *rows = csv.reader(io.StringIO(made.decode(), newline=""))
+        cells = [{name: cell for name, cell in zip(head, row) if cell} for row in rows]
+        wanted = [{name: cell(it) for name, it in record.items() if it not in (None, "")} for record in records]
+        yield from different(wanted, cells, "rows")
+
+
+def cell(it):
+    """What a cell has of a value."""
+    return it if isinstance(it, str) else json.dumps(it)
+
+
+def different(wanted, got, what):
+    if len(wanted) != len(got):
+        yield f"{len(got)} {what} of {len(wanted)} lines"
+    yield from [f"{what}: wanted {it}, got {other}" for it, other in zip(wanted, got) if it != other][:1]
+
+
+class Queried:
+    """jq reads as many objects as there are lines, of each command and each example."""
+
+    name = "jq reads each object"
+
+    def why_wrong(self, program):
+        if not shutil.which("jq"):
+            raise Skipped("there is no jq: run tests/get_tools")
+        for example in sorted(EXAMPLES.glob("*.list")):
+            for words in COMMANDS:
+                wrote, _, _ = run(program, words, example.read_bytes())
+                made, _, _ = ask(program, "to_json", given=wrote)
+                counted = subprocess.run(["jq", "-c", "keys"], input=made, stdout=subprocess.PIPE, stderr=subprocess.PIPE, timeout=SECONDS)
+                counts = (wrote.count(b"\n"), counted.stdout.count(b"\n"))
+                if counted.returncode or counts[0] != counts[1]:
+                    return [f"{example.name}, {words}: lines and objects are {counts}: {counted.stderr!r}"]
+        return []
+
+
+class Dated:
+    """Each event's time is that of its line, as a number and as a date, in lists of both versions."""
+
+    name = "times and dates"
+    events = [(0, "1970-01-01T00:00:00.000000Z"), (999999, "1970-01-01T00:00:00.999999Z"),
+              (1700000000123456, "2023-11-14T22:13:20.123456Z"), (253402300799999999, "9999-12-31T23:59:59.999999Z"),
+              (253402300800000000, None), (999999999999999999, None)]
+
+    def why_wrong(self, program):
+        return list(self.why_lists_wrong(program))
+
+    def why_lists_wrong(self, program):
+        lists = {"version 2": text(["V2", "# a comment", *(f"C {moment}" for moment, _ in self.events)]),
+                 "version 1": text(["# a comment", "", *(f"C {moment // 1000}" for moment, _ in self.events)])}
+        for version, octets in lists.items():
+            wrote, _, _ = run(program, ["show"], octets)
+            with tempfile.NamedTemporaryFile() as recorded:
+                recorded.write(octets)
+                recorded.flush()
+                made, _, _ = ask(program, "to_json", [recorded.name], wrote)
+            got = [(it["microseconds"], it["time"]) for it in map(json.loads, made.splitlines())]
+            unit = 1 if version == "version 2" else 1000
+            wanted = [(moment // unit * unit, date and (date if unit == 1 else date[:-4] + "000Z")) for moment, date in self.events]
+            if got != wanted:
+                yield f"{version}: wanted {wanted}, got {got}"
+
+
+def cases():
+    chance = random.Random(SEED)
+    yield Whole("frames of GOOSE by chance", listed(*[by_chance.goose(chance) for _ in range(COUNT)]))
+    yield Whole("frames of Sampled Values by chance", listed(*[by_chance.sampled(chance) for _ in range(COUNT)]))
+    yield Whole("a list by chance", replaying.some_list(chance, COUNT))
+    for example in sorted(EXAMPLES.glob("*.list")):
+        yield Whole(f"examples/{example.name}", example.read_bytes())
+    yield Queried()
+    yield Dated()
+    strange = b"3 acts 0 st=1\nx\n\n4 \xff\n"
+    yield Asked("lines of other forms", "to_json", stdin=strange, status=1,
+                stdout=b'{"text":"3 acts 0 st=1"}\n{"text":"x"}\n{"text":""}\n{"text":"4 \\u00ff"}\n')
+    yield Asked("lines of other forms", "to_csv", ["--columns", "line,text"], strange, status=1,
+                stdout='line,text\n,3 acts 0 st=1\n,x\n,\n,4 \xff\n'.encode())
+    yield Asked("a column that is none", "to_csv", ["--columns", "line,lien"], status=2, stderr=[b"there is no column lien"])
+    shown = b'2 act 0 st=1 sq=0 t=6553f1008000000a {true "a,\\"b" (int:-9223372036854775808 uint:18446744073709551615)}\n'
+    yield Asked("a text with a comma and a quote", "to_csv", ["--columns", "line,tTime,members"], shown,
+                b'line,tTime,members\n2,2023-11-14T22:13:20.500000Z,"[true, ""a,\\""b"", {""structure"": '
+                b'[{""int"": -9223372036854775808}, {""uint"": 18446744073709551615}]}]"\n')

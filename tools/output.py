@@ -1,0 +1,162 @@
+"""The lines that goose writes, each as a record of named values, in the standard's words.
+
+The names of a record and their order are those of COLUMNS. A value that is absent in the frame is None. Members of a
+data set are true, false, a text, or an object of one name: bits, int, uint, float, oct, btime, mms, utc, array or
+structure. A line of another form is kept whole, under the name text.
+"""
+import datetime
+import re
+
+COLUMNS = ("line", "microseconds", "time", "kind", "block", "reason", "offset", "error", "mode", "destination", "source", "tag",
+           "appid", "reserved1", "reserved2", "gocbRef", "timeAllowedtoLive", "datSet", "goID", "t", "tTime", "stNum", "sqNum",
+           "simulation", "confRev", "ndsCom", "members", "asdus", "trailer", "asdu", "smpCnt", "missing", "svID", "text")
+
+# The words of a shown line, and the standard's; those of an ASDU differ.
+SHOWN = {"tag": "tag", "appid": "appid", "r1": "reserved1", "r2": "reserved2", "ref": "gocbRef", "live": "timeAllowedtoLive",
+         "set": "datSet", "id": "goID", "t": "t", "st": "stNum", "sq": "sqNum", "sim": "simulation", "rev": "confRev",
+         "com": "ndsCom", "trailer": "trailer"}
+ASDU = {"id": "svID", "set": "datSet", "cnt": "smpCnt", "rev": "confRev", "t": "refrTm", "synch": "smpSynch", "rate": "smpRate",
+        "sample": "sample", "mod": "smpMod", "f89": "field89"}
+NUMBERS = ("timeAllowedtoLive", "stNum", "sqNum", "confRev", "smpCnt", "smpSynch", "smpRate")
+TOKEN = re.compile(r'[\[\](){}]|(?:\w+=)?"(?:[^"\\]|\\.)*"|[^ "\[\](){}]+')
+OPENS = {"{": "}", "(": ")", "[": "]"}
+EPOCH = datetime.datetime(1970, 1, 1)
+
+
+def date(moment):
+    """A time in microseconds since 1970 as a date, UTC; None after the year 9999."""
+    try:
+        return (EPOCH + datetime.timedelta(microseconds=moment)).isoformat(timespec="microseconds") + "Z"
+    except OverflowError:
+        return None
+
+
+def change(octets):
+    """The microseconds of a UtcTime of eight octets in hexadecimal; the fraction of a second is cut, not rounded."""
+    return int(octets[:8], 16) * 1000000 + (int(octets[8:14], 16) * 1000000 >> 24)
+
+
+def unquoted(text):
+    return re.sub(r"\\(.)", r"\1", text[1:-1])
+
+
+def nested(tokens, until=None):
+    """The tokens up to a closing bracket. What stands in brackets is a list that begins with the bracket."""
+    found = []
+    for token in tokens:
+        if token == until:
+            break
+        found.append([token, *nested(tokens, OPENS[token])] if token in OPENS else token)
+    return found
+
+
+def member(token):
+    """A member of a data set."""
+    if isinstance(token, list):
+        return {"structure" if token[0] == "(" else "array": [member(it) for it in token[1:]]}
+    if token in ("true", "false"):
+        return token == "true"
+    if token.startswith('"'):
+        return unquoted(token)
+    kind, _, told = token.partition(":")
+    return {kind: int(told) if kind in ("int", "uint") else told}
+
+
+def named(tokens, names):
+    """The values of tokens WORD=VALUE, under the standard's names."""
+    record = {}
+    for token in tokens:
+        word, _, value = token.partition("=")
+        name = names[word]
+        if value.startswith('"'):
+            record[name] = unquoted(value)
+        elif value in ("-", "true", "false"):
+            record[name] = {"-": None, "true": True, "false": False}[value]
+        else:
+            record[name] = int(value) if name in NUMBERS else value
+    return with_change(record)
+
+
+def with_change(record):
+    """A record with the date of its field t."""
+    return {**record, "tTime": date(change(record["t"]))} if "t" in record else record
+
+
+def goose(rest):
+    """A shown frame of GOOSE."""
+    destination, source, *tokens = nested(iter(TOKEN.findall(rest)))
+    held = next(it for it in tokens if isinstance(it, list))
+    return {"destination": destination, "source": source, **named([it for it in tokens if it is not held], SHOWN),
+            "members": [member(it) for it in held[1:]]}
+
+
+def sampled(rest):
+    """A shown frame of Sampled Values."""
+    destination, source, *tokens = nested(iter(TOKEN.findall(rest)))
+    held = next(it for it in tokens if isinstance(it, list))
+    return {"destination": destination, "source": source, **named([it for it in tokens if it is not held], SHOWN),
+            "asdus": [named(it[1:], ASDU) for it in held[1:]]}
+
+
+def entry(rest):
+    """What a device does with a frame of a block: the block, and words WORD=VALUE and members where there are any."""
+    block, *tokens = nested(iter(TOKEN.findall(rest)))
+    held = [it for it in tokens if isinstance(it, list)]
+    record = {"block": int(block), **named([it for it in tokens if it not in held], SHOWN)}
+    return {**record, "members": [member(it) for it in held[0][1:]]} if held else record
+
+
+def stream(rest):
+    """A stream of Sampled Values."""
+    return named(TOKEN.findall(rest), ASDU)
+
+
+def spread(pattern, *names):
+    """A reader of the words that a pattern has, under these names. Decimal digits are a number."""
+    def read(rest):
+        found = re.fullmatch(pattern, rest)
+        return {name: int(it) if it.isdigit() else it for name, it in zip(names, found.groups())}
+    return read
+
+
+# What follows the line's number and the kind.
+KINDS = {
+    "clock": spread(r"(\d+)", "microseconds"), "mode": spread(r"(\d+) (on|off)", "microseconds", "mode"),
+    "fault": spread(r"(\d+) (\w+)", "offset", "error"), "list": spread(r"(\w+)", "error"),
+    "goose": goose, "sv": sampled, "not-written": spread(""), "destination": spread(""),
+    "expired": spread(r"(\d+)", "block"), "switched": spread(r"(\d+)", "block"),
+    "act": entry, "refreshed": entry, "repeated": entry, "old": entry,
+    "refused": spread(r"(\d+) (\w+)", "block", "reason"), "not-subscribed": spread(""), "sampled": spread(""),
+    "block": spread(r"(.*)", "text"), "block-changed": spread(r"(.*)", "text"), "stream": stream, "stream-changed": stream,
+}
+COUNTED = re.compile(r"(\d+) (\d+) (\d+) (?:(skipped) (\d+)|(first|next|same|late|out-of-range))")
+
+
+def record(line):
+    """The record of one line."""
+    counted = COUNTED.fullmatch(line)
+    if counted:
+        number, asdu, count, skipped, missing, word = counted.groups()
+        held = {"line": int(number), "kind": skipped or word, "asdu": int(asdu), "smpCnt": int(count)}
+        return {**held, "missing": int(missing)} if skipped else held
+    twice = re.fullmatch(r"blocks (\w+) (\d+)", line)
+    if twice:
+        return {"kind": "blocks", "block": int(twice[2]), "error": twice[1]}
+    number, _, rest = line.partition(" ")
+    kind, _, rest = rest.partition(" ")
+    if number.isdigit() and kind in KINDS:
+        try:
+            return {"line": int(number), "kind": kind, **KINDS[kind](rest)}
+        except (AttributeError, KeyError, StopIteration, TypeError, ValueError):
+            pass
+    return {"text": line}
+
+
+def records(lines, times):
+    """The records of lines, with the time of each line's event where it is known, and in the order of COLUMNS."""
+    for line in lines:
+        found = record(line[:-1] if line.endswith("\n") else line)
+        moment = found.get("microseconds", times.get(found.get("line")))
+        if moment is not None:
+            found.update(microseconds=moment, time=date(moment))
+        yield {name: found[name] for name in COLUMNS if name in found}
