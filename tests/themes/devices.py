@@ -4,7 +4,7 @@ import subprocess
 import tty
 
 from captures import header, record
-from frames import SAMPLED, WORKED, WORKED_LINE, put
+from frames import SAMPLED, WORKED, WORKED_LINE, element, put, with_fields
 from harness import Case, Pieces, Skipped, cut, descriptor, listed, relisted, run, text
 
 FAULT = [b"read or write fault"]
@@ -113,7 +113,7 @@ class Unsaid(Case):
 
 # The words that run each command, and what it writes before it reads and before the fault of its list or script.
 WORDS = {"replay": ["replay", "0001,G,D,,1,1"], "watch": ["watch", "--period", "4000", "--id", "S"]}
-BEFORE = {"show": ("", ""), "check": ("", ""), "rewrite": ("V2\n", "# "), "replay": ("", ""), "watch": ("", ""),
+BEFORE = {"show": ("", ""), "check": ("", ""), "rewrite": ("V2\n", "# "), "blocks": ("", ""), "replay": ("", ""), "watch": ("", ""),
           "publish": ("V2\n", "# ")}
 
 SCRIPT = b"control,010ccd010001,020000000001,,0001,G,D,,1,1,0,0,1\nstep,4,1000\n"
@@ -128,6 +128,8 @@ def given(command, count=1):
     """An input for which the command writes a line and more, of so many events."""
     if command == "publish":
         return SCRIPT + CHANGE * count
+    if command == "blocks":
+        return listed(*[with_fields(gocb_ref=element(0x80, b"%d" % at)) for at in range(count)])
     return listed(*[b"\1"] * count)
 
 

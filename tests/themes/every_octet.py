@@ -1,7 +1,9 @@
 """Every octet of a frame replaced by every other value, in one list; and every octet of short lists replaced by telling
-ones, dropped, and followed by one more. The slow reader, the slow subscriber and the slow watch agree."""
+ones, dropped, and followed by one more. The slow reader, the slow inventory, the slow subscriber and the slow watch
+agree."""
 from frames import SAMPLED, WORKED, framed, with_fields
 from harness import Agreement, WellFormed, WrittenReadsBack, listed
+from themes.inventory import Lists
 from themes.replaying import BLOCK, Replays
 from themes.watching import Watches
 
@@ -55,5 +57,6 @@ def cases():
         yield Agreement(f"{name}: the slow reader agrees", listed(*frames))
         yield WrittenReadsBack(f"{name}: what is written reads back", frames)
         recorded = b"".join(listed(variant, moment=at) for at, variant in enumerate(frames))
+        yield Lists(f"{name}: the slow inventory agrees", recorded)
         yield Replays(f"{name}: the slow subscriber agrees", recorded, [BLOCK])
         yield Watches(f"{name}: the slow watch agrees", recorded, 4000)

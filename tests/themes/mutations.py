@@ -6,6 +6,7 @@ import by_chance
 from frames import SAMPLED, WORKED, asdu, element, framed, with_asdus, with_fields
 from harness import Agreement, WellFormed, WrittenReadsBack, listed
 from reference import contents
+from themes.inventory import Lists
 from themes.replaying import BLOCK, Replays
 from themes.watching import Watches
 
@@ -187,5 +188,6 @@ def cases():
         yield WellFormed(f"{name}: each line is well formed", frames)
         yield WrittenReadsBack(f"{name}: what is written reads back", frames)
         recorded = b"".join(listed(frame, moment=300 * at) for at, frame in enumerate(frames))
+        yield Lists(f"{name}: the slow inventory agrees", recorded)
         yield Replays(f"{name}: the slow subscriber agrees", recorded, [BLOCK])
         yield Watches(f"{name}: the slow watch agrees", recorded, 4000)

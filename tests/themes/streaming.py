@@ -117,7 +117,7 @@ def cases():
     replay, watch = ["replay", "0001,G,D,,1,1"], ["watch", "--period", "4000", "--id", "S"]
     frames = listed(b"\1", WORKED) + b"X"
     yield ComesEarly()
-    for words in (["show"], ["check"], ["rewrite"], replay):
+    for words in (["show"], ["check"], ["rewrite"], ["blocks"], replay):
         yield DoesNotGrow(f"a list under {words[0]}", words, listed(WORKED))
         yield WantsMemory(words, frames)
     yield DoesNotGrow("a list of notes", ["check"], listed(put(WORKED, at3=4, at66=1)))

@@ -28,10 +28,10 @@ OWN_WORDS = {
 }
 # What would have been right, by what the message of the parser says: it stands behind that, or that says it itself.
 RIGHT = {
-    b"unrecognized subcommand": b"\nThe commands are show, check, rewrite, replay, publish, watch and import; ",
+    b"unrecognized subcommand": b"\nThe commands are show, check, rewrite, blocks, replay, publish, watch and import; ",
     b"unexpected argument": b"\nA list, script or capture is read from standard input: goose COMMAND < FILE; ",
     b"invalid value": b"\nN is a whole number from 2 to 65536: ",
-    b"requires a subcommand": b"\n  [subcommands: show, check, rewrite, replay, publish, watch, import]\n",
+    b"requires a subcommand": b"\n  [subcommands: show, check, rewrite, blocks, replay, publish, watch, import]\n",
     b"word of the command line": b" must be a text in UTF-8, ",
     b"required arguments were not provided": b"\nUsage: goose ",
     b"a value is required": b" but none was supplied\n",
@@ -146,7 +146,7 @@ def refusals():
         (["-x"], b"'-x'"), ([b"sh\xffow"], b"UTF-8"), (["show", b"\xff"], b"UTF-8"),
     ):
         yield Refuses(words, named)
-    for name in [*COMMANDS, "publish", "import"]:
+    for name in [*COMMANDS, "blocks", "publish", "import"]:
         for words, named in (
             ([name, "more"], b"'more'"), ([name, name], f"'{name}'".encode()), ([name, "--nothing"], b"'--nothing'"),
             ([name, "--version"], b"'--version'"), ([name, "--", "more"], b"'more'"), (["--", name], f"'{name}'".encode()),

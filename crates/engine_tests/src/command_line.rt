@@ -11,6 +11,7 @@ fn task_named(rt: &HostRuntime, words: &[&str]) -> &'static str {
         Ok(Task::Show) => "show",
         Ok(Task::Check) => "check",
         Ok(Task::Rewrite) => "rewrite",
+        Ok(Task::Blocks) => "blocks",
         Ok(Task::Publish) => "publish",
         Ok(Task::Import) => "import",
         Ok(Task::Replay(_)) => "replay",
@@ -20,10 +21,11 @@ fn task_named(rt: &HostRuntime, words: &[&str]) -> &'static str {
 }
 
 // Words that ask for a task, and which one.
-const TASKS: [(&[&str], &str); 8] = [
+const TASKS: [(&[&str], &str); 9] = [
     (&["goose", "show"], "show"),
     (&["goose", "check"], "check"),
     (&["goose", "rewrite"], "rewrite"),
+    (&["goose", "blocks"], "blocks"),
     (&["goose", "publish"], "publish"),
     (&["goose", "import"], "import"),
     (&["goose", "replay", "0001,G,D,,1,1"], "replay"),

@@ -1,9 +1,9 @@
-//! The seven engines, each with inputs, and what it writes of them.
+//! The eight engines, each with inputs, and what it writes of them.
 ghost use Rattle.std.specs.Prelude.{◌≡◌, false};
 ghost use Rattle.list_core.specs.declared.device.InputEnd.{InputEnd};
 
 use frame_core::{Sink, Source};
-use goose_cmd::{Ending, check, import, publish, read_block, replay, rewrite, show, watch};
+use goose_cmd::{Ending, blocks, check, import, publish, read_block, replay, rewrite, show, watch};
 use std::alloc::Allocator;
 use subscribe_core::Block;
 
@@ -14,6 +14,7 @@ pub(super) enum Example {
     Show,
     Rewrite,
     Check,
+    Blocks,
     Publish,
     Replay,
     Watch,
@@ -21,6 +22,7 @@ pub(super) enum Example {
     FaultyShow,
     FaultyRewrite,
     FaultyCheck,
+    FaultyBlocks,
     FaultyReplay,
     FaultyWatch,
     FaultyPublish,
@@ -30,6 +32,7 @@ pub(super) enum Example {
     QuietShow,
     QuietRewrite,
     QuietCheck,
+    QuietBlocks,
     QuietPublish,
     QuietReplay,
     QuietWatch,
@@ -38,10 +41,11 @@ pub(super) enum Example {
 }
 
 /// Those of which something is written beside the version.
-pub(super) const EXAMPLES: [Example; 17] = [
+pub(super) const EXAMPLES: [Example; 19] = [
     Example::Show,
     Example::Rewrite,
     Example::Check,
+    Example::Blocks,
     Example::Publish,
     Example::Replay,
     Example::Watch,
@@ -49,6 +53,7 @@ pub(super) const EXAMPLES: [Example; 17] = [
     Example::FaultyShow,
     Example::FaultyRewrite,
     Example::FaultyCheck,
+    Example::FaultyBlocks,
     Example::FaultyReplay,
     Example::FaultyWatch,
     Example::FaultyPublish,
@@ -59,10 +64,11 @@ pub(super) const EXAMPLES: [Example; 17] = [
 ];
 
 /// Those that want no memory.
-pub(super) const FREE: [Example; 7] = [
+pub(super) const FREE: [Example; 8] = [
     Example::QuietShow,
     Example::QuietRewrite,
     Example::QuietCheck,
+    Example::QuietBlocks,
     Example::QuietPublish,
     Example::QuietWatch,
     Example::Import,
@@ -97,7 +103,7 @@ pub(super) fn input_of(example: Example) -> &'static [u8] {
         Example::Publish => {
             b"control,010ccd010001,020000000001,,0001,G,D,,1,1,0,0,1\nstep,10,2000\nstep,1000,3000\nchange,0,0000000000000000,8301ff\npoll,9\npoll,10\npoll,1009\npoll,1010\nchange,1500,0000000000000000,830100\n"
         }
-        Example::Replay => {
+        Example::Replay | Example::Blocks => {
             b"F 0 010ccd01000102000000000188b80001003500000000612b800147810207d0820144840800000000000000008501018601008701008801018901008a0101ab038301ff\nF 1 010ccd01000102000000000188b80001003500000000612b800147810207d0820144840800000000000000008501018601008701008801018901008a0101ab038301ff\nM 2 on\nF 3 010ccd01000102000000000188b80001003500000000612b800147810203e8820144840800000000000000008501018601008701ff8801018901008a0101ab038301ff\nF 4 010ccd01000102000000000188b80001003500000000612b800147810207d0820144840800000000000000008501038601008701008801018901008a0101ab038301ff\nM 5 off\nF 6 010ccd01000102000000000188b80001003500000000612b800147810207d0820144840800000000000000008501038601048701008801018901008a0101ab038301ff\nF 7 010ccd01000102000000000188b80001003500000000612b800147810207d0820144840800000000000000008501038601058701008801028901008a0101ab038301ff\nC 2006\nF 2007 010ccd04000102000000000188ba4000002800000000601e800101a2193017800153820200038304000000018501028702002a880100\nF 2008 00\n"
         }
         Example::Watch => {
@@ -109,6 +115,7 @@ pub(super) fn input_of(example: Example) -> &'static [u8] {
         Example::FaultyShow
         | Example::FaultyRewrite
         | Example::FaultyCheck
+        | Example::FaultyBlocks
         | Example::FaultyReplay
         | Example::FaultyWatch => FAULTY,
         Example::FaultyPublish => {
@@ -120,6 +127,7 @@ pub(super) fn input_of(example: Example) -> &'static [u8] {
         Example::MarkedShow
         | Example::MarkedRewrite
         | Example::QuietCheck
+        | Example::QuietBlocks
         | Example::QuietReplay
         | Example::QuietWatch => QUIET,
         Example::QuietShow | Example::QuietRewrite | Example::EmptyReplay => EMPTY,
@@ -146,6 +154,9 @@ pub(super) fn text_of(example: Example) -> &'static [u8] {
         Example::Replay => {
             b"1 act 0 st=1 sq=0 t=0000000000000000 {true}\n2 repeated 0 st=1 sq=0\n4 switched 0\n4 act 0 st=1 sq=0 t=0000000000000000 {true}\n5 refused 0 Simulated\n6 switched 0\n7 act 0 st=3 sq=4 t=0000000000000000 {true}\n8 refused 0 ConfRev\n9 expired 0\n10 sampled\n11 fault 1 Truncated\n"
         }
+        Example::Blocks => {
+            b"1 block 0001,G,D,,1,1\n8 block-changed 0001,G,D,,2,1\n10 stream id=\"S\" rev=1\n"
+        }
         Example::Watch => b"1 0 3 first\n1 1 4 next\n2 0 7 skipped 2\n",
         Example::Import => b"V2\n# record 1 of 0 octets left out\nF 5000006 aabbcc\n",
         Example::FaultyShow => {
@@ -155,6 +166,7 @@ pub(super) fn text_of(example: Example) -> &'static [u8] {
             b"V2\nF 0 010ccd01000102000000000188b80001003500000000612b800147810207d0820144840800000000000000008501018601008701008801018901008a0101ab038301ff\nF 1000 010ccd04000102000000000188ba4000002800000000601e800101a2193017800153820200038304000000018501028702002a880100\n# 3 list Hex\n"
         }
         Example::FaultyCheck => b"1 not-written\n3 list Hex\n",
+        Example::FaultyBlocks => { b"1 block 0001,G,D,,1,1\n2 stream id=\"S\" rev=1\n3 list Hex\n" }
         Example::FaultyReplay => {
             b"1 act 0 st=1 sq=0 t=0000000000000000 {true}\n2 sampled\n3 list Hex\n"
         }
@@ -171,6 +183,7 @@ pub(super) fn text_of(example: Example) -> &'static [u8] {
         Example::CutImport => b"V2\nF 5000006 aabbcc\n# 2 capture CaptureShort\n",
         Example::QuietShow
         | Example::QuietCheck
+        | Example::QuietBlocks
         | Example::QuietReplay
         | Example::QuietWatch
         | Example::EmptyReplay => b"",
@@ -184,6 +197,7 @@ pub(super) fn ending_of(example: Example) -> Ending {
         Example::FaultyShow
         | Example::FaultyRewrite
         | Example::FaultyCheck
+        | Example::FaultyBlocks
         | Example::FaultyReplay
         | Example::FaultyWatch
         | Example::FaultyPublish
@@ -202,8 +216,9 @@ pub(super) fn places_of(example: Example) -> &'static [usize] {
         Example::Check | Example::FaultyCheck => &[1, 3],
         Example::Publish => &[0, 4, 6, 8, 9],
         Example::Replay => &[1, 2, 4, 4, 5, 6, 7, 8, 9, 10, 11],
+        Example::Blocks => &[1, 8, 10],
         Example::Watch => &[1, 1, 2],
-        Example::FaultyShow | Example::FaultyReplay => &[1, 2, 3],
+        Example::FaultyShow | Example::FaultyBlocks | Example::FaultyReplay => &[1, 2, 3],
         Example::FaultyRewrite => &[0, 1, 2, 3],
         Example::FaultyWatch => &[2, 3],
         Example::FaultyPublish | Example::RefusedPublish => &[0, 3, 4],
@@ -276,6 +291,9 @@ pub(super) fn run<A: Allocator + Copy, R: Source, W: Sink>(
         | Example::MarkedRewrite
         | Example::QuietRewrite => rewrite(alloc, reader, writer),
         Example::Check | Example::FaultyCheck | Example::QuietCheck => check(alloc, reader, writer),
+        Example::Blocks | Example::FaultyBlocks | Example::QuietBlocks => blocks(
+            alloc, reader, writer,
+        ),
         Example::Publish
         | Example::FaultyPublish
         | Example::RefusedPublish

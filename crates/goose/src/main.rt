@@ -10,6 +10,7 @@ use clap::error::ErrorKind as WordsErrorKind;
 use engine_core::{Ending, status};
 use exchange_engines::{publish, replay, watch};
 use frame_engines::{check, import, rewrite, show};
+use inventory_engine::blocks;
 use list_core::{FromRead, ToWrite};
 use std::io::{BufReader, BufWriter, ErrorKind, Write};
 use std::process::ExitCode;
@@ -24,7 +25,7 @@ const BLOCK_FORM: &str =
 fn advice(kind: WordsErrorKind) -> Option<&'static str> {
     match kind {
         WordsErrorKind::InvalidSubcommand => Some(
-            "The commands are show, check, rewrite, replay, publish, watch and import; goose --help says what each does",
+            "The commands are show, check, rewrite, blocks, replay, publish, watch and import; goose --help says what each does",
         ),
         WordsErrorKind::UnknownArgument => Some(
             "A list, script or capture is read from standard input: goose COMMAND < FILE; goose COMMAND --help says which words a command takes",
@@ -89,6 +90,7 @@ fn run(rt: &HostRuntime, task: Task) -> u8
         Task::Show => show(rt.alloc(), reader, &mut writer).0,
         Task::Check => check(rt.alloc(), reader, &mut writer).0,
         Task::Rewrite => rewrite(rt.alloc(), reader, &mut writer).0,
+        Task::Blocks => blocks(rt.alloc(), reader, &mut writer).0,
         Task::Replay(blocks) => replay(rt.alloc(), reader, blocks, &mut writer).0,
         Task::Publish => publish(rt.alloc(), reader, &mut writer).0,
         Task::Watch { period, id } => {

@@ -7,4 +7,5 @@ pub use block_core::{BlockError, read_block};
 pub use engine_core::{Ending, status};
 pub use exchange_engines::{publish, replay, watch};
 pub use frame_engines::{check, import, rewrite, show};
+pub use inventory_engine::blocks;
 pub use words_core::{Task, WordsError, read_words};

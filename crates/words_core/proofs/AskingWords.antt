@@ -14,7 +14,7 @@ use Rattle.clap.specs.Walk.{Names, Walk, answers_to, idle, nothing_held, stop_af
 use Rattle.clap.proofs.OnLiterals.{clap_on_literals}
 use Rattle.clap.proofs.WalkLemmas.{find-map}
 use Rattle.block_core.specs.declared.block.Block.{Block}
-use Rattle.words_core.specs.CommandLine.{Asked, Asks, AsksByName, Meaning, Subcommand, blocks_in, check, command_line, faults, first_bad, import, is_plain, name_of, number_said, plain, publish, replay, replay_of, replay_shape, replaying, rewrite, show, subcommands, task_asked, task_of_words, watch, watch_shape, watching}
+use Rattle.words_core.specs.CommandLine.{Asked, Asks, AsksByName, Meaning, Subcommand, blocks_in, check, command_line, faults, first_bad, import, is_plain, list_blocks, name_of, number_said, plain, publish, replay, replay_of, replay_shape, replaying, rewrite, show, subcommands, task_asked, task_of_words, watch, watch_shape, watching}
 use Rattle.words_core.proofs.KeptRows.{first_none, leaf, then_none}
 use Rattle.words_core.proofs.LoneFlags.{Behind, behind, dashes, help_flag, lone_mark, version_flag}
 
@@ -89,7 +89,7 @@ named_watch : HasName watching
 named_watch rows t e = watch_named (option_and_then number_said (one_of (codes "period") rows)) (first_of (codes "id") rows) t e
 
 all_named : Named subcommands
-all_named = (named_plain show, (named_plain check, (named_plain rewrite, (named_replay, (named_plain publish, (named_watch, (named_plain import, tt)))))))
+all_named = (named_plain show, (named_plain check, (named_plain rewrite, (named_plain list_blocks, (named_replay, (named_plain publish, (named_watch, (named_plain import, tt))))))))
 
 asked_name : (xs : List Subcommand) → Named xs → (name : Text) (rows : List Row) (t : Asked)
     → option_and_then (λ s. s.task rows) (find (λ s. bytes_eq s.shape.name name) xs) ≡ Some (Ok t) → name_of t ≡ name
@@ -141,12 +141,13 @@ plain_has_none u t plainly name = behind (leaf (plain u).shape) leaf_flags refl
 
 -- the name of a task without words of its own is one of these
 abbrev is_plain_name : Text → Bool
-is_plain_name name = list_any (λ t. bytes_eq (name_of t) name) (show ∷ check ∷ rewrite ∷ publish ∷ import ∷ [])
+is_plain_name name = list_any (λ t. bytes_eq (name_of t) name) (show ∷ check ∷ rewrite ∷ list_blocks ∷ publish ∷ import ∷ [])
 
 other_name : (t : Asked) (name : Text) → is_plain t ≡ true → is_plain_name name ≡ false → name_of t ≡ name → ⊥
 other_name show name e other n = true≢false (subst (λ (w : Text). is_plain_name w ≡ false) (sym n) other)
 other_name check name e other n = true≢false (subst (λ (w : Text). is_plain_name w ≡ false) (sym n) other)
 other_name rewrite name e other n = true≢false (subst (λ (w : Text). is_plain_name w ≡ false) (sym n) other)
+other_name list_blocks name e other n = true≢false (subst (λ (w : Text). is_plain_name w ≡ false) (sym n) other)
 other_name publish name e other n = true≢false (subst (λ (w : Text). is_plain_name w ≡ false) (sym n) other)
 other_name import name e other n = true≢false (subst (λ (w : Text). is_plain_name w ≡ false) (sym n) other)
 other_name (replay blocks) name e other n = true≢false (sym e)
@@ -156,7 +157,7 @@ other_has_none : (s : Shape) → is_plain_name s.name ≡ false → HasNone s
 other_has_none s other t e n words f = absurd (other_name t s.name e other n)
 
 all_have_none : EachHasNone line.subs
-all_have_none = (plain_has_none show, (plain_has_none check, (plain_has_none rewrite, (other_has_none (leaf replay_shape) refl, (plain_has_none publish, (other_has_none (leaf watch_shape) refl, (plain_has_none import, tt)))))))
+all_have_none = (plain_has_none show, (plain_has_none check, (plain_has_none rewrite, (plain_has_none list_blocks, (other_has_none (leaf replay_shape) refl, (plain_has_none publish, (other_has_none (leaf watch_shape) refl, (plain_has_none import, tt))))))))
 
 found_has_none : (xs : List Shape) → EachHasNone xs → (test : Shape → Bool) (s : Shape) → find test xs ≡ Some s → HasNone s
 found_has_none [] h test s f = cc
@@ -223,6 +224,7 @@ asks_plainly : (words : List Text) (t : Asked) → is_plain t ≡ true → AsksB
 asks_plainly words show e a = a
 asks_plainly words check e a = a
 asks_plainly words rewrite e a = a
+asks_plainly words list_blocks e a = a
 asks_plainly words publish e a = a
 asks_plainly words import e a = a
 asks_plainly words (replay blocks) e a = absurd (true≢false (sym e))

@@ -3,19 +3,20 @@ use Rattle.std.proofs.Common.{◌≡◌, true, false, List, [], ◌∷◌, Some,
 use Rattle.std.specs.Prelude.{codes}
 use Rattle.clap.specs.Words.{Text, takes}
 use Rattle.clap.proofs.OnLiterals.{clap_on_literals}
-use Rattle.words_core.specs.CommandLine.{block_at, check, command_line, import, publish, replay_of, rewrite, show, task_of_words, watch}
+use Rattle.words_core.specs.CommandLine.{block_at, check, command_line, import, list_blocks, publish, replay_of, rewrite, show, task_of_words, watch}
 
 -- each command without arguments asks for its task
 pub record AreNames : Type 0 where
   pub shows : task_of_words (codes "goose" ∷ codes "show" ∷ []) ≡ Some (Ok show)
   pub checks : task_of_words (codes "goose" ∷ codes "check" ∷ []) ≡ Some (Ok check)
   pub rewrites : task_of_words (codes "goose" ∷ codes "rewrite" ∷ []) ≡ Some (Ok rewrite)
+  pub lists_blocks : task_of_words (codes "goose" ∷ codes "blocks" ∷ []) ≡ Some (Ok list_blocks)
   pub publishes : task_of_words (codes "goose" ∷ codes "publish" ∷ []) ≡ Some (Ok publish)
   pub imports : task_of_words (codes "goose" ∷ codes "import" ∷ []) ≡ Some (Ok import)
 
 pub names : AreNames
 unfolding clap_on_literals
-names = record { shows = refl; checks = refl; rewrites = refl; publishes = refl; imports = refl }
+names = record { shows = refl; checks = refl; rewrites = refl; lists_blocks = refl; publishes = refl; imports = refl }
 
 -- a word that differs by one letter asks for none, and neither does the program's name alone
 pub record AreOthers : Type 0 where

@@ -22,7 +22,7 @@ use Rattle.words_core.specs.declared.words.WordsError.{WordsError}
 use Rattle.words_core.specs.declared.words.WordsError.TheVariants as refused
 use Rattle.words_core.proofs.KeptRows.{first_none, leaf, level_checked, then_none, wanted}
 use Rattle.words_core.proofs.WatchRows.{watch_says}
-use Rattle.words_core.specs.CommandLine.{Asked, AsksByName, HasPeriod, IsNoMistake, MayAnswer, MayRefuse, Meaning, blocks_in, check, command_line, faults, first_bad, import, is_plain, name_of, plain, publish, replay, replay_of, replay_shape, rewrite, said, show, task_asked, task_of_words, watch, watch_shape}
+use Rattle.words_core.specs.CommandLine.{Asked, AsksByName, HasPeriod, IsNoMistake, MayAnswer, MayRefuse, Meaning, blocks_in, check, command_line, faults, first_bad, import, is_plain, list_blocks, name_of, plain, publish, replay, replay_of, replay_shape, rewrite, said, show, task_asked, task_of_words, watch, watch_shape}
 
 -- where a subcommand is required and the last checks pass, there is one
 checked : (has help required argument : Bool) → required ≡ true → check_kinds (not has && help) (not has && required) argument ≡ [] → has ≡ true
@@ -103,6 +103,7 @@ plain_gives : (t : Asked) → is_plain t ≡ true → AsksForSomething (leaf (pl
 plain_gives show e words f = tt
 plain_gives check e words f = tt
 plain_gives rewrite e words f = tt
+plain_gives list_blocks e words f = tt
 plain_gives publish e words f = tt
 plain_gives import e words f = tt
 plain_gives (replay blocks) e words f = absurd (true≢false (sym e))
@@ -117,7 +118,7 @@ watch_gives : AsksForSomething (leaf watch_shape)
 watch_gives words f = let says = watch_says words f in rw says.2 says.3
 
 all_give : EachAsks (built command_line).subs
-all_give = (plain_gives show refl, (plain_gives check refl, (plain_gives rewrite refl, (replay_gives, (plain_gives publish refl, (watch_gives, (plain_gives import refl, tt)))))))
+all_give = (plain_gives show refl, (plain_gives check refl, (plain_gives rewrite refl, (plain_gives list_blocks refl, (replay_gives, (plain_gives publish refl, (watch_gives, (plain_gives import refl, tt))))))))
 
 -- words without a fault ask for something
 pub faultless_asks : (words : List Text) → faults words ≡ [] → IsAsked (task_of_words words)
@@ -135,6 +136,7 @@ unfolding clap_on_literals
 name_asks program show e = (refl, refl)
 name_asks program check e = (refl, refl)
 name_asks program rewrite e = (refl, refl)
+name_asks program list_blocks e = (refl, refl)
 name_asks program publish e = (refl, refl)
 name_asks program import e = (refl, refl)
 name_asks program (replay blocks) e = absurd (true≢false (sym e))
@@ -145,6 +147,7 @@ unfolding clap_on_literals
 name_and_mark_ask program show e = (refl, refl)
 name_and_mark_ask program check e = (refl, refl)
 name_and_mark_ask program rewrite e = (refl, refl)
+name_and_mark_ask program list_blocks e = (refl, refl)
 name_and_mark_ask program publish e = (refl, refl)
 name_and_mark_ask program import e = (refl, refl)
 name_and_mark_ask program (replay blocks) e = absurd (true≢false (sym e))

@@ -12,7 +12,7 @@ use Rattle.clap.specs.declared.builder.value_parser.ValueParser.TheVariants as p
 use Rattle.block_core.specs.declared.block.Block.{Block}
 use Rattle.block_core.specs.Period.{IsPeriod}
 use Rattle.words_core.specs.declared.words.Task.{Task}
-use Rattle.words_core.specs.declared.words.Task.TheVariants.{Show, Check, Rewrite, Publish, Import, Replay, Watch}
+use Rattle.words_core.specs.declared.words.Task.TheVariants.{Show, Check, Rewrite, Blocks, Publish, Import, Replay, Watch}
 use Rattle.words_core.specs.declared.words.WordsError.{WordsError}
 use Rattle.words_core.specs.declared.words.WordsError.TheVariants as refused
 use Rattle.block_core.specs.BlockText.{block_in}
@@ -23,6 +23,7 @@ pub data Asked : Type 0 where
   show : Asked
   check : Asked
   rewrite : Asked
+  list_blocks : Asked
   publish : Asked
   import : Asked
   replay : List (Block Global) → Asked
@@ -33,6 +34,7 @@ abbrev pub said : Task → Asked
 said Show = show
 said Check = check
 said Rewrite = rewrite
+said Blocks = list_blocks
 said Publish = publish
 said Import = import
 said (Replay blocks) = replay blocks.items
@@ -43,6 +45,7 @@ abbrev pub name_of : Asked → Text
 name_of show = codes "show"
 name_of check = codes "check"
 name_of rewrite = codes "rewrite"
+name_of list_blocks = codes "blocks"
 name_of publish = codes "publish"
 name_of import = codes "import"
 name_of (replay blocks) = codes "replay"
@@ -129,16 +132,13 @@ watch_asked rows = option_and_then (λ period. option_map (λ id. Ok (watch peri
 abbrev pub watching : Subcommand
 watching = record { shape = watch_shape; task = watch_asked }
 
+-- the subcommands that read a list and take no words of their own
+abbrev pub readers : List Subcommand
+readers = plain show ∷ plain check ∷ plain rewrite ∷ plain list_blocks ∷ []
+
 -- the subcommands, in the order of the help; a further one is one more line
 abbrev pub subcommands : List Subcommand
-subcommands = plain show
-    ∷ plain check
-    ∷ plain rewrite
-    ∷ replaying
-    ∷ plain publish
-    ∷ watching
-    ∷ plain import
-    ∷ []
+subcommands = readers ++ (replaying ∷ plain publish ∷ watching ∷ plain import ∷ [])
 
 -- the program with a version, of which a subcommand must be named
 abbrev pub bare_program : App

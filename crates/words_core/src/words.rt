@@ -1,9 +1,9 @@
 //! The command line of the program `goose`. The parser of words, `clap`, is called here alone.
-ghost use Rattle.std.specs.Prelude.{◌≡◌, ◌≢◌, ℕ, true, false, codes, option_map, Some, [], IfOk, IfErr, Err, Ok, option_and_then};
+ghost use Rattle.std.specs.Prelude.{◌≡◌, ◌≢◌, ℕ, true, false, codes, fold, map, option_map, Some, [], IfOk, IfErr, Err, Ok, option_and_then};
 ghost use Rattle.clap.specs.Words.{all_of, app_of, found_of, kind_of, new_app, rows_of, rule_of, subcommand_rows_of, takes, with_subcommand};
 ghost use Rattle.clap.specs.Walk.{texts};
 ghost use Rattle.clap.specs.declared.error.kind.ErrorKind.TheVariants.{OutOfMemory};
-ghost use Rattle.words_core.specs.CommandLine.{AnswersWords, AnswersBadBlock, AnswersTask, Asked, Asks, HasPeriod, IsNoMistake, MayAnswer, MayRefuse, bare_program, block_rule, command_line, faults, id_rule, is_plain, period_rule, replay_of, replay_shape, said, task_asked, task_of_words, watch, watch_asked, watch_shape};
+ghost use Rattle.words_core.specs.CommandLine.{AnswersWords, AnswersBadBlock, AnswersTask, Asked, Asks, HasPeriod, IsNoMistake, MayAnswer, MayRefuse, bare_program, block_rule, command_line, faults, id_rule, is_plain, period_rule, readers, replay_of, replay_shape, said, task_asked, task_of_words, watch, watch_asked, watch_shape};
 
 use block_core::{Block, BlockError, read_block};
 use clap::error::ErrorKind;
@@ -20,6 +20,8 @@ pub enum Task {
     Check,
     /// The list in written form.
     Rewrite,
+    /// One line a control block or a stream that a list holds, and one where it is configured anew.
+    Blocks,
     /// One line an entry of a subscriber of these control blocks.
     Replay(Vec<Block<Global>, Global>),
     /// The list of frames that a publisher sends by a script.
@@ -50,7 +52,7 @@ pub enum WordsError {
     Memory,
 }
 
-// What the help of `show` and of `publish` ends with: they find nothing to be told by a status.
+// What the help of `show`, of `blocks` and of `publish` ends with: they find nothing to be told by a status.
 const SHOW_MORE: &str =
     "Moments in the input are microseconds where its first line is V2, else milliseconds; in the output they are always microseconds.\nExit status: 0 done, 2 wrong arguments, 3 an error in the input, 4 a device failed while reading or writing, 5 out of memory.\nMore: docs/FORMATS.md, man docs/goose.1";
 
@@ -171,11 +173,10 @@ fn with_watch<'a>(alloc: Global, program: Command<'a>) -> Result<Command<'a>, Al
     program.subcommand(watch)
 }
 
-// The whole command line.
-fn command<'a>(alloc: Global) -> Result<Command<'a>, AllocError>
-    ensures { IfOk result (λ c. app_of c ≡ command_line) }
+// The program with the subcommands that read a list and take no words of their own.
+fn with_readers<'a>(alloc: Global, program: Command<'a>) -> Result<Command<'a>, AllocError>
+    ensures { IfOk result (λ c. app_of c ≡ fold with_subcommand (app_of program.entry) (map (λ s. s.shape) readers)) }
 {
-    let program = program(alloc);
     let program = with_plain(
         alloc,
         program,
@@ -200,6 +201,22 @@ fn command<'a>(alloc: Global) -> Result<Command<'a>, AllocError>
         "Example: goose rewrite < examples/long_lengths.list",
         REWRITE_MORE,
     )?;
+    with_plain(
+        alloc,
+        program,
+        "blocks",
+        "Lists the control blocks and streams of a list, and each that is configured anew",
+        "Example: goose blocks < examples/repeated_frames.list",
+        SHOW_MORE,
+    )
+}
+
+// The whole command line.
+fn command<'a>(alloc: Global) -> Result<Command<'a>, AllocError>
+    ensures { IfOk result (λ c. app_of c ≡ command_line) }
+{
+    let program = program(alloc);
+    let program = with_readers(alloc, program)?;
     let program = with_replay(alloc, program)?;
     let program = with_plain(
         alloc,
@@ -277,6 +294,7 @@ fn task_of(alloc: Global, name: &str, matches: &ArgMatches<'_>) -> Option<Result
         "show" => Some(Ok(Task::Show)),
         "check" => Some(Ok(Task::Check)),
         "rewrite" => Some(Ok(Task::Rewrite)),
+        "blocks" => Some(Ok(Task::Blocks)),
         "replay" => replay_met(alloc, matches),
         "publish" => Some(Ok(Task::Publish)),
         "watch" => watch_met(alloc, matches),

@@ -19,6 +19,7 @@ returns-in_default c =
       differs (codes "show") word c.in_default.not-show,
       differs (codes "check") word c.in_default.not-check,
       differs (codes "rewrite") word c.in_default.not-rewrite,
+      differs (codes "blocks") word c.in_default.not-blocks,
       differs (codes "replay") word c.in_default.not-replay,
       differs (codes "publish") word c.in_default.not-publish,
       differs (codes "watch") word c.in_default.not-watch,

@@ -1,0 +1,58 @@
+-- The order of keys.
+use Rattle.std.proofs.Common.{◌≡◌, ℕ, true, false, Option, Some, None, ap, sym, ◌∙◌, refl, arith}
+use Rattle.std.specs.Cmp.{IsTotalOrder}
+use Rattle.std.specs.Cmp.Lexicographic.{slice_cmp}
+use Rattle.std.specs.Ordering.{nat_cmp, is_eq, ordering_reverse}
+use Rattle.std.specs.declared.cmp.Ordering.{Ordering}
+use Rattle.std.specs.declared.cmp.Ordering.TheVariants.{Less, Equal, Greater}
+use Rattle.std.proofs.lemmas.Bool.{false_from_ne_true}
+use Rattle.std.proofs.lemmas.Cmp.{nat_cmp_total, then_total, on_total, nat_list_cmp_total, tied_itself}
+use Rattle.std.proofs.lemmas.Map.Lookups.{exact_pairs, exact_unsigned, exact_bytes}
+use Rattle.inventory_engine.specs.Sightings.{Key}
+use Rattle.inventory_engine.specs.KnownTexts.{key_cmp, rank, same_key}
+
+pub key_total : IsTotalOrder key_cmp
+key_total = then_total (on_total (λ (k : Key). rank k.0) nat_cmp_total) (on_total (λ (k : Key). k.1) nat_list_cmp_total)
+
+rank_exact : (x y : Option ℕ) → rank x ≡ rank y → x ≡ y
+rank_exact None None e = refl
+rank_exact None (Some b) e = absurd (omega arith)
+rank_exact (Some a) None e = absurd (omega arith)
+rank_exact (Some a) (Some b) e = ap Some (omega arith)
+
+pub key_exact : (x y : Key) → key_cmp x y ≡ Equal → x ≡ y
+key_exact x y e = exact_pairs (λ a b. nat_cmp (rank a) (rank b)) (slice_cmp nat_cmp) (λ a b f. rank_exact a b (exact_unsigned (rank a) (rank b) f)) exact_bytes x y e
+
+equal_by : (o : Ordering) → is_eq o ≡ true → o ≡ Equal
+equal_by Less e = cc
+equal_by Equal e = refl
+equal_by Greater e = cc
+
+-- keys that compare as one are one
+pub same_is : (x y : Key) → same_key x y ≡ true → x ≡ y
+same_is x y e = key_exact x y (equal_by (key_cmp x y) e)
+
+pub same_yes : (x y : Key) → x ≡ y → same_key x y ≡ true
+same_yes x y e = ap is_eq (ap (λ (k : Key). key_cmp k y) e ∙ tied_itself key_total y)
+
+pub same_no : (x y : Key) → (x ≡ y → ⊥) → same_key x y ≡ false
+same_no x y h = false_from_ne_true _ (λ yes. h (same_is x y yes))
+
+less_equal : Less ≡ Equal → ⊥
+less_equal e = cc
+
+greater_equal : Greater ≡ Equal → ⊥
+greater_equal e = cc
+
+pub less_differs : (x y : Key) → key_cmp x y ≡ Less → x ≡ y → ⊥
+less_differs x y less e = less_equal (sym less ∙ ap (λ (k : Key). key_cmp k y) e ∙ tied_itself key_total y)
+
+pub greater_differs : (x y : Key) → key_cmp x y ≡ Greater → x ≡ y → ⊥
+greater_differs x y more e = greater_equal (sym more ∙ ap (λ (k : Key). key_cmp k y) e ∙ tied_itself key_total y)
+
+pub turned : (x y : Key) → key_cmp x y ≡ Greater → key_cmp y x ≡ Less
+turned x y more = key_total.antisymm y x ∙ ap ordering_reverse more
+
+-- keys that are others by equations stand as those do
+pub stand_as : (a b c d : Key) → a ≡ c → b ≡ d → key_cmp c d ≡ Less → key_cmp a b ≡ Less
+stand_as a b c d e f less = ap (λ (k : Key). key_cmp k b) e ∙ ap (key_cmp c) f ∙ less

@@ -1,0 +1,6 @@
+pub mod Fronts
+pub mod KeyLemmas
+pub mod KnownLemmas
+pub mod Newest
+pub mod Saying
+pub mod FirstLines

@@ -1,0 +1,8 @@
+use Rattle.inventory_engine.specs.BlocksStep.{blocks_text}
+use Rattle.inventory_engine.proofs.Newest.{blocks_is}
+use Rattle.inventory_engine.proofs.engine.blocks.Goals as goal
+
+pub returns-clause-text : goal.returns-clause-text
+returns-clause-text g c =
+    let r = c.run.ensures.text in
+    (r.0, r.1, (blocks_text, blocks_is, r.2))

@@ -1,0 +1,51 @@
+-- The text of `blocks`: which control blocks and streams the frames of a list show, and where one is configured anew.
+use Rattle.std.specs.Prelude.{◌≡◌, ℕ, ◌<◌, List, [], ◌++◌, length, take, slice_get, false, Option, Some, None, Ok, codes, if◌then◌else◌}
+use Rattle.std.specs.List.{concat}
+use Rattle.std.specs.Str.{bytes_eq}
+use Rattle.std.specs.Fmt.{decimal}
+use Rattle.list_core.specs.declared.event.Event.{Event}
+use Rattle.list_core.specs.declared.line_rules.ItemFault.{ItemFault}
+use Rattle.list_core.specs.declared.list_fault.ListCause.{ListCause}
+use Rattle.list_core.specs.ListReader.{list_fault_of}
+use Rattle.engine_core.specs.EngineText.{Text}
+use Rattle.text_core.specs.LineText.{list_line}
+use Rattle.inventory_engine.specs.Sightings.{Key, Sighting, key_of, sightings_in, sightings_of}
+
+-- the newest of some sightings with this key, by its text; or there is none
+abbrev pub IsNewest : List Sighting → Key → Option (List ℕ) → Type 0
+IsNewest seen key None = (i : ℕ) (s : Sighting) → slice_get seen i ≡ Some s → key_of s ≡ key → ⊥
+IsNewest seen key (Some text) =
+    (i : ℕ) × (s : Sighting) × (slice_get seen i ≡ Some s) × (key_of s ≡ key) × (s.text ≡ text)
+    × ((j : ℕ) (r : Sighting) → i < j → slice_get seen j ≡ Some r → key_of r ≡ key → ⊥)
+
+-- the word for what was not seen before
+abbrev pub first_word : Option ℕ → List ℕ
+first_word (Some app_id) = codes " block "
+first_word None = codes " stream "
+
+-- the word for what is configured anew
+abbrev pub changed_word : Option ℕ → List ℕ
+changed_word (Some app_id) = codes " block-changed "
+changed_word None = codes " stream-changed "
+
+-- the number of the line, a word, and the text
+abbrev pub sighting_line : ℕ → List ℕ → List ℕ → List ℕ
+sighting_line n word text = decimal n ++ word ++ text ++ codes "\n"
+
+-- what is written of a sighting, by the newest earlier one with its key
+abbrev pub line_after : ℕ → Sighting → Option (List ℕ) → List ℕ
+line_after n s None = sighting_line n (first_word s.app_id) s.text
+line_after n s (Some newest) = if bytes_eq newest s.text then [] else sighting_line n (changed_word s.app_id) s.text
+
+-- what is written of sightings at the line n, behind earlier ones: of each by those before it
+pub record AreLines (n : ℕ) (earlier seen : List Sighting) (lines : List (List ℕ)) : Type 0 where
+  pub sizes : length lines ≡ length seen
+  pub each : (i : ℕ) (s : Sighting) (line : List ℕ) → slice_get seen i ≡ Some s → slice_get lines i ≡ Some line →
+      (newest : Option (List ℕ)) × IsNewest (earlier ++ take i seen) (key_of s) newest × (line ≡ line_after n s newest)
+
+-- What `blocks` writes: the lines of what each event shows, by all that the events before it show. No event is a finding.
+pub record IsBlocksText {A : Type 0} (t : Text (Event A) ListCause) : Type 0 where
+  pub first : t.first ≡ []
+  pub step : (before : List (ℕ × Event A)) (e : ℕ × Event A) → (lines : List (List ℕ))
+      × AreLines e.0 (sightings_in before) (sightings_of e.1.kind) lines × (t.step before e ≡ Ok (concat lines, false))
+  pub last : (f : ItemFault ListCause) → t.last f ≡ list_line (list_fault_of f)

@@ -1,0 +1,21 @@
+-- The text of a piece, and what follows a text at the start of another.
+use Rattle.std.specs.Prelude.{◌≡◌, ℕ, List, ◌++◌, Option, Some, None}
+use Rattle.std.specs.Borrow.{Bor}
+use Rattle.std.specs.Fmt.{decimal}
+use Rattle.pdu_core.specs.Views.{octets_if}
+use Rattle.text_core.specs.Pieces.{four_digits, quoted, quoted_or_dash}
+use Rattle.inventory_engine.specs.declared.pieces.Piece.{Piece}
+use Rattle.inventory_engine.specs.declared.pieces.Piece.TheVariants as piece
+
+-- the text that a piece stands for
+abbrev pub piece_text : Piece → List ℕ
+piece_text (piece.Octets octets) = octets.now
+piece_text (piece.Quoted text) = quoted text.now
+piece_text (piece.Optional text) = quoted_or_dash (octets_if text)
+piece_text (piece.Digits number) = four_digits number
+piece_text (piece.Decimal number) = decimal number
+
+-- what follows this front of a text, or the text does not begin with it
+abbrev pub IsAfter : List ℕ → List ℕ → Option (Bor (List ℕ)) → Type 0
+IsAfter text front None = (rest : List ℕ) → text ≡ front ++ rest → ⊥
+IsAfter text front (Some rest) = text ≡ front ++ rest.now

@@ -1,0 +1,118 @@
+-- What the frames of a list show: each frame of GOOSE a control block, and each ASDU of Sampled Values a stream.
+use Rattle.std.specs.Prelude.{ℕ, Bool, not, ◌&&◌, ◌==◌, List, [], ◌∷◌, length, map, Option, Some, None, Result, Ok, Err, codes, if◌then◌else◌}
+use Rattle.std.specs.List.{concat, flat_map, list_all}
+use Rattle.std.specs.Fmt.{decimal}
+use Rattle.ber_core.specs.ContentsReading.{is_visible}
+use Rattle.ber_core.specs.declared.fault.Fault.{Fault}
+use Rattle.pdu_core.specs.declared.goose.GoosePdu.{GoosePdu}
+use Rattle.pdu_core.specs.declared.sampled.asdu.Asdu.{Asdu}
+use Rattle.list_core.specs.declared.event.Event.{Event}
+use Rattle.list_core.specs.declared.event.EventKind.{EventKind}
+use Rattle.list_core.specs.declared.event.EventKind.TheVariants as kinds
+use Rattle.frame_core.specs.declared.frame.Apdu.{Apdu}
+use Rattle.frame_core.specs.declared.frame.Apdu.TheVariants as apdus
+use Rattle.frame_core.specs.declared.frame.Frame.{Frame}
+use Rattle.frame_core.specs.FrameReading.{frame_at}
+use Rattle.text_core.specs.Pieces.{four_digits, quoted, quoted_or_dash}
+
+-- A control block by its APPID and its gocbRef (IEC 61850-8-1), or a stream, which has no APPID here, by its svID (IEC 61850-9-2), and the text that tells how it is configured.
+pub record Sighting : Type 0 where
+  pub app_id : Option ℕ
+  pub name : List ℕ
+  pub text : List ℕ
+
+-- what tells control blocks and streams apart
+abbrev pub Key : Type 0
+Key = Option ℕ × List ℕ
+
+abbrev pub key_of : Sighting → Key
+key_of s = (s.app_id, s.name)
+
+-- an octet that can stand in a field of a BLOCK is visible, and no comma (44)
+abbrev pub is_field_octet : ℕ → Bool
+is_field_octet c = is_visible c && not (c == 44)
+
+abbrev pub is_field : List ℕ → Bool
+is_field text = list_all is_field_octet text
+
+-- a text that is absent is empty in a BLOCK
+abbrev pub text_or_none : Option (List ℕ) → List ℕ
+text_or_none None = []
+text_or_none (Some text) = text
+
+-- the three texts of an APDU can stand in a BLOCK
+abbrev pub has_fields : {A : Type 0} → GoosePdu A → Bool
+has_fields p = is_field p.gocb_ref && is_field p.dat_set && is_field (text_or_none p.go_id)
+
+-- the BLOCK of a frame with this APPID and APDU: APPID, gocbRef, datSet, goID, confRev and the count of members
+abbrev pub block_parts : {A : Type 0} → ℕ → GoosePdu A → List (List ℕ)
+block_parts app_id p =
+    four_digits app_id
+    ∷ codes ","
+    ∷ p.gocb_ref
+    ∷ codes ","
+    ∷ p.dat_set
+    ∷ codes ","
+    ∷ text_or_none p.go_id
+    ∷ codes ","
+    ∷ decimal p.conf_rev
+    ∷ codes ","
+    ∷ decimal (length p.members)
+    ∷ []
+
+-- the same fields by their names, with texts between quotation marks
+abbrev pub named_parts : {A : Type 0} → ℕ → GoosePdu A → List (List ℕ)
+named_parts app_id p =
+    codes "appid="
+    ∷ four_digits app_id
+    ∷ codes " ref="
+    ∷ quoted p.gocb_ref
+    ∷ codes " set="
+    ∷ quoted p.dat_set
+    ∷ codes " id="
+    ∷ quoted_or_dash p.go_id
+    ∷ codes " rev="
+    ∷ decimal p.conf_rev
+    ∷ codes " entries="
+    ∷ decimal (length p.members)
+    ∷ []
+
+-- the text of a control block: a BLOCK, where its texts can stand in one
+abbrev pub block_text : {A : Type 0} → ℕ → GoosePdu A → List ℕ
+block_text app_id p = if has_fields p then concat (block_parts app_id p) else concat (named_parts app_id p)
+
+-- the text of a stream: svID and confRev
+abbrev pub stream_parts : {A : Type 0} → Asdu A → List (List ℕ)
+stream_parts a = codes "id=" ∷ quoted a.sv_id ∷ codes " rev=" ∷ decimal a.conf_rev ∷ []
+
+-- the control block of a frame with this APPID and APDU
+abbrev pub block_seen : {A : Type 0} → ℕ → GoosePdu A → Sighting
+block_seen app_id p = record { app_id = Some app_id; name = p.gocb_ref; text = block_text app_id p }
+
+-- the stream of an ASDU
+abbrev pub stream_seen : {A : Type 0} → Asdu A → Sighting
+stream_seen a = record { app_id = None; name = a.sv_id; text = concat (stream_parts a) }
+
+-- those of several ASDUs, in their order
+abbrev pub streams_seen : {A : Type 0} → List (Asdu A) → List Sighting
+streams_seen asdus = map stream_seen asdus
+
+-- what an APDU in a frame with this APPID shows
+abbrev pub sightings_with : {A : Type 0} → ℕ → Apdu A → List Sighting
+sightings_with app_id (apdus.Goose p) = block_seen app_id p ∷ []
+sightings_with app_id (apdus.Sampled p) = streams_seen p.asdus
+
+-- what octets show, which read so
+abbrev pub sightings_read : {A : Type 0} → Result (Frame A) Fault → List Sighting
+sightings_read (Ok f) = sightings_with f.app_id f.apdu
+sightings_read (Err f) = []
+
+-- what an event shows
+abbrev pub sightings_of : {A : Type 0} → EventKind A → List Sighting
+sightings_of (kinds.Frame octets) = sightings_read {A = Unit {0}} (frame_at octets)
+sightings_of kinds.Clock = []
+sightings_of (kinds.Mode on) = []
+
+-- what several events show, in their order
+abbrev pub sightings_in : {A : Type 0} → List (ℕ × Event A) → List Sighting
+sightings_in items = flat_map (λ e. sightings_of e.1.kind) items

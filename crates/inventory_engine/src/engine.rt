@@ -1,0 +1,87 @@
+// `blocks`: which control blocks and streams a list holds.
+
+ghost use Rattle.std.specs.Prelude.{◌≡◌, ℕ, List, false};
+ghost use Rattle.list_core.specs.declared.device.InputEnd.{InputEnd};
+ghost use Rattle.list_core.specs.declared.event.Event.{Event as SpecEvent};
+ghost use Rattle.list_core.specs.declared.event_lines.EventLines.TheVariants.{First};
+ghost use Rattle.list_core.specs.declared.list_fault.ListCause.{ListCause as SpecCause};
+ghost use Rattle.list_core.specs.Device.{GivesOctets};
+ghost use Rattle.list_core.specs.EventLine.{event_rules};
+ghost use Rattle.engine_core.specs.EngineText.{Text, Writes, is_write_fault};
+ghost use Rattle.inventory_engine.specs.Sightings.{sightings_in};
+ghost use Rattle.inventory_engine.specs.BlocksText.{IsBlocksText};
+ghost use Rattle.inventory_engine.specs.BlocksStep.{Keeps, blocks_text};
+
+use crate::known::Known;
+use crate::sighting::put_event;
+use engine_core::{Ending, Engine, run};
+use frame_core::{Event, EventLines, ItemFault, LineError, ListCause, Sink, Source, fault_of_list};
+use std::alloc::{AllocError, Allocator};
+use text_core::line::put_list_line;
+
+/// What `blocks` writes, and what was seen by then.
+#[derive(Drop)]
+struct Listing<A: Allocator> {
+    alloc: A,
+    known: Vec<Known<A>, A>,
+}
+
+impl<A: Allocator + Copy> Engine<A> for Listing<A> {
+    type Item = Event<A>;
+
+    type Cause = ListCause;
+
+    ghost text = { λ _. blocks_text };
+
+    ghost stands = { λ s before. Keeps s.known.items (sightings_in before) };
+
+    fn put_item(
+        &mut self,
+        line: &mut Vec<u8, A>,
+        number: u64,
+        event: Event<A>,
+    ) -> Result<bool, LineError<ListCause>> {
+        match put_event(self.alloc, &mut self.known, line, number, &event.kind) {
+            Ok(()) => Ok(false),
+            Err(error) => Err(LineError::Memory(error)),
+        }
+    }
+
+    fn put_last(
+        &self,
+        line: &mut Vec<u8, A>,
+        fault: &ItemFault<ListCause>,
+    ) -> Result<(), AllocError> {
+        put_list_line(line, fault_of_list(fault))
+    }
+}
+
+/// Writes which control blocks and streams the frames of a list show. A frame of GOOSE shows a control block by its
+/// APPID and gocbRef (IEC 61850-8-1): a line `block` stands where no earlier frame shows it, and a line `block-changed`
+/// where its configuration is another than at the newest earlier one. An ASDU of Sampled Values shows a stream by its
+/// svID (IEC 61850-9-2): so do the lines `stream` and `stream-changed`. Nothing is written of anything else; where the
+/// list has a fault, a last line tells it.
+///
+/// The reader is Open and the writer has not failed. The text is that of the octets that the reader gave: whole at
+/// `Done`, `InputFault` and `ReadFault`, a front of it at `WriteFault`, and whole lines of the earlier events at
+/// `Memory`, which is for a frame or a line to be written, never for a frame's control block or stream that is
+/// configured as before. What is held grows with the control blocks and streams alone; a frame is looked up in so many
+/// steps as their number has binary digits.
+pub fn blocks<A: Allocator + Copy, R: Source, W: Sink>(
+    alloc: A,
+    reader: R,
+    writer: &mut W,
+) -> (Ending, R)
+    requires open { R.ending reader ≡ InputEnd.Open }
+    requires works { W.failed writer.old ≡ false }
+    ensures text { (given : List ℕ) × GivesOctets (R.left reader) (R.left result.1) given
+        × ((t : Text (SpecEvent A) SpecCause) × IsBlocksText t × Writes event_rules First t result.0 (R.ending result.1) given (W.contents writer.old) (W.contents writer.new)) }
+    ensures read_fault { result.0 ≡ Ending.ReadFault → R.ending result.1 ≡ InputEnd.Failed }
+    ensures fault { W.failed writer.new ≡ is_write_fault result.0 }
+{
+    let listing = Listing {
+        alloc,
+        known: Vec::new(alloc),
+    };
+    run(alloc, EventLines::First, listing, b"", reader, writer)
+}

@@ -1,0 +1,164 @@
+// The pieces of which the text of a sighting is made. It is compared with a text that is held piece by piece, so that
+// a sighting of which nothing is written asks for no memory.
+
+ghost use Rattle.std.specs.Prelude.{◌≡◌, ◌++◌, IfOk, OnOk};
+ghost use Rattle.std.specs.List.{flat_map};
+ghost use Rattle.std.specs.Str.{bytes_eq};
+ghost use Rattle.std.specs.Fmt.{decimal};
+ghost use Rattle.pdu_core.specs.Views.{octets_if};
+ghost use Rattle.text_core.specs.Pieces.{escaped, four_digits, quoted, quoted_or_dash};
+ghost use Rattle.inventory_engine.specs.PieceText.{IsAfter, piece_text};
+
+use ber_core::Octets;
+use itoa::Buffer;
+use list_core::write_digits;
+use std::alloc::{AllocError, Allocator};
+use text_core::fields::put_optional;
+use text_core::pieces::{put_decimal, put_four_digits, put_quoted};
+
+/// A piece of a text.
+#[derive(Clone, Copy)]
+pub enum Piece<'a> {
+    /// These octets.
+    Octets(&'a [u8]),
+    /// A text between quotation marks.
+    Quoted(&'a [u8]),
+    /// A text between quotation marks, or a dash where it is absent.
+    Optional(Option<&'a [u8]>),
+    /// A number in four hexadecimal digits.
+    Digits(u16),
+    /// A number in decimal.
+    Decimal(u64),
+}
+
+// Appends a piece.
+fn put_piece<A: Allocator>(out: &mut Vec<u8, A>, piece: &Piece<'_>) -> Result<(), AllocError>
+    ensures { OnOk result (out.new.items ≡ out.old.items ++ piece_text piece.now) }
+{
+    match piece {
+        Piece::Octets(octets) => out.extend_from_slice(octets),
+        Piece::Quoted(text) => put_quoted(out, text),
+        Piece::Optional(text) => put_optional(out, b"", *text),
+        Piece::Digits(number) => put_four_digits(out, *number),
+        Piece::Decimal(number) => put_decimal(out, *number),
+    }
+}
+
+/// Appends pieces, one after the other.
+pub fn put_pieces<A: Allocator>(
+    out: &mut Vec<u8, A>,
+    pieces: &[Piece<'_>],
+) -> Result<(), AllocError>
+    ensures { OnOk result (out.new.items ≡ out.old.items ++ flat_map piece_text pieces.now) }
+{
+    for piece in pieces {
+        put_piece(out, piece)?;
+    }
+    Ok(())
+}
+
+/// The text of pieces, in memory of its own.
+pub fn text_of<A: Allocator>(alloc: A, pieces: &[Piece<'_>]) -> Result<Octets<A>, AllocError>
+    ensures { IfOk result (λ text. text ≡ flat_map piece_text pieces.now) }
+{
+    let mut text = Vec::new(alloc);
+    put_pieces(&mut text, pieces)?;
+    Ok(Octets::from(text))
+}
+
+// What follows these octets at the start of a text.
+fn after<'a>(text: &'a [u8], front: &[u8]) -> Option<&'a [u8]>
+    ensures { IsAfter text.now front.now result }
+{
+    text.strip_prefix(front)
+}
+
+// What follows a number in decimal.
+fn after_decimal(text: &[u8], number: u64) -> Option<&[u8]>
+    ensures { IsAfter text.now (decimal number) result }
+{
+    after(text, Buffer::new().format(number).as_bytes())
+}
+
+// What follows a number in four hexadecimal digits.
+fn after_digits(text: &[u8], number: u16) -> Option<&[u8]>
+    ensures { IsAfter text.now (four_digits number) result }
+{
+    let mut digits = [0; 4];
+    let octets = [(number / 256) as u8, (number % 256) as u8];
+    if write_digits(&octets, &mut digits) {
+        after(text, &digits)
+    } else {
+        unreachable!()
+    }
+}
+
+// What follows an octet of a text as it stands between quotation marks.
+fn after_octet(text: &[u8], octet: u8) -> Option<&[u8]>
+    ensures { IsAfter text.now (escaped octet) result }
+{
+    match octet {
+        b'"' | b'\\' => after(text, &[b'\\', octet]),
+        _ => after(text, &[octet]),
+    }
+}
+
+// What follows the octets of a text as they stand between quotation marks.
+fn after_escaped<'a>(text: &'a [u8], octets: &[u8]) -> Option<&'a [u8]>
+    ensures { IsAfter text.now (flat_map escaped octets.now) result }
+{
+    let mut rest = text;
+    for octet in octets {
+        match after_octet(rest, *octet) {
+            Some(behind) => rest = behind,
+            None => return None,
+        }
+    }
+    Some(rest)
+}
+
+// What follows a text between quotation marks.
+fn after_quoted<'a>(text: &'a [u8], octets: &[u8]) -> Option<&'a [u8]>
+    ensures { IsAfter text.now (quoted octets.now) result }
+{
+    let opened = after(text, b"\"")?;
+    let behind = after_escaped(opened, octets)?;
+    after(behind, b"\"")
+}
+
+// What follows a text between quotation marks, or a dash where it is absent.
+fn after_optional<'a>(text: &'a [u8], octets: Option<&[u8]>) -> Option<&'a [u8]>
+    ensures { IsAfter text.now (quoted_or_dash (octets_if octets.entry)) result }
+{
+    match octets {
+        Some(octets) => after_quoted(text, octets),
+        None => after(text, b"-"),
+    }
+}
+
+// What follows a piece.
+fn after_piece<'a>(text: &'a [u8], piece: &Piece<'_>) -> Option<&'a [u8]>
+    ensures { IsAfter text.now (piece_text piece.now) result }
+{
+    match piece {
+        Piece::Octets(octets) => after(text, octets),
+        Piece::Quoted(octets) => after_quoted(text, octets),
+        Piece::Optional(octets) => after_optional(text, *octets),
+        Piece::Digits(number) => after_digits(text, *number),
+        Piece::Decimal(number) => after_decimal(text, *number),
+    }
+}
+
+/// Whether a text is that of these pieces.
+pub fn is_text(text: &[u8], pieces: &[Piece<'_>]) -> bool
+    ensures { result ≡ bytes_eq text.now (flat_map piece_text pieces.now) }
+{
+    let mut rest = text;
+    for piece in pieces {
+        match after_piece(rest, piece) {
+            Some(behind) => rest = behind,
+            None => return false,
+        }
+    }
+    rest.is_empty()
+}

@@ -1,0 +1,245 @@
+// The lines of sightings.
+
+ghost use Rattle.std.specs.Prelude.{◌≡◌, ◌++◌, ◌∷◌, [], OnErr, OnOk, Some};
+ghost use Rattle.std.specs.List.{concat, flat_map};
+ghost use Rattle.pdu_core.specs.SampledViews.{asdu_of, asdus_left};
+ghost use Rattle.pdu_core.specs.Views.{octets_if, pdu_of};
+ghost use Rattle.list_core.specs.declared.event.EventKind.{EventKind as SpecKind};
+ghost use Rattle.inventory_engine.specs.PieceText.{piece_text};
+ghost use Rattle.inventory_engine.specs.Sightings.{block_parts, block_seen, has_fields as fields_have, is_field as field_is, is_field_octet as octet_is, named_parts, sightings_of, stream_parts, stream_seen, streams_seen, text_or_none};
+ghost use Rattle.inventory_engine.specs.BlocksText.{changed_word, first_word, sighting_line};
+ghost use Rattle.inventory_engine.specs.BlocksStep.{Said, Wanted};
+
+use crate::known::{Known, find};
+use crate::pieces::{Piece, is_text, put_pieces, text_of};
+use ber_core::Octets;
+use frame_core::{ApduView, EventKind, view_frame};
+use pdu_core::{AsduView, GooseView, SvView};
+use std::alloc::{AllocError, Allocator};
+use text_core::pieces::put_decimal;
+
+// The word of a control block or a stream that was not seen before.
+fn first(app_id: Option<u16>) -> &'static [u8]
+    ensures { result.now ≡ first_word app_id }
+{
+    match app_id {
+        Some(_) => b" block ",
+        None => b" stream ",
+    }
+}
+
+// The word of one that is configured anew.
+fn changed(app_id: Option<u16>) -> &'static [u8]
+    ensures { result.now ≡ changed_word app_id }
+{
+    match app_id {
+        Some(_) => b" block-changed ",
+        None => b" stream-changed ",
+    }
+}
+
+// Appends the line of a sighting.
+fn put_line<A: Allocator>(
+    line: &mut Vec<u8, A>,
+    number: u64,
+    word: &[u8],
+    pieces: &[Piece<'_>],
+) -> Result<(), AllocError>
+    ensures { OnOk result (line.new.items ≡ line.old.items ++ sighting_line number word.now (flat_map piece_text pieces.now)) }
+{
+    put_decimal(line, number)?;
+    line.extend_from_slice(word)?;
+    put_pieces(line, pieces)?;
+    line.extend_from_slice(b"\n")
+}
+
+// Appends what is written of a sighting, and keeps its text.
+fn put_sighting<A: Allocator + Copy>(
+    alloc: A,
+    known: &mut Vec<Known<A>, A>,
+    line: &mut Vec<u8, A>,
+    number: u64,
+    app_id: Option<u16>,
+    name: &[u8],
+    pieces: &[Piece<'_>],
+) -> Result<(), AllocError>
+    ensures said { OnOk result (Said number (record { app_id = app_id; name = name.now; text = flat_map piece_text pieces.now } ∷ []) known.old.items known.new.items line.old.items line.new.items) }
+    ensures wants { OnErr result (Wanted number (record { app_id = app_id; name = name.now; text = flat_map piece_text pieces.now } ∷ []) known.old.items) }
+{
+    match find(known.as_slice(), app_id, name) {
+        Ok(at) => {
+            if is_text(known[at].text.as_slice(), pieces) {
+                return Ok(());
+            }
+            put_line(line, number, changed(app_id), pieces)?;
+            known[at].text = text_of(alloc, pieces)?;
+            Ok(())
+        }
+        Err(at) => {
+            put_line(line, number, first(app_id), pieces)?;
+            let name = Octets::try_from_slice(alloc, name)?;
+            let text = text_of(alloc, pieces)?;
+            known.insert(at, Known { app_id, name, text })?;
+            Ok(())
+        }
+    }
+}
+
+// Whether an octet can stand in a field of a BLOCK.
+fn is_field_octet(octet: u8) -> bool
+    ensures { result ≡ octet_is octet }
+{
+    octet >= 0x20 && octet <= 0x7E && octet != b','
+}
+
+// Whether a text can.
+fn is_field(text: &[u8]) -> bool
+    ensures { result ≡ field_is text.now }
+{
+    text.iter().all(|octet| is_field_octet(*octet))
+}
+
+// A text, which is empty where it is absent.
+fn present(text: Option<&[u8]>) -> &[u8]
+    ensures { result.now ≡ text_or_none (octets_if text.entry) }
+{
+    match text {
+        Some(text) => text,
+        None => b"",
+    }
+}
+
+// Whether the three texts of an APDU can stand in a BLOCK.
+fn has_fields(goose: &GooseView<'_>) -> bool
+    ensures { result ≡ fields_have (pdu_of {A = Unit {0}} goose.now) }
+{
+    is_field(goose.gocb_ref) && is_field(goose.dat_set) && is_field(present(goose.go_id))
+}
+
+// The text of a BLOCK.
+fn block_pieces<'a>(app_id: u16, goose: &GooseView<'a>) -> [Piece<'a>; 11]
+    ensures { flat_map piece_text result ≡ concat (block_parts app_id (pdu_of {A = Unit {0}} goose.now)) }
+{
+    [
+        Piece::Digits(app_id),
+        Piece::Octets(b","),
+        Piece::Octets(goose.gocb_ref),
+        Piece::Octets(b","),
+        Piece::Octets(goose.dat_set),
+        Piece::Octets(b","),
+        Piece::Octets(present(goose.go_id)),
+        Piece::Octets(b","),
+        Piece::Decimal(u64::from(goose.conf_rev)),
+        Piece::Octets(b","),
+        Piece::Decimal(goose.entries as u64),
+    ]
+}
+
+// The same fields by their names.
+fn named_pieces<'a>(app_id: u16, goose: &GooseView<'a>) -> [Piece<'a>; 12]
+    ensures { flat_map piece_text result ≡ concat (named_parts app_id (pdu_of {A = Unit {0}} goose.now)) }
+{
+    [
+        Piece::Octets(b"appid="),
+        Piece::Digits(app_id),
+        Piece::Octets(b" ref="),
+        Piece::Quoted(goose.gocb_ref),
+        Piece::Octets(b" set="),
+        Piece::Quoted(goose.dat_set),
+        Piece::Octets(b" id="),
+        Piece::Optional(goose.go_id),
+        Piece::Octets(b" rev="),
+        Piece::Decimal(u64::from(goose.conf_rev)),
+        Piece::Octets(b" entries="),
+        Piece::Decimal(goose.entries as u64),
+    ]
+}
+
+// The text of a stream.
+fn stream_pieces<'a>(asdu: &AsduView<'a>) -> [Piece<'a>; 4]
+    ensures { flat_map piece_text result ≡ concat (stream_parts (asdu_of {A = Unit {0}} asdu.now)) }
+{
+    [
+        Piece::Octets(b"id="),
+        Piece::Quoted(asdu.sv_id),
+        Piece::Octets(b" rev="),
+        Piece::Decimal(u64::from(asdu.conf_rev)),
+    ]
+}
+
+// Appends what is written of the control block of a frame.
+fn put_block<A: Allocator + Copy>(
+    alloc: A,
+    known: &mut Vec<Known<A>, A>,
+    line: &mut Vec<u8, A>,
+    number: u64,
+    app_id: u16,
+    goose: &GooseView<'_>,
+) -> Result<(), AllocError>
+    ensures said { OnOk result (Said number (block_seen app_id (pdu_of {A = Unit {0}} goose.now) ∷ []) known.old.items known.new.items line.old.items line.new.items) }
+    ensures wants { OnErr result (Wanted number (block_seen app_id (pdu_of {A = Unit {0}} goose.now) ∷ []) known.old.items) }
+{
+    let name = goose.gocb_ref;
+    if has_fields(goose) {
+        let pieces = block_pieces(app_id, goose);
+        put_sighting(alloc, known, line, number, Some(app_id), name, &pieces)
+    } else {
+        let pieces = named_pieces(app_id, goose);
+        put_sighting(alloc, known, line, number, Some(app_id), name, &pieces)
+    }
+}
+
+// Appends what is written of the stream of an ASDU.
+fn put_stream<A: Allocator + Copy>(
+    alloc: A,
+    known: &mut Vec<Known<A>, A>,
+    line: &mut Vec<u8, A>,
+    number: u64,
+    asdu: &AsduView<'_>,
+) -> Result<(), AllocError>
+    ensures said { OnOk result (Said number (stream_seen (asdu_of {A = Unit {0}} asdu.now) ∷ []) known.old.items known.new.items line.old.items line.new.items) }
+    ensures wants { OnErr result (Wanted number (stream_seen (asdu_of {A = Unit {0}} asdu.now) ∷ []) known.old.items) }
+{
+    let pieces = stream_pieces(asdu);
+    put_sighting(alloc, known, line, number, None, asdu.sv_id, &pieces)
+}
+
+// Appends what is written of the streams of a frame's ASDUs.
+fn put_streams<A: Allocator + Copy>(
+    alloc: A,
+    known: &mut Vec<Known<A>, A>,
+    line: &mut Vec<u8, A>,
+    number: u64,
+    sampled: &SvView<'_>,
+) -> Result<(), AllocError>
+    ensures said { OnOk result (Said number (streams_seen (asdus_left {A = Unit {0}} sampled.now.asdus)) known.old.items known.new.items line.old.items line.new.items) }
+    ensures wants { OnErr result (Wanted number (streams_seen (asdus_left {A = Unit {0}} sampled.now.asdus)) known.old.items) }
+{
+    for asdu in sampled.asdus {
+        put_stream(alloc, known, line, number, &asdu)?;
+    }
+    Ok(())
+}
+
+/// Appends what is written of an event.
+pub fn put_event<A: Allocator + Copy>(
+    alloc: A,
+    known: &mut Vec<Known<A>, A>,
+    line: &mut Vec<u8, A>,
+    number: u64,
+    kind: &EventKind<A>,
+) -> Result<(), AllocError>
+    ensures said { OnOk result (Said number (sightings_of kind.now) known.old.items known.new.items line.old.items line.new.items) }
+    ensures wants { OnErr result (Wanted number (sightings_of kind.now) known.old.items) }
+{
+    let EventKind::Frame(octets) = kind else {
+        return Ok(());
+    };
+    match view_frame(octets.as_slice()) {
+        Err(_) => Ok(()),
+        Ok(view) => match &view.apdu {
+            ApduView::Goose(goose) => put_block(alloc, known, line, number, view.app_id, goose),
+            ApduView::Sampled(sampled) => put_streams(alloc, known, line, number, sampled),
+        },
+    }
+}
