@@ -138,6 +138,18 @@ class Carried:
             yield from (f"{call} has no clause {it}" for it in sorted(missing) if call in stated)
 
 
+class Judged:
+    """The functions of which docs/PROOFS.md says why no other body meets their contracts are in the sources."""
+
+    name = "the functions that no wrong body can stand for, in docs/PROOFS.md"
+
+    def why_wrong(self, _program):
+        code = "\n".join(file.read_text() for crate in tables.crates() for file in (TOP / "crates" / crate / "src").rglob("*.rt"))
+        rows = re.findall(r"(?m)^\| (.*`.*) \| .* \|$", part(PROOFS.read_text(), "What a wrong body gets through"))
+        named = re.findall(r"`(?:\w+::)*(\w+)`", " ".join(rows).replace("`laws`", ""))
+        return [f"there is no function {it}" for it in named if not re.search(rf"\bfn {it}\b", code)] or ([] if named else ["no row"])
+
+
 class Refused:
     """Each wrong body that the gate tries stands in one row of docs/PROOFS.md, with a call of its crate and a clause of that;
     and the count of the others is what is said of it."""
@@ -266,4 +278,5 @@ def cases():
     others = set(lines).union(*lines.values()) - {PROGRAM}
     for crate, named in lines.items():
         yield StandsOn(crate, named, others)
+    yield Judged()
     yield Refused(part(PROOFS.read_text(), "Wrong bodies"))
