@@ -14,7 +14,7 @@ use Rattle.capture_core.specs.declared.capture_fault.CaptureCause.TheVariants.{R
 use Rattle.capture_core.specs.declared.capture_fault.CaptureFault.{CaptureFault}
 use Rattle.capture_core.specs.declared.record.Captured.{Captured}
 use Rattle.capture_core.specs.Capture.{Capture, CaptureRecord, captured_size, cut, ended, fault_in, moment_in_head, put_record, read_one, records_after, records_of, no_records}
-use Rattle.capture_core.specs.Reading.{IsRecordToldAs, ReadsRecord, StopsBy, TakesFor, short_stop}
+use Rattle.capture_core.specs.Reading.{IsRecordToldAs, ReadsRecord, StopsBy, TakesFor, WithinRecord, short_stop}
 
 -- nothing follows where a source has ended
 pub nothing_follows : (w : InputEnd) (more : List ℕ) (y : InputEnd) → w ≢ Open → CanFollow w more y → (more ≡ []) × (y ≡ w)
@@ -125,6 +125,7 @@ module _ (form : CaptureForm) where
       took = g;
       only_open = o;
       room = tt;
+      within = inl (omega arith);
       reads = λ more y f. closed w n given more y shut f ∙ stops_short w n given few ∙ ap no_records s;
     },
   )
@@ -136,20 +137,28 @@ module _ (form : CaptureForm) where
       took = g;
       only_open = o;
       room = tt;
+      within = inl (omega arith);
       reads = λ more y f. closed w n given more y shut f ∙ stops_short w n given few ∙ ap no_records s;
     },
   )
 
   -- there is no room for a record that has begun
-  pub answered_many : (e : CaptureFault) (given : List ℕ) (old new : Option (List ℕ)) (z w : InputEnd) (n : ℕ) → 999999 ≤ n → 0 < length given → GivesOctets old new given → OnlyOpen z given w →
+  pub answered_many : (e : CaptureFault) (given : List ℕ) (old new : Option (List ℕ)) (z w : InputEnd) (n : ℕ) → 999999 ≤ n → length given ≡ 16 → GivesOctets old new given → OnlyOpen z given w →
       fault_in (n + 1) TooManyRecords ≡ faulty e → ReadsRecord form n [] old z (Err e) new w
   answered_many e given old new z w n many some g o s = record {
     given = given;
     took = g;
     only_open = o;
     room = tt;
-    reads = λ more y f. records_many y n (given ++ more) many (simp length-append (omega arith)) ∙ ap no_records s;
+    within = inl (omega (arith, some));
+    reads = λ more y f. records_many y n (given ++ more) many (simp length-append (omega (arith, some))) ∙ ap no_records s;
   }
+
+  -- what was taken behind a head that is accepted
+  within_record : (head given : List ℕ) (n : ℕ) → n < 999999 → length head ≡ 16 → captured_size form head ≤ 262144 → length given ≤ captured_size form head → WithinRecord form n (head ++ given)
+  within_record head given n few h short all =
+      let front : take 16 (head ++ given) ≡ head = take_at head given 16 h in
+      inr (few, rw front short, rw front (simp length-append (omega (arith, h, all))))
 
   -- a record is longer than it may be
   pub answered_long : (e : CaptureFault) (head : List ℕ) (old : Option (List ℕ)) (z : InputEnd) (n : ℕ) → n < 999999 → length head ≡ 16 → 262144 < captured_size form head →
@@ -160,6 +169,7 @@ module _ (form : CaptureForm) where
     took = gave_nothing old;
     only_open = OnlyOpen-none z;
     room = tt;
+    within = inl (simp length-append (omega (arith, h)));
     reads = λ more y f. records_first y n head more few h ∙ one_long y (n + 1) head more _ h long ∙ ap no_records s;
   }
 
@@ -172,6 +182,7 @@ module _ (form : CaptureForm) where
     took = g;
     only_open = o;
     room = tt;
+    within = within_record head given n few h short (omega arith);
     reads = λ more y f. ap (records_after form y n) (sym (append_assoc head given more)) ∙ closed w n (head ++ given) more y shut f
         ∙ records_first w n head given few h ∙ one_cut w (n + 1) head given _ h short less ∙ ap no_records s;
   }
@@ -185,6 +196,7 @@ module _ (form : CaptureForm) where
     took = g;
     only_open = o;
     room = few;
+    within = within_record head given n few h short (omega (arith, size));
     reads = λ more y f. records_first y n head (given ++ more) few h
         ∙ one_whole y (n + 1) head (given ++ more) _ h short (simp length-append (omega arith))
         ∙ ap (λ (l : List ℕ). put_record (n + 1, record { moment = moment_in_head form head; octets = l }) (records_after form y (n + 1) (drop (captured_size form head) (given ++ more)))) (take_at given more (captured_size form head) size)
@@ -204,5 +216,6 @@ module _ (form : CaptureForm) where
     took = took_behind answer old mid new head r.given p r.took;
     only_open = OnlyOpen-append z m w head r.given o r.only_open;
     room = r.room;
+    within = r.within;
     reads = λ more y f. ap (records_after form y n) (append_assoc head r.given more) ∙ r.reads more y f;
   }

@@ -1,10 +1,10 @@
 -- What reading a capture answers, of the text before and the text after.
-use Rattle.std.specs.Prelude.{◌≡◌, ◌<◌, ◌≤◌, ◌+◌, ◌^◌, ◌==◌, ℕ, nat_le, if◌then◌else◌, List, ◌++◌, length, take, Option, Some, None, Result, Ok, Err, MatchResult}
+use Rattle.std.specs.Prelude.{◌≡◌, ◌⊎◌, ◌<◌, ◌≤◌, ◌+◌, ◌^◌, ◌==◌, ℕ, nat_le, if◌then◌else◌, List, ◌++◌, length, take, Option, Some, None, Result, Ok, Err, MatchResult}
 use Rattle.std.specs.Io.KnownBytes.{Consumes}
 use Rattle.list_core.specs.declared.device.InputEnd.{InputEnd}
 use Rattle.list_core.specs.Device.{GivesOctets, OnlyOpen}
 use Rattle.list_core.specs.Lines.{CanFollow, Stop, finished, faulty}
-use Rattle.capture_core.specs.Capture.{Capture, CaptureRecord, capture, cut, ended, fault_in, records_after, put_record, no_records}
+use Rattle.capture_core.specs.Capture.{Capture, CaptureRecord, capture, captured_size, cut, ended, fault_in, records_after, put_record, no_records}
 use Rattle.capture_core.specs.declared.form.CaptureForm.{CaptureForm}
 use Rattle.capture_core.specs.declared.capture_fault.CaptureFault.{CaptureFault}
 use Rattle.capture_core.specs.declared.capture_fault.CaptureCause.TheVariants.{TooManyRecords}
@@ -16,11 +16,12 @@ abbrev pub behind_header : Result CaptureForm CaptureFault → InputEnd → List
 behind_header (Ok form) z octets = records_after form z 0 octets
 behind_header (Err f) z octets = no_records (faulty f)
 
--- The header of a capture was read: whatever comes, the capture is what follows the answer.
+-- The header of a capture was read, and no octet behind it: whatever comes, the capture is what follows the answer.
 pub record ReadsHeader (old : Option (List ℕ)) (z : InputEnd) (answer : Result CaptureForm CaptureFault) (new : Option (List ℕ)) (w : InputEnd) : Type 0 where
   pub given : List ℕ
   pub took : MatchResult answer (λ _. Consumes old new given) (λ _. GivesOctets old new given)
   pub only_open : OnlyOpen z given w
+  pub few : length given ≤ 24
   pub reads : (more : List ℕ) (y : InputEnd) → CanFollow w more y → capture y (given ++ more) ≡ behind_header answer y more
 
 -- the records after n others, of which the next was answered so, by the octets behind it
@@ -41,12 +42,17 @@ TakesFor (Ok (Some r)) old new given = Consumes old new given
 TakesFor (Ok None) old new given = GivesOctets old new given
 TakesFor (Err f) old new given = GivesOctets old new given
 
--- The record after n others was read, of which these octets were held: whatever comes, the records are what follows the answer.
+-- at most the octets of the record after n others: its head of 16, and behind a head that is accepted as many as it says, 262,144 at most
+abbrev pub WithinRecord : CaptureForm → ℕ → List ℕ → Type 0
+WithinRecord form n octets = (length octets ≤ 16) ⊎ ((n < 999999) × (captured_size form (take 16 octets) ≤ 262144) × (length octets ≤ 16 + captured_size form (take 16 octets)))
+
+-- The record after n others was read, of which these octets were held, and no octet behind it: whatever comes, the records are what follows the answer.
 pub record ReadsRecord (form : CaptureForm) (n : ℕ) (held : List ℕ) (old : Option (List ℕ)) (z : InputEnd) (answer : Result (Option CaptureRecord) CaptureFault) (new : Option (List ℕ)) (w : InputEnd) : Type 0 where
   pub given : List ℕ
   pub took : TakesFor answer old new given
   pub only_open : OnlyOpen z given w
   pub room : HasRoom n answer
+  pub within : WithinRecord form n (held ++ given)
   pub reads : (more : List ℕ) (y : InputEnd) → CanFollow w more y → records_after form y n (held ++ (given ++ more)) ≡ behind_record form n answer y more
 
 -- a frame of a size that a list can hold

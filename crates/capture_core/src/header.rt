@@ -79,7 +79,8 @@ fn judge(header: &[u8]) -> Option<CaptureForm>
 
 /// Reads the header of a capture, 24 octets, and answers how the numbers behind it are written. `CaptureShort` where the
 /// source ends before them; else `CaptureHeader` where the magic number, the version or the link type is another than
-/// libpcap's, 2.4 and 1 (Ethernet, in the low 16 bits). `ReadFailed` where the source failed. Takes no memory.
+/// libpcap's, 2.4 and 1 (Ethernet, in the low 16 bits). `ReadFailed` where the source failed. No octet behind the header
+/// is read, whatever is answered. Takes no memory.
 pub fn read_header<R: Source>(reader: &mut R) -> Result<CaptureForm, CaptureFault>
     ensures header { ReadsHeader (R.left reader.old) (R.ending reader.old) result (R.left reader.new) (R.ending reader.new) }
     ensures failed { IfErr result (λ f. f.cause ≡ cause.ReadFailed → R.ending reader.new ≡ InputEnd.Failed) }

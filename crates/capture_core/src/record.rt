@@ -118,6 +118,7 @@ fn read_octets<R: Source>(
 ///
 /// `TooManyRecords` where an octet stands after 999,999 records; `CaptureShort` where the source ends inside the record;
 /// `RecordLength` where its captured length is over 262,144; `ReadFailed` where the source failed before that was seen.
+/// No octet behind the record is read, and none behind its head where `TooManyRecords` or `RecordLength` is answered.
 pub fn read_record<R: Source>(
     reader: &mut R,
     form: CaptureForm,

@@ -1,5 +1,5 @@
 -- What several answers of a reader of items make an engine write.
-use Rattle.std.proofs.Common.{Option, Some, None, Ok, Err, Result, ◌≡◌, ℕ, Bool, true, false, List, [], ◌∷◌, ◌++◌, inl, inr, ap, sym, ◌∙◌, refl, subst}
+use Rattle.std.proofs.Common.{Option, Some, None, Ok, Err, Result, ◌≡◌, ◌⊎◌, ℕ, ◌+◌, Bool, true, false, List, [], ◌∷◌, ◌++◌, inl, inr, ap, sym, ◌∙◌, refl, subst, arith}
 use Rattle.std.specs.Prelude.{◌||◌, if◌then◌else◌}
 use Rattle.std.proofs.lemmas.List.{append_assoc, append-nil}
 use Rattle.std.specs.Io.KnownBytes.{Appends}
@@ -12,7 +12,8 @@ use Rattle.list_core.specs.declared.line_rules.ItemFault.TheVariants as fault
 use Rattle.list_core.specs.Device.{AppendsFront, GivesOctets}
 use Rattle.list_core.specs.Lines.{Stop, finished, unfinished, faulty}
 use Rattle.list_core.specs.Items.{Rules, Listing, listing, put_items}
-use Rattle.list_core.specs.ItemReader.{Place, Answer, AnswersItem, OnlyKept, TakesItems, Tells, lines_before}
+use Rattle.list_core.specs.ItemReader.{Place, Answer, AnswersItem, CountsTo, OnlyKept, TakesItems, Tells, line_of, lines_before}
+use Rattle.list_core.specs.Reader.{IsWanting}
 use Rattle.list_core.proofs.Devices.{Appends-append, Appends-none, AppendsFront-append, AppendsFront-more, Consumes-none, Gives-from_Consumes}
 use Rattle.list_core.proofs.Readers.{CanFollow-none, off_after, starts_after}
 use Rattle.list_core.proofs.ItemReaders.{TakesItems-push, TakesItems-none, gives_both, list_whole}
@@ -20,6 +21,7 @@ use Rattle.engine_core.specs.declared.ending.Ending.{Ending}
 use Rattle.engine_core.specs.declared.ending.Ending.TheVariants.{Done, Findings, WriteFault}
 use Rattle.engine_core.specs.EngineText.{Text, Account, told, told_after, told_rest, told_stop, put_step, whole_text, ending_of, ending_at, StopsAt, EndsWell, EndsByFault, WantsMemory, WritesAfter, list_from, next_text, step_text}
 use Rattle.engine_core.specs.EngineStep.{Stops, WantsFor, due, closes, step_fault}
+use Rattle.engine_core.proofs.Wanted.{wanted_behind, wanted_rest}
 
 -- a text, then another
 abbrev joined : {C : Type 0} → Account C → Account C → Account C
@@ -111,6 +113,17 @@ module _ {X C : Type 0} (t : Text X C) where
       some_same e = cc
   closed before (Err None) whole rest h f x = cc
 
+  -- the line of a fault with which the text ends is the one before which the answer stands
+  step_line : (n : ℕ) (s : Result (List ℕ × Bool) C) (f : ItemFault C) → step_fault n s ≡ Some f → line_of f ≡ n
+  step_line n (Ok s) f h = cc
+  step_line n (Err why) f h = cc
+
+  pub faulty_line : (before : List (ℕ × X)) (answer : Answer X C) (old new : ℕ) → CountsTo answer old new → (f : ItemFault C) → closes t before answer ≡ Some f → line_of f ≡ lines_before answer new + 1
+  faulty_line before (Ok (Some e)) old new n f x = let same : line_of f ≡ e.0 = step_line e.0 (t.step before e) f x in omega (arith, n.0, n.1, same)
+  faulty_line before (Ok None) old new n f x = cc
+  faulty_line before (Err (Some g)) old new n f x = let same : line_of g ≡ line_of f = cc in sym same ∙ n.1
+  faulty_line before (Err None) old new n f x = cc
+
   -- an item more
   pub told-push : (es : List (ℕ × X)) (e : ℕ × X) (text : List ℕ) (found : Bool) → (told_after t [] es unfinished).stop ≡ unfinished → t.step es e ≡ Ok (text, found) →
       told_after t [] (es ++ e ∷ []) unfinished ≡ joined (told_after t [] es unfinished) (record { text = text ++ []; found = found || false; stop = unfinished })
@@ -121,7 +134,7 @@ module _ {X C : Type 0} (t : Text X C) where
 
 -- a fault ends a run by its own ending
 by_cause : {S X C : Type 0} (r : Rules S X C) (s : S) (t : Text X C) (n : ℕ) (z : InputEnd) (text : List ℕ) (old new : Option (List ℕ)) (why : ListCause) →
-    EndsByFault t (ending_of why) (listing r s z n text) old new → WritesAfter r s t n (ending_of why) z text old new
+    EndsByFault r s t n (ending_of why) z text old new → WritesAfter r s t n (ending_of why) z text old new
 by_cause r s t n z text old new ReadFailed w = w
 by_cause r s t n z text old new LineTooLong w = w
 by_cause r s t n z text old new LineForm w = w
@@ -130,7 +143,7 @@ by_cause r s t n z text old new Hex w = w
 by_cause r s t n z text old new ListTooLong w = w
 
 by_fault : {S X C : Type 0} (r : Rules S X C) (s : S) (t : Text X C) (n : ℕ) (z : InputEnd) (text : List ℕ) (old new : Option (List ℕ)) (f : ItemFault C) →
-    EndsByFault t (ending_at f) (listing r s z n text) old new → WritesAfter r s t n (ending_at f) z text old new
+    EndsByFault r s t n (ending_at f) z text old new → WritesAfter r s t n (ending_at f) z text old new
 by_fault r s t n z text old new (fault.Lines f) w = by_cause r s t n z text old new f.cause w
 by_fault r s t n z text old new (fault.Line k why) w = w
 
@@ -142,6 +155,7 @@ writes_well r s t n z text old new false w = w
 -- what a run has done before a call: it took these items, none of which was refused, and wrote their text
 pub record Ran {S X C : Type 0} (r : Rules S X C) (t : Text X C) (a b : Place S) (es : List (ℕ × X)) (old mid : Option (List ℕ)) (found : Bool) : Type 0 where
   pub took : TakesItems r a es b
+  pub wanted : (b.ending ≡ Open) ⊎ IsWanting b.held
   pub accepted : (told_after t [] es unfinished).stop ≡ unfinished
   pub wrote : Appends old mid (told_after t [] es unfinished).text
   pub finds : found ≡ (told_after t [] es unfinished).found
@@ -156,15 +170,17 @@ go_on r t a b c es old mid new found p e q text is_finding s w =
     let whole : (told_after t [] (es ++ e ∷ []) unfinished).text ≡ before ++ text = ap (λ o. o.text) more ∙ ap (λ l. before ++ l) (append-nil text) in
     record {
       took = TakesItems-push r a b c es e p.took q;
+      wanted = wanted_behind c.ending q.rest q.lines.takes_off.0 c.held q.lines.takes_off.1 (wanted_rest b c q.given q.skipped q.rest p.wanted q.source.only_open q.source.asked q.lines.off);
       accepted = ap (λ o. o.stop) more;
       wrote = subst (λ l. Appends old new l) (sym whole) (Appends-append old mid new _ _ p.wrote w);
       finds = ap (λ f. f || is_finding) p.finds ∙ ap (λ f. (told_after t [] es unfinished).found || f) (sym (or_false is_finding)) ∙ sym (ap (λ o. o.found) more);
     }
 
 -- nothing was taken yet
-pub ran_none : {S X C : Type 0} (r : Rules S X C) (t : Text X C) (a : Place S) (old : Option (List ℕ)) → Ran r t a a [] old old false
-ran_none r t a old = record {
+pub ran_none : {S X C : Type 0} (r : Rules S X C) (t : Text X C) (a : Place S) (old : Option (List ℕ)) → a.ending ≡ Open → Ran r t a a [] old old false
+ran_none r t a old is = record {
   took = TakesItems-none r a;
+  wanted = inl is;
   accepted = none_accepted t;
   wrote = subst (λ l. Appends old old l) (sym (none_text t)) (Appends-none old);
   finds = none_found t;
@@ -212,7 +228,7 @@ module _ {S X C : Type 0} (r : Rules S X C) (t : Text X C) (a b c : Place S) (es
 
     -- the line before which all is written
     stops_at : (s : StopsAt r a.settled t a.taken c.ending octets old) × (s.held ≡ mid) × (told_rest t s.items (list_from c.ending s.line) ≡ told_rest t es next_list)
-        × (WantsFor t es answer → WantsMemory t c.ending s.line)
+        × (WantsFor t es answer → WantsMemory t c.ending s.line) × (s.line.number ≡ lines_before answer c.taken)
     unfolding octets next_list so_far
     stops_at = (
       record {
@@ -228,6 +244,7 @@ module _ {S X C : Type 0} (r : Rules S X C) (t : Text X C) (a b c : Place S) (es
           parts = off_after a.held p.took.given p.took.lines b.held q.given q.skipped q.rest p.took.off q.lines.off;
           starts = starts_after b.ending c.ending p.took.lines b.held q.given q.skipped q.rest p.took.starts q.source.only_open q.lines.off q.lines.starts;
           few = q.lines.bounded;
+          wanted = wanted_rest b c q.given q.skipped q.rest p.wanted q.source.only_open q.source.asked q.lines.off;
           earlier = listed ∙ ap (put_items es) same_rest;
         };
       },
@@ -237,6 +254,7 @@ module _ {S X C : Type 0} (r : Rules S X C) (t : Text X C) (a b c : Place S) (es
         | inl e ↦ inl (subst (λ x. OnlyKept r q.at c.ending (lines_before answer c.taken) q.rest x) e q.kept)
         | inr due_some ↦ inr (λ none. due_some (due_next t es answer next_list _ tells_next (ap (λ l. next_text t es l.items l.stop) same_rest ∙ none)))
       ],
+      refl,
     )
 
     Left : Ending → Type 0
@@ -262,11 +280,13 @@ module _ {S X C : Type 0} (r : Rules S X C) (t : Text X C) (a b c : Place S) (es
         left_by ending (subst (λ y. WritesAfter r a.settled t a.taken y c.ending octets old new) (sym x.0) (whole, inr (s.0, last)))
     stops_so ending (inr (inr x)) =
         let f = x.0 in
+        let s = stops_at in
+        let number : line_of f ≡ s.0.line.number + 1 = faulty_line t es answer b.taken c.taken q.lines.counted f x.1 ∙ ap (λ k. k + 1) (sym s.4) in
         let d = closed t es answer next_list _ tells_next f x.1 in
         let stop : (told t (listing r a.settled c.ending a.taken octets)).stop ≡ faulty f = ap (λ o. o.stop) told_whole ∙ ap (λ o. o.stop) d.0 in
         let text : Appends old new (whole_text t (listing r a.settled c.ending a.taken octets)) =
         subst (λ l. Appends old new l) (all_text _ (ap (λ o. o.text) d.0)) (Appends-append old mid new so_far (t.last f) wrote_so_far (subst (λ l. Appends mid new l) d.1 x.3)) in
-        left_by ending (subst (λ y. WritesAfter r a.settled t a.taken y c.ending octets old new) (sym x.2) (by_fault r a.settled t a.taken c.ending octets old new f (f, stop, refl, text)))
+        left_by ending (subst (λ y. WritesAfter r a.settled t a.taken y c.ending octets old new) (sym x.2) (by_fault r a.settled t a.taken c.ending octets old new f (f, s.0.items, s.0.line, number, stop, refl, text)))
 
     pub stopped : (ending : Ending) → Stops (WantsFor t es answer) (due t es answer) (closes t es answer) ending mid new → (given : List ℕ) × GivesOctets a.left c.left given × WritesAfter r a.settled t a.taken ending c.ending (a.held ++ given) old new
     unfolding Left

@@ -41,6 +41,6 @@ only_failed r s t n Findings z text old new w e = cc
 only_failed r s t n InputFault z text old new w e = cc
 only_failed r s t n ReadFault z text old new w e =
     let l = listing r s z n text in
-    blamed w.0 z (subst (λ x. ItemsMean x z) w.1 (told-means t [] l.items l.stop z (listing-means r s z n text))) w.2
+    blamed w.0 z (subst (λ x. ItemsMean x z) w.4 (told-means t [] l.items l.stop z (listing-means r s z n text))) w.5
 only_failed r s t n WriteFault z text old new w e = cc
 only_failed r s t n Memory z text old new w e = cc

@@ -1,5 +1,5 @@
 -- What an engine over a list of items writes: a text for each item, which may speak of all items before it, and a last one where the list has a fault or an item is refused.
-use Rattle.std.specs.Prelude.{◌≡◌, ◌≤◌, ◌⊎◌, ◌||◌, ℕ, Bool, true, false, List, [], ◌∷◌, ◌++◌, length, Option, None, Result, Ok, Err}
+use Rattle.std.specs.Prelude.{◌≡◌, ◌≤◌, ◌⊎◌, ◌||◌, ℕ, ◌+◌, Bool, true, false, List, [], ◌∷◌, ◌++◌, length, Option, None, Result, Ok, Err}
 use Rattle.std.specs.Io.KnownBytes.{Appends}
 use Rattle.list_core.specs.declared.device.InputEnd.{InputEnd}
 use Rattle.list_core.specs.declared.device.InputEnd.TheVariants.{Open}
@@ -10,7 +10,8 @@ use Rattle.list_core.specs.declared.line_rules.ItemFault.TheVariants as fault
 use Rattle.list_core.specs.Device.{AppendsFront}
 use Rattle.list_core.specs.Lines.{Stop, StartsLine, finished, unfinished, faulty}
 use Rattle.list_core.specs.Items.{Rules, Listing, listing, put_items}
-use Rattle.list_core.specs.ItemReader.{OnlyKept}
+use Rattle.list_core.specs.ItemReader.{OnlyKept, line_of}
+use Rattle.list_core.specs.Reader.{IsWanting}
 use Rattle.engine_core.specs.declared.ending.Ending.{Ending}
 use Rattle.engine_core.specs.declared.ending.Ending.TheVariants.{Done, Findings, InputFault, ReadFault, WriteFault, Memory}
 
@@ -85,7 +86,7 @@ abbrev pub ending_at : {C : Type 0} → ItemFault C → Ending
 ending_at (fault.Lines f) = ending_of f.cause
 ending_at (fault.Line n why) = InputFault
 
--- A line of the octets given, with n lines before them, which settled s: before it stand the lines of these items. From its start on at most 8,192 octets stand, and they read as the lines after `number` others that settled `at`.
+-- A line of the octets given, with n lines before them, which settled s: before it stand the lines of these items. From its start on at most 8,192 octets stand, and no whole line where the source has ended or failed, so that it was read so far for this line alone; and they read as the lines after `number` others that settled `at`.
 pub record AtLine {S X C : Type 0} (r : Rules S X C) (s : S) (n : ℕ) (z : InputEnd) (input : List ℕ) (items : List (ℕ × X)) : Type 0 where
   pub number : ℕ
   pub at : S
@@ -94,6 +95,7 @@ pub record AtLine {S X C : Type 0} (r : Rules S X C) (s : S) (n : ℕ) (z : Inpu
   pub parts : input ≡ front ++ rest
   pub starts : StartsLine z front rest
   pub few : length rest ≤ 8192
+  pub wanted : (z ≡ Open) ⊎ IsWanting rest
   pub earlier : listing r s z n input ≡ put_items items (listing r at z number rest)
 
 -- A run stopped at a line: what stands written by then is the text of the items of all earlier lines, none of which was refused.
@@ -113,9 +115,10 @@ abbrev pub WantsMemory : {S X C : Type 0} {r : Rules S X C} {s : S} {n : ℕ} {i
 WantsMemory {r = r} {items = items} t z l =
     OnlyKept r l.at z l.number l.rest (Err None) ⊎ (next_text t items (list_from z l).items (list_from z l).stop ≡ [] → ⊥)
 
--- there is a fault, and the whole text was written
-abbrev pub EndsByFault : {X C : Type 0} → Text X C → Ending → Listing X C → Option (List ℕ) → Option (List ℕ) → Type 0
-EndsByFault {C = C} t ending l old new = (f : ItemFault C) × ((told t l).stop ≡ faulty f) × (ending_at f ≡ ending) × Appends old new (whole_text t l)
+-- there is a fault, the whole text was written, and the run stopped at the line of the fault
+abbrev pub EndsByFault : {S X C : Type 0} → Rules S X C → S → Text X C → ℕ → Ending → InputEnd → List ℕ → Option (List ℕ) → Option (List ℕ) → Type 0
+EndsByFault {X = X} {C = C} r s t n ending z input old new = (f : ItemFault C) × (items : List (ℕ × X)) × (line : AtLine r s n z input items)
+    × (line_of f ≡ line.number + 1) × ((told t (listing r s z n input)).stop ≡ faulty f) × (ending_at f ≡ ending) × Appends old new (whole_text t (listing r s z n input))
 
 -- there is no fault, the whole text was written, and something was found or nothing was
 abbrev pub EndsWell : {X C : Type 0} → Text X C → Bool → Listing X C → Option (List ℕ) → Option (List ℕ) → Type 0
@@ -125,12 +128,12 @@ EndsWell t found l old new = ((told t l).stop ≡ finished) × ((told t l).found
 abbrev pub IsUntouched : InputEnd → InputEnd → List ℕ → Type 0
 IsUntouched before after given = (after ≡ before) × (given ≡ [])
 
--- What a run of an open reader leaves written of a text that follows n lines, which settled s: the whole text at Done, Findings, InputFault and ReadFault; a front of it at WriteFault, where the reader is untouched or the run stopped at some line; at Memory the text of the items before a line for which memory is wanted.
+-- What a run of an open reader leaves written of a text that follows n lines, which settled s: the whole text at Done and Findings, and at InputFault and ReadFault, where the run stopped at the line of the fault; a front of it at WriteFault, where the reader is untouched or the run stopped at some line; at Memory the text of the items before a line for which memory is wanted.
 abbrev pub WritesAfter : {S X C : Type 0} → Rules S X C → S → Text X C → ℕ → Ending → InputEnd → List ℕ → Option (List ℕ) → Option (List ℕ) → Type 0
 WritesAfter r s t n Done z input old new = EndsWell t false (listing r s z n input) old new
 WritesAfter r s t n Findings z input old new = EndsWell t true (listing r s z n input) old new
-WritesAfter r s t n InputFault z input old new = EndsByFault t InputFault (listing r s z n input) old new
-WritesAfter r s t n ReadFault z input old new = EndsByFault t ReadFault (listing r s z n input) old new
+WritesAfter r s t n InputFault z input old new = EndsByFault r s t n InputFault z input old new
+WritesAfter r s t n ReadFault z input old new = EndsByFault r s t n ReadFault z input old new
 WritesAfter r s t n WriteFault z input old new = AppendsFront old new (whole_text t (listing r s z n input))
     × (IsUntouched Open z input ⊎ ((p : StopsAt r s t n z input old) × AppendsFront p.held new (told_rest t p.items (list_from z p.line)).text))
 WritesAfter r s t n Memory z input old new = (p : StopsAt r s t n z input old) × WantsMemory t z p.line × (p.held ≡ new)

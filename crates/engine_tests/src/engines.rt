@@ -7,8 +7,8 @@ use goose_cmd::{Ending, check, import, publish, read_block, replay, rewrite, sho
 use std::alloc::Allocator;
 use subscribe_core::Block;
 
-/// An engine, and which input it is given: one without a fault of its lines; where a list ends by one, `FAULTY`; or one that
-/// wants no memory.
+/// An engine, and which input it is given: one without a fault of its lines; one that ends by a fault, of which a list is
+/// `FAULTY`; clock moments and a mode, `QUIET`, of which `show` and `rewrite` write lines; or one that wants no memory.
 #[derive(Clone, Copy)]
 pub(super) enum Example {
     Show,
@@ -23,6 +23,10 @@ pub(super) enum Example {
     FaultyCheck,
     FaultyReplay,
     FaultyWatch,
+    FaultyPublish,
+    RefusedPublish,
+    MarkedShow,
+    MarkedRewrite,
     QuietShow,
     QuietRewrite,
     QuietCheck,
@@ -34,7 +38,7 @@ pub(super) enum Example {
 }
 
 /// Those of which something is written beside the version.
-pub(super) const EXAMPLES: [Example; 12] = [
+pub(super) const EXAMPLES: [Example; 17] = [
     Example::Show,
     Example::Rewrite,
     Example::Check,
@@ -47,6 +51,11 @@ pub(super) const EXAMPLES: [Example; 12] = [
     Example::FaultyCheck,
     Example::FaultyReplay,
     Example::FaultyWatch,
+    Example::FaultyPublish,
+    Example::RefusedPublish,
+    Example::MarkedShow,
+    Example::MarkedRewrite,
+    Example::CutImport,
 ];
 
 /// Those that want no memory.
@@ -102,7 +111,17 @@ pub(super) fn input_of(example: Example) -> &'static [u8] {
         | Example::FaultyCheck
         | Example::FaultyReplay
         | Example::FaultyWatch => FAULTY,
-        Example::QuietCheck | Example::QuietReplay | Example::QuietWatch => QUIET,
+        Example::FaultyPublish => {
+            b"control,010ccd010001,020000000001,,0001,G,D,,1,1,0,0,1\nstep,10,2000\nchange,0,0000000000000000,8301ff\nchange,5,0000000000000000,8300\npoll,9\n"
+        }
+        Example::RefusedPublish => {
+            b"control,010ccd010001,020000000001,,0001,G,D,,1,1,0,0,1\nstep,10,2000\nchange,0,0000000000000000,8301ff\nchange,5,0000000000000000,8301ff8301ff\npoll,9\n"
+        }
+        Example::MarkedShow
+        | Example::MarkedRewrite
+        | Example::QuietCheck
+        | Example::QuietReplay
+        | Example::QuietWatch => QUIET,
         Example::QuietShow | Example::QuietRewrite | Example::EmptyReplay => EMPTY,
         Example::QuietPublish => UNCHANGED,
         Example::CutImport => {
@@ -140,6 +159,14 @@ pub(super) fn text_of(example: Example) -> &'static [u8] {
             b"1 act 0 st=1 sq=0 t=0000000000000000 {true}\n2 sampled\n3 list Hex\n"
         }
         Example::FaultyWatch => b"2 0 3 first\n3 list Hex\n",
+        Example::FaultyPublish => {
+            b"V2\nF 0 010ccd01000102000000000188b80001003500000000612b800147810207d0820144840800000000000000008501018601008701008801018901008a0101ab038301ff\n# 4 script Members 1 BooleanLength\n"
+        }
+        Example::RefusedPublish => {
+            b"V2\nF 0 010ccd01000102000000000188b80001003500000000612b800147810207d0820144840800000000000000008501018601008701008801018901008a0101ab038301ff\n# 4 script EntriesDiffer\n"
+        }
+        Example::MarkedShow => b"2 clock 1\n3 mode 2 on\n5 clock 3\n",
+        Example::MarkedRewrite => b"V2\nC 1\nM 2 on\nC 3\n",
         Example::QuietRewrite | Example::QuietPublish => b"V2\n",
         Example::CutImport => b"V2\nF 5000006 aabbcc\n# 2 capture CaptureShort\n",
         Example::QuietShow
@@ -159,8 +186,32 @@ pub(super) fn ending_of(example: Example) -> Ending {
         | Example::FaultyCheck
         | Example::FaultyReplay
         | Example::FaultyWatch
+        | Example::FaultyPublish
+        | Example::RefusedPublish
         | Example::CutImport => Ending::InputFault,
         _ => Ending::Done,
+    }
+}
+
+/// Behind which line of its input each line of its text is written, 0 for none; of a capture, behind which read where each
+/// gives one octet.
+pub(super) fn places_of(example: Example) -> &'static [usize] {
+    match example {
+        Example::Show => &[1, 2, 3, 4],
+        Example::Rewrite => &[0, 1, 2, 3, 4],
+        Example::Check | Example::FaultyCheck => &[1, 3],
+        Example::Publish => &[0, 4, 6, 8, 9],
+        Example::Replay => &[1, 2, 4, 4, 5, 6, 7, 8, 9, 10, 11],
+        Example::Watch => &[1, 1, 2],
+        Example::FaultyShow | Example::FaultyReplay => &[1, 2, 3],
+        Example::FaultyRewrite => &[0, 1, 2, 3],
+        Example::FaultyWatch => &[2, 3],
+        Example::FaultyPublish | Example::RefusedPublish => &[0, 3, 4],
+        Example::MarkedShow => &[2, 3, 5],
+        Example::MarkedRewrite => &[0, 2, 3, 5],
+        Example::Import => &[0, 40, 59],
+        Example::CutImport => &[0, 43, 45],
+        _ => &[],
     }
 }
 
@@ -168,7 +219,14 @@ pub(super) fn ending_of(example: Example) -> Ending {
 pub(super) fn begins_with_version(example: Example) -> bool {
     matches!(
         example,
-        Example::Rewrite | Example::Publish | Example::Import | Example::FaultyRewrite
+        Example::Rewrite
+            | Example::Publish
+            | Example::Import
+            | Example::FaultyRewrite
+            | Example::FaultyPublish
+            | Example::RefusedPublish
+            | Example::MarkedRewrite
+            | Example::CutImport
     )
 }
 
@@ -210,12 +268,18 @@ pub(super) fn run<A: Allocator + Copy, R: Source, W: Sink>(
     requires works { W.failed writer.old ≡ false }
 {
     match example {
-        Example::Show | Example::FaultyShow | Example::QuietShow => show(alloc, reader, writer),
-        Example::Rewrite | Example::FaultyRewrite | Example::QuietRewrite => rewrite(
+        Example::Show | Example::FaultyShow | Example::MarkedShow | Example::QuietShow => show(
             alloc, reader, writer,
         ),
+        Example::Rewrite
+        | Example::FaultyRewrite
+        | Example::MarkedRewrite
+        | Example::QuietRewrite => rewrite(alloc, reader, writer),
         Example::Check | Example::FaultyCheck | Example::QuietCheck => check(alloc, reader, writer),
-        Example::Publish | Example::QuietPublish => publish(alloc, reader, writer),
+        Example::Publish
+        | Example::FaultyPublish
+        | Example::RefusedPublish
+        | Example::QuietPublish => publish(alloc, reader, writer),
         Example::Replay | Example::FaultyReplay | Example::QuietReplay | Example::EmptyReplay =>
             replay_one(alloc, reader, writer),
         Example::Watch | Example::FaultyWatch | Example::QuietWatch => watch(

@@ -19,14 +19,10 @@ use Rattle.capture_core.specs.Capture.{Capture, CaptureRecord, capture, records_
 use Rattle.capture_core.specs.Reading.{ReadsHeader, ReadsRecord, TakesFor, behind_record}
 use Rattle.engine_core.specs.declared.ending.Ending.{Ending}
 use Rattle.engine_core.specs.declared.ending.Ending.TheVariants.{Done, Findings, WriteFault}
-use Rattle.frame_engines.specs.ImportText.{Imports, ImportsToFault, capture_line, ending_of_capture, is_left_out, last_line, record_line, text_behind}
+use Rattle.frame_engines.specs.ImportText.{AtRecord, EndsBehind, Imports, ImportsToFault, capture_line, ending_of_capture, is_left_out, last_line, put_records, record_line, text_behind}
 use Rattle.frame_engines.specs.ImportStep.{FaultWrites, import_due}
 
 -- ---- texts
-
--- records before others
-abbrev pub put_records : List (ℕ × CaptureRecord) → Capture → Capture
-put_records rs c = record { records = rs ++ c.records; stop = c.stop }
 
 -- the text of some records
 abbrev pub text_to : List (ℕ × CaptureRecord) → List ℕ
@@ -98,6 +94,7 @@ record Given (form : CaptureForm) (a : Option (List ℕ)) (rs : List (ℕ × Cap
   given : List ℕ
   gives : GivesOctets a c given
   is : capture v given ≡ put_records rs (behind_record form n answer v [])
+  at_record : AtRecord v given rs
 
 given_all : (form : CaptureForm) (a b c : Option (List ℕ)) (z w v : InputEnd) (rs : List (ℕ × CaptureRecord)) (n : ℕ) (answer : Result (Option CaptureRecord) CaptureFault) →
     Took form a z rs n b w → ReadsRecord form n [] b w answer c v → Given form a rs n answer c v
@@ -107,6 +104,15 @@ given_all form a b c z w v rs n answer p q =
       given = p.given ++ q.given;
       gives = Gives-append a b c p.given q.given p.took (gives_for answer b c q.given q.took);
       is = ap (λ l. capture v (p.given ++ l)) (sym (append-nil q.given)) ∙ p.reads (q.given ++ []) v follows ∙ ap (put_records rs) (q.reads [] v (CanFollow-none v));
+      at_record = record {
+        number = n;
+        form = form;
+        front = p.given;
+        rest = q.given;
+        parts = refl;
+        few = q.within;
+        earlier = subst (λ l. capture v (p.given ++ l) ≡ put_records rs (records_after form v n l)) (append-nil q.given) (p.reads (q.given ++ []) v follows);
+      };
     }
 
 -- ---- the exits of the run
@@ -123,34 +129,35 @@ module _ (z v : InputEnd) (given : List ℕ) (start held new : Option (List ℕ)
   well true s f w = (s, f, Appends-append start held new (codes "V2\n") (text_behind (capture v given)) first w)
   well false s f w = (s, f, Appends-append start held new (codes "V2\n") (text_behind (capture v given)) first w)
 
-  by_cause : (why : CaptureCause) → ImportsToFault (ending_of_capture why) (capture v given) start new → Imports z (ending_of_capture why) v given start new
+  by_cause : (why : CaptureCause) → ImportsToFault (ending_of_capture why) v given start new → Imports z (ending_of_capture why) v given start new
   by_cause ReadFailed w = w
   by_cause CaptureHeader w = w
   by_cause CaptureShort w = w
   by_cause RecordLength w = w
   by_cause TooManyRecords w = w
 
-  badly : (f : CaptureFault) → (capture v given).stop ≡ faulty f → Appends held new (text_behind (capture v given)) → Imports z (ending_of_capture f.cause) v given start new
-  badly f s w = by_cause f.cause (f, s, refl, Appends-append start held new (codes "V2\n") (text_behind (capture v given)) first w)
+  badly : (f : CaptureFault) → (capture v given).stop ≡ faulty f → Appends held new (text_behind (capture v given)) → EndsBehind v given (capture v given).records → Imports z (ending_of_capture f.cause) v given start new
+  badly f s w i = by_cause f.cause (f, s, refl, Appends-append start held new (codes "V2\n") (text_behind (capture v given)) first w, i)
 
-  in_part : AppendsFront held new (text_behind (capture v given)) → Imports z WriteFault v given start new
-  in_part w = (AppendsFront-append start held new (codes "V2\n") (text_behind (capture v given)) first w, inr (held, first, w))
+  in_part : (rs : List (ℕ × CaptureRecord)) (others : Capture) (mid : Option (List ℕ)) → EndsBehind v given rs → capture v given ≡ put_records rs others → Appends held mid (text_to rs) → AppendsFront mid new (text_behind others) → Imports z WriteFault v given start new
+  in_part rs others mid i e w p =
+      let text : text_behind (capture v given) ≡ text_to rs ++ text_behind others = ap text_behind e ∙ text_parts rs others in
+      let front : AppendsFront held new (text_behind (capture v given)) = subst (AppendsFront held new) (sym text) (AppendsFront-append held mid new (text_to rs) (text_behind others) w p) in
+      (AppendsFront-append start held new (codes "V2\n") (text_behind (capture v given)) first front, inr (rs, (mid, others, i, e, Appends-append start held mid (codes "V2\n") (text_to rs) first w, p)))
 
 -- a fault ends the text behind these records
 faulted : (rs : List (ℕ × CaptureRecord)) (z v : InputEnd) (given : List ℕ) (f : CaptureFault) (ending : Ending) (start held mid new : Option (List ℕ)) → Appends start held (codes "V2\n") →
-    capture v given ≡ put_records rs (no_records (faulty f)) → Appends held mid (text_to rs) → FaultWrites f ending mid new → Imports z ending v given start new
-faulted rs z v given f ending start held mid new first e w p =
+    capture v given ≡ put_records rs (no_records (faulty f)) → EndsBehind v given rs → Appends held mid (text_to rs) → FaultWrites f ending mid new → Imports z ending v given start new
+faulted rs z v given f ending start held mid new first e i w (inl q) = rw q.0 (in_part z v given start held new first rs (no_records (faulty f)) mid i e w q.1)
+faulted rs z v given f ending start held mid new first e i w (inr q) =
     let text : text_behind (capture v given) ≡ text_to rs ++ capture_line f = ap text_behind e ∙ text_parts rs (no_records (faulty f)) in
-    by_case text p
-  where
-    by_case : text_behind (capture v given) ≡ text_to rs ++ capture_line f → FaultWrites f ending mid new → Imports z ending v given start new
-    by_case text (inl q) = rw q.0 (in_part z v given start held new first (subst (AppendsFront held new) (sym text) (AppendsFront-append held mid new (text_to rs) (capture_line f) w q.1)))
-    by_case text (inr q) = rw q.0 (badly z v given start held new first f (ap (λ (c : Capture). c.stop) e) (subst (Appends held new) (sym text) (Appends-append held mid new (text_to rs) (capture_line f) w q.1)))
+    let all : (capture v given).records ≡ rs = ap (λ (c : Capture). c.records) e ∙ append-nil rs in
+    rw q.0 (badly z v given start held new first f (ap (λ (c : Capture). c.stop) e) (subst (Appends held new) (sym text) (Appends-append held mid new (text_to rs) (capture_line f) w q.1)) (subst (EndsBehind v given) (sym all) i))
 
 -- the header has a fault
 pub bad_header : (a b : Option (List ℕ)) (z w : InputEnd) (f : CaptureFault) (ending : Ending) (start held new : Option (List ℕ)) → ReadsHeader a z (Err f) b w → Appends start held (codes "V2\n") → FaultWrites f ending held new → Imported z ending a b w start new
 bad_header a b z w f ending start held new h first p =
-    (h.given, h.took, faulted [] z w h.given f ending start held held new first (ap (capture w) (sym (append-nil h.given)) ∙ h.reads [] w (CanFollow-none w)) (Appends-none held) p)
+    (h.given, h.took, faulted [] z w h.given f ending start held held new first (ap (capture w) (sym (append-nil h.given)) ∙ h.reads [] w (CanFollow-none w)) (inl (refl, h.few)) (Appends-none held) p)
 
 module _ (form : CaptureForm) (a b c : Option (List ℕ)) (z w v : InputEnd) (rs : List (ℕ × CaptureRecord)) (n : ℕ) (start held mid new : Option (List ℕ)) (p : Took form a z rs n b w) (first : Appends start held (codes "V2\n")) (so_far : Appends held mid (text_to rs)) where
   -- the capture has ended
@@ -167,9 +174,8 @@ module _ (form : CaptureForm) (a b c : Option (List ℕ)) (z w v : InputEnd) (rs
   import_stopped answer ending q (inl s) =
       let g = given_all form a b c z w v rs n answer p q in
       let d = due_first form n v answer in
-      let text : text_behind (capture v g.given) ≡ text_to rs ++ (import_due n answer ++ d.0) = ap text_behind g.is ∙ text_parts rs (behind_record form n answer v []) ∙ ap (λ l. text_to rs ++ l) d.1 in
-      let front = AppendsFront-append held mid new (text_to rs) (import_due n answer ++ d.0) so_far (AppendsFront-more mid new (import_due n answer) d.0 s.1) in
-      (g.given, g.gives, rw s.0 (in_part z v g.given start held new first (subst (AppendsFront held new) (sym text) front)))
+      let front : AppendsFront mid new (text_behind (behind_record form n answer v [])) = subst (AppendsFront mid new) (sym d.1) (AppendsFront-more mid new (import_due n answer) d.0 s.1) in
+      (g.given, g.gives, rw s.0 (in_part z v g.given start held new first rs (behind_record form n answer v []) mid (inr g.at_record) g.is so_far front))
   import_stopped answer ending q (inr s) =
       let g = given_all form a b c z w v rs n answer p q in
-      (g.given, g.gives, faulted rs z v g.given s.0 ending start held mid new first (g.is ∙ ap (λ o. put_records rs (behind_record form n o v [])) s.1) so_far s.2)
+      (g.given, g.gives, faulted rs z v g.given s.0 ending start held mid new first (g.is ∙ ap (λ o. put_records rs (behind_record form n o v [])) s.1) (inr g.at_record) so_far s.2)

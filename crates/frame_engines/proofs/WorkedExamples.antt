@@ -1,9 +1,9 @@
 -- What engines write of a few lists and captures, computed: a wrong definition does not check.
-use Rattle.std.proofs.Common.{◌≡◌, ℕ, Bool, true, false, List, [], ◌∷◌, ◌++◌, None, refl}
+use Rattle.std.proofs.Common.{◌≡◌, ℕ, Bool, true, false, List, [], ◌∷◌, ◌++◌, refl}
 use Rattle.std.specs.Prelude.{codes}
 use Rattle.std.specs.Fmt.{digits}
 use Rattle.hex.specs.Hex.{decode_pairs, encode_with}
-use Rattle.ber_core.specs.ContentsReading.{all_visible_at, any_integer_at, boolean_at, counted_at, integer_at}
+use Rattle.ber_core.specs.ContentsReading.{all_visible_at, any_integer_at, boolean_at, integer_at}
 use Rattle.ber_core.specs.FieldReading.{required_at, there_at}
 use Rattle.ber_core.specs.Reading.{header_at, length_at}
 use Rattle.ber_core.specs.Written.{integer_size, short_integer, short_length, written_element}
@@ -11,7 +11,7 @@ use Rattle.mms_data.specs.ContentsReading.{simple_at}
 use Rattle.mms_data.specs.Kinds.{kind_at}
 use Rattle.mms_data.specs.Reading.{member_at, member_with, members_at, members_with}
 use Rattle.mms_data.specs.UtcReading.{utc_at}
-use Rattle.pdu_core.specs.ContentsReading.{few_at, fixed_in, members_in, number_in}
+use Rattle.pdu_core.specs.ContentsReading.{members_in, number_in}
 use Rattle.pdu_core.specs.GooseReading.{goose_at}
 use Rattle.frame_core.specs.EnvelopeReading.{envelope_at, envelope_judged}
 use Rattle.list_core.specs.EventLine.{event_rules}
@@ -22,7 +22,7 @@ use Rattle.list_core.specs.declared.device.InputEnd.TheVariants.{End}
 use Rattle.list_core.specs.declared.event.Event.{Event}
 use Rattle.list_core.specs.declared.event_lines.EventLines.TheVariants.{First}
 use Rattle.list_core.specs.declared.list_fault.ListCause.{ListCause}
-use Rattle.capture_core.specs.Capture.{Capture, CaptureRecord, fault_in}
+use Rattle.capture_core.specs.Capture.{Capture, fault_in}
 use Rattle.capture_core.specs.declared.capture_fault.CaptureCause.TheVariants.{CaptureHeader, CaptureShort}
 use Rattle.frame_engines.specs.CheckText.{check_text, octets_notes}
 use Rattle.engine_core.specs.EngineText.{Text, told, told_after, whole_text}

@@ -1,5 +1,5 @@
 -- The text of `import`: a capture as a list of version 2, of which each record is the line of its frame, or a comment where no list can hold it.
-use Rattle.std.specs.Prelude.{◌≡◌, ◌⊎◌, ℕ, Bool, true, false, not, ◌&&◌, nat_le, nat_lt, List, [], ◌++◌, length, Option, codes, if◌then◌else◌}
+use Rattle.std.specs.Prelude.{◌≡◌, ◌≤◌, ◌⊎◌, ℕ, Bool, true, false, not, ◌&&◌, nat_le, nat_lt, List, [], ◌++◌, length, Option, codes, if◌then◌else◌}
 use Rattle.std.specs.List.{flat_map, list_any}
 use Rattle.std.specs.Fmt.{decimal}
 use Rattle.std.specs.Io.KnownBytes.{Appends}
@@ -8,7 +8,9 @@ use Rattle.list_core.specs.Device.{AppendsFront}
 use Rattle.list_core.specs.EventLine.{event_text}
 use Rattle.list_core.specs.Lines.{Stop, finished, unfinished, faulty}
 use Rattle.list_core.specs.declared.event.EventKind.TheVariants.{Frame}
-use Rattle.capture_core.specs.Capture.{Capture, CaptureRecord, capture}
+use Rattle.capture_core.specs.Capture.{Capture, CaptureRecord, capture, records_after}
+use Rattle.capture_core.specs.Reading.{WithinRecord}
+use Rattle.capture_core.specs.declared.form.CaptureForm.{CaptureForm}
 use Rattle.capture_core.specs.declared.capture_fault.CaptureCause.{CaptureCause}
 use Rattle.capture_core.specs.declared.capture_fault.CaptureCause.TheVariants.{CaptureHeader, CaptureShort, RecordLength, TooManyRecords, ReadFailed}
 use Rattle.capture_core.specs.declared.capture_fault.CaptureFault.{CaptureFault}
@@ -37,6 +39,10 @@ record_line r = if is_left_out r then left_out_line r.0 (length r.1.octets) else
 abbrev pub capture_line : CaptureFault → List ℕ
 capture_line f = codes "# " ++ decimal f.number ++ codes " capture " ++ name_of_capture_cause f.cause ++ codes "\n"
 
+-- records before others
+abbrev pub put_records : List (ℕ × CaptureRecord) → Capture → Capture
+put_records rs c = record { records = rs ++ c.records; stop = c.stop }
+
 -- what is written last: nothing, unless there is a fault
 abbrev pub last_line : Stop CaptureFault → List ℕ
 last_line finished = []
@@ -59,24 +65,43 @@ ending_of_capture CaptureShort = InputFault
 ending_of_capture RecordLength = InputFault
 ending_of_capture TooManyRecords = InputFault
 
--- the capture has a fault with this ending, and the whole text was written
-abbrev pub ImportsToFault : Ending → Capture → Option (List ℕ) → Option (List ℕ) → Type 0
-ImportsToFault ending c old new = (f : CaptureFault) × (c.stop ≡ faulty f) × (ending_of_capture f.cause ≡ ending) × Appends old new (import_text c)
+-- A record of the octets given, or what stands in its place: before it stand the header and these records. From its start on stand at most the octets of one record, and they read as the records after `number` others.
+pub record AtRecord (z : InputEnd) (given : List ℕ) (records : List (ℕ × CaptureRecord)) : Type 0 where
+  pub number : ℕ
+  pub form : CaptureForm
+  pub front : List ℕ
+  pub rest : List ℕ
+  pub parts : given ≡ front ++ rest
+  pub few : WithinRecord form number rest
+  pub earlier : capture z given ≡ put_records records (records_after form z number rest)
+
+-- the last octets given are those of the header, or of the record behind these
+abbrev pub EndsBehind : InputEnd → List ℕ → List (ℕ × CaptureRecord) → Type 0
+EndsBehind z given records = ((records ≡ []) × (length given ≤ 24)) ⊎ AtRecord z given records
+
+-- the capture has a fault with this ending, the whole text was written, and nothing was read behind the record of the fault
+abbrev pub ImportsToFault : Ending → InputEnd → List ℕ → Option (List ℕ) → Option (List ℕ) → Type 0
+ImportsToFault ending z given old new = (f : CaptureFault) × ((capture z given).stop ≡ faulty f) × (ending_of_capture f.cause ≡ ending) × Appends old new (import_text (capture z given)) × EndsBehind z given (capture z given).records
 
 -- the capture has no fault, a record was left out or none was, and the whole text was written
 abbrev pub ImportsToEnd : Bool → Capture → Option (List ℕ) → Option (List ℕ) → Type 0
 ImportsToEnd found c old new = (c.stop ≡ finished) × (list_any is_left_out c.records ≡ found) × Appends old new (import_text c)
 
--- a front of the text of these octets was written; the reader, which told such an ending before, is untouched, or the first line had been written whole
+-- The writer failed behind the lines of these records, at the next one: what was read ends with its record.
+abbrev pub StopsBehind : InputEnd → List ℕ → List (ℕ × CaptureRecord) → Option (List ℕ) → Option (List ℕ) → Type 0
+StopsBehind z given records old new = (held : Option (List ℕ)) × (others : Capture) × EndsBehind z given records × (capture z given ≡ put_records records others)
+    × Appends old held (codes "V2\n" ++ flat_map record_line records) × AppendsFront held new (text_behind others)
+
+-- a front of the text of these octets was written; the reader, which told such an ending before, is untouched, or the first line and those of some records had been written whole
 abbrev pub ImportsFront : InputEnd → InputEnd → List ℕ → Option (List ℕ) → Option (List ℕ) → Type 0
 ImportsFront before z given old new = AppendsFront old new (import_text (capture z given))
-    × (IsUntouched before z given ⊎ ((held : Option (List ℕ)) × Appends old held (codes "V2\n") × AppendsFront held new (text_behind (capture z given))))
+    × (IsUntouched before z given ⊎ ((records : List (ℕ × CaptureRecord)) × StopsBehind z given records old new))
 
--- What `import` leaves written of the octets that a reader gave, with the endings that it told before and tells after: the whole text at Done, Findings, InputFault and ReadFault, a front of it at WriteFault. It never wants memory.
+-- What `import` leaves written of the octets that a reader gave, with the endings that it told before and tells after: the whole text at Done and Findings, and at InputFault and ReadFault, where nothing is read behind the record of the fault; a front of it at WriteFault. It never wants memory.
 abbrev pub Imports : InputEnd → Ending → InputEnd → List ℕ → Option (List ℕ) → Option (List ℕ) → Type 0
 Imports before Done z given old new = ImportsToEnd false (capture z given) old new
 Imports before Findings z given old new = ImportsToEnd true (capture z given) old new
-Imports before InputFault z given old new = ImportsToFault InputFault (capture z given) old new
-Imports before ReadFault z given old new = ImportsToFault ReadFault (capture z given) old new
+Imports before InputFault z given old new = ImportsToFault InputFault z given old new
+Imports before ReadFault z given old new = ImportsToFault ReadFault z given old new
 Imports before WriteFault z given old new = ImportsFront before z given old new
 Imports before Memory z given old new = ⊥

@@ -1,10 +1,16 @@
 -- What the fields of a line say, shape by shape.
-use Rattle.std.proofs.Common.{Option, Some, None, Err, true, ◌≡◌, ℕ, List, [], ◌∷◌, refl, Bor, is_some}
-use Rattle.list_core.specs.declared.list_fault.ListCause.TheVariants.{LineForm}
+use Rattle.std.proofs.Common.{Bool, Option, Some, None, Result, Err, true, false, ◌&&◌, ◌≡◌, ◌+◌, ◌<◌, ℕ, List, [], ◌∷◌, length, take, drop, ap, sym, subst, ◌∙◌, refl, arith, Bor, is_some}
+use Rattle.list_core.specs.declared.event.Event.{Event}
+use Rattle.list_core.specs.declared.line_rules.LineError.{LineError}
+use Rattle.list_core.specs.declared.list_fault.ListCause.{ListCause}
+use Rattle.list_core.specs.declared.list_fault.ListCause.TheVariants.{LineForm, Moment, Hex}
 use Rattle.list_core.specs.declared.event_lines.MomentUnit.{MomentUnit}
-use Rattle.list_core.specs.EventLine.{fields, event_of_fields}
-use Rattle.list_core.specs.LineAnswer.{fields_after}
-use Rattle.list_core.proofs.Cuts.{cut_some}
+use Rattle.list_core.specs.Cuts.{HasNo, IsFirst}
+use Rattle.list_core.specs.EventLine.{fields, event_of_fields, fields_keep, frame_event, frame_octets_by, is_moment, moment_of}
+use Rattle.list_core.specs.LineAnswer.{Answers, fields_after}
+use Rattle.list_core.proofs.Cuts.{cut_some, cut-first, cut-rest}
+use Rattle.list_core.proofs.LineShapes.{hex_digits_word, octets_to, some_is}
+use Rattle.list_core.proofs.WrittenLines.{frame_fields, word-HasNo}
 
 -- a clock with more fields than a moment
 pub clock_more : {A : Type 0} (v : MomentUnit) (xs m : List ℕ) (more : Option (Bor (List ℕ))) → fields xs ≡ m ∷ fields_after more → is_some more ≡ true →
@@ -18,13 +24,62 @@ clock_more v xs m (Some rest) e h = let r = cut_some 32 rest.now in rw (e, r.2) 
     more_fields v (m ∷ ms) (q ∷ r) [] = refl
     more_fields v (m ∷ ms) (q ∷ r) (x ∷ qs) = refl
 
--- a frame or a mode with more fields than it has
-pub frame_more : {A : Type 0} (v : MomentUnit) (c : ℕ) (xs m rest h : List ℕ) (more : Option (Bor (List ℕ))) → fields xs ≡ m ∷ fields rest → fields rest ≡ h ∷ fields_after more → is_some more ≡ true →
-    event_of_fields {A = A} v ((c ∷ []) ∷ fields xs) ≡ Err LineForm
-frame_more v c xs m rest h None e f i = cc
-frame_more v c xs m rest h (Some next) e f i = let r = cut_some 32 next.now in rw (e, f, r.2) (more_fields v c m h r.0 r.1)
-  where
-    more_fields : {A : Type 0} (v : MomentUnit) (c : ℕ) (m h q : List ℕ) (qs : List (List ℕ)) → event_of_fields {A = A} v ((c ∷ []) ∷ m ∷ h ∷ q ∷ qs) ≡ Err LineForm
-    more_fields v c [] h q qs = refl
-    more_fields v c (m ∷ ms) [] q qs = refl
-    more_fields v c (m ∷ ms) (h ∷ hs) q qs = refl
+-- a letter, two fields and more
+more_fields : {A : Type 0} (v : MomentUnit) (c : ℕ) (m h q : List ℕ) (qs : List (List ℕ)) → event_of_fields {A = A} v ((c ∷ []) ∷ m ∷ h ∷ q ∷ qs) ≡ Err LineForm
+more_fields v c [] h q qs = refl
+more_fields v c (m ∷ ms) [] q qs = refl
+more_fields v c (m ∷ ms) (h ∷ hs) q qs = refl
+
+-- a mode with more fields than it has
+pub mode_more : {A : Type 0} (v : MomentUnit) (xs m rest h : List ℕ) (more : Option (Bor (List ℕ))) → fields xs ≡ m ∷ fields rest → fields rest ≡ h ∷ fields_after more → is_some more ≡ true →
+    event_of_fields {A = A} v ((77 ∷ []) ∷ fields xs) ≡ Err LineForm
+mode_more v xs m rest h None e f i = cc
+mode_more v xs m rest h (Some next) e f i = let r = cut_some 32 next.now in rw (e, f, r.2) (more_fields v 77 m h r.0 r.1)
+
+-- a frame with more fields than it has
+pub frame_spaced : {A : Type 0} (v : MomentUnit) (m rest : List ℕ) (n : ℕ) → IsFirst 32 rest (Some n) → event_of_fields {A = A} v ((70 ∷ []) ∷ m ∷ fields rest) ≡ Err LineForm
+frame_spaced v m rest n h = let r = cut_some 32 (drop (n + 1) rest) in rw (cut-first 32 rest n h, r.2) (more_fields v 70 m (take n rest) r.0 r.1)
+
+-- a frame without digits
+pub frame_short : {A : Type 0} (v : MomentUnit) (m rest : List ℕ) → length rest ≡ 0 → event_of_fields {A = A} v ((70 ∷ []) ∷ m ∷ fields rest) ≡ Err LineForm
+frame_short v [] [] e = refl
+frame_short v (m ∷ ms) [] e = refl
+frame_short v m (x ∷ xs) e = absurd (omega arith)
+
+-- a frame whose two fields are these
+one_field : {A : Type 0} (v : MomentUnit) (m rest : List ℕ) → 0 < length m → 0 < length rest → HasNo 32 rest
+    → event_of_fields {A = A} v ((70 ∷ []) ∷ m ∷ fields rest) ≡ frame_event (moment_of v m) (frame_octets_by rest)
+one_field {A = A} v m rest a b none = ap (λ ps. event_of_fields {A = A} v ((70 ∷ []) ∷ m ∷ ps)) (cut-rest 32 rest none) ∙ frame_fields v m rest a b
+
+-- a frame whose moment is none
+pub frame_unmoved : {A : Type 0} (v : MomentUnit) (m rest : List ℕ) → 0 < length m → 0 < length rest → HasNo 32 rest → moment_of v m ≡ None
+    → event_of_fields {A = A} v ((70 ∷ []) ∷ m ∷ fields rest) ≡ Err Moment
+frame_unmoved {A = A} v m rest a b none e = one_field v m rest a b none ∙ ap (λ o. frame_event {A = A} o (frame_octets_by rest)) e
+
+-- a frame whose digits write no octets
+pub frame_unread : {A : Type 0} (v : MomentUnit) (m rest : List ℕ) (moment : ℕ) → 0 < length m → 0 < length rest → HasNo 32 rest → moment_of v m ≡ Some moment → frame_octets_by rest ≡ None
+    → event_of_fields {A = A} v ((70 ∷ []) ∷ m ∷ fields rest) ≡ Err Hex
+frame_unread {A = A} v m rest moment a b none e f = one_field v m rest a b none ∙ ap (λ o. frame_event {A = A} o (frame_octets_by rest)) e ∙ ap (frame_event {A = A} (Some moment)) f
+
+keeps_frame : (v : MomentUnit) (m h : List ℕ) → 0 < length m → 0 < length h → fields_keep v ((70 ∷ []) ∷ m ∷ h ∷ []) ≡ (is_moment v m && is_some (frame_octets_by h))
+keeps_frame v [] h a b = absurd (omega arith)
+keeps_frame v (m ∷ ms) [] a b = absurd (omega arith)
+keeps_frame v (m ∷ ms) (h ∷ hs) a b = refl
+
+and_true : (b : Bool) → (b && true) ≡ b
+and_true true = refl
+and_true false = refl
+
+-- digits that write octets are one field
+pub frame_answer : {A : Type 0} (r : Result (Option (Event A)) (LineError ListCause)) (v : MomentUnit) (xs m h : List ℕ) → fields xs ≡ m ∷ fields h → 0 < length m → is_some (frame_octets_by h) ≡ true
+    → Answers r (frame_event (moment_of v m) (frame_octets_by h)) (is_moment v m) → Answers r (event_of_fields v ((70 ∷ []) ∷ fields xs)) (fields_keep v ((70 ∷ []) ∷ fields xs))
+frame_answer {A = A} r v xs m h cut some good answer =
+    let octets = some_is (frame_octets_by h) good in
+    let written = octets_to h octets.0 octets.1 in
+    let there : 0 < length h = written.0 in
+    let none : HasNo 32 h = word-HasNo 32 h (omega arith) (hex_digits_word h octets.0 written.2) in
+    let said : event_of_fields {A = A} v ((70 ∷ []) ∷ fields xs) ≡ frame_event (moment_of v m) (frame_octets_by h) =
+    ap (λ ps. event_of_fields {A = A} v ((70 ∷ []) ∷ ps)) cut ∙ one_field v m h some there none in
+    let keeps : fields_keep v ((70 ∷ []) ∷ fields xs) ≡ is_moment v m =
+    ap (λ ps. fields_keep v ((70 ∷ []) ∷ ps)) (cut ∙ ap (λ ps. m ∷ ps) (cut-rest 32 h none)) ∙ keeps_frame v m h some there ∙ ap (λ b. is_moment v m && b) good ∙ and_true (is_moment v m) in
+    subst (λ k. Answers r (event_of_fields {A = A} v ((70 ∷ []) ∷ fields xs)) k) (sym keeps) (subst (λ s. Answers r s (is_moment v m)) (sym said) answer)

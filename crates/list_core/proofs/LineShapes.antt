@@ -1,5 +1,5 @@
 -- The shapes of a line that says an event.
-use Rattle.std.proofs.Common.{Option, Some, None, Ok, Err, Result, Bool, true, false, cond, eqb, ltb, leb, ◌&&◌, ◌⊎◌, inl, inr, ◌≡◌, ℕ, ◌*◌, ◌<◌, ◌≤◌, List, [], ◌∷◌, ◌++◌, length, ap, sym, ◌∙◌, refl, arith}
+use Rattle.std.proofs.Common.{Option, Some, None, is_some, Ok, Err, Result, Bool, true, false, cond, eqb, ltb, leb, ◌&&◌, ◌⊎◌, inl, inr, ◌≡◌, ℕ, ◌*◌, ◌%◌, ◌<◌, ◌≤◌, List, [], ◌∷◌, ◌++◌, length, ap, sym, ◌∙◌, refl, arith}
 use Rattle.std.specs.Prelude.{codes}
 use Rattle.std.specs.List.{list_all, join_with_byte}
 use Rattle.std.specs.Char.{is_ascii_digit}
@@ -8,11 +8,12 @@ use Rattle.std.proofs.lemmas.Bool.{ne_eqb, cases_eq}
 use Rattle.std.proofs.lemmas.Bool.Decides.{nat_tests}
 use Rattle.std.proofs.lemmas.List.{append_assoc}
 use Rattle.std.proofs.lemmas.List.Elements.{All-get_or, All-from_get_or}
+use Rattle.std.proofs.lemmas.List.Sums.{AllPass-from_list_all, list_all-from_AllPass}
 use Rattle.std.proofs.lemmas.List.Splits.{join_with_byte-slice_split}
 use Rattle.std.proofs.lemmas.Str.Parse.{digit_at}
 use Rattle.hex.specs.Hex.{decode_of, is_hex_digit}
 use Rattle.hex.specs.declared.error.FromHexError.{FromHexError}
-use Rattle.hex.proofs.HexLemmas.{decode_of-ok}
+use Rattle.hex.proofs.HexLemmas.{decode_of-digits, decode_of-ok}
 use Rattle.list_core.specs.declared.event.Event.{Event}
 use Rattle.list_core.specs.declared.event.EventKind.{EventKind}
 use Rattle.list_core.specs.declared.event.EventKind.TheVariants.{Frame, Clock, Mode}
@@ -92,7 +93,7 @@ decoded_to : (r : Result (List ℕ) FromHexError) (os : List ℕ) → decoded r 
 decoded_to (Ok xs) os h = ap Ok (same_some xs os h)
 decoded_to (Err e) os h = cc
 
-octets_to : (digits os : List ℕ) → frame_octets_by digits ≡ Some os → WritesOctets digits os
+pub octets_to : (digits os : List ℕ) → frame_octets_by digits ≡ Some os → WritesOctets digits os
 octets_to digits os h =
     let r = some_of (ltb 0 (length digits) && leb (length digits) 4000) (decoded (decode_of digits)) os h in
     let t = both_true (ltb 0 (length digits)) (leb (length digits) 4000) r.0 in
@@ -111,7 +112,7 @@ octets_from digits os w =
 digits_word : (digits : List ℕ) → AllDigits 10 digits → IsWord digits
 digits_word digits h = All-from_get_or (λ x. 32 < x) digits 0 (λ k l. let r = digit_at digits k h l in omega (arith, r.0))
 
-hex_digits_word : (digits os : List ℕ) → decode_of digits ≡ Ok os → IsWord digits
+pub hex_digits_word : (digits os : List ℕ) → decode_of digits ≡ Ok os → IsWord digits
 hex_digits_word digits os h = All-from_get_or (λ x. 32 < x) digits 0 (λ k l. hex_above _ (All-get_or (λ x. is_hex_digit x ≡ true) digits k 0 l (decode_of-ok digits os h).1))
 
 pub clock-from : (A : Type 0) (v : MomentUnit) (line : List ℕ) (m : ℕ) → (digits : List ℕ) × (line ≡ codes "C " ++ digits) × WritesMoment v digits m →
@@ -269,3 +270,32 @@ mode-to A v line m on h = elim (line_spelled A v line (record { moment = m; kind
       let same : s.1 ≡ on = sym (same_mode A on s.1 s.4) in
       (s.0, s.2 ∙ ap (λ b. codes "M " ++ s.0 ++ codes " " ++ mode_text b) same, s.3)
 ]
+
+-- an even count of hexadecimal digits is decoded, and nothing else
+decoded_test : (digits : List ℕ) → length digits % 2 ≡ 0 → is_some (decoded (decode_of digits)) ≡ list_all is_hex_digit digits
+decoded_test digits even = by_answer (decode_of digits) refl
+  where
+    refused : (why : FromHexError) (b : Bool) → decode_of digits ≡ Err why → list_all is_hex_digit digits ≡ b → b ≡ false
+    refused why true e all = let read = decode_of-digits digits even (AllPass-from_list_all is_hex_digit digits all) in cc (read.1, e)
+    refused why false e all = refl
+
+    by_answer : (r : Result (List ℕ) FromHexError) → decode_of digits ≡ r → is_some (decoded r) ≡ list_all is_hex_digit digits
+    by_answer (Ok octets) e = sym (list_all-from_AllPass is_hex_digit digits (decode_of-ok digits octets e).1)
+    by_answer (Err why) e = sym (refused why (list_all is_hex_digit digits) e refl)
+
+-- digits write octets exactly where they are an even count of 2 to 4,000 hexadecimal digits
+pub octets_test : (digits : List ℕ) → 0 < length digits → length digits ≤ 4000 → length digits % 2 ≡ 0 → is_some (frame_octets_by digits) ≡ list_all is_hex_digit digits
+octets_test digits some short even =
+    let first : ltb 0 (length digits) ≡ true = grind (arith, nat_tests) in
+    let second : leb (length digits) 4000 ≡ true = grind (arith, nat_tests) in
+    rw (first, second) (decoded_test digits even)
+
+pub some_is : {X : Type 0} (o : Option X) → is_some o ≡ true → (x : X) × (o ≡ Some x)
+some_is None e = cc
+some_is (Some x) e = (x, refl)
+
+-- what writes octets is all digits
+pub octets_digits : (digits : List ℕ) → is_some (frame_octets_by digits) ≡ true → list_all is_hex_digit digits ≡ true
+octets_digits digits h =
+    let octets = some_is (frame_octets_by digits) h in
+    list_all-from_AllPass is_hex_digit digits (decode_of-ok digits octets.0 (octets_to digits octets.0 octets.1).2).1

@@ -1,5 +1,5 @@
 //! The octet that divides lines or fields.
-ghost use Rattle.std.specs.Prelude.{◌≡◌, ◌≤◌, ◌<◌, ◌∷◌, length, take, true};
+ghost use Rattle.std.specs.Prelude.{◌≡◌, ◌≤◌, ◌<◌, ◌∷◌, length, take, true, IfSome};
 ghost use Rattle.list_core.specs.Cuts.{HasNo, IsFirst, cut_at, parts_after};
 
 /// How many octets are passed over at once where none of them is the wanted one.
@@ -22,15 +22,35 @@ pub(crate) fn find(octets: &[u8], wanted: u8) -> Option<usize>
 
 /// The part in front of the first divider, and what follows that; or all, where there is none.
 pub fn cut_first(octets: &[u8], divider: u8) -> (&[u8], Option<&[u8]>)
+    ensures parts { cut_at divider octets.now ≡ result.0.now ∷ parts_after divider result.1 }
+    ensures front { length result.0.now ≤ length octets.now }
+    ensures rest { IfSome result.1 (λ rest. length rest.now ≤ length octets.now) }
+{
+    cut_there(octets, find(octets, divider), divider)
+}
+
+/// The same where the first part is short: it looks at octet by octet.
+pub(crate) fn cut_short(octets: &[u8], divider: u8) -> (&[u8], Option<&[u8]>)
     ensures { cut_at divider octets.now ≡ result.0.now ∷ parts_after divider result.1 }
 {
-    match find(octets, divider) {
+    cut_there(octets, find_each(octets, divider), divider)
+}
+
+/// The part in front of the first divider, whose place is known, and what follows that.
+fn cut_there(octets: &[u8], first: Option<usize>, divider: u8) -> (&[u8], Option<&[u8]>)
+    requires { IsFirst divider octets.now first }
+    ensures parts { cut_at divider octets.now ≡ result.0.now ∷ parts_after divider result.1 }
+    ensures front { length result.0.now ≤ length octets.now }
+    ensures rest { IfSome result.1 (λ rest. length rest.now ≤ length octets.now) }
+{
+    match first {
         Some(at) => (&octets[..at], Some(&octets[at + 1..])),
         None => (octets, None),
     }
 }
 
-/// The same, octet by octet.
+/// The place of the first such octet, octet by octet. A call of its own, since its loop is slower where it is inlined.
+#[inline(never)]
 fn find_each(octets: &[u8], wanted: u8) -> Option<usize>
     ensures { IsFirst wanted octets.now result }
 {

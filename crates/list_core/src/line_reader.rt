@@ -226,7 +226,8 @@ impl<R: Source> LineReader<R> {
     /// The first line, of so many octets, without a CR at its end.
     pub(crate) fn front(&self, size: usize) -> &[u8]
         requires { size ≤ length (held self.now) }
-        ensures { result.now ≡ without_cr (take size (held self.now)) }
+        ensures line { result.now ≡ without_cr (take size (held self.now)) }
+        ensures size { length result.now ≤ size }
     {
         let end = self.front_size(size);
         let held = &self.buffer[self.start..self.end];

@@ -1,5 +1,5 @@
 //! What the lines of a list say: the rules that a kind of list brings.
-ghost use Rattle.std.specs.Prelude.{◌≡◌};
+ghost use Rattle.std.specs.Prelude.{◌≡◌, ◌≤◌, length};
 ghost use Rattle.list_core.specs.Items.{Rules, Says};
 
 use crate::list_fault::ListFault;
@@ -35,8 +35,9 @@ pub trait LineRules<A: Allocator> {
     /// The rules, as functions of a line and of what those before it settled.
     ghost rules: { Rules Self Self.Item Self.Cause };
 
-    /// Reads a line. Nothing is settled by a line that is refused, and none for want of memory.
+    /// Reads a line, of at most 4,096 octets. Nothing is settled by a line that is refused, and none for want of memory.
     fn say(&mut self, alloc: A, line: &[u8]) -> Result<Option<Self::Item>, LineError<Self::Cause>>
+        requires { length line.now ≤ 4096 }
         ensures { Says rules self.old line.now result self.new };
 
     /// What is missing where the input ends.

@@ -1,16 +1,15 @@
 //! One line of a list: the event that it says.
-ghost use Rattle.std.specs.Prelude.{◌≡◌, ◌&&◌, true, ◌<◌, is_some, length, ◌∷◌, []};
+ghost use Rattle.std.specs.Prelude.{◌≡◌, true, None, Err, ◌<◌, is_some, length, ◌∷◌, []};
 ghost use Rattle.list_core.specs.EventLine.{event_of, event_of_fields, fields, fields_keep, frame_event, is_moment, mode_of, moment_of, frame_octets_by};
 ghost use Rattle.list_core.specs.LineAnswer.{Answers, fields_after};
 
-use crate::cutting::cut_first;
+use crate::cutting::{cut_short, find};
 use crate::decimal::decimal_in;
 use crate::event::{Event, EventKind};
 use crate::event_lines::MomentUnit;
-use crate::hexadecimal::read_digits;
+use crate::hexadecimal::{are_hexadecimal, octets_by};
 use crate::line_rules::LineError;
 use crate::list_fault::ListCause;
-use ber_core::Octets;
 use std::alloc::Allocator;
 
 /// The most digits of a moment in milliseconds.
@@ -51,14 +50,11 @@ fn event_in_fields<A: Allocator + Copy>(
     let Some(rest) = rest else {
         return Err(LineError::Cause(ListCause::LineForm));
     };
-    if name == b"C".as_slice() {
-        clock_in(unit, rest)
-    } else if name == b"F".as_slice() {
-        frame_in(alloc, unit, rest)
-    } else if name == b"M".as_slice() {
-        mode_in(unit, rest)
-    } else {
-        Err(LineError::Cause(ListCause::LineForm))
+    match name {
+        [b'C'] => clock_in(unit, rest),
+        [b'F'] => frame_in(alloc, unit, rest),
+        [b'M'] => mode_in(unit, rest),
+        _ => Err(LineError::Cause(ListCause::LineForm)),
     }
 }
 
@@ -94,20 +90,28 @@ fn frame_in<A: Allocator + Copy>(
     ensures { Answers result (event_of_fields unit ((70 ∷ []) ∷ fields rest.now)) (fields_keep unit ((70 ∷ []) ∷ fields rest.now)) }
 {
     let (moment, rest) = first_field(rest);
-    let Some(rest) = rest else {
+    let Some(digits) = rest else {
         return Err(LineError::Cause(ListCause::LineForm));
     };
-    let (digits, more) = first_field(rest);
-    if more.is_some() {
-        return Err(LineError::Cause(ListCause::LineForm));
-    }
     if moment.is_empty() {
         return Err(LineError::Cause(ListCause::LineForm));
     }
-    if digits.is_empty() {
-        return Err(LineError::Cause(ListCause::LineForm));
+    // Digits that write octets are one field, since none of them is a space.
+    if write_octets(digits) {
+        frame_event(alloc, unit, moment, digits)
+    } else {
+        Err(LineError::Cause(why_no_frame::<A>(unit, moment, digits)))
     }
-    frame_event(alloc, unit, moment, digits)
+}
+
+/// Whether digits write the octets of a frame.
+fn write_octets(digits: &[u8]) -> bool
+    ensures { result ≡ is_some (frame_octets_by digits.now) }
+{
+    if digits.is_empty() || digits.len() > MOST_HEX_DIGITS || digits.len() % 2 != 0 {
+        return false;
+    }
+    are_hexadecimal(digits)
 }
 
 /// The frame event of these two fields.
@@ -117,25 +121,35 @@ fn frame_event<A: Allocator + Copy>(
     moment: &[u8],
     digits: &[u8],
 ) -> Result<Option<Event<A>>, LineError<ListCause>>
-    ensures { Answers result (frame_event (moment_of unit moment.now) (frame_octets_by digits.now)) (is_moment unit moment.now && is_some (frame_octets_by digits.now)) }
+    requires { is_some (frame_octets_by digits.now) ≡ true }
+    ensures { Answers result (frame_event (moment_of unit moment.now) (frame_octets_by digits.now)) (is_moment unit moment.now) }
 {
     let Some(moment) = moment_in(unit, moment) else {
         return Err(LineError::Cause(ListCause::Moment));
     };
-    if digits.is_empty() || digits.len() > MOST_HEX_DIGITS || digits.len() % 2 != 0 {
-        return Err(LineError::Cause(ListCause::Hex));
-    }
-    let mut room = [0; MOST_HEX_DIGITS / 2];
-    let octets = &mut room[..digits.len() / 2];
-    if !read_digits(digits, octets) {
-        return Err(LineError::Cause(ListCause::Hex));
-    }
-    match Octets::try_from_slice(alloc, octets) {
+    match octets_by(alloc, digits) {
         Ok(octets) => Ok(Some(Event {
             moment,
             kind: EventKind::Frame(octets),
         })),
         Err(error) => Err(LineError::Memory(error)),
+    }
+}
+
+/// Why a moment, and what follows its space, say no frame.
+#[cold]
+fn why_no_frame<A: Allocator>(unit: MomentUnit, moment: &[u8], rest: &[u8]) -> ListCause
+    requires moment { 0 < length moment.now }
+    requires octets { frame_octets_by rest.now ≡ None }
+    ensures { event_of_fields {A = A} unit ((70 ∷ []) ∷ moment.now ∷ fields rest.now) ≡ Err result }
+{
+    if rest.is_empty() {
+        return ListCause::LineForm;
+    }
+    match (find(rest, b' '), moment_in(unit, moment)) {
+        (Some(_), _) => ListCause::LineForm,
+        (None, None) => ListCause::Moment,
+        (None, Some(_)) => ListCause::Hex,
     }
 }
 
@@ -184,7 +198,7 @@ fn mode_named(field: &[u8]) -> Option<bool>
 fn first_field(octets: &[u8]) -> (&[u8], Option<&[u8]>)
     ensures { fields octets.now ≡ result.0.now ∷ fields_after result.1 }
 {
-    cut_first(octets, b' ')
+    cut_short(octets, b' ')
 }
 
 /// The moment that a field writes, in microseconds.

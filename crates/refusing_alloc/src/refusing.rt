@@ -7,13 +7,16 @@ use std::marker::Model;
 ///
 /// A growth is one call of `allocate`: a collection's first block, each larger one, and each smaller
 /// one to which it shrinks. To give a block back is no growth, and is never refused.
-/// A `&` to it is an allocator that is `Copy`.
+/// It counts both. A `&` to it is an allocator that is `Copy`.
 #[derive(Drop)]
 pub struct RefusingAlloc<A> {
     inner: A,
     // How many growths are still granted; with `None` every one is.
     left: Cell<Option<usize>>,
     refused: Cell<bool>,
+    granted: Cell<usize>,
+    // How often the allocator behind was asked: once for each granted growth, and once for each block that is given back.
+    asked: Cell<usize>,
 }
 
 // Its value is the allocator behind it.
@@ -33,6 +36,8 @@ impl<A> RefusingAlloc<A> {
             inner,
             left: Cell::new(Some(first_refused)),
             refused: Cell::new(false),
+            granted: Cell::new(0),
+            asked: Cell::new(0),
         }
     }
 
@@ -53,24 +58,36 @@ impl<A> RefusingAlloc<A> {
         self.left.set(None);
     }
 
+    /// How many growths were granted since it was made.
+    pub fn growths(&self) -> usize {
+        self.granted.get()
+    }
+
+    /// How many blocks are out: granted, and not given back.
+    pub fn blocks_out(&self) -> usize {
+        let given_back = self.asked.get().saturating_sub(self.granted.get());
+        self.granted.get().saturating_sub(given_back)
+    }
+
     // Counts one growth, and says whether it is granted.
     pub(crate) fn grants(&self) -> bool {
         match self.left.get() {
-            None => true,
+            None => {}
             Some(0) => {
                 self.refused.set(true);
-                false
+                return false;
             }
-            Some(left) => {
-                self.left.set(Some(left - 1));
-                true
-            }
+            Some(left) => self.left.set(Some(left - 1)),
         }
+        self.granted.set(self.granted.get().saturating_add(1));
+        true
     }
 
+    // The allocator behind, which is asked once for each call of this.
     pub(crate) fn behind(&self) -> &A
         ensures { self.now ≡ result.now }
     {
+        self.asked.set(self.asked.get().saturating_add(1));
         &self.inner
     }
 }

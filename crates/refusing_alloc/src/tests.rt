@@ -41,3 +41,25 @@ fn counts_growths_until_asked_again(rt: HostRuntime) {
     assert!(rt; !alloc.has_refused() && alloc.grants() && !alloc.has_refused());
     assert!(rt; !alloc.grants() && !alloc.grants() && alloc.has_refused());
 }
+
+// Whether the allocator tells that so many growths were granted and so many blocks are out.
+fn has_counted<A>(alloc: &RefusingAlloc<A>, growths: usize, blocks_out: usize) -> bool {
+    alloc.growths() == growths && alloc.blocks_out() == blocks_out
+}
+
+// A larger block is granted before the smaller one is given back. A refused growth is none.
+#[test]
+fn counts_what_is_out(rt: HostRuntime) -> Result<(), AllocError> {
+    let alloc = RefusingAlloc::new(rt.alloc(), 4);
+    assert!(rt; has_counted(&alloc, 0, 0));
+    grow_and_shrink(&alloc)?;
+    assert!(rt; has_counted(&alloc, 3, 0));
+    {
+        let mut numbers = Vec::with_capacity(&alloc, 1)?;
+        assert!(rt; has_counted(&alloc, 4, 1));
+        numbers.push(7u64)?;
+        assert!(rt; numbers.reserve_exact(8).is_err() && has_counted(&alloc, 4, 1));
+    }
+    assert!(rt; has_counted(&alloc, 4, 0));
+    Ok(())
+}

@@ -202,18 +202,13 @@ abbrev pub octets_keep : List ℕ → Bool
 octets_keep [] = false
 octets_keep (o ∷ os) = is_ok (members_at 16 0 (o ∷ os))
 
--- the digits of such members; of more digits than a line of a list can have nothing is said
-abbrev pub digits_keep : List ℕ → Option (List ℕ) → Bool
-digits_keep digits None = nat_lt 4096 (length digits)
-digits_keep digits (Some octets) = nat_lt 4096 (length digits) || octets_keep octets
-
 -- the members of a change whose moments are good
-abbrev pub members_keep : Option ℕ → Option UtcTime → List ℕ → Bool
-members_keep (Some moment) (Some t) digits = digits_keep digits (all_octets_in digits)
-members_keep _ _ digits = false
+abbrev pub members_keep : Option ℕ → Option UtcTime → Option (List ℕ) → Bool
+members_keep (Some moment) (Some t) (Some octets) = octets_keep octets
+members_keep _ _ _ = false
 
 abbrev pub change_keeps : MomentUnit → ScriptPart → List (List ℕ) → Bool
-change_keeps unit p (moment ∷ t ∷ members ∷ []) = is_none (too_early p) && members_keep (moment_of unit moment) (time_in t) members
+change_keeps unit p (moment ∷ t ∷ members ∷ []) = is_none (too_early p) && members_keep (moment_of unit moment) (time_in t) (all_octets_in members)
 change_keeps unit p _ = false
 
 abbrev pub part_keeps : MomentUnit → ScriptPart → List ℕ → List (List ℕ) → Bool

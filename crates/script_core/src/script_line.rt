@@ -1,5 +1,5 @@
 //! One line of a script: what it says.
-ghost use Rattle.std.specs.Prelude.{◌≡◌, Some};
+ghost use Rattle.std.specs.Prelude.{◌≡◌, ◌≤◌, Some, IfSome, length};
 ghost use Rattle.list_core.specs.Cuts.{parts_after};
 ghost use Rattle.list_core.specs.EventLine.{moment_of};
 ghost use Rattle.block_core.specs.Commas.{comma_fields};
@@ -10,7 +10,7 @@ use crate::script_control::{control_in, step_in};
 use byteorder::{BigEndian, ByteOrder};
 use frame_core::{LineError, MomentUnit, cut_first, moment_in};
 use mms_data::{ReadFault, UtcTime, ValueList, read_members};
-use std::alloc::{AllocError, Allocator};
+use std::alloc::Allocator;
 
 // Why no change or poll may stand here.
 fn early(part: ScriptPart) -> Option<ScriptCause>
@@ -63,7 +63,7 @@ fn time_in(digits: &[u8]) -> Option<UtcTime>
     }
 }
 
-// The most octets of a change's members: a line of a list has two digits for each, and at most 4,096 octets.
+// The most octets of a change's members: a line has two digits for each, and at most 4,096 octets.
 const MOST_OCTETS: usize = 2048;
 
 // The values that octets spell, as a change at these moments.
@@ -90,7 +90,8 @@ fn change_of_fields<A: Allocator + Copy>(
     t: &[u8],
     members: &[u8],
 ) -> Result<ScriptItem<A>, LineError<ScriptCause>>
-    ensures { AnswersScriptLine result (change_said_by (moment_of unit moment.now) (time_in t.now) (all_octets_in members.now)) (members_keep (moment_of unit moment.now) (time_in t.now) members.now) }
+    requires { length members.now ≤ 4096 }
+    ensures { AnswersScriptLine result (change_said_by (moment_of unit moment.now) (time_in t.now) (all_octets_in members.now)) (members_keep (moment_of unit moment.now) (time_in t.now) (all_octets_in members.now)) }
 {
     let Some(moment) = moment_in(unit, moment) else {
         return Err(LineError::Cause(ScriptCause::Moment));
@@ -98,10 +99,6 @@ fn change_of_fields<A: Allocator + Copy>(
     let Some(t) = time_in(t) else {
         return Err(LineError::Cause(ScriptCause::Hex));
     };
-    // No line of a list has more digits than there is room for here.
-    if members.len() / 2 > MOST_OCTETS {
-        return Err(LineError::Memory(AllocError));
-    }
     let mut room = [0; MOST_OCTETS];
     let octets = &mut room[..members.len() / 2];
     match hex::decode_to_slice(members, octets) {
@@ -117,6 +114,7 @@ pub fn change_in<A: Allocator + Copy>(
     part: ScriptPart,
     fields: Option<&[u8]>,
 ) -> Result<(Option<ScriptItem<A>>, ScriptPart), LineError<ScriptCause>>
+    requires { IfSome fields (λ fields. length fields.now ≤ 4096) }
     ensures { AnswersScriptLine result (change_said unit part (parts_after 44 fields.entry)) (change_keeps unit part (parts_after 44 fields.entry)) }
 {
     let Some(fields) = fields else {
@@ -151,6 +149,7 @@ fn fields_in<A: Allocator + Copy>(
     name: &[u8],
     fields: Option<&[u8]>,
 ) -> Result<(Option<ScriptItem<A>>, ScriptPart), LineError<ScriptCause>>
+    requires { IfSome fields (λ fields. length fields.now ≤ 4096) }
     ensures { AnswersScriptLine result (fields_said unit part name.now (parts_after 44 fields.entry)) (part_keeps unit part name.now (parts_after 44 fields.entry)) }
 {
     if name == b"control".as_slice() {
@@ -179,19 +178,21 @@ fn all_in<A: Allocator + Copy>(
     part: ScriptPart,
     line: &[u8],
 ) -> Result<(Option<ScriptItem<A>>, ScriptPart), LineError<ScriptCause>>
+    requires { length line.now ≤ 4096 }
     ensures { AnswersScriptLine result (all_said unit part (comma_fields line.now)) (all_keep unit part (comma_fields line.now)) }
 {
     let (name, fields) = cut_first(line, b',');
     fields_in(alloc, unit, part, name, fields)
 }
 
-/// What a line says, and which lines may stand behind it: nothing where it is empty or a comment.
+/// What a line of at most 4,096 octets says, and which lines may stand behind it: nothing where it is empty or a comment.
 pub fn line_in<A: Allocator + Copy>(
     alloc: A,
     unit: MomentUnit,
     part: ScriptPart,
     line: &[u8],
 ) -> Result<(Option<ScriptItem<A>>, ScriptPart), LineError<ScriptCause>>
+    requires { length line.now ≤ 4096 }
     ensures { AnswersScriptLine result (line_said unit part line.now) (line_keeps unit part line.now) }
 {
     match line {

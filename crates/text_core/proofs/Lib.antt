@@ -1,3 +1,4 @@
+pub mod HexPieces
 pub mod PieceLemmas
 pub mod ValueLemmas
 pub mod BitLemmas

@@ -1,12 +1,12 @@
 //! The small texts of which lines are made. Each call appends to `out`.
-ghost use Rattle.std.specs.Prelude.{◌≡◌, ◌<◌, ◌+◌, ◌/◌, ◌%◌, ◌++◌, ◌∷◌, [], OnOk, IsTrue};
+ghost use Rattle.std.specs.Prelude.{◌≡◌, ◌<◌, ◌≤◌, ◌+◌, ◌/◌, ◌%◌, ◌++◌, ◌∷◌, [], length, OnOk, IsTrue};
 ghost use Rattle.std.specs.List.{flat_map};
 ghost use Rattle.std.specs.Fmt.{decimal, signed_decimal};
 ghost use Rattle.hex.specs.Hex.{encode_lower};
 ghost use Rattle.text_core.specs.Pieces.{octet_bits, bits_text, escaped, quoted, boolean_text, four_digits};
 
 use itoa::Buffer;
-use list_core::{hexadecimal_digit, write_digits};
+use list_core::write_digits;
 use std::alloc::{AllocError, Allocator};
 
 /// Appends a number in decimal.
@@ -23,39 +23,53 @@ pub fn put_signed<A: Allocator>(out: &mut Vec<u8, A>, integer: i64) -> Result<()
     out.extend_from_slice(Buffer::new().format(integer).as_bytes())
 }
 
+/// How many octets are written at once.
+const BLOCK: usize = 16;
+
+// The digits of so many octets, which the compiler makes all at once.
+#[inline(always)]
+fn block_digits(octets: &[u8; BLOCK]) -> [u8; 2 * BLOCK]
+    ensures { result ≡ encode_lower octets.now }
+{
+    let mut digits = [0; 2 * BLOCK];
+    let _fits = write_digits(octets, &mut digits);
+    digits
+}
+
+/// Appends at most 16 octets in lower case hexadecimal. Inlined, so that their count is known where it is one alone.
+#[inline(always)]
+pub fn put_short_hexadecimal<A: Allocator>(
+    out: &mut Vec<u8, A>,
+    octets: &[u8],
+) -> Result<(), AllocError>
+    requires { length octets.now ≤ 16 }
+    ensures { OnOk result (out.new.items ≡ out.old.items ++ encode_lower octets.now) }
+{
+    let mut block = [0; BLOCK];
+    block[..octets.len()].copy_from_slice(octets);
+    out.extend_from_slice(&block_digits(&block)[..2 * octets.len()])
+}
+
 /// Appends octets in lower case hexadecimal.
 pub fn put_hexadecimal<A: Allocator>(out: &mut Vec<u8, A>, octets: &[u8]) -> Result<(), AllocError>
     ensures { OnOk result (out.new.items ≡ out.old.items ++ encode_lower octets.now) }
 {
-    let start = out.len();
-    // A sum that no number holds is no size of a vector either.
-    out.resize(start.saturating_add(octets.len().saturating_mul(2)), 0)?;
-    if write_digits(octets, &mut out.as_mut_slice()[start..]) {
-        Ok(())
-    } else {
-        Err(AllocError)
+    let mut others = octets;
+    'blocks: while let Some((block, rest)) = others.split_first_chunk::<BLOCK>() {
+        out.extend_from_slice(&block_digits(block))?;
+        others = rest;
     }
-}
-
-// The four hexadecimal digits of a number.
-#[tactic(auto, unfolding(hex::specs::Hex::encode_with))]
-fn hexadecimal_digits(number: u16) -> [u8; 4]
-    ensures { result ≡ four_digits number }
-{
-    let [high, low] = [(number / 256) as u8, (number % 256) as u8];
-    [
-        hexadecimal_digit(high / 16),
-        hexadecimal_digit(high % 16),
-        hexadecimal_digit(low / 16),
-        hexadecimal_digit(low % 16),
-    ]
+    if others.is_empty() {
+        return Ok(());
+    }
+    put_short_hexadecimal(out, others)
 }
 
 /// Appends a number in four hexadecimal digits.
 pub fn put_four_digits<A: Allocator>(out: &mut Vec<u8, A>, number: u16) -> Result<(), AllocError>
     ensures { OnOk result (out.new.items ≡ out.old.items ++ four_digits number) }
 {
-    out.extend_from_slice(&hexadecimal_digits(number))
+    put_short_hexadecimal(out, &[(number / 256) as u8, (number % 256) as u8])
 }
 
 // The four bits of a number below 16 as digits, the most significant first.

@@ -6,7 +6,10 @@ ghost use Rattle.mms_data.specs.Contents.{cleared};
 ghost use Rattle.text_core.specs.Pieces.{after_space, bits_text, spaced};
 ghost use Rattle.text_core.specs.ValueText.{time_text, value_text, members_text};
 
-use crate::pieces::{boolean_name, put_bits, put_decimal, put_hexadecimal, put_quoted, put_signed};
+use crate::pieces::{
+    boolean_name, put_bits, put_decimal, put_hexadecimal, put_quoted, put_short_hexadecimal,
+    put_signed,
+};
 use mms_data::{BitView, Members, UtcTime, View};
 use std::alloc::{AllocError, Allocator};
 
@@ -14,7 +17,7 @@ use std::alloc::{AllocError, Allocator};
 pub fn put_utc<A: Allocator>(out: &mut Vec<u8, A>, time: UtcTime) -> Result<(), AllocError>
     ensures { OnOk result (out.new.items ≡ out.old.items ++ time_text time) }
 {
-    put_hexadecimal(out, &time.to_octets())
+    put_short_hexadecimal(out, &time.to_octets())
 }
 
 // Appends bits. The unused ones, which have any value where they stand, are no part of them.

@@ -77,7 +77,7 @@ fn put_position<A: Allocator>(
 ///
 /// The reader is Open and the writer has not failed. The text is that of the octets that the reader
 /// gave: whole at `Done`, `InputFault` and `ReadFault`, a front of it at `WriteFault`, and whole lines of
-/// the earlier events at `Memory`. At `Memory` and `WriteFault` at most 8,192 of the octets given stand
+/// the earlier events at `Memory`. At these two and at a fault at most 8,192 of the octets given stand
 /// from the start of the line on at which the run stopped. `Memory` is for a frame or a line to be
 /// written, never for a clock moment or a mode without entries or for the list's end; or it is for what the
 /// subscriber keeps of its blocks, and then nothing was read.

@@ -3,7 +3,7 @@
 use arrayvec::ArrayVec;
 use mms_data::{Octets, UtcTime, Value, ValueList};
 use publish_core::{Control, PublishFault, Publisher, Step, Table};
-use std::alloc::{AllocError, Global};
+use std::alloc::{AllocError, Allocator};
 use worked_frames::FRAME;
 
 /// `FRAME` with another status number, sequence number and boolean. The first frame of a state lives 2,000 ms, the others
@@ -30,7 +30,7 @@ pub const NO_TIME: UtcTime = UtcTime {
 };
 
 /// The control block of the frames, with a count of entries.
-pub fn control(alloc: Global, entries: u32) -> Result<Control<Global>, AllocError> {
+pub fn control<A: Allocator + Copy>(alloc: A, entries: u32) -> Result<Control<A>, AllocError> {
     Ok(Control {
         destination: [0x01, 0x0c, 0xcd, 0x01, 0x00, 0x01],
         source: [0x02, 0x00, 0x00, 0x00, 0x00, 0x01],
@@ -51,7 +51,11 @@ pub fn step(wait_ms: u32, live_ms: u32) -> Step {
 }
 
 /// So many equal booleans.
-pub fn booleans(alloc: Global, count: u32, value: bool) -> Result<ValueList<Global>, AllocError> {
+pub fn booleans<A: Allocator>(
+    alloc: A,
+    count: u32,
+    value: bool,
+) -> Result<ValueList<A>, AllocError> {
     let mut values = Vec::new(alloc);
     for _ in 0..count {
         values.push(Value::Boolean(value))?;
@@ -59,21 +63,34 @@ pub fn booleans(alloc: Global, count: u32, value: bool) -> Result<ValueList<Glob
     Ok(ValueList::from(values))
 }
 
+/// So many octet strings of so many octets.
+pub fn octet_strings<A: Allocator + Copy>(
+    alloc: A,
+    count: u32,
+    size: usize,
+) -> Result<ValueList<A>, AllocError> {
+    let mut values = Vec::new(alloc);
+    for _ in 0..count {
+        values.push(Value::Octets(Octets::from(vec![in alloc; 7; size]?)))?;
+    }
+    Ok(ValueList::from(values))
+}
+
 /// A publisher whose first status number is 1.
-pub fn publisher(
-    control: Control<Global>,
+pub fn publisher<A: Allocator>(
+    control: Control<A>,
     steps: &[Step],
-) -> Result<Publisher<Global>, PublishFault> {
+) -> Result<Publisher<A>, PublishFault> {
     let table = Table::new(steps)?;
     Publisher::new(control, table, 1)
 }
 
 /// What a change gives: its octets, or its fault and how many values are handed back.
-pub fn changed(
-    publisher: &mut Publisher<Global>,
+pub fn changed<A: Allocator>(
+    publisher: &mut Publisher<A>,
     moment: u64,
     t: UtcTime,
-    values: ValueList<Global>,
+    values: ValueList<A>,
 ) -> Result<ArrayVec<u8, 1600>, (PublishFault, usize)> {
     match publisher.change(moment, t, values) {
         Ok(octets) => Ok(octets),
@@ -82,9 +99,9 @@ pub fn changed(
 }
 
 /// Whether a change to a boolean at a moment in microseconds gives the first frame of this state.
-pub fn is_changed(
-    alloc: Global,
-    publisher: &mut Publisher<Global>,
+pub fn is_changed<A: Allocator>(
+    alloc: A,
+    publisher: &mut Publisher<A>,
     moment: u64,
     (state, value): (u8, bool),
 ) -> Result<bool, AllocError> {

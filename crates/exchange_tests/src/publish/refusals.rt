@@ -24,7 +24,7 @@ fn steps_that_make_no_table(rt: HostRuntime) {
 }
 
 // A moment of change whose fraction of a second has no spelling.
-const WIDE: UtcTime = UtcTime {
+pub const WIDE: UtcTime = UtcTime {
     seconds: 0,
     fraction: 16_777_216,
     quality: 0,

@@ -28,6 +28,7 @@ fn blocks<A: Allocator + Copy>(alloc: A, app_ids: &[u16]) -> Result<Vec<Block<A>
 }
 
 /// What `new` answers to blocks with these APPIDs, this growth and all after it refused, and whether a growth was refused.
+/// Nothing is out then.
 fn answer_of_new(
     memory: Global,
     app_ids: &[u16],
@@ -42,6 +43,9 @@ fn answer_of_new(
         Err(SubscribeFault::SameBlockTwice(i)) => Made::Twice(i),
         Err(SubscribeFault::Memory(_error)) => Made::NoMemory,
     };
+    if alloc.blocks_out() != 0 {
+        return Err(Fail::from("a block of memory is still out"));
+    }
     Ok((made, alloc.has_refused()))
 }
 
@@ -132,32 +136,32 @@ const EXAMPLES: [(Given, Want, usize, usize); 19] = [
         Given::Goose(Numbers(5001, 2, 1, 2000)),
         Want::One(Told::Repeated(0, 2, 1)),
         1,
-        2,
+        1,
     ),
     (
         Given::Goose(Numbers(5001, 2, 0, 2000)),
         Want::One(Told::Older(0, 2, 0)),
         1,
-        2,
+        1,
     ),
     (
         Given::Changed(5001, 46, 0),
         Want::One(Told::Refused(0, Reason::StateZero)),
         1,
-        2,
+        1,
     ),
     (
         Given::Changed(5001, 15, 9),
         Want::One(Told::NotSubscribed),
         1,
-        2,
+        1,
     ),
-    (Given::Sampled(5001), Want::One(Told::Sampled), 1, 2),
+    (Given::Sampled(5001), Want::One(Told::Sampled), 1, 1),
     (
         Given::Cut(5001),
         Want::One(Told::Faulty(66, Cause::Truncated)),
         1,
-        2,
+        1,
     ),
     (Given::Clock(5001), Want::Nothing, 0, 0),
     (Given::Mode(5001, true), Want::Nothing, 0, 0),
@@ -171,7 +175,7 @@ const EXAMPLES: [(Given, Want, usize, usize); 19] = [
         Given::Goose(Numbers(5003, 3, 0, 2000)),
         Want::One(Told::Refused(0, Reason::Simulated)),
         1,
-        2,
+        1,
     ),
     (
         Given::Simulated(Numbers(7002, 2, 0, 2000)),
@@ -203,9 +207,12 @@ fn first_wrong<'a>(
 fn take_where_each_growth_is_refused(rt: HostRuntime) -> Result<(), Fail> {
     let alloc = RefusingAlloc::new(rt.alloc(), 0);
     alloc.allow();
-    let mut subscriber = Subscriber::new(&alloc, blocks(&alloc, &[1, 2])?)?;
-    if let Some(at) = first_wrong(&alloc, &mut subscriber)? {
-        assert!(rt; false, "at {at}");
+    {
+        let mut subscriber = Subscriber::new(&alloc, blocks(&alloc, &[1, 2])?)?;
+        if let Some(at) = first_wrong(&alloc, &mut subscriber)? {
+            assert!(rt; false, "at {at}");
+        }
     }
+    assert!(rt; alloc.blocks_out() == 0);
     Ok(())
 }

@@ -162,9 +162,9 @@ impl<A: Allocator> Engine<A> for CheckText {
 /// The reader is Open and the writer has not failed. The text is that of the octets that the reader
 /// gave: whole at `Done`, `Findings`, `InputFault` and `ReadFault`, a front of it at `WriteFault`,
 /// and whole lines of it at `Memory`. At `Memory`, and at `WriteFault` if anything was read, the
-/// lines of all earlier events stand written, and at most 8,192 of the octets given stand from the
-/// start of the line on at which the run stopped. `Memory` is for a frame or a line to be written,
-/// never for the clock, a mode or the list's end.
+/// lines of all earlier events stand written. Then, and at a fault, at most 8,192 of the octets given
+/// stand from the start of the line on at which the run stopped. `Memory` is for a frame or a line to
+/// be written, never for the clock, a mode or the list's end.
 pub fn check<A: Allocator + Copy, R: Source, W: Sink>(
     alloc: A,
     reader: R,

@@ -8,7 +8,7 @@ pub returns-then-before-ge-MOST_RECORDS-clause-record : goal.returns-then-before
 returns-then-before-ge-MOST_RECORDS-clause-record g c = (
   Err c.in_record.result,
   refl,
-  answered_many c.args.form _ c.fill.new.into _ _ _ _ c.args.before (omega arith) (omega (arith, c.fill.auto.into)) (Gives-from_Consumes _ _ _ c.in-Whole.ensures.0) c.in-Whole.ensures.1 (sym c.in_record.ensures),
+  answered_many c.args.form _ c.fill.new.into _ _ _ _ c.args.before (omega arith) c.fill.auto.into (Gives-from_Consumes _ _ _ c.in-Whole.ensures.0) c.in-Whole.ensures.1 (sym c.in_record.ensures),
 )
 
 pub returns-in-Short-clause-record : goal.returns-in-Short-clause-record

@@ -10,7 +10,7 @@ pub answers-init : goal.answers-init
 answers-init g c = record {
   works = search rules;
   same = refl;
-  so_far = ([], c.requires.fresh, ran_none _ _ _ _);
+  so_far = ([], c.requires.fresh, ran_none _ _ _ _ (c.new-items.ensures.ending ∙ c.requires.open));
 }
 
 pub answers-preserved : goal.answers-preserved

@@ -57,7 +57,7 @@ returns-in-Ok-None-say g c =
       skips _ _ mid _ p.0 p.1 e.taken refl p.2 p.3 p.4 (ap g.R.Source.left c.take.ensures.reader) (ap g.R.Source.ending c.take.ensures.reader)
           c.take.ensures.taken (take (c.in-Ok-Some.size + 1) mid.held) c.take.ensures.off (rw c.take.ensures.held e.front.4)
           (λ more z f. rw (c.take.ensures.taken, c.take.ensures.held)
-          (listing-line _ s mid.ending mid.taken mid.held _ rest (Ok (None, c.say.new.self)) (ap (g.G.LineRules.rules.said s) (sym c.front.ensures) ∙ said) e.front.3 more z f)),
+          (listing-line _ s mid.ending mid.taken mid.held _ rest (Ok (None, c.say.new.self)) (ap (g.G.LineRules.rules.said s) (sym c.front.ensures.line) ∙ said) e.front.3 more z f)),
       c.take.ensures.taken ∙ ap (λ n. n + 1) e.taken,
       omega (arith, c.take.ensures.taken, e.front.2),
       refl,
@@ -76,7 +76,7 @@ returns-in-Ok-Some-say g c =
       tells _ _ mid _ _ p.0 p.1 e.taken refl p.2 p.3 p.4 (ap g.R.Source.left took.reader) (ap g.R.Source.ending took.reader) e.bounded
           (omega (arith, took.taken), number ∙ sym took.taken, omega (arith, took.taken, e.front.2)) (omega (arith, took.taken)) (take (c.in-Ok-Some.size + 1) mid.held, took.off, rw took.held e.front.4) tt
           (λ more z f. rw (number, took.taken, took.held)
-          (listing-line _ s mid.ending mid.taken mid.held _ rest (Ok (Some c.in-Ok-Some-say.item, c.say.new.self)) (ap (g.G.LineRules.rules.said s) (sym c.front.ensures) ∙ said) e.front.3 more z f)),
+          (listing-line _ s mid.ending mid.taken mid.held _ rest (Ok (Some c.in-Ok-Some-say.item, c.say.new.self)) (ap (g.G.LineRules.rules.said s) (sym c.front.ensures.line) ∙ said) e.front.3 more z f)),
       refl,
     )
 
@@ -87,7 +87,7 @@ returns-in-Err-Memory g c =
     let p = e.given in
     let s = c.args.self.now.rules in
     let mid = place (stream g.R.Source.left g.R.Source.ending c.fill.new.self) s in (
-      tells _ _ mid _ _ p.0 p.1 e.taken refl p.2 p.3 p.4 refl refl e.bounded (omega arith) refl refl (c.in-Ok-Some.size, e.front, ap (g.G.LineRules.rules.keeps s) (sym c.front.ensures) ∙ same.0)
+      tells _ _ mid _ _ p.0 p.1 e.taken refl p.2 p.3 p.4 refl refl e.bounded (omega arith) refl refl (c.in-Ok-Some.size, e.front, ap (g.G.LineRules.rules.keeps s) (sym c.front.ensures.line) ∙ same.0)
           (λ more z f. ap (λ t. listing g.G.LineRules.rules t z mid.taken (mid.held ++ more)) same.1),
       refl,
     )
@@ -103,7 +103,7 @@ returns-in-Err-Cause g c =
     let number = c.next_number-self-in-Err-Cause.ensures in (
       tells _ _ mid _ _ p.0 p.1 e.taken refl p.2 (Gives-from_Consumes _ _ _ p.3) p.4 refl refl e.bounded (omega arith, number) refl refl tt
           (λ more z f. (
-            listing-line _ s mid.ending mid.taken mid.held _ rest (Err c.in-Err-Cause.cause) (ap (g.G.LineRules.rules.said s) (sym c.front.ensures) ∙ said.0) e.front.3 more z f
+            listing-line _ s mid.ending mid.taken mid.held _ rest (Err c.in-Err-Cause.cause) (ap (g.G.LineRules.rules.said s) (sym c.front.ensures.line) ∙ said.0) e.front.3 more z f
                 ∙ ap (λ k. stops (faulty (fault.Line k c.in-Err-Cause.cause))) (sym number),
             ap (λ t. listing g.G.LineRules.rules t z mid.taken (mid.held ++ more)) said.1,
           )),
