@@ -68,6 +68,16 @@ def classic_pcap(frames):
     return header + b"".join(struct.pack("<IIII", at, 0, len(it), len(it)) + it for at, it in enumerate(frames))
 
 
+def why_told(command, wrote, complained, status):
+    """What is wrong with the messages of a run that meets no failing device: at status 3 they begin with the command and the
+    name in the last line of its text, and else there is none."""
+    if status != 3:
+        return [f"standard error is not empty: {complained!r}"] if complained else []
+    number, _, name = wrote.removeprefix(b"# ").splitlines()[-1].removeprefix(b"# ").split(b" ")[:3]
+    wanted = b"goose %s: line %s: %s: " % (command.encode(), number, name)
+    return [] if complained.startswith(wanted) else [f"standard error begins not with {wanted!r}: {complained!r}"]
+
+
 class Case:
     """A command line, its input, and what must come of it. A stdout of None is not compared."""
 

@@ -66,22 +66,22 @@ def writes_so_far():
 
 
 class TriedOnce(Case):
-    """Standard output is a disk that is full, and no write is tried again: the system is asked to write as often as by a
-    run whose first read fails, which writes one text and one message."""
+    """Standard output is a disk that is full, and no write is tried again: the system is asked to write as often as by
+    `show` whose first read fails, which writes one text and one message."""
 
-    def writes(self, program, stdin, stdout):
+    def writes(self, program, words, stdin, stdout):
         before = writes_so_far()
-        subprocess.run([*program, *self.words], stdin=stdin, stdout=stdout, stderr=subprocess.DEVNULL, check=False)
+        subprocess.run([*program, *words], stdin=stdin, stdout=stdout, stderr=subprocess.DEVNULL, check=False)
         return writes_so_far() - before
 
     def why_wrong(self, program):
         with descriptor("/") as stdin, descriptor("/dev/null", os.O_WRONLY) as stdout:
-            wanted = self.writes(program, stdin, stdout)
+            wanted = self.writes(program, ["show"], stdin, stdout)
         reading, writing = os.pipe()
         os.write(writing, self.stdin)
         os.close(writing)
         with os.fdopen(reading, "rb", buffering=0) as stdin, descriptor("/dev/full", os.O_WRONLY) as stdout:
-            made = self.writes(program, stdin, stdout)
+            made = self.writes(program, self.words, stdin, stdout)
         return [] if made == wanted else [f"the system was asked to write {made} times, and not {wanted}"]
 
 

@@ -6,7 +6,7 @@ import random
 import by_chance
 import publisher
 from frames import BOOLEAN, element, put
-from harness import Case, first_difference, run, text
+from harness import Case, first_difference, run, text, why_told
 from themes.replaying import flag, number, state
 
 SEED = 81802
@@ -72,7 +72,7 @@ class Publishes:
         wrote, complained, status = run(program, ["publish"], self.octets)
         difference = first_difference(text(lines), wrote)
         why = [difference] if difference else []
-        why += [f"standard error is not empty: {complained!r}"] if complained else []
+        why += why_told("publish", wrote, complained, status)
         why += [f"ended with status {status}, and not {wanted_status}"] if status != wanted_status else []
         difference = self.known is not None and first_difference(self.known, text(lines))
         return why + ([f"the slow publisher is wrong: {difference}"] if difference else [])

@@ -11,7 +11,7 @@ import tempfile
 import by_definition
 import subscriber
 from frames import BOOLEAN, ENVELOPE, SAMPLED, element, with_fields
-from harness import SECONDS, Case, first_difference, run, text
+from harness import SECONDS, Case, first_difference, run, text, why_told
 
 SEED = 61850
 BY_BLOCK = pathlib.Path(__file__).resolve().parent.parent.parent / "examples" / "replay_by_block"
@@ -49,7 +49,7 @@ class Replays:
         wrote, complained, status = run(program, ["replay", *self.words], self.octets)
         difference = first_difference(text(lines), wrote)
         why = [difference] if difference else []
-        why += [f"standard error is not empty: {complained!r}"] if complained else []
+        why += why_told("replay", wrote, complained, status)
         return why + ([f"ended with status {status}, and not {wanted_status}"] if status != wanted_status else [])
 
 
@@ -109,11 +109,11 @@ class ByDefinition:
     def why_list_wrong(program, octets, words):
         lines, wanted_status = by_definition.replay(octets, words)
         slow_lines, slow_status = subscriber.replay(octets, words)
-        given = {"the program": run(program, ["replay", *words], octets),
-                 "the slow subscriber": (text(slow_lines), b"", slow_status)}
-        return [f"{who}: {first_difference(text(lines), wrote) or f'status {status}, standard error {complained!r}'}"
-                for who, (wrote, complained, status) in given.items()
-                if (wrote, complained, status) != (text(lines), b"", wanted_status)]
+        wrote, complained, status = run(program, ["replay", *words], octets)
+        given = {"the program": (wrote, status), "the slow subscriber": (text(slow_lines), slow_status)}
+        return why_told("replay", wrote, complained, status) + [
+            f"{who}: {first_difference(text(lines), wrote) or f'status {status}'}"
+            for who, (wrote, status) in given.items() if (wrote, status) != (text(lines), wanted_status)]
 
 
 def each_four():

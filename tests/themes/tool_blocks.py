@@ -246,6 +246,11 @@ def lost():
     yield Lost("a restart", text([state(0, 3, 9), state(5000, 1, 1, 4)]), block, expired=1, states_lost=0, frames_lost=0, restarts=1)
     yield Lost("a link that was down", text([state(0, 3, 9), state(5000, 3, 14)]), block, expired=1, states_lost=0, frames_lost=0, restarts=0)
     yield Lost("delays", text([state(1, 1, 0), state(100, 2, 0), state(1002, 3, 0, 1), state(1100, 4, 1, 1)]), block, delay="100", frames_lost=1)
+    yield Lost("an earlier state that comes late", text([state(0, 5, 0), state(100, 3, 0), state(200, 3, 4)]), block, status=0, old=2,
+               states_lost=0, frames_lost=0)
+    yield Lost("times that go back", text([state(5000, 1, 0), state(0, 1, 1), state(6000, 1, 2)]), block, status=0, gap="1000/2000")
+    simulated = f"F 1500 {put(WORKED, at46=2, at52=255).hex()}"
+    yield Lost("a switch", text([state(0, 1, 0), "M 100 on", simulated]), block, status=0, switched=1, acts=2, gap="-")
     yield Lost("a frame before its change", text([state(0, 1, 0), state(1000, 2, 0, 2)]), block, status=0, delay="0")
     yield Lost("a clock that is not synchronised", text([state(1, 1, 0), state(100, 2, 0, 0, 0x2A)]), block, status=0, delay="1")
     yield Lost("clocks that are apart", text(["V2", state(7200000000, 1, 0)]), block, status=0, delay="-")

@@ -3,7 +3,7 @@ import random
 
 import watcher
 from frames import SAMPLED, SAMPLED_ENVELOPE, WORKED, element, framed, put
-from harness import Case, first_difference, listed, run, text
+from harness import Case, first_difference, listed, run, text, why_told
 
 SEED = 61869
 S = ["--id", "S"]
@@ -37,7 +37,7 @@ class Watches:
         wrote, complained, status = run(program, words, self.octets)
         difference = first_difference(text(lines), wrote)
         why = [difference] if difference else []
-        why += [f"standard error is not empty: {complained!r}"] if complained else []
+        why += why_told("watch", wrote, complained, status)
         return why + ([f"ended with status {status}, and not {wanted_status}"] if status != wanted_status else [])
 
 

@@ -62,8 +62,8 @@ class Helps(Case):
 
 
 class Begins(Case):
-    """Help begins with an example of its command that runs as it stands, and says what the command's own words are, the exit
-    statuses and where to read more."""
+    """Help begins with an example that runs as it stands, that of the program where goose alone is at hand, and says what the
+    command's own words are, the exit statuses and where to read more."""
 
     def __init__(self, words):
         super().__init__(f"the example of {' '.join(words)}", words)
@@ -71,15 +71,16 @@ class Begins(Case):
     def why_wrong(self, program):
         wrote, _, status = self.run(program)
         why = [] if status == 0 else [f"ended with status {status}"]
-        named = "goose" if len(self.words) == 1 else f"goose {self.words[0]}"
-        found = re.match(rf"Example: {named}((?: .*)? < examples/[\w.]+)\n", wrote.decode("ascii"))
+        is_whole = len(self.words) == 1
+        form = r"echo '.*' \| goose \w+" if is_whole else rf"goose {self.words[0]}(?: .*)? < examples/[\w.]+"
+        found = re.match(rf"Example: ({form})\n", wrote.decode("ascii"))
         if not found:
             return [*why, f"help begins with no example: {clipped(wrote)}"]
-        words = "" if named == "goose" else self.words[0]
-        ran = subprocess.run(["bash", "-c", f"{shlex.join(program)} {words}{found[1]}"], cwd=TOP, stdin=subprocess.DEVNULL,
+        command = re.sub(r"\bgoose\b", lambda _: shlex.join(program), found[1], count=1)
+        ran = subprocess.run(["bash", "-c", command], cwd="/" if is_whole else TOP, stdin=subprocess.DEVNULL,
                              stdout=subprocess.PIPE, stderr=subprocess.PIPE, timeout=SECONDS)
         why += [] if ran.returncode in (0, 1) and ran.stdout and not ran.stderr else [f"the example ends so: {ran}"]
-        parts = [b"Exit status: 0 ", *STATUSES, b"docs/FORMATS.md"]
+        parts = [b"Exit status: 0 ", *STATUSES, b"\nMore: man goose\n"]
         parts += [UNITS.get(self.words[0], b"Moments in the input are microseconds where its first line is V2, else milliseconds")]
         parts += OWN_WORDS.get(self.words[0], [])
         if self.words[0] == "check":
@@ -87,6 +88,18 @@ class Begins(Case):
         found = FOUND.get(self.words[0], b"Exit status: 0 done, 2 wrong arguments")
         why += [f"help tells {other!r}" for other in FOUND.values() if other != found and other in wrote]
         return why + [f"help lacks {part!r}" for part in [*parts, found] if part not in wrote]
+
+
+class Same(Case):
+    """Two command lines are one: they write the same, say the same and end alike."""
+
+    def __init__(self, words, others):
+        super().__init__(f"{' '.join(words)} is {' '.join(others)}", words)
+        self.others = others
+
+    def why_wrong(self, program):
+        mine, other = self.run(program), Case("", self.others).run(program)
+        return [] if mine == other and mine[0] + mine[1] else [f"{clipped(mine[0])}, and not {clipped(other[0])}; {mine[1:]}, {other[1:]}"]
 
 
 class Refuses(Case):
@@ -109,8 +122,8 @@ class Refuses(Case):
 
 
 class SaysBlockForm(Case):
-    """A text that is no control block: its position and what form a block has, and nothing else; and the example that is
-    given there is a block."""
+    """A text that is no control block: its position, which field is wrong, what form a block has, and nothing else; and the
+    example that is given there is a block."""
 
     def __init__(self, block):
         super().__init__(f"no block: {block!r}", ["replay", "0001,G,D,,1,1", block], b"X\n", b"", 2)
@@ -118,7 +131,8 @@ class SaysBlockForm(Case):
     def why_wrong(self, program):
         why = super().why_wrong(program)
         complained = self.run(program)[1]
-        if complained != b"block 1 BlockForm\n" + BLOCK_FORM:
+        lines = complained.splitlines(keepends=True)
+        if len(lines) != 3 or (lines[0], lines[2]) != (b"block 1 BlockForm\n", BLOCK_FORM):
             return [*why, f"standard error is {clipped(complained)!r}"]
         example = re.search(rb"'(.*)'", complained)[1]
         status = subprocess.run([*program, "replay", example], stdin=subprocess.DEVNULL, timeout=SECONDS).returncode
@@ -133,6 +147,11 @@ def helps():
             yield Helps([name, word], [said, f"Usage: goose {name}{TAKES.get(name, '')}", "-h, --help Print help"],
                         [ABOUT, *[other for other in HELP.values() if other != said]])
     yield Begins(["--help"])
+    yield Same(["help"], ["--help"])
+    for name in HELP:
+        yield Same(["help", name], [name, "--help"])
+    for words in (["help", "nothing"], ["help", "show", "more"]):
+        yield Same(words, [*words[1:], "--help"])
     for name in HELP:
         yield Begins([name, "--help"])
     for word in ("--version", "-V"):
@@ -141,7 +160,7 @@ def helps():
 
 def refusals():
     for words, named in (
-        ([], b"'goose' requires a subcommand"), (["nothing"], b"'nothing'"), (["help"], b"'help'"), (["Show"], b"'Show'"),
+        ([], b"'goose' requires a subcommand"), (["nothing"], b"'nothing'"), (["Help"], b"'Help'"), (["Show"], b"'Show'"),
         (["CHECK"], b"'CHECK'"), (["rewrit"], b"'rewrit'"), (["shows"], b"'shows'"), ([""], b"''"), (["--nothing"], b"'--nothing'"),
         (["-x"], b"'-x'"), ([b"sh\xffow"], b"UTF-8"), (["show", b"\xff"], b"UTF-8"),
     ):

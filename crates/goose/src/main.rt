@@ -3,26 +3,31 @@
 //! 1 something was found; 2 wrong arguments; 3 an error in the input; 4 a read or write fault; 5 out of memory.
 #![tactic(auto)]
 
+mod input;
+mod output;
+
 ghost use Rattle.std.specs.Prelude.{IfOk};
 ghost use Rattle.words_core.specs.CommandLine.{HasPeriod, said};
 
+use crate::input::{BLOCK, Input, Recent};
+use crate::output::Output;
 use clap::error::ErrorKind as WordsErrorKind;
-use engine_core::{Ending, status};
-use exchange_engines::{publish, replay, watch};
-use frame_engines::{check, import, rewrite, show};
-use inventory_engine::blocks;
-use list_core::{FromRead, ToWrite};
-use std::io::{BufReader, BufWriter, ErrorKind, Write};
+use message_core::{Seen, advice, block_fault, stop_in};
+use std::alloc::AllocError;
+use std::cell::RefCell;
+use std::io::{BufReader, ErrorKind, IsTerminal};
 use std::process::ExitCode;
 use std::{env, io};
-use words_core::{Task, WordsError, read_words};
+use task_core::{Ending, FromRead, Task, ToWrite, WordsError, perform, read_words, status};
+
+// What is not inlined here needs much of the stack, which is free again when a task runs.
 
 // What standard error says of a control block that can't be read, behind its position.
 const BLOCK_FORM: &str =
     "A BLOCK is APPID,gocbRef,datSet,goID,confRev,entries, for example '0001,IED1LD/LLN0$GO$gcb,IED1LD/LLN0$ds,,1,2'";
 
 // What standard error says behind the parser's own message: what would have been right, where that message leaves it open.
-fn advice(kind: WordsErrorKind) -> Option<&'static str> {
+fn advice_on(kind: WordsErrorKind) -> Option<&'static str> {
     match kind {
         WordsErrorKind::InvalidSubcommand => Some(
             "The commands are show, check, rewrite, blocks, replay, publish, watch and import; goose --help says what each does",
@@ -39,6 +44,7 @@ fn advice(kind: WordsErrorKind) -> Option<&'static str> {
 
 // Says what the parser says of the words, and answers the exit status. Help that cannot be written is a write fault; a
 // mistake in the words stays one, whether it can be told or not.
+#[inline(never)]
 fn answer_words(rt: &HostRuntime, error: &clap::Error) -> u8 {
     let code = error.exit_code() as u8;
     if error.print(rt).is_err() {
@@ -48,7 +54,7 @@ fn answer_words(rt: &HostRuntime, error: &clap::Error) -> u8 {
             code
         };
     }
-    if let Some(text) = advice(error.kind()) {
+    if let Some(text) = advice_on(error.kind()) {
         let _ = rt.eprintln(text);
     }
     code
@@ -65,65 +71,128 @@ fn texts_of(rt: &HostRuntime) -> Result<Vec<String>, u8> {
     }
 }
 
-// The task that the words ask for.
-fn task_of(rt: &HostRuntime, texts: &[String]) -> Result<Task, WordsError>
-    ensures { IfOk result (λ t. HasPeriod (said t)) }
-{
+// The words, of which `help` stands for the option: `goose help COMMAND` is `goose COMMAND --help`.
+fn words_of<'a>(rt: &HostRuntime, texts: &'a [String]) -> Result<Vec<&'a str>, AllocError> {
     let mut words = Vec::new(rt.alloc());
     for text in texts {
-        if words.push(text.as_str()).is_err() {
-            return Err(WordsError::Memory);
-        }
+        words.push(text.as_str())?;
     }
-    read_words(rt.alloc(), words.as_slice())
+    if words.get(1) == Some(&"help") {
+        words.remove(1);
+        words.push("--help")?;
+    }
+    Ok(words)
+}
+
+// The task that the words ask for.
+#[inline(never)]
+fn task_of(rt: &HostRuntime, words: &[&str]) -> Result<Task, WordsError>
+    ensures { IfOk result (λ t. HasPeriod (said t)) }
+{
+    read_words(rt.alloc(), words)
+}
+
+// Says on a terminal that input is awaited, and how it ends.
+#[inline(never)]
+fn say_awaited(rt: &HostRuntime, task: &Task) {
+    if rt.stdin().is_terminal() {
+        let awaited = match task {
+            Task::Publish => "script",
+            Task::Import => "capture",
+            _ => "list",
+        };
+        let _ = eprintln!(rt;
+            "goose {}: a {awaited} is awaited; end it with Ctrl-D",
+            task.name()
+        );
+    }
+}
+
+// Says why the input ended a run, and what to do about it, where something is known of that.
+#[inline(never)]
+fn say_stop(rt: &HostRuntime, command: &str, last: &[u8], recent: &Recent) {
+    let Some(stop) = stop_in(last) else {
+        return;
+    };
+    let _ = eprintln!(rt; "goose {command}: {stop}");
+    let seen = Seen {
+        head: recent.head(),
+        line: recent.line(stop.number),
+    };
+    if let Some(text) = advice(&stop, &seen) {
+        let _ = rt.eprintln(text);
+    }
 }
 
 // Runs a task from standard input to standard output, and answers the exit status.
 fn run(rt: &HostRuntime, task: Task) -> u8
     requires { HasPeriod (said task) }
 {
-    let Ok(mut output) = BufWriter::with_capacity(rt.alloc(), 65536, io::writer(rt)) else {
+    let Ok(output) = Output::new(rt.alloc(), io::writer(rt)) else {
         return status(&Ending::Memory);
     };
-    let (reader, mut writer) = (FromRead::new(rt.reader()), ToWrite::new(&mut output));
-    let ending = match task {
-        Task::Show => show(rt.alloc(), reader, &mut writer).0,
-        Task::Check => check(rt.alloc(), reader, &mut writer).0,
-        Task::Rewrite => rewrite(rt.alloc(), reader, &mut writer).0,
-        Task::Blocks => blocks(rt.alloc(), reader, &mut writer).0,
-        Task::Replay(blocks) => replay(rt.alloc(), reader, blocks, &mut writer).0,
-        Task::Publish => publish(rt.alloc(), reader, &mut writer).0,
-        Task::Watch { period, id } => {
-            watch(rt.alloc(), reader, period, id.as_slice(), &mut writer).0
-        }
-        // The lists' readers hold what they read ahead; that of captures asks for a record's octets alone.
-        Task::Import => match BufReader::with_capacity(rt.alloc(), 65536, rt.reader()) {
-            Ok(input) => import(rt.alloc(), FromRead::new(input), &mut writer).0,
-            Err(_) => Ending::Memory,
-        },
+    let Ok(recent) = Recent::new(rt.alloc()) else {
+        return status(&Ending::Memory);
     };
-    let flushed = match ending {
-        Ending::WriteFault => Ok(()),
-        _ => output.flush(),
+    let recent = RefCell::new(recent);
+    let input = Input {
+        reader: rt.reader(),
+        output: &output,
+        recent: &recent,
     };
-    // A write that failed is not tried again: a buffer that is dropped would be flushed once more.
-    let (_output, _unwritten) = output.into_parts();
-    match flushed {
-        Ok(()) => status(&ending),
-        Err(_) => status(&Ending::WriteFault),
+    let Ok(input) = BufReader::with_capacity(rt.alloc(), BLOCK, input) else {
+        return status(&Ending::Memory);
+    };
+    say_awaited(rt, &task);
+    let command = task.name();
+    let mut writer = ToWrite::new(&output);
+    let ending = perform(rt.alloc(), task, FromRead::new(input), &mut writer).0;
+    let last = output.last_held();
+    let is_written = match ending {
+        Ending::WriteFault => true,
+        _ => output.hand_on().is_ok(),
+    };
+    output.let_go();
+    if !is_written {
+        return status(&Ending::WriteFault);
     }
+    if ending == Ending::InputFault {
+        say_stop(rt, command, last.as_slice(), &recent.into_inner());
+    }
+    status(&ending)
+}
+
+// Says which text is no control block, and why, and answers the exit status. The texts stand behind the name of the
+// command, with perhaps the mark `--` among them.
+#[inline(never)]
+fn answer_block(rt: &HostRuntime, words: &[&str], position: usize) -> u8 {
+    let _ = eprintln!(rt; "block {position} BlockForm");
+    let mark = words
+        .iter()
+        .position(|word| *word == "--")
+        .unwrap_or(words.len());
+    let at = position.saturating_add(2);
+    let at = if at >= mark { at.saturating_add(1) } else { at };
+    let fault = match words.get(at) {
+        Some(text) => block_fault(text),
+        None => None,
+    };
+    if let Some(fault) = fault {
+        let _ = eprintln!(rt; "{fault}");
+    }
+    let _ = rt.eprintln(BLOCK_FORM);
+    2
 }
 
 // Does what the words ask for, and answers the exit status.
 fn answer(rt: &HostRuntime, texts: &[String]) -> u8 {
-    match task_of(rt, texts) {
+    let Ok(words) = words_of(rt, texts) else {
+        return status(&Ending::Memory);
+    };
+    match task_of(rt, words.as_slice()) {
         Ok(task) => run(rt, task),
         Err(WordsError::Words(error)) => answer_words(rt, &error),
-        Err(WordsError::Block(position)) => {
-            let _ = eprintln!(rt; "block {position} BlockForm");
-            let _ = rt.eprintln(BLOCK_FORM);
-            2
-        }
+        Err(WordsError::Block(position)) => answer_block(rt, words.as_slice(), position),
         Err(WordsError::Memory) => status(&Ending::Memory),
     }
 }

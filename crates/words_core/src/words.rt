@@ -3,7 +3,7 @@ ghost use Rattle.std.specs.Prelude.{◌≡◌, ◌≢◌, ℕ, true, false, code
 ghost use Rattle.clap.specs.Words.{all_of, app_of, found_of, kind_of, new_app, rows_of, rule_of, subcommand_rows_of, takes, with_subcommand};
 ghost use Rattle.clap.specs.Walk.{texts};
 ghost use Rattle.clap.specs.declared.error.kind.ErrorKind.TheVariants.{OutOfMemory};
-ghost use Rattle.words_core.specs.CommandLine.{AnswersWords, AnswersBadBlock, AnswersTask, Asked, Asks, HasPeriod, IsNoMistake, MayAnswer, MayRefuse, bare_program, block_rule, command_line, faults, id_rule, is_plain, period_rule, readers, replay_of, replay_shape, said, task_asked, task_of_words, watch, watch_asked, watch_shape};
+ghost use Rattle.words_core.specs.CommandLine.{AnswersWords, AnswersBadBlock, AnswersTask, Asked, Asks, HasPeriod, IsNoMistake, MayAnswer, MayRefuse, bare_program, block_rule, command_line, faults, id_rule, is_plain, name_of, period_rule, readers, replay_of, replay_shape, said, task_asked, task_of_words, watch, watch_asked, watch_shape};
 
 use block_core::{Block, BlockError, read_block};
 use clap::error::ErrorKind;
@@ -37,6 +37,24 @@ pub enum Task {
     Import,
 }
 
+impl Task {
+    /// The name of the subcommand that asks for it.
+    pub fn name(&self) -> &'static str
+        ensures { result.now ≡ name_of (said self.now) }
+    {
+        match self {
+            Task::Show => "show",
+            Task::Check => "check",
+            Task::Rewrite => "rewrite",
+            Task::Blocks => "blocks",
+            Task::Replay(_) => "replay",
+            Task::Publish => "publish",
+            Task::Watch { .. } => "watch",
+            Task::Import => "import",
+        }
+    }
+}
+
 /// Why words ask for nothing that can be done.
 #[derive(Debug, Drop, Error)]
 pub enum WordsError {
@@ -54,27 +72,27 @@ pub enum WordsError {
 
 // What the help of `show`, of `blocks` and of `publish` ends with: they find nothing to be told by a status.
 const SHOW_MORE: &str =
-    "Moments in the input are microseconds where its first line is V2, else milliseconds; in the output they are always microseconds.\nExit status: 0 done, 2 wrong arguments, 3 an error in the input, 4 a device failed while reading or writing, 5 out of memory.\nMore: docs/FORMATS.md, man docs/goose.1";
+    "Moments in the input are microseconds where its first line is V2, else milliseconds; in the output they are always microseconds.\nExit status: 0 done, 2 wrong arguments, 3 an error in the input, 4 a device failed while reading or writing, 5 out of memory.\nMore: man goose";
 
 // What the help of `check` ends with: an encoding is no error.
 const CHECK_MORE: &str =
-    "A line fault is an error of the frame. A line not-written is a note and no error: the frame is good, but encoded otherwise than rewrite would write it. A line destination is a note too: the frame is sent to another address than the standards recommend.\n\nMoments in the input are microseconds where its first line is V2, else milliseconds.\nExit status: 0 nothing to note, 1 a line was written for some frame, 2 wrong arguments, 3 an error in the input, 4 a device failed while reading or writing, 5 out of memory.\nMore: docs/FORMATS.md, man docs/goose.1";
+    "A line fault is an error of the frame. A line not-written is a note and no error: the frame is good, but encoded otherwise than rewrite would write it. A line destination is a note too: the frame is sent to another address than the standards recommend.\n\nMoments in the input are microseconds where its first line is V2, else milliseconds.\nExit status: 0 nothing to note, 1 a line was written for some frame, 2 wrong arguments, 3 an error in the input, 4 a device failed while reading or writing, 5 out of memory.\nMore: man goose";
 
 // What the help of `rewrite` ends with.
 const REWRITE_MORE: &str =
-    "Moments in the input are microseconds where its first line is V2, else milliseconds; in the output they are always microseconds.\nExit status: 0 done, 1 some frame was written with its own octets, 2 wrong arguments, 3 an error in the input, 4 a device failed while reading or writing, 5 out of memory.\nMore: docs/FORMATS.md, man docs/goose.1";
+    "Moments in the input are microseconds where its first line is V2, else milliseconds; in the output they are always microseconds.\nExit status: 0 done, 1 some frame was written with its own octets, 2 wrong arguments, 3 an error in the input, 4 a device failed while reading or writing, 5 out of memory.\nMore: man goose";
 
 // What the help of `replay` ends with.
 const REPLAY_MORE: &str =
-    "Moments in the input are microseconds where its first line is V2, else milliseconds.\nExit status: 0 done, 2 wrong arguments, 3 an error in the input, or two blocks have one APPID and gocbRef, 4 a device failed while reading or writing, 5 out of memory.\nMore: docs/FORMATS.md, man docs/goose.1";
+    "Moments in the input are microseconds where its first line is V2, else milliseconds.\nExit status: 0 done, 2 wrong arguments, 3 an error in the input, or two blocks have one APPID and gocbRef, 4 a device failed while reading or writing, 5 out of memory.\nMore: man goose";
 
 // What the help of `watch` ends with.
 const WATCH_MORE: &str =
-    "Moments in the input are microseconds where its first line is V2, else milliseconds.\nExit status: 0 each line says first or next, 1 some line says another word, 2 wrong arguments, 3 an error in the input, 4 a device failed while reading or writing, 5 out of memory.\nMore: docs/FORMATS.md, man docs/goose.1";
+    "Moments in the input are microseconds where its first line is V2, else milliseconds.\nExit status: 0 each line says first or next, 1 some line says another word, 2 wrong arguments, 3 an error in the input, 4 a device failed while reading or writing, 5 out of memory.\nMore: man goose";
 
 // What the help of `import` ends with: a capture has a unit of its own.
 const IMPORT_MORE: &str =
-    "Moments in the output are microseconds, whatever the capture has. A record that no list can hold is left out, and a comment says so.\nExit status: 0 done, 1 a record was left out, 2 wrong arguments, 3 an error in the input, 4 a device failed while reading or writing, 5 out of memory.\nMore: docs/FORMATS.md, man docs/goose.1";
+    "Moments in the output are microseconds, whatever the capture has. A record that no list can hold is left out, and a comment says so.\nExit status: 0 done, 1 a record was left out, 2 wrong arguments, 3 an error in the input, 4 a device failed while reading or writing, 5 out of memory.\nMore: man goose";
 
 // The program before its subcommands, one of which must be named.
 fn program<'a>(alloc: Global) -> Command<'a>
@@ -82,9 +100,9 @@ fn program<'a>(alloc: Global) -> Command<'a>
 {
     Command::new(alloc, "goose")
         .version("0.1.0")
-        .before_help("Example: goose show < examples/one_frame.list")
+        .before_help("Example: echo 'C 2000' | goose show")
         .after_help(
-            "Run goose COMMAND --help for an example of each command.\nMoments in lists and scripts are microseconds where the first line is V2, else milliseconds; what is written is always in microseconds.\nExit status: 0 done, 1 something was found, 2 wrong arguments, 3 an error in the input, 4 a device failed while reading or writing, 5 out of memory.\nMore: docs/FORMATS.md, man docs/goose.1",
+            "Run goose COMMAND --help for an example of each command.\nMoments in lists and scripts are microseconds where the first line is V2, else milliseconds; what is written is always in microseconds.\nExit status: 0 done, 1 something was found, 2 wrong arguments, 3 an error in the input, 4 a device failed while reading or writing, 5 out of memory.\nMore: man goose",
         )
         .about(
             "Reads recorded GOOSE and Sampled Values frames from standard input and tells what they say",

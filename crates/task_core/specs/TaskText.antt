@@ -1,0 +1,40 @@
+-- What each task writes, and how it ends.
+use Rattle.std.specs.Prelude.{ℕ, List, Option}
+use Rattle.std.specs.Global.{Global}
+use Rattle.list_core.specs.declared.device.InputEnd.{InputEnd}
+use Rattle.list_core.specs.declared.device.InputEnd.TheVariants.{Open}
+use Rattle.list_core.specs.declared.event.Event.{Event}
+use Rattle.list_core.specs.declared.event_lines.EventLines.TheVariants as events
+use Rattle.list_core.specs.declared.list_fault.ListCause.{ListCause}
+use Rattle.list_core.specs.EventLine.{event_rules}
+use Rattle.script_core.specs.declared.script.ScriptCause.{ScriptCause}
+use Rattle.script_core.specs.declared.script.ScriptItem.{ScriptItem}
+use Rattle.script_core.specs.declared.script.ScriptLines.TheVariants as scripts
+use Rattle.script_core.specs.Script.{script_rules}
+use Rattle.engine_core.specs.declared.ending.Ending.{Ending}
+use Rattle.engine_core.specs.EngineText.{Text, Writes}
+use Rattle.frame_engines.specs.ShowText.{show_text}
+use Rattle.frame_engines.specs.CheckText.{check_text}
+use Rattle.frame_engines.specs.RewriteText.{rewrite_text}
+use Rattle.frame_engines.specs.ImportText.{Imports}
+use Rattle.inventory_engine.specs.BlocksText.{IsBlocksText}
+use Rattle.exchange_engines.specs.ReplayText.{ReplayWrites}
+use Rattle.exchange_engines.specs.PublishText.{IsPublishText}
+use Rattle.exchange_engines.specs.WatchText.{IsWatchText}
+use Rattle.words_core.specs.CommandLine.{Asked, show, check, rewrite, list_blocks, publish, import, replay, watch}
+
+-- a run over a list of events writes this text
+abbrev pub WritesOfEvents : Text (Event Global) ListCause → Ending → InputEnd → List ℕ → Option (List ℕ) → Option (List ℕ) → Type 0
+WritesOfEvents t ending z given old new = Writes event_rules events.First t ending z given old new
+
+-- What a task leaves written of an input that its reader gave, with the ending of the run and the one that the reader tells then: what its own engine writes, and no other's.
+abbrev pub TaskWrites : Asked → Ending → InputEnd → List ℕ → Option (List ℕ) → Option (List ℕ) → Type 0
+TaskWrites show ending z given old new = WritesOfEvents show_text ending z given old new
+TaskWrites check ending z given old new = WritesOfEvents check_text ending z given old new
+TaskWrites rewrite ending z given old new = WritesOfEvents rewrite_text ending z given old new
+TaskWrites list_blocks ending z given old new = (t : Text (Event Global) ListCause) × IsBlocksText t × WritesOfEvents t ending z given old new
+TaskWrites (replay blocks) ending z given old new = ReplayWrites blocks ending z given old new
+TaskWrites publish ending z given old new =
+    (t : Text (ScriptItem Global) ScriptCause) × IsPublishText t × Writes script_rules scripts.First t ending z given old new
+TaskWrites (watch period id) ending z given old new = (t : Text (Event Global) ListCause) × IsWatchText period id t × WritesOfEvents t ending z given old new
+TaskWrites import ending z given old new = Imports Open ending z given old new
