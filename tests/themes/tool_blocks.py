@@ -109,7 +109,8 @@ def blocks_of_lists():
         f"1 block {ONE}", f"3 block-changed {OTHER}", f"4 block-changed {ONE}", "5 block 0002,G,D,,1,1",
         r'6 block appid=0001 ref="G,\"\\" set="D" id=- rev=1 entries=1', '8 stream id="S" rev=1', '9 stream id="T" rev=1',
         '10 stream-changed id="S" rev=2']))
-    yield Asked("a list with an error", "list_blocks", stdin=listed(WORKED) + b"x\n", stdout=text([f"1 block {ONE}", "2 list LineForm"]), status=3)
+    yield Asked("a list with an error", "list_blocks", stdin=listed(WORKED) + b"x\n", stdout=text([f"1 block {ONE}", "2 list LineForm"]), status=3,
+                stderr=[b"goose show: line 2: LineForm: "])
 
 
 class Compared:
