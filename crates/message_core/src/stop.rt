@@ -37,7 +37,7 @@ fn list_sentence(name: &str) -> Option<&'static str> {
         "LineTooLong" => Some("the line has over 4096 octets"),
         "LineForm" => Some("the line is neither an event, nor a comment, nor empty"),
         "Moment" => {
-            Some("the time is not 1 to 15 decimal digits (1 to 18 after a first line V2)")
+            Some("the moment is not 1 to 15 decimal digits (1 to 18 after a first line V2)")
         }
         "Hex" => Some("the octets are not an even count of 2 to 4000 hexadecimal digits"),
         "ListTooLong" => Some("the list has over 1000000 lines"),
@@ -56,11 +56,11 @@ fn script_sentence(name: &str) -> Option<&'static str> {
             "there are 16 steps before this one, or none before the first change or poll",
         ),
         "Hex" => {
-            Some("the time of change or the members are not written in hexadecimal digits")
+            Some("the moment of change or the members are not written in hexadecimal digits")
         }
         "Members" => Some("the members: "),
         "EntriesDiffer" => Some("the count of values is not that of the control's entries"),
-        "NotSpellable" => Some("a value, the time or a text has no encoding"),
+        "NotSpellable" => Some("a value, the time or a text has no spelling"),
         "WouldNotFit" => Some("a frame of the new state would be too long"),
         _ => list_sentence(name),
     }
