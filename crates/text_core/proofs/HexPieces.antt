@@ -1,6 +1,6 @@
 -- Hexadecimal digits of octets in pieces.
-use Rattle.std.proofs.Common.{◌≡◌, ℕ, ◌*◌, ◌/◌, ◌%◌, List, [], ◌∷◌, ◌++◌, length, take, drop, ap, sym, subst, refl, ◌∙◌, append_assoc, arith, Result, Ok, Err, is_ok}
-use Rattle.std.specs.Prelude.{slice_index, OnOk, if◌then◌else◌}
+use Rattle.std.proofs.Common.{◌≡◌, ℕ, ◌*◌, ◌/◌, ◌%◌, List, [], ◌∷◌, ◌++◌, length, take, drop, ap, sym, subst, refl, ◌∙◌, append_assoc, arith}
+use Rattle.std.specs.Prelude.{slice_index}
 use Rattle.std.proofs.lemmas.List.{append-nil, take-append-drop, take-append-le, take_all}
 use Rattle.hex.specs.Hex.{encode_lower, encode_with, lower_digits}
 use Rattle.hex.proofs.HexLemmas.{length-encode_with}
@@ -30,8 +30,3 @@ pub all_written : (new all xs : List ℕ) → length xs ≡ 0 → new ++ encode_
 unfolding encode_with
 all_written new all [] none e = sym (append-nil new) ∙ e
 all_written new all (x ∷ xs) none e = absurd (omega arith)
-
--- what was appended, by another name
-pub appended : {T E : Type 0} (r : Result T E) (old new x y : List ℕ) → new ≡ (if is_ok r then old ++ x else old) → x ≡ y → OnOk r (new ≡ old ++ y)
-appended (Ok t) old new x y e same = e ∙ ap (λ (l : List ℕ). old ++ l) same
-appended (Err e) old new x y p same = tt

@@ -1,3 +1,4 @@
+pub mod Fronts
 pub mod HexPieces
 pub mod PieceLemmas
 pub mod ValueLemmas

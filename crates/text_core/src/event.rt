@@ -1,7 +1,8 @@
 //! The line of a frame in a list.
-ghost use Rattle.std.specs.Prelude.{◌≡◌, ◌++◌, OnOk, codes};
+ghost use Rattle.std.specs.Prelude.{◌++◌, codes};
 ghost use Rattle.std.specs.Fmt.{decimal};
 ghost use Rattle.hex.specs.Hex.{encode_lower};
+ghost use Rattle.text_core.specs.Pieces.{AppendsText};
 
 use crate::pieces::{put_decimal, put_hexadecimal};
 use std::alloc::{AllocError, Allocator};
@@ -12,7 +13,7 @@ pub fn put_frame_event<A: Allocator>(
     moment: u64,
     octets: &[u8],
 ) -> Result<(), AllocError>
-    ensures { OnOk result (out.new.items ≡ out.old.items ++ (codes "F " ++ decimal moment ++ codes " " ++ encode_lower octets.now ++ codes "\n")) }
+    ensures { AppendsText result out.old.items out.new.items (codes "F " ++ decimal moment ++ codes " " ++ encode_lower octets.now ++ codes "\n") }
 {
     out.extend_from_slice(b"F ")?;
     put_decimal(out, moment)?;

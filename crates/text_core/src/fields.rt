@@ -1,10 +1,11 @@
 //! The named fields of a line. Each call appends to `out`. Inlined, so that a name is written without a call.
-ghost use Rattle.std.specs.Prelude.{◌≡◌, ◌++◌, OnOk};
+ghost use Rattle.std.specs.Prelude.{◌++◌};
 ghost use Rattle.std.specs.Fmt.{decimal};
 ghost use Rattle.hex.specs.Hex.{encode_lower};
 ghost use Rattle.pdu_core.specs.Views.{octets_if};
-ghost use Rattle.text_core.specs.Pieces.{boolean_text, decimal_or_dash, four_digits, octets_or_dash, quoted, quoted_or_dash};
+ghost use Rattle.text_core.specs.Pieces.{AppendsText, boolean_text, decimal_or_dash, four_digits, octets_or_dash, quoted, quoted_or_dash};
 ghost use Rattle.text_core.specs.SampledText.{time_or_dash};
+ghost use Rattle.text_core.specs.ValueText.{time_text};
 
 use crate::pieces::{boolean_name, put_decimal, put_four_digits, put_hexadecimal, put_quoted};
 use crate::value::put_utc;
@@ -18,7 +19,7 @@ pub fn put_number<A: Allocator>(
     name: &[u8],
     number: u32,
 ) -> Result<(), AllocError>
-    ensures { OnOk result (out.new.items ≡ out.old.items ++ (name.now ++ decimal number)) }
+    ensures { AppendsText result out.old.items out.new.items (name.now ++ decimal number) }
 {
     out.extend_from_slice(name)?;
     put_decimal(out, number as u64)
@@ -31,7 +32,7 @@ pub fn put_digits<A: Allocator>(
     name: &[u8],
     number: u16,
 ) -> Result<(), AllocError>
-    ensures { OnOk result (out.new.items ≡ out.old.items ++ (name.now ++ four_digits number)) }
+    ensures { AppendsText result out.old.items out.new.items (name.now ++ four_digits number) }
 {
     out.extend_from_slice(name)?;
     put_four_digits(out, number)
@@ -44,7 +45,7 @@ pub fn put_text<A: Allocator>(
     name: &[u8],
     text: &[u8],
 ) -> Result<(), AllocError>
-    ensures { OnOk result (out.new.items ≡ out.old.items ++ (name.now ++ quoted text.now)) }
+    ensures { AppendsText result out.old.items out.new.items (name.now ++ quoted text.now) }
 {
     out.extend_from_slice(name)?;
     put_quoted(out, text)
@@ -57,7 +58,7 @@ pub fn put_boolean<A: Allocator>(
     name: &[u8],
     is_true: bool,
 ) -> Result<(), AllocError>
-    ensures { OnOk result (out.new.items ≡ out.old.items ++ (name.now ++ boolean_text is_true)) }
+    ensures { AppendsText result out.old.items out.new.items (name.now ++ boolean_text is_true) }
 {
     out.extend_from_slice(name)?;
     out.extend_from_slice(boolean_name(is_true))
@@ -70,7 +71,7 @@ pub fn put_optional<A: Allocator>(
     name: &[u8],
     text: Option<&[u8]>,
 ) -> Result<(), AllocError>
-    ensures { OnOk result (out.new.items ≡ out.old.items ++ (name.now ++ quoted_or_dash (octets_if text.entry))) }
+    ensures { AppendsText result out.old.items out.new.items (name.now ++ quoted_or_dash (octets_if text.entry)) }
 {
     out.extend_from_slice(name)?;
     match text {
@@ -86,13 +87,26 @@ pub fn put_number_if<A: Allocator>(
     name: &[u8],
     number: Option<u16>,
 ) -> Result<(), AllocError>
-    ensures { OnOk result (out.new.items ≡ out.old.items ++ (name.now ++ decimal_or_dash number)) }
+    ensures { AppendsText result out.old.items out.new.items (name.now ++ decimal_or_dash number) }
 {
     out.extend_from_slice(name)?;
     match number {
         Some(number) => put_decimal(out, number as u64),
         None => out.extend_from_slice(b"-"),
     }
+}
+
+/// Appends a name and a moment.
+#[inline(always)]
+pub fn put_time<A: Allocator>(
+    out: &mut Vec<u8, A>,
+    name: &[u8],
+    time: UtcTime,
+) -> Result<(), AllocError>
+    ensures { AppendsText result out.old.items out.new.items (name.now ++ time_text time) }
+{
+    out.extend_from_slice(name)?;
+    put_utc(out, time)
 }
 
 /// Appends a name and a moment that may be absent.
@@ -102,7 +116,7 @@ pub fn put_time_if<A: Allocator>(
     name: &[u8],
     time: Option<UtcTime>,
 ) -> Result<(), AllocError>
-    ensures { OnOk result (out.new.items ≡ out.old.items ++ (name.now ++ time_or_dash time)) }
+    ensures { AppendsText result out.old.items out.new.items (name.now ++ time_or_dash time) }
 {
     out.extend_from_slice(name)?;
     match time {
@@ -118,7 +132,7 @@ pub fn put_octets<A: Allocator>(
     name: &[u8],
     octets: &[u8],
 ) -> Result<(), AllocError>
-    ensures { OnOk result (out.new.items ≡ out.old.items ++ (name.now ++ encode_lower octets.now)) }
+    ensures { AppendsText result out.old.items out.new.items (name.now ++ encode_lower octets.now) }
 {
     out.extend_from_slice(name)?;
     put_hexadecimal(out, octets)
@@ -131,7 +145,7 @@ pub fn put_octets_if<A: Allocator>(
     name: &[u8],
     octets: Option<&[u8]>,
 ) -> Result<(), AllocError>
-    ensures { OnOk result (out.new.items ≡ out.old.items ++ (name.now ++ octets_or_dash (octets_if octets.entry))) }
+    ensures { AppendsText result out.old.items out.new.items (name.now ++ octets_or_dash (octets_if octets.entry)) }
 {
     out.extend_from_slice(name)?;
     match octets {

@@ -1,5 +1,5 @@
 //! The texts of which the lines that `goose` writes are made: numbers, names, values, APDUs and the short lines.
-#![tactic(auto)]
+#![tactic(auto, using(crate::proofs::Fronts::front_before))]
 
 pub mod event;
 pub mod fields;

@@ -1,7 +1,8 @@
 //! The short lines: of a clock moment, of a faulty frame, and the last one, of a fault of the list.
-ghost use Rattle.std.specs.Prelude.{◌≡◌, ◌++◌, OnOk};
+ghost use Rattle.std.specs.Prelude.{◌++◌};
 ghost use Rattle.list_core.specs.EventLine.{mode_text};
 ghost use Rattle.text_core.specs.LineText.{clock_line, fault_line, list_line};
+ghost use Rattle.text_core.specs.Pieces.{AppendsText};
 
 use crate::names::{cause_name, list_cause_name};
 use crate::pieces::put_decimal;
@@ -15,7 +16,7 @@ pub fn put_clock_line<A: Allocator>(
     number: u64,
     moment: u64,
 ) -> Result<(), AllocError>
-    ensures { OnOk result (out.new.items ≡ out.old.items ++ clock_line number moment) }
+    ensures { AppendsText result out.old.items out.new.items (clock_line number moment) }
 {
     put_decimal(out, number)?;
     out.extend_from_slice(b" clock ")?;
@@ -29,7 +30,7 @@ pub fn put_fault_line<A: Allocator>(
     number: u64,
     fault: Fault,
 ) -> Result<(), AllocError>
-    ensures { OnOk result (out.new.items ≡ out.old.items ++ fault_line number fault) }
+    ensures { AppendsText result out.old.items out.new.items (fault_line number fault) }
 {
     put_decimal(out, number)?;
     out.extend_from_slice(b" fault ")?;
@@ -41,7 +42,7 @@ pub fn put_fault_line<A: Allocator>(
 
 /// Appends the last line, on a fault of the list.
 pub fn put_list_line<A: Allocator>(out: &mut Vec<u8, A>, fault: ListFault) -> Result<(), AllocError>
-    ensures { OnOk result (out.new.items ≡ out.old.items ++ list_line fault) }
+    ensures { AppendsText result out.old.items out.new.items (list_line fault) }
 {
     put_decimal(out, fault.line)?;
     out.extend_from_slice(b" list ")?;
@@ -51,7 +52,7 @@ pub fn put_list_line<A: Allocator>(out: &mut Vec<u8, A>, fault: ListFault) -> Re
 
 /// Appends the word for a mode.
 pub fn put_mode_word<A: Allocator>(out: &mut Vec<u8, A>, on: bool) -> Result<(), AllocError>
-    ensures { OnOk result (out.new.items ≡ out.old.items ++ mode_text on) }
+    ensures { AppendsText result out.old.items out.new.items (mode_text on) }
 {
     if on {
         out.extend_from_slice(b"on")

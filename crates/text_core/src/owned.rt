@@ -1,19 +1,20 @@
 //! The text of a value of Data in memory of its own.
-ghost use Rattle.std.specs.Prelude.{◌≡◌, ◌++◌, ◌∷◌, [], OnOk};
-ghost use Rattle.mms_data.specs.Value.{data_of};
-ghost use Rattle.text_core.specs.Pieces.{spaced};
+ghost use Rattle.std.specs.Prelude.{◌++◌, ◌∷◌, []};
+ghost use Rattle.std.specs.List.{flat_map};
+ghost use Rattle.mms_data.specs.Value.{data_of, datas};
+ghost use Rattle.text_core.specs.Pieces.{AppendsText, after_space, spaced};
 ghost use Rattle.text_core.specs.ValueText.{members_text, value_text};
 
-use crate::pieces::{boolean_name, put_bits, put_decimal, put_hexadecimal, put_quoted, put_signed};
-use crate::value::put_utc;
+use crate::fields::{put_octets, put_time};
+use crate::pieces::{boolean_name, put_bits, put_decimal, put_quoted, put_signed};
 use mms_data::{Value, ValueList};
 use std::alloc::{AllocError, Allocator};
 
 // Appends the text of a value.
-#[tactic(auto, using(crate::proofs::ValueLemmas::item_texts_items_of))]
+#[tactic(auto, using(crate::proofs::ValueLemmas::item_texts_items_of, crate::proofs::Fronts::front_before))]
 #[cycle(owned)]
 fn put_value<A: Allocator>(out: &mut Vec<u8, A>, value: &Value<A>) -> Result<(), AllocError>
-    ensures { OnOk result (out.new.items ≡ out.old.items ++ value_text (data_of value.now)) }
+    ensures { AppendsText result out.old.items out.new.items (value_text (data_of value.now)) }
 {
     match value {
         Value::Boolean(is_true) => out.extend_from_slice(boolean_name(*is_true)),
@@ -29,26 +30,11 @@ fn put_value<A: Allocator>(out: &mut Vec<u8, A>, value: &Value<A>) -> Result<(),
             out.extend_from_slice(b"uint:")?;
             put_decimal(out, *number)
         }
-        Value::Floating(octets) => {
-            out.extend_from_slice(b"float:")?;
-            put_hexadecimal(out, octets.as_slice())
-        }
-        Value::Octets(octets) => {
-            out.extend_from_slice(b"oct:")?;
-            put_hexadecimal(out, octets.as_slice())
-        }
-        Value::BinaryTime(octets) => {
-            out.extend_from_slice(b"btime:")?;
-            put_hexadecimal(out, octets.as_slice())
-        }
-        Value::MmsText(octets) => {
-            out.extend_from_slice(b"mms:")?;
-            put_hexadecimal(out, octets.as_slice())
-        }
-        Value::Utc(t) => {
-            out.extend_from_slice(b"utc:")?;
-            put_utc(out, *t)
-        }
+        Value::Floating(octets) => put_octets(out, b"float:", octets.as_slice()),
+        Value::Octets(octets) => put_octets(out, b"oct:", octets.as_slice()),
+        Value::BinaryTime(octets) => put_octets(out, b"btime:", octets.as_slice()),
+        Value::MmsText(octets) => put_octets(out, b"mms:", octets.as_slice()),
+        Value::Utc(t) => put_time(out, b"utc:", *t),
         Value::Visible(text) => put_quoted(out, text.as_slice()),
         Value::Array(values) => put_between(out, b'[', values, b']'),
         Value::Structure(values) => put_between(out, b'(', values, b')'),
@@ -63,7 +49,7 @@ fn put_between<A: Allocator>(
     values: &ValueList<A>,
     after: u8,
 ) -> Result<(), AllocError>
-    ensures { OnOk result (out.new.items ≡ out.old.items ++ (before ∷ spaced value_text values.now ++ after ∷ [])) }
+    ensures { AppendsText result out.old.items out.new.items (before ∷ spaced value_text values.now ++ after ∷ []) }
 {
     out.push(before)?;
     put_spaced(out, values)?;
@@ -74,12 +60,20 @@ fn put_between<A: Allocator>(
 // Appends the texts of values, divided by one space.
 #[cycle(owned)]
 fn put_spaced<A: Allocator>(out: &mut Vec<u8, A>, values: &ValueList<A>) -> Result<(), AllocError>
-    ensures { OnOk result (out.new.items ≡ out.old.items ++ spaced value_text values.now) }
+    ensures { AppendsText result out.old.items out.new.items (spaced value_text values.now) }
 {
     let Some((first, others)) = values.as_slice().split_first() else {
         return Ok(());
     };
     put_value(out, first)?;
+    put_others(out, others)
+}
+
+// Appends the text of each value after a space.
+#[cycle(owned)]
+fn put_others<A: Allocator>(out: &mut Vec<u8, A>, others: &[Value<A>]) -> Result<(), AllocError>
+    ensures { AppendsText result out.old.items out.new.items (flat_map (after_space value_text) (datas others.now)) }
+{
     for value in others {
         out.push(b' ')?;
         put_value(out, value)?;
@@ -92,7 +86,7 @@ pub fn put_values<A: Allocator>(
     out: &mut Vec<u8, A>,
     values: &ValueList<A>,
 ) -> Result<(), AllocError>
-    ensures { OnOk result (out.new.items ≡ out.old.items ++ members_text values.now) }
+    ensures { AppendsText result out.old.items out.new.items (members_text values.now) }
 {
     put_between(out, b'{', values, b'}')
 }

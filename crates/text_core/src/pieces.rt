@@ -1,9 +1,9 @@
 //! The small texts of which lines are made. Each call appends to `out`.
-ghost use Rattle.std.specs.Prelude.{◌≡◌, ◌<◌, ◌≤◌, ◌+◌, ◌/◌, ◌%◌, ◌++◌, ◌∷◌, [], length, OnOk, IsTrue};
+ghost use Rattle.std.specs.Prelude.{◌≡◌, ◌<◌, ◌≤◌, ◌+◌, ◌/◌, ◌%◌, ◌∷◌, [], length, IsTrue};
 ghost use Rattle.std.specs.List.{flat_map};
 ghost use Rattle.std.specs.Fmt.{decimal, signed_decimal};
 ghost use Rattle.hex.specs.Hex.{encode_lower};
-ghost use Rattle.text_core.specs.Pieces.{octet_bits, bits_text, escaped, quoted, boolean_text, four_digits};
+ghost use Rattle.text_core.specs.Pieces.{AppendsText, octet_bits, bits_text, escaped, quoted, boolean_text, four_digits};
 
 use itoa::Buffer;
 use list_core::write_digits;
@@ -11,14 +11,14 @@ use std::alloc::{AllocError, Allocator};
 
 /// Appends a number in decimal.
 pub fn put_decimal<A: Allocator>(out: &mut Vec<u8, A>, number: u64) -> Result<(), AllocError>
-    ensures { OnOk result (out.new.items ≡ out.old.items ++ decimal number) }
+    ensures { AppendsText result out.old.items out.new.items (decimal number) }
 {
     out.extend_from_slice(Buffer::new().format(number).as_bytes())
 }
 
 /// Appends an integer in decimal, a negative one after a minus sign.
 pub fn put_signed<A: Allocator>(out: &mut Vec<u8, A>, integer: i64) -> Result<(), AllocError>
-    ensures { OnOk result (out.new.items ≡ out.old.items ++ signed_decimal integer) }
+    ensures { AppendsText result out.old.items out.new.items (signed_decimal integer) }
 {
     out.extend_from_slice(Buffer::new().format(integer).as_bytes())
 }
@@ -43,7 +43,7 @@ pub fn put_short_hexadecimal<A: Allocator>(
     octets: &[u8],
 ) -> Result<(), AllocError>
     requires { length octets.now ≤ 16 }
-    ensures { OnOk result (out.new.items ≡ out.old.items ++ encode_lower octets.now) }
+    ensures { AppendsText result out.old.items out.new.items (encode_lower octets.now) }
 {
     let mut block = [0; BLOCK];
     block[..octets.len()].copy_from_slice(octets);
@@ -52,7 +52,7 @@ pub fn put_short_hexadecimal<A: Allocator>(
 
 /// Appends octets in lower case hexadecimal.
 pub fn put_hexadecimal<A: Allocator>(out: &mut Vec<u8, A>, octets: &[u8]) -> Result<(), AllocError>
-    ensures { OnOk result (out.new.items ≡ out.old.items ++ encode_lower octets.now) }
+    ensures { AppendsText result out.old.items out.new.items (encode_lower octets.now) }
 {
     let mut others = octets;
     'blocks: while let Some((block, rest)) = others.split_first_chunk::<BLOCK>() {
@@ -67,7 +67,7 @@ pub fn put_hexadecimal<A: Allocator>(out: &mut Vec<u8, A>, octets: &[u8]) -> Res
 
 /// Appends a number in four hexadecimal digits.
 pub fn put_four_digits<A: Allocator>(out: &mut Vec<u8, A>, number: u16) -> Result<(), AllocError>
-    ensures { OnOk result (out.new.items ≡ out.old.items ++ four_digits number) }
+    ensures { AppendsText result out.old.items out.new.items (four_digits number) }
 {
     put_short_hexadecimal(out, &[(number / 256) as u8, (number % 256) as u8])
 }
@@ -112,7 +112,7 @@ pub fn put_bits<A: Allocator>(
     unused: u8,
     octets: &[u8],
 ) -> Result<(), AllocError>
-    ensures { OnOk result (out.new.items ≡ out.old.items ++ bits_text unused octets.now) }
+    ensures { AppendsText result out.old.items out.new.items (bits_text unused octets.now) }
 {
     let start = out.len();
     for octet in octets {
@@ -156,7 +156,7 @@ fn are_plain(octets: &[u8]) -> bool
 
 // Appends the octets of a text, a quotation mark and a backslash after a backslash.
 fn put_escaped<A: Allocator>(out: &mut Vec<u8, A>, text: &[u8]) -> Result<(), AllocError>
-    ensures { OnOk result (out.new.items ≡ out.old.items ++ flat_map escaped text.now) }
+    ensures { AppendsText result out.old.items out.new.items (flat_map escaped text.now) }
 {
     for octet in text {
         match *octet {
@@ -169,7 +169,7 @@ fn put_escaped<A: Allocator>(out: &mut Vec<u8, A>, text: &[u8]) -> Result<(), Al
 
 /// Appends a text between quotation marks.
 pub fn put_quoted<A: Allocator>(out: &mut Vec<u8, A>, text: &[u8]) -> Result<(), AllocError>
-    ensures { OnOk result (out.new.items ≡ out.old.items ++ quoted text.now) }
+    ensures { AppendsText result out.old.items out.new.items (quoted text.now) }
 {
     out.push(b'"')?;
     // Nearly every text is plain, and is appended as a whole.

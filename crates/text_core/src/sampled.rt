@@ -1,8 +1,8 @@
 //! The text of an APDU of Sampled Values, from the octets in which it stands.
-ghost use Rattle.std.specs.Prelude.{◌≡◌, ◌++◌, OnOk};
+ghost use Rattle.std.specs.Prelude.{◌++◌};
 ghost use Rattle.std.specs.List.{flat_map};
 ghost use Rattle.pdu_core.specs.SampledViews.{asdu_of, asdus_left, sv_of};
-ghost use Rattle.text_core.specs.Pieces.{after_space, spaced};
+ghost use Rattle.text_core.specs.Pieces.{AppendsText, after_space, spaced};
 ghost use Rattle.text_core.specs.SampledText.{asdu_text, sv_text};
 
 use crate::fields::{
@@ -13,7 +13,7 @@ use std::alloc::{AllocError, Allocator};
 
 // Appends the text of an ASDU.
 fn put_asdu<A: Allocator>(out: &mut Vec<u8, A>, asdu: &AsduView<'_>) -> Result<(), AllocError>
-    ensures { OnOk result (out.new.items ≡ out.old.items ++ asdu_text (asdu_of {A = Unit {0}} asdu.now)) }
+    ensures { AppendsText result out.old.items out.new.items (asdu_text (asdu_of {A = Unit {0}} asdu.now)) }
 {
     put_text(out, b"(id=", asdu.sv_id)?;
     put_optional(out, b" set=", asdu.dat_set)?;
@@ -31,7 +31,7 @@ fn put_asdu<A: Allocator>(out: &mut Vec<u8, A>, asdu: &AsduView<'_>) -> Result<(
 
 // Appends the texts of ASDUs, divided by one space.
 fn put_spaced<A: Allocator>(out: &mut Vec<u8, A>, asdus: Asdus<'_>) -> Result<(), AllocError>
-    ensures { OnOk result (out.new.items ≡ out.old.items ++ spaced asdu_text (asdus_left {A = Unit {0}} asdus.entry)) }
+    ensures { AppendsText result out.old.items out.new.items (spaced asdu_text (asdus_left {A = Unit {0}} asdus.entry)) }
 {
     let mut others = asdus;
     let Some(first) = others.next() else {
@@ -43,7 +43,7 @@ fn put_spaced<A: Allocator>(out: &mut Vec<u8, A>, asdus: Asdus<'_>) -> Result<()
 
 // Appends the text of each ASDU after a space.
 fn put_others<A: Allocator>(out: &mut Vec<u8, A>, others: Asdus<'_>) -> Result<(), AllocError>
-    ensures { OnOk result (out.new.items ≡ out.old.items ++ flat_map (after_space asdu_text) (asdus_left {A = Unit {0}} others.entry)) }
+    ensures { AppendsText result out.old.items out.new.items (flat_map (after_space asdu_text) (asdus_left {A = Unit {0}} others.entry)) }
 {
     for asdu in others {
         out.push(b' ')?;
@@ -57,7 +57,7 @@ pub fn put_sampled<A: Allocator>(
     out: &mut Vec<u8, A>,
     sampled: &SvView<'_>,
 ) -> Result<(), AllocError>
-    ensures { OnOk result (out.new.items ≡ out.old.items ++ sv_text (sv_of {A = Unit {0}} sampled.now)) }
+    ensures { AppendsText result out.old.items out.new.items (sv_text (sv_of {A = Unit {0}} sampled.now)) }
 {
     out.extend_from_slice(b" {")?;
     put_spaced(out, sampled.asdus)?;

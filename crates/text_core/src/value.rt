@@ -1,38 +1,38 @@
 //! The text of a value of Data, from the octets in which it stands.
-ghost use Rattle.std.specs.Prelude.{◌≡◌, ◌++◌, ◌∷◌, [], OnOk};
+ghost use Rattle.std.specs.Prelude.{◌++◌, ◌∷◌, []};
 ghost use Rattle.std.specs.List.{flat_map};
 ghost use Rattle.mms_data.specs.Meaning.{left as still_to_come, meaning};
 ghost use Rattle.mms_data.specs.Contents.{cleared};
-ghost use Rattle.text_core.specs.Pieces.{after_space, bits_text, spaced};
+ghost use Rattle.text_core.specs.Pieces.{AppendsText, after_space, bits_text, spaced};
 ghost use Rattle.text_core.specs.ValueText.{time_text, value_text, members_text};
 
+use crate::fields::{put_octets, put_time};
 use crate::pieces::{
-    boolean_name, put_bits, put_decimal, put_hexadecimal, put_quoted, put_short_hexadecimal,
-    put_signed,
+    boolean_name, put_bits, put_decimal, put_quoted, put_short_hexadecimal, put_signed,
 };
 use mms_data::{BitView, Members, UtcTime, View};
 use std::alloc::{AllocError, Allocator};
 
 /// Appends a moment in UTC as its eight octets.
 pub fn put_utc<A: Allocator>(out: &mut Vec<u8, A>, time: UtcTime) -> Result<(), AllocError>
-    ensures { OnOk result (out.new.items ≡ out.old.items ++ time_text time) }
+    ensures { AppendsText result out.old.items out.new.items (time_text time) }
 {
     put_short_hexadecimal(out, &time.to_octets())
 }
 
 // Appends bits. The unused ones, which have any value where they stand, are no part of them.
 fn put_bit_view<A: Allocator>(out: &mut Vec<u8, A>, bits: BitView<'_>) -> Result<(), AllocError>
-    ensures { OnOk result (out.new.items ≡ out.old.items ++ bits_text bits.entry.unused (cleared bits.entry.unused bits.entry.octets.now)) }
+    ensures { AppendsText result out.old.items out.new.items (bits_text bits.entry.unused (cleared bits.entry.unused bits.entry.octets.now)) }
 {
     put_bits(out, bits.unused, bits.octets)
 }
 
 /// Appends the text of a value. Inlined, so that a member is told apart by its kind without another call.
 #[inline(always)]
-#[tactic(auto, using(crate::proofs::ValueLemmas::item_texts_items_of))]
+#[tactic(auto, using(crate::proofs::ValueLemmas::item_texts_items_of, crate::proofs::Fronts::front_before))]
 #[cycle(texts)]
 pub fn put_view<A: Allocator>(out: &mut Vec<u8, A>, view: &View<'_>) -> Result<(), AllocError>
-    ensures { OnOk result (out.new.items ≡ out.old.items ++ value_text (meaning view.now)) }
+    ensures { AppendsText result out.old.items out.new.items (value_text (meaning view.now)) }
 {
     match view {
         View::Boolean(is_true) => out.extend_from_slice(boolean_name(*is_true)),
@@ -48,26 +48,11 @@ pub fn put_view<A: Allocator>(out: &mut Vec<u8, A>, view: &View<'_>) -> Result<(
             out.extend_from_slice(b"uint:")?;
             put_decimal(out, *number)
         }
-        View::Floating(octets) => {
-            out.extend_from_slice(b"float:")?;
-            put_hexadecimal(out, octets)
-        }
-        View::Octets(octets) => {
-            out.extend_from_slice(b"oct:")?;
-            put_hexadecimal(out, octets)
-        }
-        View::BinaryTime(octets) => {
-            out.extend_from_slice(b"btime:")?;
-            put_hexadecimal(out, octets)
-        }
-        View::MmsText(octets) => {
-            out.extend_from_slice(b"mms:")?;
-            put_hexadecimal(out, octets)
-        }
-        View::Utc(t) => {
-            out.extend_from_slice(b"utc:")?;
-            put_utc(out, *t)
-        }
+        View::Floating(octets) => put_octets(out, b"float:", octets),
+        View::Octets(octets) => put_octets(out, b"oct:", octets),
+        View::BinaryTime(octets) => put_octets(out, b"btime:", octets),
+        View::MmsText(octets) => put_octets(out, b"mms:", octets),
+        View::Utc(t) => put_time(out, b"utc:", *t),
         View::Visible(text) => put_quoted(out, text),
         View::Array(members) => put_between(out, b'[', *members, b']'),
         View::Structure(members) => put_between(out, b'(', *members, b')'),
@@ -82,7 +67,7 @@ fn put_between<A: Allocator>(
     members: Members<'_>,
     after: u8,
 ) -> Result<(), AllocError>
-    ensures { OnOk result (out.new.items ≡ out.old.items ++ (before ∷ spaced value_text (still_to_come members.entry) ++ after ∷ [])) }
+    ensures { AppendsText result out.old.items out.new.items (before ∷ spaced value_text (still_to_come members.entry) ++ after ∷ []) }
 {
     out.push(before)?;
     put_spaced(out, members)?;
@@ -93,7 +78,7 @@ fn put_between<A: Allocator>(
 // Appends the texts of members, divided by one space.
 #[cycle(texts)]
 fn put_spaced<A: Allocator>(out: &mut Vec<u8, A>, members: Members<'_>) -> Result<(), AllocError>
-    ensures { OnOk result (out.new.items ≡ out.old.items ++ spaced value_text (still_to_come members.entry)) }
+    ensures { AppendsText result out.old.items out.new.items (spaced value_text (still_to_come members.entry)) }
 {
     let mut others = members;
     let Some(first) = others.next() else {
@@ -106,7 +91,7 @@ fn put_spaced<A: Allocator>(out: &mut Vec<u8, A>, members: Members<'_>) -> Resul
 // Appends the text of each member after a space.
 #[cycle(texts)]
 fn put_others<A: Allocator>(out: &mut Vec<u8, A>, others: Members<'_>) -> Result<(), AllocError>
-    ensures { OnOk result (out.new.items ≡ out.old.items ++ flat_map (after_space value_text) (still_to_come others.entry)) }
+    ensures { AppendsText result out.old.items out.new.items (flat_map (after_space value_text) (still_to_come others.entry)) }
 {
     for view in others {
         out.push(b' ')?;
@@ -120,7 +105,7 @@ pub fn put_members_text<A: Allocator>(
     out: &mut Vec<u8, A>,
     members: Members<'_>,
 ) -> Result<(), AllocError>
-    ensures { OnOk result (out.new.items ≡ out.old.items ++ members_text (still_to_come members.entry)) }
+    ensures { AppendsText result out.old.items out.new.items (members_text (still_to_come members.entry)) }
 {
     put_between(out, b'{', members, b'}')
 }

@@ -1,21 +1,38 @@
-use Rattle.std.proofs.Common.{◌+◌, ◌≤◌, arith, ap, List}
+use Rattle.std.proofs.Common.{◌+◌, ◌≤◌, arith, ap, sym, ◌∙◌, List}
 use Rattle.mms_data.specs.declared.value.Value.{Value}
 use Rattle.mms_data.specs.Value.{data_of, datas}
 use Rattle.mms_data.specs.Weight.{weight, weight_of_all}
 use Rattle.mms_data.proofs.Weights.{weight_at}
-use Rattle.text_core.proofs.OwnedTexts.{owned_spaced}
+use Rattle.text_core.specs.ValueText.{value_text}
+use Rattle.std.proofs.lemmas.Result.{err_from_is_err_and}
+use Rattle.text_core.proofs.Fronts.{grown, same_stands}
+use Rattle.text_core.proofs.OwnedTexts.{one_more}
+use Rattle.text_core.proofs.Spaced.{spaced-written}
 use Rattle.text_core.proofs.owned.+owned.Goals as goal
 
-pub put_spaced-put_value-requires-in-loop-value : goal.put_spaced-put_value-requires-in-loop-value
-put_spaced-put_value-requires-in-loop-value g t c κs within =
-    let same = ap weight_of_all c.as_slice.ensures in
-    let parts = ap (λ (vs : List (Value g.row.A.Denot)). weight_of_all (datas vs)) c.in-Some.ensures.cases.0 in
+pub put_others-put_value-requires : goal.put_others-put_value-requires
+put_others-put_value-requires g t c κs within =
     let v = c.value-item.result in
-    let small : weight (data_of v) + 1 ≤ weight_of_all (datas c.in-Some.others.now) = rw c.value-item.is (weight_at c.in-Some.others.now c.loop-value.value-index v c.loop-value-test.true) in
+    let small : weight (data_of v) + 1 ≤ weight_of_all (datas c.args.others.now) = rw c.value-item.is (weight_at c.args.others.now c.loop-value.value-index v c.loop-value-test.true) in
     let dec = c.decreases in
-    (omega (arith, small, same, parts, dec), within)
+    (omega (arith, small, dec), within)
+
+pub put_others-loop-value-preserved : goal.put_others-loop-value-preserved
+put_others-loop-value-preserved g t c = record {
+  within = omega arith;
+  text = one_more _ _ _ _ c.args.others.now c.loop-value.value-index c.value-item.result c.loop-value-test.true c.value-item.is c.loop-value.invariant.text c.in_ok-push.ensures.items c.in_ok-put_value.ensures;
+}
+
+pub put_others-returns-in_err-push : goal.put_others-returns-in_err-push
+put_others-returns-in_err-push g t c =
+    let p = err_from_is_err_and c.from_residual.result c.from_residual.ensures.1 in
+    rw p.1 (grown _ c.loop-value.out.items _ _ c.loop-value.invariant.text (same_stands c.loop-value.out.items c.push.new.self.items c.in_err-push.ensures.items))
+
+pub put_others-returns-in_err-put_value : goal.put_others-returns-in_err-put_value
+put_others-returns-in_err-put_value g t c =
+    let p = err_from_is_err_and c.from_residual-in_err-put_value.result c.from_residual-in_err-put_value.ensures.1 in
+    rw p.1 (grown _ c.loop-value.out.items _ _ c.loop-value.invariant.text (grown c.loop-value.out.items c.push.new.self.items _ _ c.in_ok-push.ensures.items c.in_err-put_value.ensures))
 
 pub put_spaced-returns : goal.put_spaced-returns
 put_spaced-returns g t c =
-    owned_spaced c.args.out.now.items c.put_value.new.out.items c.loop-value.out.items c.in-Some.first.now c.in-Some.others.now c.as_slice.result.now c.args.values.now c.loop-value.value-index
-    c.as_slice.ensures c.in-Some.ensures.cases.0 c.in_ok-put_value.ensures (omega (arith, c.loop-value-test.false)) c.loop-value.invariant.text
+    spaced-written value_text c.put_others.result _ _ _ _ _ _ (sym c.as_slice.ensures ∙ ap (λ (vs : List (Value g.row.A.Denot)). datas vs) c.in-Some.ensures.cases.0) c.in_ok-put_value.ensures c.put_others.ensures

@@ -1,4 +1,5 @@
-use Rattle.text_core.proofs.HexPieces.{appended, front_digits}
+use Rattle.text_core.proofs.Fronts.{appended}
+use Rattle.text_core.proofs.HexPieces.{front_digits}
 use Rattle.text_core.proofs.pieces.put_short_hexadecimal.Goals as goal
 
 pub returns : goal.returns
