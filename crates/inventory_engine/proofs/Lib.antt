@@ -4,3 +4,4 @@ pub mod KnownLemmas
 pub mod Newest
 pub mod Saying
 pub mod FirstLines
+pub mod BlockBack

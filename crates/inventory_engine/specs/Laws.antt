@@ -1,6 +1,10 @@
 -- What holds of the lines of sightings.
-use Rattle.std.specs.Prelude.{◌≡◌, ℕ, ◌≤◌, List, Some, None, take, slice_get}
-use Rattle.inventory_engine.specs.Sightings.{Key, Sighting, key_of}
+use Rattle.std.specs.Prelude.{◌≡◌, ℕ, ◌<◌, ◌≤◌, true, List, Some, None, length, take, slice_get}
+use Rattle.block_core.specs.declared.block.Block.{Block}
+use Rattle.block_core.specs.BlockText.{block_in, go_id_of}
+use Rattle.pdu_core.specs.declared.goose.GoosePdu.{GoosePdu}
+use Rattle.pdu_core.specs.Spellable.{IsSpellableGoose}
+use Rattle.inventory_engine.specs.Sightings.{Key, Sighting, block_text, has_fields, key_of, text_or_none}
 use Rattle.inventory_engine.specs.BlocksText.{AreLines, IsNewest}
 
 -- what is written of some sightings behind earlier ones is one
@@ -18,3 +22,12 @@ pub record IsFirst (seen : List Sighting) (key : Key) (i : ℕ) : Type 0 where
 abbrev pub OneFirstLine : Type 0
 OneFirstLine = (seen : List Sighting) (j : ℕ) (s : Sighting) → slice_get seen j ≡ Some s →
     (i : ℕ) × IsFirst seen (key_of s) i × (i ≤ j) × ((k : ℕ) → IsFirst seen (key_of s) k → k ≡ i)
+
+-- the control block that the frame shows, as replay awaits it: an empty goID is not compared
+abbrev pub block_told : {A : Type 0} → ℕ → GoosePdu (Unit {0}) → Block A
+block_told app_id p =
+    record { app_id = app_id; gocb_ref = p.gocb_ref; dat_set = p.dat_set; go_id = go_id_of (text_or_none p.go_id); conf_rev = p.conf_rev; entries = length p.members }
+
+-- the text of a control block that is a BLOCK says that block; an APDU that octets spell is spellable
+abbrev pub BlocksReadBack : Type 0 → Type 0
+BlocksReadBack A = (app_id : ℕ) (p : GoosePdu (Unit {0})) → app_id < 65536 → IsSpellableGoose p → has_fields p ≡ true → block_in {A = A} (block_text app_id p) ≡ Some (block_told app_id p)
