@@ -1,5 +1,6 @@
 //! Frames read and written; lists over memory, in any pieces, and where a device fails.
 
+mod adapters;
 mod each_octet;
 mod frame_reading;
 mod frame_writing;

@@ -4,6 +4,7 @@ use arrayvec::ArrayVec;
 use ber_core::{Cause, Fault};
 use frame_core::{Frame, decode, encode, view_frame};
 use mms_data::ReadFault;
+use refusing_alloc::RefusingAlloc;
 use std::alloc::{Allocator, Global};
 use worked_frames::FRAME;
 
@@ -49,10 +50,19 @@ pub fn read(alloc: Global, octets: &[u8]) -> Result<(), Fault> {
     }
 }
 
-/// Whether this is the first fault of the octets, as a view and as a frame.
+/// The fault of the octets by the owned frame, if they have one and no memory is asked for.
+fn fault_without_memory(memory: Global, octets: &[u8]) -> Option<Fault> {
+    let alloc = RefusingAlloc::new(memory, 0);
+    match decode(&alloc, octets) {
+        Err(ReadFault::Fault(fault)) if !alloc.has_refused() => Some(fault),
+        _ => None,
+    }
+}
+
+/// Whether this is the first fault of the octets, as a view and as a frame, whatever memory there is.
 pub fn has_fault(alloc: Global, octets: &[u8], place: usize, cause: Cause) -> bool {
-    let fault = Err(cause.at(place));
-    seen(octets) == fault && read(alloc, octets) == fault
+    let fault = cause.at(place);
+    seen(octets) == Err(fault) && fault_without_memory(alloc, octets) == Some(fault)
 }
 
 /// The written form of the frame of these octets, if there is one.

@@ -79,14 +79,14 @@ fn is_made<A: Allocator + Copy>(call: Call, alloc: A, octets: &[u8]) -> Option<b
 }
 
 /// Whether the call makes the frame of these octets at once, without a refusal; false where it is refused memory, and
-/// makes it once that is granted. None where it does anything else.
+/// makes it once that is granted. None where it does anything else, or where memory is out behind it.
 fn is_made_at_once(call: Call, alloc: &RefusingAlloc<Global>, octets: &[u8]) -> Option<bool> {
     let made = is_made(call, alloc, octets);
-    if made.is_some() != !alloc.has_refused() {
+    if made.is_some() != !alloc.has_refused() || alloc.blocks_out() != 0 {
         return None;
     }
     alloc.allow();
-    if is_made(call, alloc, octets) != Some(true) {
+    if is_made(call, alloc, octets) != Some(true) || alloc.blocks_out() != 0 {
         return None;
     }
     Some(made.is_some())

@@ -44,11 +44,12 @@ fn tells_at_last(
     true
 }
 
-/// How many growths it takes to give these answers, where each is refused in turn. None where another one is given.
+/// How many growths it takes to give these answers, where each is refused in turn. None where another one is given, or where
+/// memory is out behind them.
 fn growths_to_tell(memory: Global, text: &[u8], answers: &[(&str, u64)]) -> Option<usize> {
     for first_refused in 0..100usize {
         let alloc = RefusingAlloc::new(memory, first_refused);
-        if !tells_at_last(memory, &alloc, text, answers) {
+        if !tells_at_last(memory, &alloc, text, answers) || alloc.blocks_out() != 0 {
             return None;
         }
         if !alloc.has_refused() {

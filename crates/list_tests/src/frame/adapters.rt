@@ -1,0 +1,80 @@
+//! The adapters hand a reader and a writer all that they are lent, once for each call of theirs.
+
+use frame_core::{FromRead, Sink, Source, ToWrite, put_all};
+use std::io;
+use std::io::{Read, Write};
+
+/// Gives or takes one octet a call, and keeps how many calls there were, and how many octets it was lent at most.
+#[derive(Drop)]
+struct OneByOne {
+    calls: usize,
+    lent: usize,
+}
+
+impl Read for OneByOne {
+    fn read(&mut self, buf: &mut [u8]) -> io::Result<usize> {
+        self.calls = self.calls.saturating_add(1);
+        self.lent = self.lent.max(buf.len());
+        match buf.first_mut() {
+            Some(octet) => {
+                *octet = b'#';
+                Ok(1)
+            }
+            None => Ok(0),
+        }
+    }
+}
+
+impl Write for OneByOne {
+    fn write(&mut self, buf: &[u8]) -> io::Result<usize> {
+        self.calls = self.calls.saturating_add(1);
+        self.lent = self.lent.max(buf.len());
+        Ok(buf.len().min(1))
+    }
+
+    fn flush(&mut self) -> io::Result<()> {
+        Ok(())
+    }
+}
+
+/// A device that was not called.
+const UNCALLED: OneByOne = OneByOne { calls: 0, lent: 0 };
+
+/// Whether the reader is lent all of so many octets, in one call.
+fn is_lent_to_read(size: usize) -> bool {
+    if size == 0 || 8192 < size {
+        return false;
+    }
+    let mut room = [0; 8192];
+    let mut device = UNCALLED;
+    let count = FromRead::new(&mut device).read_some(&mut room[..size]);
+    count == Ok(1) && device.calls == 1 && device.lent == size && room[0] == b'#'
+}
+
+/// Whether the writer is lent all of so many octets, in one call.
+fn is_lent_to_write(size: usize) -> bool {
+    if size == 0 || 8192 < size {
+        return false;
+    }
+    let mut device = UNCALLED;
+    let count = ToWrite::new(&mut device).write_some(&[7; 8192][..size]);
+    count == Ok(1) && device.calls == 1 && device.lent == size
+}
+
+#[test]
+fn devices_are_lent_all_octets(rt: HostRuntime) {
+    for size in [1usize, 2, 9, 4096, 8192] {
+        assert!(rt; is_lent_to_read(size), "{size} octets");
+        assert!(rt; is_lent_to_write(size), "{size} octets");
+    }
+}
+
+#[test]
+fn a_write_of_one_octet_is_followed_by_the_rest(rt: HostRuntime) {
+    let mut device = UNCALLED;
+    {
+        let mut sink = ToWrite::new(&mut device);
+        assert!(rt; put_all(&mut sink, &[7; 300]) == Ok(()) && !sink.has_failed());
+    }
+    assert!(rt; device.calls == 300 && device.lent == 300);
+}
