@@ -7,7 +7,7 @@ import subprocess
 import tempfile
 
 from captures import header, record
-from frames import SAMPLED, WORKED, WORKED_LINE
+from frames import SAMPLED, WORKED, WORKED_LINE, put
 from harness import SECONDS, Skipped, descriptor, listed, text
 from themes.devices import CHANGE, SCRIPT, WORDS, words
 
@@ -15,6 +15,8 @@ from themes.devices import CHANGE, SCRIPT, WORDS, words
 SOON, QUIET = SECONDS / 4, 0.02
 BLOCK = 65536
 FRAME = f"F 0 {WORKED.hex()}\n".encode()
+# The same of another control block.
+OTHER = f"F 0 {bytes(put(WORKED, at15=2)).hex()}\n".encode()
 
 
 def started(program, asked, stdout=subprocess.PIPE):
@@ -64,6 +66,7 @@ def in_turn():
         "show": [(FRAME, text([f"1 {WORKED_LINE}"])), (b"C 7\n", b"2 clock 7000\n"), (b"# none\nM 8 on\n", b"4 mode 8000 on\n"), (b"C 9", b"")],
         "check": [(b"F 0 01\n", b"1 fault 1 Truncated\n"), (FRAME + b"F 0 02\n", b"3 fault 1 Truncated\n")],
         "rewrite": [(b"", b"V2\n"), (FRAME, frame), (b"C 7\n", b"C 7000\n")],
+        "blocks": [(FRAME, b"1 block 0001,G,D,,1,1\n"), (FRAME + OTHER, b"3 block 0002,G,D,,1,1\n")],
         "replay": [(FRAME, b"1" + act), (FRAME, b"2" + again), (b"C 2000\n", b"3 expired 0\n")],
         "watch": [(sampled, b"1 0 3998 first\n"), (sampled, b"2 0 3998 same\n")],
         "publish": [(b"", b"V2\n"), (SCRIPT.replace(b"step,4,1000", b"step,10,2000") + CHANGE, frame), (b"poll,1\n" + b"change,5,0000000000000000,8301ff\n", None)],
@@ -155,12 +158,12 @@ class InBlocks:
 
 def cases():
     yield from in_turn()
-    inputs = {"publish": (SCRIPT + CHANGE, CHANGE), "import": (header() + record(1, 2, b"\1"), record(3, 4, b"\1"))}
-    for command in ["show", "check", "rewrite", *WORDS, "publish", "import"]:
+    inputs = {"blocks": (FRAME, OTHER), "publish": (SCRIPT + CHANGE, CHANGE), "import": (header() + record(1, 2, b"\1"), record(3, 4, b"\1"))}
+    for command in ["show", "check", "rewrite", "blocks", *WORDS, "publish", "import"]:
         first, second = inputs.get(command, (b"F 0 01\n", b"F 0 02\n"))
         yield GoesAway(f"{command}: a reader that goes away", words(command), first, second)
         yield FullAtOnce(command, first)
-    for command in ("show", "check", "rewrite", *WORDS):
+    for command in ("show", "check", "rewrite", "blocks", *WORDS):
         yield InBlocks(command, FRAME)
     yield InBlocks("publish", CHANGE, SCRIPT)
     yield InBlocks("import", record(1, 2, WORKED), header())

@@ -102,7 +102,7 @@ FRAME = f"F 0 {WORKED.hex()}\n".encode()
 
 
 def lists():
-    for command in ("show", "check", "rewrite", "replay", "watch"):
+    for command in ("show", "check", "rewrite", "blocks", "replay", "watch"):
         yield of_list(command, 3, "LineForm", FRAME * 2 + b"X\n", FORM, "an unrecognised line")
     yield of_list("show", 1, "LineTooLong", b"#" * 4097, None, "a line that is too long")
     yield of_list("show", 2, "Moment", b"\nC 1.5\n", None, "a moment with a point")
@@ -245,7 +245,7 @@ def cases():
         yield Displayed(file, enum, sort)
     yield from (*lists(), *shown_by_octets(), *scripts(), *captures(), *blocks())
     frames = listed(WORKED, put(WORKED, at66=1))
-    for command in ("show", "check", "rewrite", *WORDS):
+    for command in ("show", "check", "rewrite", "blocks", *WORDS):
         yield Quiet(f"{command} that ends well says nothing", words(command), frames)
         yield Awaits(command, "list")
     yield Quiet("publish that ends well says nothing", ["publish"], SCRIPT + CHANGE)

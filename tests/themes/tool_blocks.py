@@ -1,4 +1,4 @@
-"""tools/scl_blocks, list_blocks, compare_blocks and what_was_lost: configured blocks, those of a list, and what is
+"""tools/scl_blocks, compare_blocks and what_was_lost: configured blocks, those of a list, and what is
 missing."""
 import random
 import re
@@ -8,8 +8,8 @@ import tempfile
 
 import publisher
 from asked_tools import EXAMPLES, TOOLS, Asked, ask
-from frames import SAMPLED, WORKED, asdu, element, put, with_asdus, with_fields
-from harness import SECONDS, first_difference, listed, run, text
+from frames import WORKED, put
+from harness import SECONDS, first_difference, run, text
 from themes import replaying
 
 SEED, COUNT = 61851, 300
@@ -95,21 +95,9 @@ def configured():
     yield Configured("elements in elements", HEAD + "<Private>" * 100000 + "</Private>" * 100000 + "</SCL>")
 
 
-# ---- Blocks of a list --------------------------------------------------------
+# ---- Blocks compared ---------------------------------------------------------
 
 ONE, OTHER = "0001,G,D,,1,1", "0001,G,D,ID,2,1"
-CHANGED = with_fields(go_id=element(0x83, b"ID"), conf_rev=element(0x88, b"\2"))
-COMMA = with_fields(gocb_ref=element(0x80, b'G,"\\'))
-STREAM, NEWER = with_asdus(asdu(), asdu(sv_id=element(0x80, b"T"))), with_asdus(asdu(conf_rev=element(0x83, b"\0\0\0\2")))
-
-
-def blocks_of_lists():
-    frames = [WORKED, put(WORKED, at46=2), CHANGED, WORKED, put(WORKED, at15=2), COMMA, b"\0", SAMPLED, STREAM, NEWER]
-    yield Asked("blocks and streams", "list_blocks", stdin=listed(*frames), stdout=text([
-        f"1 block {ONE}", f"3 block-changed {OTHER}", f"4 block-changed {ONE}", "5 block 0002,G,D,,1,1",
-        r'6 block appid=0001 ref="G,\"\\" set="D" id=- rev=1 entries=1', '8 stream id="S" rev=1', '9 stream id="T" rev=1',
-        '10 stream-changed id="S" rev=2']))
-    yield Asked("a list with an error", "list_blocks", stdin=listed(WORKED) + b"x\n", stdout=text([f"1 block {ONE}", "2 list LineForm"]), status=3)
 
 
 class Compared:
@@ -262,6 +250,5 @@ def lost():
 
 def cases():
     yield from configured()
-    yield from blocks_of_lists()
     yield from compared()
     yield from lost()
