@@ -647,7 +647,7 @@ HELP = {
 }
 # The words behind a command's name, as its help writes them.
 TAKES = {"replay": " <BLOCK>...", "watch": " --period <N> --id <TEXT>"}
-VERSION = "goose 0.1.0"
+VERSION = "goose 1.0.0"
 
 
 # ---- As a program -----------------------------------------------------------

@@ -99,7 +99,7 @@ fn program<'a>(alloc: Global) -> Command<'a>
     ensures { app_of result ≡ bare_program }
 {
     Command::new(alloc, "goose")
-        .version("0.1.0")
+        .version("1.0.0")
         .before_help("Example: echo 'C 2000' | goose show")
         .after_help(
             "Run goose COMMAND --help for an example of each command.\nMoments in lists and scripts are microseconds where the first line is V2, else milliseconds; what is written is always in microseconds.\nExit status: 0 done, 1 something was found, 2 wrong arguments, 3 an error in the input, 4 a device failed while reading or writing, 5 out of memory.\nMore: man goose",
