@@ -5,7 +5,7 @@ import random
 import by_chance
 import inventory
 from frames import SAMPLED, WORKED, asdu, element, put, with_asdus, with_fields, with_members
-from harness import Case, first_difference, listed, run, text
+from harness import Case, first_difference, listed, run, text, why_told
 
 SEED = 61850
 G = "0001,G,D,,1,1"
@@ -22,7 +22,7 @@ class Lists:
         wrote, complained, status = run(program, ["blocks"], self.octets)
         difference = first_difference(text(lines), wrote)
         why = [difference] if difference else []
-        why += [f"standard error is not empty: {complained!r}"] if complained else []
+        why += why_told("blocks", wrote, complained, status)
         return why + ([f"ended with status {status}, and not {wanted_status}"] if status != wanted_status else [])
 
 
