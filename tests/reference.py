@@ -637,10 +637,10 @@ COMMANDS = {"show": show, "check": check, "rewrite": rewrite}
 ABOUT = "Reads recorded GOOSE and Sampled Values frames from standard input and tells what they say"
 HELP = {
     "show": "Shows each event on one line: every field of a frame, or its first error",
-    "check": "Writes a line for each error of a frame, and for each note on a good one",
-    "rewrite": "Writes the list again, each good frame in its canonical encoding",
+    "check": "Writes a line for each error of a frame, and for each note on a valid one",
+    "rewrite": "Writes the list again, each valid frame in its canonical encoding",
     "blocks": "Lists the control blocks and streams of a list, and each that is configured anew",
-    "replay": "Shows what a device that subscribes to control blocks makes of each frame",
+    "replay": "Shows what a device that subscribes to control blocks does with each frame",
     "publish": "Reads a script and writes the list of frames that a publisher sends",
     "watch": "Shows each sample of one stream, and whether its count is the next one",
     "import": "Reads a capture (classic libpcap, as tcpdump -w writes) and writes it as a list",

@@ -9,11 +9,11 @@ from reference import ABOUT, COMMANDS, HELP, TAKES, VERSION
 
 TOP = pathlib.Path(__file__).resolve().parent.parent.parent
 # What help says of the exit statuses above 1.
-STATUSES = [b"2 wrong arguments", b"3 an error in the input", b"4 a device failed", b"5 out of memory"]
+STATUSES = [b"2 wrong arguments", b"3 an error in the input", b"4 reading or writing failed", b"5 out of memory"]
 # What help says of the units of moments, where that is not what it says of a command over lists.
 UNITS = {
-    "--help": b"Moments in lists and scripts are microseconds where the first line is V2, else milliseconds",
-    "import": b"Moments in the output are microseconds, whatever the capture has",
+    "--help": b"Times in lists and scripts are microseconds where the first line is V2, else milliseconds",
+    "import": b"Times in the output are microseconds, whatever the capture has",
 }
 # What help says of status 1, at each command that can end with it.
 FOUND = {
@@ -32,7 +32,7 @@ RIGHT = {
     b"unexpected argument": b"\nA list, script or capture is read from standard input: goose COMMAND < FILE; ",
     b"invalid value": b"\nN is a whole number from 2 to 65536: ",
     b"requires a subcommand": b"\n  [subcommands: show, check, rewrite, blocks, replay, publish, watch, import]\n",
-    b"word of the command line": b" must be a text in UTF-8, ",
+    b"each argument": b" must be text in UTF-8, ",
     b"required arguments were not provided": b"\nUsage: goose ",
     b"a value is required": b" but none was supplied\n",
     b"cannot be used multiple times": b" cannot be used multiple times\n",
@@ -81,7 +81,7 @@ class Begins(Case):
                              stdout=subprocess.PIPE, stderr=subprocess.PIPE, timeout=SECONDS)
         why += [] if ran.returncode in (0, 1) and ran.stdout and not ran.stderr else [f"the example ends so: {ran}"]
         parts = [b"Exit status: 0 ", *STATUSES, b"\nMore: man goose\n"]
-        parts += [UNITS.get(self.words[0], b"Moments in the input are microseconds where its first line is V2, else milliseconds")]
+        parts += [UNITS.get(self.words[0], b"Times in the input are microseconds where its first line is V2, else milliseconds")]
         parts += OWN_WORDS.get(self.words[0], [])
         if self.words[0] == "check":
             parts += [b"not-written is a note and no error: the frame is good"]

@@ -33,7 +33,7 @@ fn advice_on(kind: WordsErrorKind) -> Option<&'static str> {
             "The commands are show, check, rewrite, blocks, replay, publish, watch and import; goose --help says what each does",
         ),
         WordsErrorKind::UnknownArgument => Some(
-            "A list, script or capture is read from standard input: goose COMMAND < FILE; goose COMMAND --help says which words a command takes",
+            "A list, script or capture is read from standard input: goose COMMAND < FILE; goose COMMAND --help says which arguments a command takes",
         ),
         WordsErrorKind::ValueValidation => {
             Some("N is a whole number from 2 to 65536: how many samples smpCnt counts in a second")
@@ -210,9 +210,7 @@ fn main(rt: HostRuntime) -> ExitCode {
     let code = match texts_of(&rt) {
         Ok(texts) => answer(&rt, texts.as_slice()),
         Err(2) => {
-            let _ = rt.eprintln(
-                "error: each word of the command line must be a text in UTF-8, and some word is none",
-            );
+            let _ = rt.eprintln("error: each argument must be text in UTF-8, and one is not");
             2
         }
         Err(status) => status,

@@ -72,27 +72,27 @@ pub enum WordsError {
 
 // What the help of `show`, of `blocks` and of `publish` ends with: they find nothing to be told by a status.
 const SHOW_MORE: &str =
-    "Moments in the input are microseconds where its first line is V2, else milliseconds; in the output they are always microseconds.\nExit status: 0 done, 2 wrong arguments, 3 an error in the input, 4 a device failed while reading or writing, 5 out of memory.\nMore: man goose";
+    "Times in the input are microseconds where its first line is V2, else milliseconds; in the output they are always microseconds.\nExit status: 0 done, 2 wrong arguments, 3 an error in the input, 4 reading or writing failed, 5 out of memory.\nMore: man goose";
 
 // What the help of `check` ends with: an encoding is no error.
 const CHECK_MORE: &str =
-    "A line fault is an error of the frame. A line not-written is a note and no error: the frame is good, but encoded otherwise than rewrite would write it. A line destination is a note too: the frame is sent to another address than the standards recommend.\n\nMoments in the input are microseconds where its first line is V2, else milliseconds.\nExit status: 0 nothing to note, 1 a line was written for some frame, 2 wrong arguments, 3 an error in the input, 4 a device failed while reading or writing, 5 out of memory.\nMore: man goose";
+    "A line fault is an error of the frame. A line not-written is a note and no error: the frame is valid, but encoded otherwise than rewrite would write it. A line destination is a note too: the frame is sent to another address than the standards recommend.\n\nTimes in the input are microseconds where its first line is V2, else milliseconds.\nExit status: 0 nothing to note, 1 a line was written for some frame, 2 wrong arguments, 3 an error in the input, 4 reading or writing failed, 5 out of memory.\nMore: man goose";
 
 // What the help of `rewrite` ends with.
 const REWRITE_MORE: &str =
-    "Moments in the input are microseconds where its first line is V2, else milliseconds; in the output they are always microseconds.\nExit status: 0 done, 1 some frame was written with its own octets, 2 wrong arguments, 3 an error in the input, 4 a device failed while reading or writing, 5 out of memory.\nMore: man goose";
+    "Times in the input are microseconds where its first line is V2, else milliseconds; in the output they are always microseconds.\nExit status: 0 done, 1 some frame was written with its own octets, 2 wrong arguments, 3 an error in the input, 4 reading or writing failed, 5 out of memory.\nMore: man goose";
 
 // What the help of `replay` ends with.
 const REPLAY_MORE: &str =
-    "Moments in the input are microseconds where its first line is V2, else milliseconds.\nExit status: 0 done, 2 wrong arguments, 3 an error in the input, or two blocks have one APPID and gocbRef, 4 a device failed while reading or writing, 5 out of memory.\nMore: man goose";
+    "Times in the input are microseconds where its first line is V2, else milliseconds.\nExit status: 0 done, 2 wrong arguments, 3 an error in the input, or two blocks have one APPID and gocbRef, 4 reading or writing failed, 5 out of memory.\nMore: man goose";
 
 // What the help of `watch` ends with.
 const WATCH_MORE: &str =
-    "Moments in the input are microseconds where its first line is V2, else milliseconds.\nExit status: 0 each line says first or next, 1 some line says another word, 2 wrong arguments, 3 an error in the input, 4 a device failed while reading or writing, 5 out of memory.\nMore: man goose";
+    "Times in the input are microseconds where its first line is V2, else milliseconds.\nExit status: 0 each line says first or next, 1 some line says another word, 2 wrong arguments, 3 an error in the input, 4 reading or writing failed, 5 out of memory.\nMore: man goose";
 
 // What the help of `import` ends with: a capture has a unit of its own.
 const IMPORT_MORE: &str =
-    "Moments in the output are microseconds, whatever the capture has. A record that no list can hold is left out, and a comment says so.\nExit status: 0 done, 1 a record was left out, 2 wrong arguments, 3 an error in the input, 4 a device failed while reading or writing, 5 out of memory.\nMore: man goose";
+    "Times in the output are microseconds, whatever the capture has. A record that no list can hold is left out, and a comment says so.\nExit status: 0 done, 1 a record was left out, 2 wrong arguments, 3 an error in the input, 4 reading or writing failed, 5 out of memory.\nMore: man goose";
 
 // The program before its subcommands, one of which must be named.
 fn program<'a>(alloc: Global) -> Command<'a>
@@ -102,7 +102,7 @@ fn program<'a>(alloc: Global) -> Command<'a>
         .version("1.0.0")
         .before_help("Example: echo 'C 2000' | goose show")
         .after_help(
-            "Run goose COMMAND --help for an example of each command.\nMoments in lists and scripts are microseconds where the first line is V2, else milliseconds; what is written is always in microseconds.\nExit status: 0 done, 1 something was found, 2 wrong arguments, 3 an error in the input, 4 a device failed while reading or writing, 5 out of memory.\nMore: man goose",
+            "Run goose COMMAND --help for an example of each command.\nTimes in lists and scripts are microseconds where the first line is V2, else milliseconds; what is written is always in microseconds.\nExit status: 0 done, 1 something was found, 2 wrong arguments, 3 an error in the input, 4 reading or writing failed, 5 out of memory.\nMore: man goose",
         )
         .about(
             "Reads recorded GOOSE and Sampled Values frames from standard input and tells what they say",
@@ -146,7 +146,7 @@ fn with_replay<'a>(alloc: Global, program: Command<'a>) -> Result<Command<'a>, A
     let replay = Command::new(alloc, "replay")
         .before_help("Example: goose replay 0001,G,D,,1,1 < examples/repeated_frames.list")
         .after_help(REPLAY_MORE)
-        .about("Shows what a device that subscribes to control blocks makes of each frame")
+        .about("Shows what a device that subscribes to control blocks does with each frame")
         .arg(block_words(alloc))?;
     program.subcommand(replay)
 }
@@ -207,7 +207,7 @@ fn with_readers<'a>(alloc: Global, program: Command<'a>) -> Result<Command<'a>, 
         alloc,
         program,
         "check",
-        "Writes a line for each error of a frame, and for each note on a good one",
+        "Writes a line for each error of a frame, and for each note on a valid one",
         "Example: goose check < examples/notes.list",
         CHECK_MORE,
     )?;
@@ -215,7 +215,7 @@ fn with_readers<'a>(alloc: Global, program: Command<'a>) -> Result<Command<'a>, 
         alloc,
         program,
         "rewrite",
-        "Writes the list again, each good frame in its canonical encoding",
+        "Writes the list again, each valid frame in its canonical encoding",
         "Example: goose rewrite < examples/long_lengths.list",
         REWRITE_MORE,
     )?;
