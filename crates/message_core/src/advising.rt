@@ -23,15 +23,14 @@ const UTF_16: &str =
     "The input is a text in UTF-16: iconv -f UTF-16 -t ASCII FILE makes a list or script of it";
 
 const CARRIAGE_RETURNS: &str =
-    "A line ends with LF, and here CR stands in place of it: tr '\\r' '\\n' < FILE fixes that";
+    "A line ends with LF, and here CR is in its place: tr '\\r' '\\n' < FILE fixes that";
 
 const TABS: &str =
     "Fields are divided by one space, and here is a tab: tr '\\t' ' ' < FILE fixes that";
 
 const BLANKS: &str = "The line ends with a space: sed 's/ *$//' FILE leaves it out";
 
-const SECOND_VERSION: &str =
-    "V2 can stand in the first line alone: put no list behind another without leaving it out";
+const SECOND_VERSION: &str = "V2 can be the first line alone: when you join lists, leave it out";
 
 const APART: &str = "The octets of a frame are written in one piece, with nothing between them";
 
@@ -41,10 +40,10 @@ const LIST_AS_SCRIPT: &str =
     "The input is a list, and publish reads a script: 'control,..' comes first";
 
 const LIST_FORMS: &str =
-    "A line is 'F MOMENT OCTETS', 'C MOMENT', 'M MOMENT on', 'M MOMENT off', '# ..' or empty";
+    "A line is 'F TIME OCTETS', 'C TIME', 'M TIME on', 'M TIME off', '# ..' or empty";
 
 const SCRIPT_FORMS: &str =
-    "First comes 'control,..', then 'step,WAIT,LIVE', then 'change,MOMENT,T,MEMBERS' and 'poll,MOMENT'";
+    "First comes 'control,..', then 'step,WAIT,LIVE', then 'change,TIME,T,MEMBERS' and 'poll,TIME'";
 
 /// How a pcapng capture begins.
 const PCAPNG_HEAD: [u8; 4] = [0x0A, 0x0D, 0x0D, 0x0A];
