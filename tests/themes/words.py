@@ -84,7 +84,7 @@ class Begins(Case):
         parts += [UNITS.get(self.words[0], b"Times in the input are microseconds where its first line is V2, else milliseconds")]
         parts += OWN_WORDS.get(self.words[0], [])
         if self.words[0] == "check":
-            parts += [b"not-written is a note and no error: the frame is good"]
+            parts += [b"not-written is a note and no error: the frame is valid"]
         found = FOUND.get(self.words[0], b"Exit status: 0 done, 2 wrong arguments")
         why += [f"help tells {other!r}" for other in FOUND.values() if other != found and other in wrote]
         return why + [f"help lacks {part!r}" for part in [*parts, found] if part not in wrote]
