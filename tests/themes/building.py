@@ -11,7 +11,7 @@ import subprocess
 import tempfile
 import time
 
-from harness import SECONDS, Skipped
+from helpers.harness import SECONDS, Skipped
 
 TOP = pathlib.Path(__file__).resolve().parent.parent.parent
 
@@ -41,6 +41,11 @@ exit {status}
 """
 
 
+def heed_interrupts():
+    """Has a script see SIGINT also where the tests run in the background of a shell, which ignores it there."""
+    signal.signal(signal.SIGINT, signal.SIG_DFL)
+
+
 class Tree:
     """A tree with the scripts, sources that are a day old, and a command `rt`."""
 
@@ -68,7 +73,7 @@ class Tree:
         path = f"{self.top / 'bin'}:{os.environ['PATH']}"
         how = {"stdout": subprocess.PIPE, "stderr": subprocess.PIPE, "stdin": subprocess.PIPE, "text": True, **how}
         how["env"] = {**os.environ, "PATH": path, "RUNS": str(self.runs)}
-        return subprocess.Popen([str(word) for word in words], cwd=folder or self.top, **how)
+        return subprocess.Popen([str(word) for word in words], cwd=folder or self.top, preexec_fn=heed_interrupts, **how)
 
     def ended(self, started, given=""):
         """What a script writes, says and ends with; of how long it takes, that it says so."""
@@ -237,12 +242,12 @@ def sorted_in(names, runs):
 
 
 def lowest_first(tree):
-    """The crates that the program stands on are proved before it, each after those that it stands on. One of those with the
-    longest chain of others behind them has all processors."""
+    """The crates that the program stands on are proved before it, each after those that it stands on. Each of those with the
+    longest chain of others behind them has the processors that the others leave."""
     yield "output", (tree.program(), tree.begun(), 0), with_crates(tree).build()
-    most = min(4, len(os.sched_getaffinity(0)))
-    wanted = [f"low lib --jobs {most} ", f"beside lib --jobs {most} ", f"other lib --jobs {most} ", f"high lib --jobs {most} ",
-              "goose run -- show given"]
+    alone, beside = jobs_beside(0), jobs_beside(1)
+    wanted = [f"low lib --jobs {alone} ", f"beside lib --jobs {beside} ", f"other lib --jobs {beside} ",
+              f"high lib --jobs {alone} ", "goose run -- show given"]
     yield "the runs", wanted, sorted_in(("other", "beside"), tree.ran())
     made = {name: (tree.top / "crates" / name / "out" / "rlib" / "stamp") for name in BELOW}
     yield "the libraries", {name: f"{name}\n" for name in BELOW}, {name: file.read_text() for name, file in made.items()}
@@ -251,13 +256,19 @@ def lowest_first(tree):
     yield "the log", ["== beside", "== high", "== low", "== other", *["a line of the log"] * 5], sorted(log)
 
 
+def jobs_beside(others):
+    """The jobs of a check that decides how long the build takes, beside some others: two at least, where there are two."""
+    processors = len(os.sched_getaffinity(0))
+    return min(4, processors, max(2, processors - others))
+
+
 def longest_chain(tree):
-    """Of two crates that can be proved, the one with the longer chain behind it gets all processors, the other one job."""
+    """Of two crates that can be proved, the one with the longer chain behind it gets all processors but one, the other one
+    job."""
     want_two_checks()
     with_crates(tree).put("crates/other/src/lib.rt", "a line\n" * 1000)
     tree.build()
-    most = min(4, len(os.sched_getaffinity(0)))
-    wanted = ["beside lib --jobs 1 ", f"other lib --jobs {most} "]
+    wanted = ["beside lib --jobs 1 ", f"other lib --jobs {jobs_beside(1)} "]
     yield "the runs", wanted, sorted(it for it in tree.ran() if it.startswith(("other", "beside")))
 
 
@@ -475,7 +486,7 @@ def cases():
     yield Builds("a stored run that writes something else", other_output, wrote="another line\n")
     yield Builds("a build that leaves no program", no_program, early=f"printf '{STORED.rstrip()}\\n'; exit 0")
     yield Builds("the crates below are proved lowest first", lowest_first)
-    yield Builds("the longest chain has all processors", longest_chain)
+    yield Builds("the longest chain has the processors that others leave", longest_chain)
     yield Builds("a crate has a tree of its own", own_tree, early=LISTS)
     yield Builds("crates are proved side by side", side_by_side, early=MEETS)
     yield Builds("only what changed is proved again", only_what_changed)

@@ -1,9 +1,9 @@
 """Lists made by chance, always the same ones, of which the slow reader says what comes."""
 import random
 
-import by_chance
-from frames import WORKED
-from harness import Agreement, listed
+from helpers import by_chance
+from helpers.frames import WORKED
+from helpers.harness import Agreement, listed
 
 SEED = 61850
 

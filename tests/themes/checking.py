@@ -1,9 +1,9 @@
 """What `check` notes: faults, encodings that are not the canonical one, destinations outside the recommended ranges."""
 import itertools
 
-from frames import SAMPLED, WORKED, asdu, element, framed, put, with_asdus, with_fields, with_members
-from harness import Case, check, keep, listed, text
-from reference import APDUS_READ
+from helpers.frames import SAMPLED, WORKED, asdu, element, framed, put, with_asdus, with_fields, with_members
+from helpers.harness import Case, check, keep, listed, text
+from oracles.reference import APDUS_READ
 from themes import faults, sampled, spellings
 
 # IEC 61850-8-1 and IEC 61850-9-2: the octets of destinations inside and outside the ranges that they recommend.

@@ -1,6 +1,6 @@
 """Frames that are cut, with and without a Length that fits."""
-from frames import WORKED, WORKED_LINE, framed, put, with_length
-from harness import Case, listed, text
+from helpers.frames import WORKED, WORKED_LINE, framed, put, with_length
+from helpers.harness import Case, listed, text
 
 TAGGED = framed(WORKED[22:], tag=b"\x81\x00\x80\x00", trailer=bytes(4))
 TAGGED_LINE = WORKED_LINE.replace("tag=-", "tag=8000")

@@ -5,9 +5,9 @@ import re
 import subprocess
 import tempfile
 
-from asked_tools import TOP
-from frames import WORKED, put
-from harness import SECONDS, run, text
+from helpers.asked_tools import TOP
+from helpers.frames import WORKED, put
+from helpers.harness import SECONDS, run, text
 
 SEED, LISTS, FRAMES = 61852, 60, 30
 BLOCKS = ["0001,G,D,,1,1", "0002,G,D,,1,1"]

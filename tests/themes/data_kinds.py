@@ -1,7 +1,7 @@
 """Each kind of Data: its text, its written form and its faults. A kind that is not read is an unexpected identifier."""
-from frames import WORKED, WORKED_LINE, element, put, with_members
-from harness import Case, check, listed, refuse, rewrite, show, text
-from reference import KIND_OF, KINDS_READ, members
+from helpers.frames import WORKED, WORKED_LINE, element, put, with_members
+from helpers.harness import Case, check, listed, refuse, rewrite, show, text
+from oracles.reference import KIND_OF, KINDS_READ, members
 
 # Octets of the members, the kinds among them in their order, their text, and their written form.
 READ = [

@@ -3,9 +3,9 @@ import os
 import subprocess
 import tty
 
-from captures import header, record
-from frames import SAMPLED, WORKED, WORKED_LINE, element, put, with_fields
-from harness import Case, Pieces, Skipped, cut, descriptor, listed, relisted, run, text
+from helpers.capture_parts import header, record
+from helpers.frames import SAMPLED, WORKED, WORKED_LINE, element, put, with_fields
+from helpers.harness import Case, Pieces, Skipped, cut, descriptor, listed, relisted, run, text
 
 FAULT = [b"read or write fault"]
 

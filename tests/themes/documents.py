@@ -9,8 +9,8 @@ import re
 import shutil
 import subprocess
 
-import reference
-from harness import Skipped
+from helpers.harness import Skipped
+from oracles import reference
 
 TOP = pathlib.Path(__file__).resolve().parent.parent.parent
 DEFINITIONS = TOP / "docs" / "DEFINITIONS.md"
@@ -94,6 +94,29 @@ class Short:
 def words_in(text):
     prose = re.sub(r"(?ms)^```.*?^```", "", text)
     return sum(1 for word in prose.split() if re.search(r"\w", word))
+
+
+class Plain:
+    """What users read has none of these words, for which it has others: the documents, the manual page, the examples, what
+    errors and messages say, and the help of the program and of the tools. Moment is a name."""
+
+    name = "the words of what users read"
+    OTHERS = r"\b([Mm]oments|moment|[Ss]pell\w*|[Ss]tatus numbers?|[Ss]equence numbers?|[Bb]ehind|[Gg]ood frames?|[Rr]ecordings?)\b"
+    UNSAID = r"(?m)^(?:ghost| *(?://|ensures|requires)).*$"
+
+    def why_wrong(self, _program):
+        documents = [TOP / "README.md", TOP / "docs" / "goose.1", *(TOP / "docs" / f"{it}.md" for it in ("TUTORIAL", "REPLAY", "RECIPES"))]
+        examples = [it for it in (TOP / "examples").iterdir() if it.suffix in (".list", ".script", ".md")]
+        read = {file.name: file.read_text() for file in (*documents, *examples)}
+        # Of these words some are in a table that says what they are.
+        read["FORMATS.md"] = re.sub(r"(?ms)^## Words$.*?^(?=## )", "", FORMATS.read_text())
+        for tool in (it for it in (TOP / "tools").iterdir() if it.is_file()):
+            read[tool.name] = "\n".join(re.findall(r'(?s)\A#!.*?\n"""(.*?)"""', tool.read_text()))
+        for crate in tables.crates():
+            code = "\n".join(file.read_text() for file in (TOP / "crates" / crate / "src").rglob("*.rt"))
+            says = '"(.*?)"' if crate in ("message_core", "words_core", "goose") else r'#\[error\("(.*?)"\)\]'
+            read[crate] = "\n".join(re.findall(says, re.sub(self.UNSAID, "", code)))
+        return [f"{name} says {it}" for name, text in read.items() for it in re.findall(self.OTHERS, text)]
 
 
 class Guided:
@@ -207,7 +230,7 @@ class Linked:
         self.document, self.name = document, f"the links of {document.relative_to(TOP)}"
 
     def why_wrong(self, _program):
-        links = re.findall(r"\]\(([^)#:]*)(?:#([^)]*))?\)", self.document.read_text())
+        links = re.findall(r"\]\((?!https?:)([^)#\s]*)(?:#([^)]*))?\)", self.document.read_text())
         why = []
         for path, anchor in links:
             file = (self.document.parent / path).resolve() if path else self.document
@@ -237,7 +260,7 @@ class Glossary:
         why = [f"no row has {it}" for it in sorted(shown - words)] + [f"no line has {it}" for it in sorted(words - shown)]
         fields = wireshark_fields()
         if not why and not fields:
-            raise Skipped("there is no tshark")
+            raise Skipped("there is no tshark: run tests/get_tools")
         named = re.findall(r"`((?:goose|sv|eth|vlan)\.\w+)`", text)
         return why + [f"tshark has no field {it}" for it in named if fields and it not in fields]
 
@@ -266,7 +289,7 @@ def part(text, heading):
 
 
 def cases():
-    yield from (Commands(), Glossary(), Generated(), Whole(), Short(), Guided(), Carried())
+    yield from (Commands(), Glossary(), Generated(), Whole(), Short(), Plain(), Guided(), Carried())
     folders = [TOP, TOP / "docs", TOP / "docs" / "tables", TOP / "examples", TOP / "tests", TOP / "bench",
                *(TOP / "crates").glob("*")]
     for folder in folders:

@@ -1,6 +1,6 @@
 """Addresses, tag, reserved fields and trailer are shown and kept."""
-from frames import SAMPLED, WORKED, WORKED_LINE, framed, put, with_fields
-from harness import Case, listed, relisted, rewrite, show
+from helpers.frames import SAMPLED, WORKED, WORKED_LINE, framed, put, with_fields
+from helpers.harness import Case, listed, relisted, rewrite, show
 
 APDU = WORKED[22:]
 

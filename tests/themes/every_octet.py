@@ -1,8 +1,8 @@
 """Every octet of a frame replaced by every other value, in one list; and every octet of short lists replaced by telling
 ones, dropped, and followed by one more. The slow reader, the slow inventory, the slow subscriber and the slow watch
 agree."""
-from frames import SAMPLED, WORKED, framed, with_fields
-from harness import Agreement, WellFormed, WrittenReadsBack, listed
+from helpers.frames import SAMPLED, WORKED, framed, with_fields
+from helpers.harness import Agreement, WellFormed, WrittenReadsBack, listed
 from themes.inventory import Lists
 from themes.replaying import BLOCK, Replays
 from themes.watching import Watches

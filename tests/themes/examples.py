@@ -7,7 +7,7 @@ import shutil
 import subprocess
 import tempfile
 
-from harness import SECONDS, Skipped, first_difference
+from helpers.harness import SECONDS, Skipped, first_difference
 
 TOP = pathlib.Path(__file__).resolve().parent.parent.parent
 DOCUMENTS = ["README.md", "examples/README.md", "docs/TUTORIAL.md", "docs/FORMATS.md", "docs/REPLAY.md", "docs/RECIPES.md"]

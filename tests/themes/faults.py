@@ -1,7 +1,7 @@
 """Each cause of a frame's fault at its place, and which of two faults is the first."""
-from frames import BOOLEAN, ENVELOPE, WORKED, element, framed, put, with_fields, with_length, with_members
-from harness import refuse, show
-from reference import APDUS_READ, KINDS_READ
+from helpers.frames import BOOLEAN, ENVELOPE, WORKED, element, framed, put, with_fields, with_length, with_members
+from helpers.harness import refuse, show
+from oracles.reference import APDUS_READ, KINDS_READ
 
 
 def cut(frame, count):
@@ -76,7 +76,7 @@ def levels():
 
 
 def show_line(members):
-    from frames import WORKED_LINE
+    from helpers.frames import WORKED_LINE
 
     return WORKED_LINE.replace("{true}", "{" + members + "}")
 

@@ -1,7 +1,7 @@
 """The cases that are kept as folders in tests/cli."""
 import pathlib
 
-from harness import folder
+from helpers.harness import folder
 
 CLI = pathlib.Path(__file__).resolve().parent.parent / "cli"
 

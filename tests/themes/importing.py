@@ -6,11 +6,11 @@ import shutil
 import subprocess
 import tempfile
 
-import captures
-import subscriber
-from captures import NANOSECONDS, header, record
-from frames import SAMPLED, WORKED
-from harness import SECONDS, Case, Skipped, first_difference, run, text
+from helpers.capture_parts import header, record
+from helpers.frames import SAMPLED, WORKED
+from helpers.harness import SECONDS, Case, Skipped, first_difference, run, text
+from oracles import captures, subscriber
+from oracles.captures import NANOSECONDS
 from themes.replaying import BLOCK, state
 
 SEED = 1997

@@ -9,9 +9,9 @@ import subprocess
 import tarfile
 import tempfile
 
-import reference
-from asked_tools import TOOLS, TOP
-from harness import SECONDS, Skipped
+from helpers.asked_tools import TOOLS, TOP
+from helpers.harness import SECONDS, Skipped
+from oracles import reference
 
 EXAMPLES = re.findall(r"(?m)^\.Dl (goose .*)$", (TOP / "docs" / "goose.1").read_text())
 
@@ -34,7 +34,8 @@ def files(top):
 
 
 def installed_wrong(prefix):
-    """What does not run as it should under a prefix: the manual page's examples, a tool, the completion of commands."""
+    """What is not as it should be under a prefix: the manual page's examples, a tool, the completion of commands, the links of
+    documents."""
     documents, path = prefix / "share" / "doc" / "goose", f"{prefix}/bin:/usr/bin:/bin"
     for command in EXAMPLES:
         example = ran(["bash", "-c", command], cwd=documents, env={**os.environ, "PATH": path})
@@ -59,6 +60,11 @@ def installed_wrong(prefix):
         yield "PROVED has another SHA-256 than the program"
     if not (prefix / "share/man/man1/goose.1").is_file():
         yield "there is no manual page"
+    for document in documents.rglob("*.md"):
+        links = re.findall(r"\]\((?!https?:)([^)#\s]+)", document.read_text())
+        yield from (f"{document.name} has a link to {it}, which is not installed" for it in links if not (document.parent / it).exists())
+    if "tests (tests/README.md)" not in (documents / "README.md").read_text():
+        yield "README.md does not say where the tests are in the source tree"
 
 
 # Completes the last of some words.

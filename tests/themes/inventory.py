@@ -2,10 +2,10 @@
 comes, and replays with the blocks that are listed."""
 import random
 
-import by_chance
-import inventory
-from frames import SAMPLED, WORKED, asdu, element, put, with_asdus, with_fields, with_members
-from harness import Case, first_difference, listed, run, text, why_told
+from helpers import by_chance
+from helpers.frames import SAMPLED, WORKED, asdu, element, put, with_asdus, with_fields, with_members
+from helpers.harness import Case, first_difference, listed, run, text, why_told
+from oracles import inventory
 
 SEED = 61850
 G = "0001,G,D,,1,1"

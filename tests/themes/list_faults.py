@@ -1,6 +1,6 @@
 """Each cause that ends a list, and which of two comes first."""
-from frames import WORKED, WORKED_LINE
-from harness import Case, end_list, listed, relisted, text
+from helpers.frames import WORKED, WORKED_LINE
+from helpers.harness import Case, end_list, listed, relisted, text
 
 FRAME = WORKED.hex().encode()
 

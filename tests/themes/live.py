@@ -6,9 +6,9 @@ import select
 import subprocess
 import tempfile
 
-from captures import header, record
-from frames import SAMPLED, WORKED, WORKED_LINE, put
-from harness import SECONDS, Skipped, descriptor, listed, text
+from helpers.capture_parts import header, record
+from helpers.frames import SAMPLED, WORKED, WORKED_LINE, put
+from helpers.harness import SECONDS, Skipped, descriptor, listed, text
 from themes.devices import CHANGE, SCRIPT, WORDS, words
 
 # How long a text may take that should be there at once, and how long nothing more may come behind it.

@@ -6,8 +6,8 @@ import shlex
 import shutil
 import subprocess
 
-import reference
-from harness import SECONDS, Skipped
+from helpers.harness import SECONDS, Skipped
+from oracles import reference
 
 TOP = pathlib.Path(__file__).resolve().parent.parent.parent
 PAGE = TOP / "docs" / "goose.1"

@@ -8,9 +8,9 @@ import select
 import subprocess
 import tty
 
-from captures import header, record
-from frames import WORKED, put
-from harness import SECONDS, Case, clipped, listed, run
+from helpers.capture_parts import header, record
+from helpers.frames import WORKED, put
+from helpers.harness import SECONDS, Case, clipped, listed, run
 from themes.devices import CHANGE, SCRIPT, WORDS, words
 
 TOP = pathlib.Path(__file__).resolve().parent.parent.parent
@@ -112,6 +112,9 @@ def lists():
         before = b"#" * 62 + b"\n"
         yield of_list("show", size // 63 + 1, "LineForm", before * (size // 63) + b"C\t0\n" + FRAME * 400, "has a tab in the line",
                       f"a tab behind {size} octets")
+    yield of_list("show", 80001, "LineForm", b"\n" * 80000 + b"C\t0\n", "has a tab in the line", "a tab behind 80,000 empty lines")
+    parted = b"".join((before * 1000, b"C\t", b"0" * 4000, b"\n", FRAME * 400))
+    yield of_list("show", 1001, "LineForm", parted, "has a tab in the line", "a tab in a line that two reads give")
 
 
 def shown_by_octets():
@@ -127,6 +130,7 @@ def shown_by_octets():
     yield of_list("show", 3, "LineForm", b"V2\nC 0\nV2\r\n", "has a line `V2` that is not the first", "a second version")
     apart = "has more than digits in the octets of a frame, as spaces, colons or hyphens between them"
     yield of_list("show", 1, "LineForm", b"F 0 01 0c cd\n", apart, "spaces between octets")
+    yield of_list("show", 1, "LineForm", b"F 0 01 0c\n", apart, "one space between octets")
     yield of_list("show", 1, "Hex", b"F 0 01:0c:cd\n", apart, "colons between octets")
     yield of_list("show", 1, "Hex", b"F 0 01-0c-cd\n", apart, "hyphens between octets")
     yield of_list("show", 1, "LineForm", SCRIPT, "is a script, and the command is not `publish`", "a script")
@@ -159,9 +163,11 @@ def scripts():
         ("a script that is too long", 1000001, "ListTooLong", b"\n" * 1000001, None),
     ):
         yield of_list("publish", number, name, stdin, advice, what)
-    sentence = SAYS["Members"].replace("NAME", "BooleanLength").replace("OFFSET", "1")
-    yield Says("publish: members with an error", ["publish"], SCRIPT + change.replace(b"8301ff", b"8302ffff"),
-               "# 3 script Members 1 BooleanLength", f"line 3: Members: {sentence}")
+    for before in (b"", b"898203e8" + b"00" * 1000):
+        offset = str(len(before) // 2 + 1)
+        sentence = SAYS["Members"].replace("NAME", "BooleanLength").replace("OFFSET", offset)
+        yield Says(f"publish: members with an error at {offset}", ["publish"], SCRIPT + change.replace(b"8301ff", before + b"8302ffff"),
+                   f"# 3 script Members {offset} BooleanLength", f"line 3: Members: {sentence}")
 
 
 def captures():

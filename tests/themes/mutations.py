@@ -2,10 +2,10 @@
 its frame, what rewriting makes of it reads back, and a replay and a watch of it write what the slow ones write."""
 import random
 
-import by_chance
-from frames import SAMPLED, WORKED, asdu, element, framed, with_asdus, with_fields
-from harness import Agreement, WellFormed, WrittenReadsBack, listed
-from reference import contents
+from helpers import by_chance
+from helpers.frames import SAMPLED, WORKED, asdu, element, framed, with_asdus, with_fields
+from helpers.harness import Agreement, WellFormed, WrittenReadsBack, listed
+from oracles.reference import contents
 from themes.inventory import Lists
 from themes.replaying import BLOCK, Replays
 from themes.watching import Watches

@@ -7,8 +7,8 @@ import subprocess
 import tempfile
 from xml.etree import ElementTree
 
-from frames import WORKED, put
-from harness import SECONDS, first_difference, run, text
+from helpers.frames import WORKED, put
+from helpers.harness import SECONDS, first_difference, run, text
 
 TOP = pathlib.Path(__file__).resolve().parent.parent.parent
 DOCS, EXAMPLES, TOOLS = TOP / "docs", TOP / "examples", TOP / "tools"

@@ -3,10 +3,10 @@ import itertools
 import pathlib
 import random
 
-import by_chance
-import publisher
-from frames import BOOLEAN, element, put
-from harness import Case, first_difference, run, text, why_told
+from helpers import by_chance
+from helpers.frames import BOOLEAN, element, put
+from helpers.harness import Case, first_difference, run, text, why_told
+from oracles import publisher
 from themes.replaying import flag, number, state
 
 SEED = 81802

@@ -1,6 +1,6 @@
 """Each error that ends a script, at its line, and which of several comes first. Scripts are those of themes/publishing.py."""
-import publisher
-from harness import text
+from helpers.harness import text
+from oracles import publisher
 from themes.devices import FAULT, FailsAfter
 from themes.publishing import FULL, GREATEST, START, Publishes, change, control, end_script, of_string, poll, script, sent, step
 from themes.replaying import state

@@ -8,10 +8,9 @@ import shlex
 import subprocess
 import tempfile
 
-import by_definition
-import subscriber
-from frames import BOOLEAN, ENVELOPE, SAMPLED, element, with_fields
-from harness import SECONDS, Case, first_difference, run, text, why_told
+from helpers.frames import BOOLEAN, ENVELOPE, SAMPLED, element, with_fields
+from helpers.harness import SECONDS, Case, first_difference, run, text, why_told
+from oracles import by_definition, subscriber
 
 SEED = 61850
 BY_BLOCK = pathlib.Path(__file__).resolve().parent.parent.parent / "examples" / "replay_by_block"

@@ -1,8 +1,8 @@
 """Sampled Values: fields and their texts, spellings, and each fault at its place. Where they are not read, each frame is
 refused by its EtherType."""
-from frames import SAMPLED, SAMPLED_ENVELOPE, SAMPLED_LINE, asdu, element, framed, put, with_asdus, with_length
-from harness import Case, check, listed, refuse, rewrite, show, text
-from reference import APDUS_READ
+from helpers.frames import SAMPLED, SAMPLED_ENVELOPE, SAMPLED_LINE, asdu, element, framed, put, with_asdus, with_length
+from helpers.harness import Case, check, listed, refuse, rewrite, show, text
+from oracles.reference import APDUS_READ
 
 TAG = b"\x81\x00\x80\x00"
 TEXT = '(id="S" set=- cnt=3998 rev=1 t=- synch=2 rate=- sample=002a mod=00 f89=-)'

@@ -1,6 +1,6 @@
 """Every spelling of one frame is shown alike, and rewriting gives the one written form."""
-from frames import WORKED, WORKED_LINE, element, framed, put, size_octets, with_fields, with_members
-from harness import Case, check, keep, listed, relisted, rewrite, show
+from helpers.frames import WORKED, WORKED_LINE, element, framed, put, size_octets, with_fields, with_members
+from helpers.harness import Case, check, keep, listed, relisted, rewrite, show
 
 
 def spellings():

@@ -5,9 +5,9 @@ import subprocess
 import tempfile
 import threading
 
-from captures import header, record
-from frames import SAMPLED, WORKED, WORKED_LINE, put
-from harness import SECONDS, first_difference, listed, peak_memory, run, text
+from helpers.capture_parts import header, record
+from helpers.frames import SAMPLED, WORKED, WORKED_LINE, put
+from helpers.harness import SECONDS, first_difference, listed, peak_memory, run, text
 from themes.devices import CHANGE, SCRIPT
 
 FRAMES = 4000

@@ -6,10 +6,10 @@ import resource
 import subprocess
 import tempfile
 
-import publisher
-from asked_tools import EXAMPLES, TOOLS, Asked, ask
-from frames import WORKED, put
-from harness import SECONDS, first_difference, run, text
+from helpers.asked_tools import EXAMPLES, TOOLS, Asked, ask
+from helpers.frames import WORKED, put
+from helpers.harness import SECONDS, first_difference, run, text
+from oracles import publisher
 from themes import replaying
 
 SEED, COUNT = 61851, 300

@@ -1,11 +1,11 @@
 """tools/list_to_pcap and tools/hex_to_list: what they write reads back as the frames that were given."""
 import random
 
-import by_chance
-import captures
-from asked_tools import EXAMPLES, Asked, ask
-from frames import WORKED
-from harness import first_difference, run, text
+from helpers import by_chance
+from helpers.asked_tools import EXAMPLES, Asked, ask
+from helpers.capture_parts import header, record
+from helpers.frames import WORKED
+from helpers.harness import first_difference, run, text
 from themes import replaying
 
 SEED, COUNT = 20041, 300
@@ -84,20 +84,20 @@ def cases():
     yield Back("frames of version 1 as a capture", replaying.some_list(chance, COUNT).replace(b"V2\n", b"# x\n"))
     yield Back("frames of version 2 as a capture", b"V2\r\n" + replaying.some_list(chance, COUNT).partition(b"\n")[2])
     yield Back("examples/two_bays.list as a capture", (EXAMPLES / "two_bays.list").read_bytes())
-    head, octets = captures.header(), WORKED.hex().encode()
+    head, octets = header(), WORKED.hex().encode()
     last = 2**32 * 10**6 - 1
     yield Asked("clocks and modes", "list_to_pcap", stdin=b"C 1\nF 1 " + octets + b"\nM 2 on\n", stderr=[b"2 clock times and modes left out"],
-                stdout=head + captures.record(0, 1000, WORKED))
+                stdout=head + record(0, 1000, WORKED))
     yield Asked("the latest time", "list_to_pcap", stdin=b"V2\nF %d %s\n" % (last, octets),
-                stdout=head + captures.record(2**32 - 1, 999999, WORKED))
+                stdout=head + record(2**32 - 1, 999999, WORKED))
     yield Asked("a time that is too late", "list_to_pcap", stdin=b"V2\nF %d %s\n" % (last + 1, octets), stdout=head, status=3,
                 stderr=[b"line 2: "])
     for name, line in (("LineForm", b"F 0  00"), ("Moment", b"F 1000000000000000 00"), ("Hex", b"F 0 0"), ("Hex ", b"F 0 00\r\r"), ("LineTooLong", b"#" * 4097)):
         yield Asked(f"a list that ends with {name}", "list_to_pcap", stdin=b"F 0 " + octets + b"\n" + line + b"\nF 0 00\n", status=3,
-                    stdout=head + captures.record(0, 0, WORKED), stderr=[f"line 2: {name.strip()}".encode()])
+                    stdout=head + record(0, 0, WORKED), stderr=[f"line 2: {name.strip()}".encode()])
     full = b"\n" * 999999 + b"F 0 " + octets + b"\n"
-    yield Asked("the most lines", "list_to_pcap", stdin=full, stdout=head + captures.record(0, 0, WORKED))
-    yield Asked("a line too many", "list_to_pcap", stdin=full + b"#", stdout=head + captures.record(0, 0, WORKED), status=3,
+    yield Asked("the most lines", "list_to_pcap", stdin=full, stdout=head + record(0, 0, WORKED))
+    yield Asked("a line too many", "list_to_pcap", stdin=full + b"#", stdout=head + record(0, 0, WORKED), status=3,
                 stderr=[b"line 1000001: ListTooLong"])
     yield from dumped(chance)
     tshark = STYLES["tshark -x"]

@@ -1,7 +1,7 @@
 """tools/field_at: which field each octet of a frame lies in."""
-from asked_tools import Asked, ask
-from frames import SAMPLED, WORKED, framed, with_members
-from harness import listed, text
+from helpers.asked_tools import Asked, ask
+from helpers.frames import SAMPLED, WORKED, framed, with_members
+from helpers.harness import listed, text
 
 # The parts of the worked frames: where each ends, and what is told of it.
 ENVELOPE = [(6, "destination"), (12, "source"), (14, "EtherType"), (16, "APPID"), (18, "Length"), (20, "Reserved 1"), (22, "Reserved 2")]

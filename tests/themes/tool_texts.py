@@ -10,9 +10,9 @@ import shutil
 import subprocess
 import tempfile
 
-import by_chance
-from asked_tools import EXAMPLES, Asked, ask
-from harness import SECONDS, Skipped, clipped, listed, run, text
+from helpers import by_chance
+from helpers.asked_tools import EXAMPLES, Asked, ask
+from helpers.harness import SECONDS, Skipped, clipped, listed, run, text
 from themes import replaying
 
 SEED, COUNT = 8259, 400

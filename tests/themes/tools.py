@@ -6,8 +6,8 @@ import shutil
 import subprocess
 import tempfile
 
-from asked_tools import EXAMPLES, TOOLS
-from harness import SECONDS, clipped
+from helpers.asked_tools import EXAMPLES, TOOLS
+from helpers.harness import SECONDS, clipped
 
 # Those of a checkout alone, which have themes of their own, and what is no command.
 OTHERS = {"build", "prove", "try", "wrong_bodies", "tables"}

@@ -13,9 +13,9 @@ import tempfile
 import time
 from xml.etree import ElementTree
 
-import by_chance
-from harness import SECONDS, Skipped, classic_pcap, listed, run
-from reference import APDUS_READ
+from helpers import by_chance
+from helpers.harness import SECONDS, Skipped, classic_pcap, listed, run
+from oracles.reference import APDUS_READ
 
 SEED, COUNT = 850, 1000
 

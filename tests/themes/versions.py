@@ -1,6 +1,6 @@
 """Lists of both versions, their moments, and modes."""
-from frames import WORKED, WORKED_LINE
-from harness import Case, Pieces, end_list, text
+from helpers.frames import WORKED, WORKED_LINE
+from helpers.harness import Case, Pieces, end_list, text
 
 FRAME = WORKED.hex().encode()
 MARK = b"\xef\xbb\xbf"

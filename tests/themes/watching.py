@@ -1,9 +1,9 @@
 """What a watch makes of lists: worked ones, and lists made by chance of which the slow watch says what comes."""
 import random
 
-import watcher
-from frames import SAMPLED, SAMPLED_ENVELOPE, WORKED, element, framed, put
-from harness import Case, first_difference, listed, run, text, why_told
+from helpers.frames import SAMPLED, SAMPLED_ENVELOPE, WORKED, element, framed, put
+from helpers.harness import Case, first_difference, listed, run, text, why_told
+from oracles import watcher
 
 SEED = 61869
 S = ["--id", "S"]

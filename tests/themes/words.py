@@ -4,8 +4,9 @@ import re
 import shlex
 import subprocess
 
-from harness import SECONDS, Case, clipped
-from reference import ABOUT, COMMANDS, HELP, TAKES, VERSION
+from helpers.frames import WORKED
+from helpers.harness import SECONDS, Case, clipped, listed
+from oracles.reference import ABOUT, COMMANDS, HELP, TAKES, VERSION
 
 TOP = pathlib.Path(__file__).resolve().parent.parent.parent
 # What help says of the exit statuses above 1.
@@ -201,9 +202,11 @@ def refusals():
 
 
 def accepted():
-    """The mark `--` behind a command changes nothing."""
+    """The mark `--` behind a command changes nothing, and a replay takes any count of blocks."""
     for name, wrote in (("show", b"1 fault 1 Truncated\n"), ("check", b"1 fault 1 Truncated\n"), ("rewrite", b"V2\nF 0 01\n")):
         yield Case(f"{name} --", [name, "--"], b"F 0 01\n", wrote, 0 if name == "show" else 1)
+    blocks = [f"0001,G{at},D,,1,1" for at in range(299)]
+    yield Case("replay of 300 blocks", ["replay", *blocks, "0001,G,D,,1,1"], listed(WORKED), b"1 act 299 st=1 sq=0 t=0000000000000000 {true}\n")
 
 
 def cases():

@@ -7,7 +7,7 @@ import subprocess
 import tempfile
 import time
 
-from harness import SECONDS
+from helpers.harness import SECONDS
 
 TOP = pathlib.Path(__file__).resolve().parent.parent.parent
 
@@ -16,7 +16,8 @@ TOP = pathlib.Path(__file__).resolve().parent.parent.parent
 RT = r"""#!/bin/sh
 echo $$ > "$RUNS.last"
 there=$(cd "${PWD%%/crates*}" && echo crates/*/must-fail/* crates/*/out crates.txt HANDLES)
-echo "$* in ${PWD#"$TMPDIR"/*/} of $RT_JOBS: $there" >> "$RUNS"
+out=$(cd "${PWD%%/crates*}" && find crates/*/out -type f 2>/dev/null | sort | tr '\n' ' ')
+echo "$* in ${PWD#"$TMPDIR"/*/} of $RT_JOBS: $there${out:+ out: ${out% }}" >> "$RUNS"
 case $1 in
     check)
         if [ -e src/open.rt ]; then echo "a goal is open"; exit 1; fi
@@ -115,6 +116,17 @@ def some_crates(tree):
     yield "a part of a name", "1 refused, 0 not refused, 0 not tried", tree.run("low", "--only", "swaps")[0][-1]
     yield "their names", (["low/adds_one", "low/swaps_two", "high/drops_the_last"], "", 0), tree.run("--list")
     yield "the names of one crate", (["high/drops_the_last"], "", 0), tree.run("high", "--list")
+
+
+def proved(tree):
+    """What a build proved is there in the copy, and what it kept of the crate whose wrong bodies are tried."""
+    for crate in ("low", "middle", "high"):
+        tree.put(f"crates/{crate}/out/incremental/kept", "")
+    for name in ("low/out/rlib/stamp", "low/out/rlib/low.rlib", "middle/out/rlib/middle.rlib"):
+        tree.put(f"crates/{name}", "")
+    yield "the last line", "1 refused, 0 not refused, 0 not tried", tree.run("high")[0][-1]
+    of_low, of_high = "crates/low/out/rlib/low.rlib crates/low/out/rlib/stamp", "crates/high/out/incremental/kept"
+    yield "what is there", [f"{of_high} {of_low}"] * 2, [line.split(" out: ")[1] for line in tree.ran()]
 
 
 def not_refused(tree):
@@ -227,6 +239,7 @@ def why_not_applied(crate, lines):
 def cases():
     yield Tries("each is tried in its crate", each_in_its_crate)
     yield Tries("some crates", some_crates)
+    yield Tries("what is proved is taken along", proved)
     some = {"adds_one": "other", "changes_nothing": "same", "never_ends": "endless"}
     yield Tries("some are not refused", not_refused, {"low": some})
     some = {"adds_one": "other", "has_no_file": "gone", "is_killed": "killed", "is_silent": "none"}

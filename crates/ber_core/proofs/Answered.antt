@@ -5,7 +5,7 @@ use Rattle.ber_core.specs.declared.fault.Fault.{Fault}
 use Rattle.ber_core.specs.declared.element.Header.{Header}
 use Rattle.ber_core.specs.Element.{IsHeader}
 use Rattle.ber_core.specs.Faults.{HeaderFault}
-use Rattle.ber_core.specs.Reading.{header_at}
+use Rattle.ber_core.specs.computed.Reading.{header_at}
 use Rattle.ber_core.proofs.OneReading.{header_found, header_only, header_wrong, header_wrong_again}
 
 module _ (octets : List ℕ) (at end : ℕ) (order : at ≤ end) (within : end ≤ length octets) where

@@ -1,7 +1,7 @@
 -- What a call answers that gives what reading gives, in the words of the relations that laws tie reading to.
 use Rattle.std.proofs.Common.{◌≡◌, Result, Ok, Err, refl, sym, ◌∙◌}
 use Rattle.std.specs.Prelude.{IfOk, IfErr, IsOk}
-use Rattle.ber_core.specs.Reading.{Gives}
+use Rattle.ber_core.specs.computed.Reading.{Gives}
 use Rattle.ber_core.specs.declared.fault.Fault.{Fault}
 
 module _ {X : Type 0} (reading : Result X Fault) where

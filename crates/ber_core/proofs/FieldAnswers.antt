@@ -7,8 +7,8 @@ use Rattle.ber_core.specs.declared.fault.Fault.{Fault}
 use Rattle.ber_core.specs.declared.fault.Cause.TheVariants as causes
 use Rattle.ber_core.specs.Faults.{HeaderFault, fault_of}
 use Rattle.ber_core.specs.Fields.{BeginsWith, IsField, PresentFault, RequiredFault, nothing_there, high_there, another_there, wrong_there}
-use Rattle.ber_core.specs.FieldReading.{absence, if_there, or_absence, required_at, there_at}
-use Rattle.ber_core.specs.Reading.{◌>>=◌, header_at}
+use Rattle.ber_core.specs.computed.FieldReading.{absence, if_there, or_absence, required_at, there_at}
+use Rattle.ber_core.specs.computed.Reading.{◌>>=◌, header_at}
 use Rattle.ber_core.proofs.FieldRegions.{if_there_absent, if_there_none}
 use Rattle.ber_core.proofs.FieldSound.{required_found, required_wrong}
 use Rattle.ber_core.proofs.OneReading.{header_found, header_inv, header_only, header_wrong, header_wrong_again}

@@ -5,12 +5,12 @@ use Rattle.std.proofs.lemmas.Bool.{le-ltb}
 use Rattle.std.specs.Prelude.{slice_range, ◌⊎◌}
 use Rattle.ber_core.specs.declared.fault.Fault.{Fault}
 use Rattle.ber_core.specs.declared.element.Header.{Header}
-use Rattle.ber_core.specs.Reading.{◌>>=◌}
+use Rattle.ber_core.specs.computed.Reading.{◌>>=◌}
 use Rattle.ber_core.specs.Element.{contents_of}
 use Rattle.ber_core.proofs.Steps.{bind_ok, bind_err, err_is}
 pub use Rattle.ber_core.proofs.Steps.{ok_is}
 use Rattle.ber_core.specs.Fields.{Field, Grammar, SpellsFields, FieldsFault}
-use Rattle.ber_core.specs.FieldReading.{Read, field_at, fields_at, ends_at, are_apart}
+use Rattle.ber_core.specs.computed.FieldReading.{Read, field_at, fields_at, ends_at, are_apart}
 use Rattle.ber_core.specs.Fields.{nested}
 use Rattle.ber_core.proofs.Regions.{behind_front}
 use Rattle.ber_core.proofs.FieldSound.{IsSound, IsPlaced}

@@ -3,14 +3,14 @@ use Rattle.std.proofs.Common.{◌≡◌, ℕ, ◌%◌, false, eqb, List, [], ◌
 use Rattle.std.proofs.lemmas.Bool.{eqb-true, eqb-false, ne_eqb, eq-eqb}
 use Rattle.ber_core.specs.declared.fault.Fault.{Fault}
 use Rattle.ber_core.specs.declared.element.Header.{Header}
-use Rattle.ber_core.specs.Reading.{header_at}
+use Rattle.ber_core.specs.computed.Reading.{header_at}
 use Rattle.ber_core.specs.Length.{Len}
 use Rattle.ber_core.specs.Faults.{LengthFault}
 use Rattle.ber_core.proofs.Headers.{header_for, length_again, length_wrong, length_wrong_again, low_found, Parts}
 use Rattle.ber_core.proofs.Steps.{chosen, bind_ok, bind_err}
 pub use Rattle.ber_core.proofs.Regions.{behind_front, contents_are, rest_is}
 use Rattle.ber_core.specs.Fields.{BeginsWith}
-use Rattle.ber_core.specs.FieldReading.{if_there}
+use Rattle.ber_core.specs.computed.FieldReading.{if_there}
 
 -- ---- an element that is there, or is not
 

@@ -5,12 +5,12 @@ use Rattle.std.proofs.lemmas.Bool.{eqb-false, ltb-true, ltb-false, lt-ltb, ne_eq
 use Rattle.std.specs.Prelude.{slice_range, not, ◌&&◌}
 use Rattle.ber_core.specs.declared.fault.Fault.{Fault}
 use Rattle.ber_core.specs.declared.fault.Cause.TheVariants as causes
-use Rattle.ber_core.specs.Reading.{◌>>=◌}
+use Rattle.ber_core.specs.computed.Reading.{◌>>=◌}
 use Rattle.ber_core.specs.Element.{Elem}
 use Rattle.ber_core.specs.Faults.{fault_of}
 use Rattle.ber_core.proofs.Steps.{chosen, bind_ok, bind_err, err_is}
 use Rattle.ber_core.specs.Fields.{Field, Grammar, BeginsWith, SpellsField, SpellsFields, FieldsFault, later, absent, missing, high, unexpected, in_length, in_contents, extra, filled, left_out}
-use Rattle.ber_core.specs.FieldReading.{Read, field_at, fields_at, ends_at, is_stranger, are_apart}
+use Rattle.ber_core.specs.computed.FieldReading.{Read, field_at, fields_at, ends_at, is_stranger, are_apart}
 use Rattle.ber_core.proofs.Regions.{behind_front, region-length}
 use Rattle.ber_core.proofs.FieldSound.{IsSound, Took, took, skipped, field_took, field_wrong, field_again, field_skipped, field_wrong_again, field_length_again, field_absent, absence_means, may_be_absent}
 

@@ -5,7 +5,7 @@ use Rattle.std.specs.Prelude.{slice_range, ◌⊎◌}
 use Rattle.ber_core.specs.declared.fault.Fault.{Fault}
 use Rattle.ber_core.specs.declared.fault.Cause.TheVariants as causes
 use Rattle.ber_core.specs.declared.element.Header.{Header}
-use Rattle.ber_core.specs.Reading.{◌>>=◌}
+use Rattle.ber_core.specs.computed.Reading.{◌>>=◌}
 use Rattle.ber_core.specs.Length.{Len}
 use Rattle.ber_core.specs.Element.{contents_of}
 use Rattle.ber_core.specs.Faults.{LengthFault, fault_of}
@@ -13,7 +13,7 @@ use Rattle.ber_core.proofs.Headers.{header_for, Parts}
 use Rattle.ber_core.proofs.Steps.{chosen, bind_ok, bind_err}
 pub use Rattle.ber_core.proofs.Steps.{err_is, pair_is}
 use Rattle.ber_core.specs.Fields.{Presence, always, optional, default, Field, Grammar, AbsenceMeans, MayBeAbsent, BeginsWith, FieldsFault, missing, high, unexpected, in_length, in_contents}
-use Rattle.ber_core.specs.FieldReading.{Read, if_there, absence, or_absence, there_at, required_at, read_behind, read_behind_if, field_as, field_at}
+use Rattle.ber_core.specs.computed.FieldReading.{Read, if_there, absence, or_absence, there_at, required_at, read_behind, read_behind_if, field_as, field_at}
 use Rattle.ber_core.proofs.Regions.{contents_are, rest_is}
 use Rattle.ber_core.proofs.FieldRegions.{if_there_again, if_there_found, if_there_wrong, if_there_wrong_again, if_there_none, if_there_absent}
 

@@ -10,7 +10,7 @@ use Rattle.ber_core.specs.declared.fault.Cause.TheVariants as causes
 use Rattle.ber_core.specs.declared.element.Header.{Header}
 use Rattle.ber_core.specs.Length.{Len, number}
 use Rattle.ber_core.specs.Faults.{LengthFault, absent, cut, indefinite, form, past_end, fault_of}
-use Rattle.ber_core.specs.Reading.{sized_at, counted_length_at, length_at, header_at}
+use Rattle.ber_core.specs.computed.Reading.{sized_at, counted_length_at, length_at, header_at}
 use Rattle.ber_core.proofs.Steps.{chosen, fault_is}
 
 -- the header of an element at p whose length has size octets, and whose contents have n

@@ -9,7 +9,7 @@ use Rattle.ber_core.specs.Length.{Len}
 use Rattle.ber_core.specs.Element.{IsIdentifier, IsHeader, contents_of}
 use Rattle.ber_core.specs.Faults.{HeaderFault, nothing, high, in_length}
 use Rattle.ber_core.specs.Laws.{ElementElseFault}
-use Rattle.ber_core.specs.Reading.{header_at}
+use Rattle.ber_core.specs.computed.Reading.{header_at}
 use Rattle.ber_core.proofs.Steps.{chosen, err_is, fault_is, ok_is}
 use Rattle.ber_core.proofs.Headers.{header_for, Parts, length_again, length_inv, length_wrong, length_wrong_again}
 use Rattle.ber_core.proofs.Regions.{region-length, region-split, contents_are, element_is, rest_is}

@@ -7,12 +7,12 @@ use Rattle.std.specs.Prelude.{slice_range, ◌⊎◌}
 use Rattle.ber_core.specs.declared.fault.Fault.{Fault}
 use Rattle.ber_core.specs.declared.fault.Cause.TheVariants as causes
 use Rattle.ber_core.specs.declared.element.Header.{Header}
-use Rattle.ber_core.specs.Reading.{refused, ◌>>=◌, IsWithin}
+use Rattle.ber_core.specs.computed.Reading.{refused, ◌>>=◌, IsWithin}
 use Rattle.ber_core.specs.Element.{Elem}
 use Rattle.ber_core.specs.Fields.{Field, Grammar, always, FieldsFault, later, absent, missing, high, unexpected, in_length, in_contents}
-use Rattle.ber_core.specs.FieldReading.{Read, required_at, field_at}
+use Rattle.ber_core.specs.computed.FieldReading.{Read, required_at, field_at}
 use Rattle.ber_core.specs.Repeated.{SpellsEach, FrontFault, EachFault, here, behind, high as front_high, unexpected as front_unexpected, in_length as front_length, in_contents as front_contents}
-use Rattle.ber_core.specs.RepeatedReading.{each_within, each_at}
+use Rattle.ber_core.specs.computed.RepeatedReading.{each_within, each_at}
 use Rattle.ber_core.proofs.Steps.{bind_ok, bind_err}
 use Rattle.ber_core.proofs.Regions.{region-length}
 use Rattle.ber_core.proofs.FieldRegions.{behind_front, if_there_found}

@@ -3,13 +3,13 @@ use Rattle.std.proofs.Common.{◌≡◌, ℕ, true, false, List, [], ◌∷◌, 
 use Rattle.std.proofs.lemmas.Int.{ints}
 use Rattle.std.specs.Prelude.{pos, negsuc}
 use Rattle.ber_core.specs.Contents.{SpellsBoolean, SpellsInteger, SpellsVisible}
-use Rattle.ber_core.specs.ContentsReading.{all_visible_at, any_integer_at, boolean_at, counted_at, integer_at, visible_at}
+use Rattle.ber_core.specs.computed.ContentsReading.{all_visible_at, any_integer_at, boolean_at, counted_at, integer_at, visible_at}
 use Rattle.ber_core.specs.Element.{Elem}
 use Rattle.ber_core.specs.Faults.{LengthFault, absent, cut, fault_of, form, indefinite, past_end}
-use Rattle.ber_core.specs.FieldReading.{ends_at, required_at, there_at}
+use Rattle.ber_core.specs.computed.FieldReading.{ends_at, required_at, there_at}
 use Rattle.ber_core.specs.Integer.{Int}
 use Rattle.ber_core.specs.Length.{Len}
-use Rattle.ber_core.specs.Reading.{counted_length_at, header_at, length_at, refused}
+use Rattle.ber_core.specs.computed.Reading.{counted_length_at, header_at, length_at, refused}
 use Rattle.ber_core.specs.Written.{integer_size, short_integer, short_length, written_element}
 use Rattle.ber_core.specs.declared.fault.Cause.TheVariants as causes
 

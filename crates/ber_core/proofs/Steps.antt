@@ -4,7 +4,7 @@ use Rattle.std.specs.Prelude.{◌⊎◌}
 use Rattle.ber_core.specs.declared.fault.Fault.{Fault}
 use Rattle.ber_core.specs.declared.fault.Cause.{Cause}
 use Rattle.ber_core.specs.Faults.{fault_of}
-use Rattle.ber_core.specs.Reading.{◌>>=◌, refused}
+use Rattle.ber_core.specs.computed.Reading.{◌>>=◌, refused}
 
 -- which way a test went
 pub chosen : {A : Type 0} (b : Bool) (x y z : A) → cond b x y ≡ z → ((b ≡ true) × (x ≡ z)) ⊎ ((b ≡ false) × (y ≡ z))

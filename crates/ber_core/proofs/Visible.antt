@@ -2,9 +2,10 @@
 use Rattle.std.proofs.Common.{◌≡◌, ℕ, zero, suc, ◌+◌, ◌≤◌, ◌<◌, true, false, List, [], ◌∷◌, length, take, drop, slice_index, Ok, ap, refl, sym, ◌∙◌, arith}
 use Rattle.std.proofs.lemmas.Bool.{and_parts}
 use Rattle.std.specs.List.{list_all}
-use Rattle.ber_core.specs.Reading.{refused}
+use Rattle.ber_core.specs.computed.Reading.{refused}
 use Rattle.ber_core.specs.declared.fault.Cause.TheVariants as causes
-use Rattle.ber_core.specs.ContentsReading.{all_visible_at, is_visible}
+use Rattle.ber_core.specs.computed.ContentsReading.{all_visible_at}
+use Rattle.ber_core.specs.Contents.{is_visible}
 
 pub visible_on : (o : List ℕ) (from i : ℕ) → i < length o → is_visible (slice_index o i) ≡ true → all_visible_at from (drop i o) ≡ all_visible_at (from + 1) (drop (suc i) o)
 unfolding all_visible_at

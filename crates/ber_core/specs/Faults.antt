@@ -1,4 +1,6 @@
--- The faults of the front of an element: which, and at which place.
+-- What is wrong with the front of an element, its identifier and its length octets (ISO/IEC 8825-1, 8.1.2 and 8.1.3):
+-- with which cause, and at which place. Laws say that octets have one such fault at most, and one exactly where no
+-- element stands in front.
 use Rattle.std.specs.Prelude.{◌≡◌, ◌≤◌, ◌<◌, ◌+◌, ◌%◌, ℕ, List, [], ◌∷◌, ◌++◌, length}
 use Rattle.ber_core.specs.Length.{Len}
 use Rattle.ber_core.specs.Element.{IsIdentifier}
@@ -6,6 +8,7 @@ use Rattle.ber_core.specs.declared.fault.Cause.{Cause}
 use Rattle.ber_core.specs.declared.fault.Cause.TheVariants as causes
 use Rattle.ber_core.specs.declared.fault.Fault.{Fault}
 
+-- the fault at the place p, counted from 0, with this cause
 abbrev pub fault_of : ℕ → Cause → Fault
 fault_of p why = record { place = p; cause = why }
 

@@ -1,5 +1,7 @@
--- A sequence of fields, as an APDU has them: what spells it, and its one fault where nothing is spelled. What
--- contents spell is told apart by kinds, in a grammar that each sequence brings along.
+-- A sequence of fields, as an APDU and an ASDU are (ISO/IEC 8825-1, 8.9): elements in a stated order, each with an
+-- identifier of its own, some of which may be left out. What octets spell such a sequence, and their first fault where
+-- they spell none. What the contents of a field spell is told by its kind, in a grammar that each sequence brings
+-- along.
 use Rattle.std.specs.Prelude.{◌≡◌, ◌≢◌, ℕ, ◌+◌, ◌%◌, List, [], ◌∷◌, ◌++◌, length, Option, Some, None}
 use Rattle.ber_core.specs.Length.{Len}
 use Rattle.ber_core.specs.Element.{Elem, IsHeader}
@@ -8,7 +10,8 @@ use Rattle.ber_core.specs.declared.element.Header.{Header}
 use Rattle.ber_core.specs.declared.fault.Fault.{Fault}
 use Rattle.ber_core.specs.declared.fault.Cause.TheVariants as causes
 
--- whether a field may be absent, and what its absence means
+-- whether a field may be absent, and what its absence means: it is always there, it is optional and then has no value,
+-- or it then has this default
 pub data Presence (I : Type 0) : Type 0 where
   always : Presence I
   optional : Presence I
@@ -20,13 +23,13 @@ pub record Field (K I : Type 0) : Type 0 where
   pub kind : K
   pub presence : Presence I
 
--- which contents of a kind spell an item, and the fault of those that spell none, where the element stands at
+-- for each kind, which contents spell an item, and which fault those have that spell none, where the element stands at
 -- one place and its contents at another
 pub record Grammar (K I : Type 0) : Type 1 where
   pub spells : K → I → List ℕ → Type 0
   pub fault : Fault → K → ℕ → ℕ → List ℕ → Type 0
 
--- a field that is absent has this value
+-- a field that is left out has this value: none where it is optional, else its default
 abbrev pub AbsenceMeans : {I : Type 0} → Presence I → Option I → Type 0
 AbsenceMeans always v = ⊥
 AbsenceMeans optional v = v ≡ None
@@ -85,6 +88,7 @@ pub data FieldsFault {K I : Type 0} (G : Grammar K I) (f : Fault) : List (Field 
   in_contents : {g : Field K I} {gs : List (Field K I)} {p : ℕ} {o : List ℕ} (c size rest : List ℕ) → o ≡ g.identifier ∷ size ++ (c ++ rest) → Len (length c) size → G.fault f g.kind p (p + 1 + length size) c → FieldsFault G f (g ∷ gs) p o
   extra : {p b : ℕ} {bs : List ℕ} → f ≡ fault_of p causes.ExtraOctets → FieldsFault G f [] p (b ∷ bs)
 
--- contents that are a sequence of fields themselves, counts aside
+-- contents that are a sequence of fields themselves: they spell its values, and their fault is its first fault; what a
+-- count among the fields says is not compared here
 abbrev pub nested : {K I : Type 0} → Grammar K I → List (Field K I) → Grammar (Unit {0}) (List (Option I))
 nested G gs = record { spells = λ _ vs c. SpellsFields G gs vs c; fault = λ f _ at from c. FieldsFault G f gs from c }

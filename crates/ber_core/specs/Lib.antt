@@ -3,11 +3,8 @@ pub mod Integer
 pub mod Element
 pub mod Faults
 pub mod Written
-pub mod Reading
 pub mod Laws
 pub mod Contents
-pub mod ContentsReading
 pub mod Fields
-pub mod FieldReading
 pub mod Repeated
-pub mod RepeatedReading
+pub mod computed

@@ -1,5 +1,5 @@
--- What is repeated any number of times: elements of one identifier, one after the other, as ASDUs are. What spells
--- them, and their first fault.
+-- Elements of one identifier and one kind, one after the other and any number of them, as the ASDUs of an APDU are
+-- (ISO/IEC 8825-1, 8.10). What octets spell them, and their first fault where they spell none.
 use Rattle.std.specs.Prelude.{◌≡◌, ◌≢◌, ℕ, ◌+◌, ◌%◌, List, [], ◌∷◌, ◌++◌, length}
 use Rattle.ber_core.specs.Length.{Len}
 use Rattle.ber_core.specs.Element.{Elem}

@@ -3,9 +3,10 @@
 ghost use Rattle.std.specs.Prelude.{◌≡◌, ◌≤◌, ◌<◌, ◌+◌, ◌-◌, ◌^◌, ◌≤ℤ◌, ℤ, Bool, List, ℕ, Ok, Err, length, IfOk, IfErr, IsOk};
 ghost use Rattle.std.specs.List.{list_all};
 ghost use Rattle.ber_core.specs.Contents.{AreVisible, SpellsBoolean, BooleanFault, SpellsInteger, IntegerFault, SpellsVisible, VisibleFault, SpellsCounted, CountedFault, IsContents};
-ghost use Rattle.ber_core.specs.ContentsReading.{all_visible_at, boolean_at, counted_at, integer_at, is_visible, visible_at};
+ghost use Rattle.ber_core.specs.computed.ContentsReading.{all_visible_at, boolean_at, counted_at, integer_at, visible_at};
+ghost use Rattle.ber_core.specs.Contents.{is_visible};
 ghost use Rattle.ber_core.specs.Element.{contents_of};
-ghost use Rattle.ber_core.specs.Reading.{Gives};
+ghost use Rattle.ber_core.specs.computed.Reading.{Gives};
 ghost use Rattle.ber_core.specs.declared.fault.Fault.{Fault};
 
 use crate::element::Header;
@@ -47,7 +48,7 @@ pub fn boolean_of(contents: &[u8], at: usize) -> Result<bool, Fault>
 }
 
 // The boolean, as reading gives it.
-#[tactic(auto, unfolding(crate::specs::ContentsReading::boolean_at))]
+#[tactic(auto, unfolding(crate::specs::computed::ContentsReading::boolean_at))]
 fn truth(contents: &[u8], at: usize) -> Result<bool, Fault>
     requires { at + 1 < 2 ^ 64 }
     ensures { result ≡ boolean_at at contents.now }
@@ -104,7 +105,7 @@ pub fn integer_of(
 }
 
 // The integer, as reading gives it.
-#[tactic(auto, unfolding(crate::specs::ContentsReading::integer_at))]
+#[tactic(auto, unfolding(crate::specs::computed::ContentsReading::integer_at))]
 fn ranged(contents: &[u8], at: usize, from: usize, low: i128, high: i128) -> Result<i128, Fault>
     requires { at + 1 < 2 ^ 64 }
     ensures exact { result ≡ integer_at low high at from contents.now }
@@ -235,7 +236,7 @@ pub fn counted<'a>(octets: &'a [u8], header: &Header, count: usize) -> Result<&'
 }
 
 // The contents of a stated count, as reading gives them.
-#[tactic(auto, unfolding(crate::specs::ContentsReading::counted_at))]
+#[tactic(auto, unfolding(crate::specs::computed::ContentsReading::counted_at))]
 fn counted_behind<'a>(octets: &'a [u8], header: &Header, count: usize) -> Result<&'a [u8], Fault>
     requires behind { header.now.at < header.now.contents_from }
     requires ordered { header.now.contents_from ≤ header.now.contents_to }

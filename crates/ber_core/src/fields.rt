@@ -4,9 +4,9 @@
 
 ghost use Rattle.std.specs.Prelude.{◌≡◌, ◌≤◌, ◌<◌, ◌↔◌, Ok, Err, Some, None, length, slice_range, IfOk, IfErr, IfSome};
 ghost use Rattle.ber_core.specs.Faults.{fault_of};
-ghost use Rattle.ber_core.specs.FieldReading.{absence, ends_at, required_at, there_at};
+ghost use Rattle.ber_core.specs.computed.FieldReading.{absence, ends_at, required_at, there_at};
 ghost use Rattle.ber_core.specs.Fields.{BeginsWith, IsField, PresentFault, RequiredFault};
-ghost use Rattle.ber_core.specs.Reading.{IsWithin};
+ghost use Rattle.ber_core.specs.computed.Reading.{IsWithin};
 ghost use Rattle.ber_core.specs.declared.element.Header.{Header};
 ghost use Rattle.ber_core.specs.declared.fault.Fault.{Fault};
 
@@ -44,7 +44,7 @@ pub fn there(octets: &[u8], at: usize, end: usize, identifier: u8) -> Result<Opt
 
 // The element, as reading gives it.
 #[inline(always)]
-#[tactic(auto, unfolding(crate::specs::FieldReading::there_at))]
+#[tactic(auto, unfolding(crate::specs::computed::FieldReading::there_at))]
 fn read_there(octets: &[u8], at: usize, end: usize, identifier: u8) -> Result<Option<Header>, Fault>
     requires ordered { at ≤ end }
     requires inside { end ≤ length octets.now }
@@ -108,7 +108,7 @@ pub fn required(octets: &[u8], at: usize, end: usize, identifier: u8) -> Result<
 
 // The element, as reading gives it.
 #[inline(always)]
-#[tactic(auto, unfolding(crate::specs::FieldReading::required_at))]
+#[tactic(auto, unfolding(crate::specs::computed::FieldReading::required_at))]
 fn read_required(octets: &[u8], at: usize, end: usize, identifier: u8) -> Result<Header, Fault>
     requires ordered { at ≤ end }
     requires inside { end ≤ length octets.now }

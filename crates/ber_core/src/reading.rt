@@ -1,11 +1,11 @@
 // Headers and integers, read from a slice. A header of one length octet is read without a call.
 
 ghost use Rattle.std.specs.Prelude.{◌≡◌, ◌≤◌, ◌<◌, ◌+◌, ◌^◌, ◌⊎◌, ℤ, Ok, Err, length, slice_range, IfOk, IfErr};
-ghost use Rattle.ber_core.specs.ContentsReading.{any_integer_at};
+ghost use Rattle.ber_core.specs.computed.ContentsReading.{any_integer_at};
 ghost use Rattle.ber_core.specs.Element.{IsHeader, contents_of};
 ghost use Rattle.ber_core.specs.Faults.{HeaderFault, fault_of};
 ghost use Rattle.ber_core.specs.Integer.{Int};
-ghost use Rattle.ber_core.specs.Reading.{IsWithin, counted_length_at, header_at, length_at, sized_at};
+ghost use Rattle.ber_core.specs.computed.Reading.{IsWithin, counted_length_at, header_at, length_at, sized_at};
 ghost use Rattle.ber_core.specs.declared.element.Header.{Header};
 ghost use Rattle.ber_core.specs.declared.fault.Fault.{Fault};
 
@@ -20,7 +20,7 @@ use byteorder::{BigEndian, ByteOrder};
 ///
 /// `Ends`, `HighTag`, `Indefinite`, `LengthForm` or `LengthPastEnd`, at the place of the octet at fault.
 #[inline(always)]
-#[tactic(auto, unfolding(crate::specs::Reading::header_at))]
+#[tactic(auto, unfolding(crate::specs::computed::Reading::header_at))]
 pub fn header(octets: &[u8], at: usize, end: usize) -> Result<Header, Fault>
     requires ordered { at ≤ end }
     requires inside { end ≤ length octets.now }
@@ -42,7 +42,7 @@ pub fn header(octets: &[u8], at: usize, end: usize) -> Result<Header, Fault>
 
 // The header, as reading from left to right gives it.
 #[inline(always)]
-#[tactic(auto, unfolding(crate::specs::Reading::header_at))]
+#[tactic(auto, unfolding(crate::specs::computed::Reading::header_at))]
 fn read_header(octets: &[u8], at: usize, end: usize) -> Result<Header, Fault>
     requires ordered { at ≤ end }
     requires inside { end ≤ length octets.now }
@@ -62,7 +62,7 @@ fn read_header(octets: &[u8], at: usize, end: usize) -> Result<Header, Fault>
 
 // The header of an identifier that stands at `at`, with the length that follows it.
 #[inline(always)]
-#[tactic(auto, unfolding(crate::specs::Reading::length_at))]
+#[tactic(auto, unfolding(crate::specs::computed::Reading::length_at))]
 fn with_length(at: usize, identifier: u8, octets: &[u8]) -> Result<Header, Fault>
     requires { at + 1 + length octets.now < 2 ^ 64 }
     ensures exact { result ≡ length_at at identifier octets.now }
@@ -86,7 +86,7 @@ fn with_length(at: usize, identifier: u8, octets: &[u8]) -> Result<Header, Fault
 
 // The same where the first `count` of the octets spell the length. Never inlined, as few lengths are so long.
 #[inline(never)]
-#[tactic(auto, unfolding(crate::specs::Reading::counted_length_at))]
+#[tactic(auto, unfolding(crate::specs::computed::Reading::counted_length_at))]
 fn with_counted_length(
     at: usize,
     identifier: u8,
@@ -150,7 +150,7 @@ pub fn integer(octets: &[u8], header: &Header) -> Result<i128, Fault>
 }
 
 // The number that contents spell whose identifier stands at the place `at`.
-#[tactic(auto, unfolding(crate::specs::ContentsReading::any_integer_at))]
+#[tactic(auto, unfolding(crate::specs::computed::ContentsReading::any_integer_at))]
 pub(crate) fn any_integer(contents: &[u8], at: usize) -> Result<i128, Fault>
     requires { at + 1 < 2 ^ 64 }
     ensures { result ≡ any_integer_at at contents.now }

@@ -4,6 +4,7 @@ use Rattle.std.specs.Borrow.{Bor}
 use Rattle.block_core.specs.declared.block.Block.{Block}
 use Rattle.block_core.specs.declared.block_text.BlockView.{BlockView}
 
+-- the control block that a view stands for: the same numbers, and the octets of its texts
 abbrev pub block_seen : {A : Type 0} → BlockView → Block A
 block_seen v = record {
   app_id = v.app_id;

@@ -3,7 +3,7 @@ use Rattle.std.specs.Prelude.{ℕ, List, nat_le, Option, Some, None, option_and_
 use Rattle.std.specs.List.{list_all}
 use Rattle.byteorder.specs.Endian.{big_number}
 use Rattle.hex.specs.Hex.{decode_sized}
-use Rattle.ber_core.specs.ContentsReading.{is_visible}
+use Rattle.ber_core.specs.Contents.{is_visible}
 use Rattle.list_core.specs.Cuts.{cut_at}
 use Rattle.list_core.specs.Decimal.{decimal_of}
 use Rattle.list_core.specs.EventLine.{decoded}

@@ -1,7 +1,7 @@
 //! Fields of a text that commas divide, and what one of them says.
 ghost use Rattle.std.specs.Prelude.{◌≡◌, ◌<◌, length, map, MatchOption, option_map};
 ghost use Rattle.std.specs.List.{list_all};
-ghost use Rattle.ber_core.specs.ContentsReading.{is_visible as visible};
+ghost use Rattle.ber_core.specs.Contents.{is_visible as visible};
 ghost use Rattle.block_core.specs.Commas.{comma_fields, number_by, text_in, word_in};
 
 use arrayvec::ArrayVec;

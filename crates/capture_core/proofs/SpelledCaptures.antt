@@ -11,7 +11,8 @@ use Rattle.capture_core.specs.declared.capture_fault.CaptureCause.{CaptureCause}
 use Rattle.capture_core.specs.declared.capture_fault.CaptureCause.TheVariants.{CaptureHeader, RecordLength}
 use Rattle.capture_core.specs.Header.{header_of}
 use Rattle.capture_core.specs.Capture.{Capture, CaptureRecord, records_behind, capture, captured_size, cut, ended, fault_in, moment_in_head, put_record, read_one, records_of, no_records}
-use Rattle.capture_core.specs.Spelling.{ReadIsSpelled, SpelledIsRead, SpellsCapture, SpellsRecord, SpellsRecords, numbered, whole_capture}
+use Rattle.capture_core.specs.Spelling.{SpellsCapture, SpellsRecord, SpellsRecords, numbered, whole_capture}
+use Rattle.capture_core.specs.Laws.{ReadIsSpelled, SpelledIsRead}
 use Rattle.capture_core.proofs.Headers.{capture_first}
 use Rattle.capture_core.proofs.Records.{none_of, one_whole}
 

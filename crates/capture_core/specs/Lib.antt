@@ -1,6 +1,7 @@
 pub mod Numbers
 pub mod Header
 pub mod Capture
-pub mod Filling
 pub mod Reading
 pub mod Spelling
+pub mod computed
+pub mod Laws

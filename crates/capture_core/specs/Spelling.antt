@@ -1,8 +1,6 @@
 -- What octets are a record of a capture, records, and a whole capture.
 use Rattle.std.specs.Prelude.{◌≡◌, ◌≤◌, ◌+◌, ℕ, List, [], ◌∷◌, ◌++◌, length, Some}
 use Rattle.list_core.specs.Lines.{finished}
-use Rattle.list_core.specs.declared.device.InputEnd.{InputEnd}
-use Rattle.list_core.specs.declared.device.InputEnd.TheVariants.{End}
 use Rattle.capture_core.specs.Header.{header_of}
 use Rattle.capture_core.specs.Capture.{Capture, CaptureRecord, capture, captured_size, moment_in_head}
 use Rattle.capture_core.specs.declared.form.CaptureForm.{CaptureForm}
@@ -28,11 +26,3 @@ numbered n (r ∷ rs) = (n + 1, r) ∷ numbered (n + 1) rs
 -- a capture of these records, which ends without a fault
 abbrev pub whole_capture : List CaptureRecord → Capture
 whole_capture rs = record { records = numbered 0 rs; stop = finished }
-
--- a text that spells records is a capture of these
-abbrev pub SpelledIsRead : Type 0
-SpelledIsRead = (rs : List CaptureRecord) (o : List ℕ) → SpellsCapture rs o → capture End o ≡ whole_capture rs
-
--- a capture that ends without a fault has ended with its input, and its text spells its records
-abbrev pub ReadIsSpelled : Type 0
-ReadIsSpelled = (z : InputEnd) (o : List ℕ) → (capture z o).stop ≡ finished → (z ≡ End) × ((rs : List CaptureRecord) × SpellsCapture rs o × (capture z o ≡ whole_capture rs))

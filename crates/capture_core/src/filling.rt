@@ -1,7 +1,7 @@
 //! Reading a stated count of octets.
 ghost use Rattle.std.specs.Prelude.{◌<◌, false, true};
 ghost use Rattle.list_core.specs.declared.device.InputEnd.{InputEnd};
-ghost use Rattle.capture_core.specs.Filling.{Fills, Passes};
+ghost use Rattle.capture_core.specs.computed.Filling.{Fills, Passes};
 
 use list_core::{InputEnd, Source};
 

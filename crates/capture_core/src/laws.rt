@@ -1,5 +1,5 @@
 //! Laws about captures. The functions compute nothing.
-ghost use Rattle.capture_core.specs.Spelling.{ReadIsSpelled, SpelledIsRead};
+ghost use Rattle.capture_core.specs.Laws.{ReadIsSpelled, SpelledIsRead};
 
 /// A text is read to its end without a fault exactly where it is a header and the octets of records, one behind another,
 /// and then exactly these records are read.

@@ -174,4 +174,5 @@ fn laws_hold() {
     laws::written_is_shortest();
     laws::spelled_is_spellable();
     laws::seen_is_spelled();
+    laws::reading_tells();
 }

@@ -20,7 +20,7 @@ use Rattle.list_core.proofs.ItemReaders.{TakesItems-push, TakesItems-none, gives
 use Rattle.engine_core.specs.declared.ending.Ending.{Ending}
 use Rattle.engine_core.specs.declared.ending.Ending.TheVariants.{Done, Findings, WriteFault}
 use Rattle.engine_core.specs.EngineText.{Text, Account, told, told_after, told_rest, told_stop, put_step, whole_text, ending_of, ending_at, StopsAt, EndsWell, EndsByFault, WantsMemory, WritesAfter, list_from, next_text, step_text}
-use Rattle.engine_core.specs.EngineStep.{Stops, WantsFor, due, closes, step_fault}
+use Rattle.engine_core.specs.computed.EngineStep.{Stops, WantsFor, due, closes, step_fault}
 use Rattle.engine_core.proofs.Wanted.{wanted_behind, wanted_rest}
 
 -- a text, then another

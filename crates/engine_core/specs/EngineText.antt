@@ -15,7 +15,9 @@ use Rattle.list_core.specs.Reader.{IsWanting}
 use Rattle.engine_core.specs.declared.ending.Ending.{Ending}
 use Rattle.engine_core.specs.declared.ending.Ending.TheVariants.{Done, Findings, InputFault, ReadFault, WriteFault, Memory}
 
--- What an engine writes. Items come with the numbers of their lines.
+-- What an engine writes of a list of items, which come with the numbers of their lines: something first, then for each
+-- item, and something last on a fault. X are the items, C is why one is refused. What is written for an item is fixed
+-- by it and by the items before it.
 pub record Text (X C : Type 0) : Type 0 where
   -- before anything is read
   pub first : List ℕ

@@ -1,3 +1,3 @@
 pub mod Ending
 pub mod EngineText
-pub mod EngineStep
+pub mod computed

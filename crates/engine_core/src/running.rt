@@ -1,11 +1,11 @@
 //! The run of an engine over a list: a line is asked for once the text of the line before stands
 //! written.
-ghost use Rattle.std.specs.Prelude.{◌≡◌, ◌++◌, ℕ, List, [], Some, None, Ok, false, IsOk, OnOk, if◌then◌else◌};
+ghost use Rattle.std.specs.Prelude.{◌≡◌, ◌++◌, ℕ, List, [], Some, None, Ok, false, IsOk, OnErr, OnOk, length, take, if◌then◌else◌};
 ghost use Rattle.list_core.specs.declared.device.InputEnd.{InputEnd};
 ghost use Rattle.list_core.specs.Device.{GivesOctets};
 ghost use Rattle.list_core.specs.ItemReader.{Answer, AnswersItem, item_place};
 ghost use Rattle.engine_core.specs.EngineText.{LeavesRefused, Text, Writes, ending_of, ending_at, is_write_fault};
-ghost use Rattle.engine_core.specs.EngineStep.{StepWrites, Stops, Takes, stops_by};
+ghost use Rattle.engine_core.specs.computed.EngineStep.{StepWrites, Stops, Takes, stops_by};
 
 use crate::ending::Ending;
 use list_core::{
@@ -28,7 +28,8 @@ pub trait Engine<A: Allocator> {
     ghost stands: { Self → List (ℕ × Self.Item) → Type 0 };
 
     /// Appends the text of the next item, and answers whether the item is a finding; or why it is
-    /// refused. Memory is wanted for a text alone: an item that writes nothing asks for none.
+    /// refused. Memory is wanted for a text alone: an item that writes nothing asks for none. Where it is
+    /// refused, what stood in the line before still stands in front.
     fn put_item(
         &mut self,
         line: &mut Vec<u8, A>,
@@ -37,15 +38,17 @@ pub trait Engine<A: Allocator> {
     ) -> Result<bool, LineError<Self::Cause>>
         ensures same { text self.new ≡ text self.old }
         ensures step { (before : List (ℕ × Self.Item)) → stands self.old before →
-            Takes (text self.old) (stands self.new) before (number, item) result line.old.items line.new.items };
+            Takes (text self.old) (stands self.new) before (number, item) result line.old.items line.new.items }
+        ensures front { OnErr result (take (length line.old.items) line.new.items ≡ line.old.items) };
 
-    /// Appends the last text on a fault.
+    /// Appends the last text on a fault. Where memory is refused, what stood in the line before still stands in front.
     fn put_last(
         &self,
         line: &mut Vec<u8, A>,
         fault: &ItemFault<Self::Cause>,
     ) -> Result<(), AllocError>
         ensures text { OnOk result (line.new.items ≡ line.old.items ++ (text self.now).last fault.now) }
+        ensures front { OnErr result (take (length line.old.items) line.new.items ≡ line.old.items) }
         ensures quiet { (text self.now).last fault.now ≡ [] → IsOk result };
 }
 

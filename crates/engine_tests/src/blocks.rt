@@ -132,7 +132,7 @@ fn is_refused<R: Abort>(rt: &R, memory: Global, first_refused: usize) -> Result<
         }
         Err(error) => assert!(rt; matches!(error, BlockError::Memory(_))),
     }
-    assert!(rt; alloc.has_refused());
+    assert!(rt; alloc.has_refused() && alloc.blocks_out() == 0);
     alloc.allow();
     let Ok(block) = read_block(&alloc, "0001,G,D,I,1,1") else {
         return Err("no block, though memory was granted".into());

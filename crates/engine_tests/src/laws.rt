@@ -10,6 +10,9 @@ fn laws_hold(_rt: HostRuntime) {
     laws::written_lists_replay::<Global>();
     laws::replay_texts_are_one::<Global>();
     laws::watch_texts_are_one::<Global>();
+    laws::blocks_texts_are_one::<Global>();
+    laws::replays_write_entries::<Global>();
+    laws::listed_blocks_replay::<Global>();
     laws::publish_texts_are_one::<Global>();
     laws::published_lists_replay::<Global, Global>();
     laws::published_texts_replay::<Global, Global>();

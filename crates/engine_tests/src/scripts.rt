@@ -50,7 +50,7 @@ fn next_answer<S: Source>(
     }
 }
 
-// The next answer where memory is granted at last: a refusal comes twice, and leaves the line's number.
+// The next answer where memory is granted at last: a refusal comes twice, leaves the line's number, and nothing is out.
 fn answer_at_last<R: Abort, S: Source>(
     rt: &R,
     alloc: &RefusingAlloc<Global>,
@@ -61,7 +61,7 @@ fn answer_at_last<R: Abort, S: Source>(
     if answer != Answer::Memory {
         return answer;
     }
-    assert!(rt; alloc.has_refused());
+    assert!(rt; alloc.has_refused() && alloc.blocks_out() == 0);
     assert!(rt; script.line_number() == number);
     assert!(rt; next_answer(alloc, script) == Answer::Memory);
     assert!(rt; script.line_number() == number);
@@ -84,6 +84,7 @@ fn each_line_is_read_again(rt: HostRuntime) -> Result<(), Fail> {
         ] {
             let told = answer_at_last(&rt, &alloc, &mut script);
             assert!(rt; told == answer, "at {first_refused}");
+            assert!(rt; alloc.blocks_out() == 0, "at {first_refused}");
             assert!(rt; script.line_number() == number, "at {first_refused}");
         }
         if !alloc.has_refused() {

@@ -1,3 +1,4 @@
+pub mod EntryTexts
 pub mod ReplayLemmas
 pub mod WatchLemmas
 pub mod PublishLemmas

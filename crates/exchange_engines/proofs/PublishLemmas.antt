@@ -13,14 +13,14 @@ use Rattle.publish_core.specs.declared.control.Control.{Control}
 use Rattle.publish_core.specs.declared.fault.PublishFault.{PublishFault}
 use Rattle.publish_core.specs.declared.table.Step.{Step}
 use Rattle.publish_core.specs.Frames.{Change, Setup, setup}
-use Rattle.publish_core.specs.Judgement.{IsJudged, refusal}
+use Rattle.publish_core.specs.computed.Judgement.{IsJudged, refusal}
 use Rattle.publish_core.specs.Refusal.{Accepts, Refuses, next_state}
-use Rattle.publish_core.specs.Run.{Act, Call, Changed, Polled, IsAnswer, PublishesNone, PublishesOctets, call, greatest_call_moment, trace_of_calls}
+use Rattle.publish_core.specs.Run.{Request, Call, Changed, Polled, IsAnswer, PublishesNone, PublishesOctets, call, greatest_call_moment, trace_of_calls}
 use Rattle.publish_core.specs.Standing.{PublisherStanding, PublisherStandsAfter}
-use Rattle.publish_core.specs.Step.{act_frame, act_state, fresh_publisher}
+use Rattle.publish_core.specs.computed.Step.{request_frame, request_state, fresh_publisher}
 use Rattle.publish_core.specs.Table.{AreSteps, IsGood, step_at}
 use Rattle.publish_core.proofs.Judged.{judged, judged_only}
-use Rattle.publish_core.proofs.Runs.{act_ok, answer_one, fresh_stands}
+use Rattle.publish_core.proofs.Runs.{request_ok, answer_one, fresh_stands}
 use Rattle.exchange_engines.specs.declared.engines.publish.Stage.{Stage}
 use Rattle.exchange_engines.specs.declared.engines.publish.Stage.TheVariants as stage
 use Rattle.script_core.specs.declared.script.ScriptCause.{ScriptCause}
@@ -29,10 +29,10 @@ use Rattle.script_core.specs.declared.script.ScriptItem.{ScriptItem}
 use Rattle.script_core.specs.declared.script.ScriptItem.TheVariants as item
 use Rattle.list_core.specs.declared.line_rules.LineError.{LineError}
 use Rattle.list_core.specs.declared.line_rules.LineError.TheVariants as line
-use Rattle.engine_core.specs.EngineStep.{Takes}
+use Rattle.engine_core.specs.computed.EngineStep.{Takes}
 use Rattle.engine_core.specs.EngineText.{step_text}
-use Rattle.exchange_engines.specs.PublishText.{IsCallText, IsPublishText, IsScriptSound, answer_text, item_of_act, item_of_call, items_of_lines, script_cause, script_of}
-use Rattle.exchange_engines.specs.PublishStep.{Progress, nothing, setting_up, calling, Holds, Runs, TakesCall, TakesItem, call_at, call_step, called, is_good, item_step, next_progress, progress_after, progress_from, publish_text, setup_cause, standing_from, text_unless_refused, unless_unsound, with_step}
+use Rattle.exchange_engines.specs.PublishText.{IsCallText, IsPublishText, IsScriptSound, answer_text, item_of_request, item_of_call, items_of_lines, script_cause, script_of}
+use Rattle.exchange_engines.specs.computed.PublishStep.{Progress, nothing, setting_up, calling, Holds, Runs, TakesCall, TakesItem, call_at, call_step, called, is_good, item_step, next_progress, progress_after, progress_from, publish_text, setup_cause, standing_from, text_unless_refused, unless_unsound, with_step}
 
 -- ---- how far a script has come
 
@@ -49,13 +49,13 @@ progress-push before e = ap (progress_from nothing) (items-push before e) ∙ pr
 
 -- the item of a call
 
-next_act : {A : Type 0} (g : Progress A) (m : ℕ) (a : Act) → next_progress (item_of_act m a) g ≡ called g (call m a)
-next_act g m (Changed change) = refl
-next_act g m Polled = refl
+next_request : {A : Type 0} (g : Progress A) (m : ℕ) (a : Request) → next_progress (item_of_request m a) g ≡ called g (call m a)
+next_request g m (Changed change) = refl
+next_request g m Polled = refl
 
-step_act : {A : Type 0} (g : Progress A) (m : ℕ) (a : Act) → item_step (item_of_act m a) g ≡ call_at g (call m a)
-step_act g m (Changed change) = refl
-step_act g m Polled = refl
+step_request : {A : Type 0} (g : Progress A) (m : ℕ) (a : Request) → item_step (item_of_request m a) g ≡ call_at g (call m a)
+step_request g m (Changed change) = refl
+step_request g m Polled = refl
 
 -- steps behind a control line
 steps_progress : {A : Type 0} (p : Setup A) (steps : List Step) (rest : List (ScriptItem A)) →
@@ -71,7 +71,7 @@ script_progress p calls = steps_progress (setup p.control [] p.first) p.table (m
 calls_progress : {A : Type 0} (p : Setup A) (before calls : List Call) → progress_from (calling p before) (map item_of_call calls) ≡ calling p (before ++ calls)
 calls_progress p before [] = ap (calling p) (sym (append-nil before))
 calls_progress p before (c ∷ calls) =
-    ap (λ (g : Progress _). progress_from g (map item_of_call calls)) (next_act (calling p before) c.moment c.act)
+    ap (λ (g : Progress _). progress_from g (map item_of_call calls)) (next_request (calling p before) c.moment c.request)
     ∙ calls_progress p (before ++ c ∷ []) calls ∙ ap (calling p) (append_assoc before (c ∷ []) calls)
 
 -- ---- setups
@@ -109,33 +109,33 @@ standing_behind : {A : Type 0} (p : Setup A) (before calls : List Call) (s : Pub
 standing_behind p before [] s w = subst (λ (l : List Call). PublisherStandsAfter p l s) (sym (append-nil before)) w
 standing_behind p before (c ∷ calls) s w =
     subst (λ (l : List Call). PublisherStandsAfter p l (standing_from s (c ∷ calls))) (append_assoc before (c ∷ []) calls)
-    (standing_behind p (before ++ c ∷ []) calls (act_state s c.act c.moment) (act_ok p before s c.act c.moment w).1)
+    (standing_behind p (before ++ c ∷ []) calls (request_state s c.request c.moment) (request_ok p before s c.request c.moment w).1)
 
 standing_after : {A : Type 0} (p : Setup A) (calls : List Call) → IsScriptSound p → PublisherStandsAfter p calls (standing_from (fresh_publisher p) calls)
 standing_after p calls sound = standing_behind p [] calls (fresh_publisher p) (fresh_stands p sound.some sound.most)
 
 -- what a call is answered, by what is held
-answered : {A : Type 0} (p : Setup A) (calls : List Call) (c : Call) → IsScriptSound p → IsAnswer p (trace_of_calls (calls ++ c ∷ [])) (length calls) (act_frame (standing_from (fresh_publisher p) calls) c.act c.moment)
-answered p calls c sound = (act_ok p calls (standing_from (fresh_publisher p) calls) c.act c.moment (standing_after p calls sound)).0
+answered : {A : Type 0} (p : Setup A) (calls : List Call) (c : Call) → IsScriptSound p → IsAnswer p (trace_of_calls (calls ++ c ∷ [])) (length calls) (request_frame (standing_from (fresh_publisher p) calls) c.request c.moment)
+answered p calls c sound = (request_ok p calls (standing_from (fresh_publisher p) calls) c.request c.moment (standing_after p calls sound)).0
 
 -- the text of a call is what the whole list of calls says
-act_is : {A : Type 0} (p : Setup A) (calls : List Call) (m : ℕ) (a : Act) → IsScriptSound p → IsCallText p calls (call m a) (call_step p calls (call m a))
-act_is p calls m Polled sound = inl (tt, (act_frame (standing_from (fresh_publisher p) calls) Polled m, answered p calls (call m Polled) sound, refl))
-act_is {A} p calls m (Changed change) sound = in_case (refusal p.control p.table (next_state p calls) change) (judged p.control p.table (next_state p calls) change sound.steps)
+request_is : {A : Type 0} (p : Setup A) (calls : List Call) (m : ℕ) (a : Request) → IsScriptSound p → IsCallText p calls (call m a) (call_step p calls (call m a))
+request_is p calls m Polled sound = inl (tt, (request_frame (standing_from (fresh_publisher p) calls) Polled m, answered p calls (call m Polled) sound, refl))
+request_is {A} p calls m (Changed change) sound = in_case (refusal p.control p.table (next_state p calls) change) (judged p.control p.table (next_state p calls) change sound.steps)
   where
     given : Option (SentFrame A)
-    given = act_frame (standing_from (fresh_publisher p) calls) (Changed change) m
+    given = request_frame (standing_from (fresh_publisher p) calls) (Changed change) m
 
     in_case : (answer : Option PublishFault) → IsJudged p.control p.table (next_state p calls) change answer →
-        IsCallText p calls (call m (Changed change)) (text_unless_refused answer (answer_text (greatest_call_moment (calls ++ call m (Changed change) ∷ [])) (act_frame (standing_from (fresh_publisher p) calls) (Changed change) m)))
-    in_case None accepted = inl (accepted, (act_frame (standing_from (fresh_publisher p) calls) (Changed change) m, answered p calls (call m (Changed change)) sound, refl))
+        IsCallText p calls (call m (Changed change)) (text_unless_refused answer (answer_text (greatest_call_moment (calls ++ call m (Changed change) ∷ [])) (request_frame (standing_from (fresh_publisher p) calls) (Changed change) m)))
+    in_case None accepted = inl (accepted, (request_frame (standing_from (fresh_publisher p) calls) (Changed change) m, answered p calls (call m (Changed change)) sound, refl))
     in_case (Some why) refused = inr (why, refused, refl)
 
 -- a call behind a script
 call_behind : {A : Type 0} (p : Setup A) (calls : List Call) (c : Call) → IsScriptSound p → call_at (progress_from (setting_up p) (map item_of_call calls)) c ≡ call_step p calls c
 call_behind p [] c sound = ap (λ (o : Option ScriptCause). unless_unsound o (call_step p [] c)) (sound_setup p sound)
 call_behind p (d ∷ calls) c sound =
-    ap (λ (g : Progress _). call_at (progress_from g (map item_of_call calls)) c) (next_act (setting_up p) d.moment d.act)
+    ap (λ (g : Progress _). call_at (progress_from g (map item_of_call calls)) c) (next_request (setting_up p) d.moment d.request)
     ∙ ap (λ (g : Progress _). call_at g c) (calls_progress p (d ∷ []) calls)
 
 -- the text as it is computed is that of the whole script
@@ -149,11 +149,11 @@ publish_is {A} = record {
       ∙ (rw (lt-ltb (length p.table) 16 few) refl);
   call = λ p calls before is sound n c.
       let said : item_step (item_of_call c) (progress_after before) ≡ call_step p calls c =
-      step_act (progress_after before) c.moment c.act
+      step_request (progress_after before) c.moment c.request
       ∙ ap (λ (l : List (ScriptItem A)). call_at (progress_from nothing l) c) is
       ∙ ap (λ (g : Progress A). call_at g c) (script_progress p calls)
       ∙ call_behind p calls c sound in
-      subst (IsCallText p calls c) (sym said) (act_is p calls c.moment c.act sound);
+      subst (IsCallText p calls c) (sym said) (request_is p calls c.moment c.request sound);
   last = λ f. refl;
 }
 
@@ -190,7 +190,7 @@ published_line moment now octets f e h = rw (e, h) refl
 pub refused : {A : Type 0} (p : Setup A) (calls : List Call) (m : ℕ) (change : Change) (why : PublishFault) → IsScriptSound p → Refuses p calls change why → call_step p calls (call m (Changed change)) ≡ Err (script_cause why)
 refused p calls m change why sound refuses =
     let c = call m (Changed change) in
-    ap (λ (o : Option PublishFault). text_unless_refused o (answer_text (greatest_call_moment (calls ++ c ∷ [])) (act_frame (standing_from (fresh_publisher p) calls) (Changed change) m)))
+    ap (λ (o : Option PublishFault). text_unless_refused o (answer_text (greatest_call_moment (calls ++ c ∷ [])) (request_frame (standing_from (fresh_publisher p) calls) (Changed change) m)))
     (sym (judged_only p.control p.table (next_state p calls) change sound.steps (Some why) refuses))
 
 module _ {A : Type 0} (p : Setup A) (calls : List Call) (sound : IsScriptSound p) (old new : List ℕ) (s : PublisherStanding A) where
@@ -202,7 +202,7 @@ module _ {A : Type 0} (p : Setup A) (calls : List Call) (sound : IsScriptSound p
   changed m change moment octets accepted published stands now wrote =
       let c = call m (Changed change) in
       let time = greatest_call_moment (calls ++ c ∷ []) in
-      let held = act_frame (standing_from (fresh_publisher p) calls) (Changed change) m in
+      let held = request_frame (standing_from (fresh_publisher p) calls) (Changed change) m in
       let same = answer_one p (trace_of_calls (calls ++ c ∷ [])) (length calls) (Some published.0) held published.1 (answered p calls c sound) in
       let not_refused = sym (judged_only p.control p.table (next_state p calls) change sound.steps None accepted) in (
         answer_text time (Some published.0),
@@ -219,7 +219,7 @@ module _ {A : Type 0} (p : Setup A) (calls : List Call) (sound : IsScriptSound p
   polled_one m moment octets published stands now wrote =
       let c = call m Polled in
       let time = greatest_call_moment (calls ++ c ∷ []) in
-      let held = act_frame (standing_from (fresh_publisher p) calls) Polled m in
+      let held = request_frame (standing_from (fresh_publisher p) calls) Polled m in
       let same = answer_one p (trace_of_calls (calls ++ c ∷ [])) (length calls) (Some published.0) held published.1 (answered p calls c sound) in (
         answer_text time (Some published.0),
         ap (λ (o : Option (SentFrame A)). Ok (answer_text time o, false)) (sym same),
@@ -232,7 +232,7 @@ module _ {A : Type 0} (p : Setup A) (calls : List Call) (sound : IsScriptSound p
   polled_none m none stands =
       let c = call m Polled in
       let time = greatest_call_moment (calls ++ c ∷ []) in
-      let held = act_frame (standing_from (fresh_publisher p) calls) Polled m in
+      let held = request_frame (standing_from (fresh_publisher p) calls) Polled m in
       let same = answer_one p (trace_of_calls (calls ++ c ∷ [])) (length calls) None held none (answered p calls c sound) in (
         [],
         ap (λ (o : Option (SentFrame A)). Ok (answer_text time o, false)) (sym same),

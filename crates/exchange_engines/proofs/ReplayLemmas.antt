@@ -4,17 +4,17 @@ use Rattle.std.proofs.lemmas.List.{append-nil}
 use Rattle.list_core.specs.declared.event.Event.{Event}
 use Rattle.block_core.specs.declared.block.Block.{Block}
 use Rattle.subscribe_core.specs.declared.entry.Entry.{Entry}
-use Rattle.subscribe_core.specs.Content.{reading_of}
+use Rattle.subscribe_core.specs.computed.Content.{reading_of}
 use Rattle.subscribe_core.specs.Entries.{AreEntriesAt}
 use Rattle.subscribe_core.specs.Standing.{State, StandsAfter, fresh_state}
-use Rattle.subscribe_core.specs.Steps.{step_entries, step_state}
+use Rattle.subscribe_core.specs.computed.Steps.{step_entries, step_state}
 use Rattle.subscribe_core.proofs.Readings.{is_read}
 use Rattle.subscribe_core.proofs.Runs.{entries_step, fresh_stands, stands_step}
-use Rattle.engine_core.specs.EngineStep.{Takes}
+use Rattle.engine_core.specs.computed.EngineStep.{Takes}
 use Rattle.exchange_engines.specs.EntryText.{entry_lines}
 use Rattle.exchange_engines.specs.ReplayText.{IsReplayText, events_of}
 use Rattle.exchange_engines.proofs.NonEmpty.{no_entry}
-use Rattle.exchange_engines.specs.ReplayStep.{kept_after, replay_text, state_after_list}
+use Rattle.exchange_engines.specs.computed.ReplayStep.{kept_after, replay_text, state_after_list}
 
 state_push : {A : Type 0} (s : State A) (es : List (Event A)) (e : Event A) → state_after_list s (es ++ e ∷ []) ≡ step_state (state_after_list s es) (reading_of e)
 state_push s [] e = refl

@@ -12,14 +12,15 @@ use Rattle.list_core.specs.declared.event.Event.{Event}
 use Rattle.list_core.specs.declared.event.EventKind.{EventKind}
 use Rattle.list_core.specs.declared.event.EventKind.TheVariants as kinds
 use Rattle.frame_core.specs.declared.frame.Frame.{Frame}
-use Rattle.frame_core.specs.FrameReading.{frame_at}
+use Rattle.frame_core.specs.computed.FrameReading.{frame_at}
 use Rattle.subscribe_core.specs.declared.watch.Seen.{Seen}
-use Rattle.subscribe_core.specs.Watch.{AreSeen, last_by, seen_after, seen_all}
+use Rattle.subscribe_core.specs.Watch.{AreSeen, seen_after}
+use Rattle.subscribe_core.specs.computed.WatchAnswers.{last_by, seen_all}
 use Rattle.subscribe_core.proofs.Counts.{none_last, none_seen, seen_from}
-use Rattle.engine_core.specs.EngineStep.{Takes}
+use Rattle.engine_core.specs.computed.EngineStep.{Takes}
 use Rattle.exchange_engines.specs.SampleLine.{sample_line}
 use Rattle.exchange_engines.specs.WatchText.{IsWatchText, counts, counts_of, frame_watched, is_unexpected, sample_at, sample_lines, samples_from, samples_in, samples_of, samples_read, watched}
-use Rattle.exchange_engines.specs.WatchStep.{SamplesSaid, last_of, watch_text}
+use Rattle.exchange_engines.specs.computed.WatchStep.{SamplesSaid, last_of, watch_text}
 use Rattle.text_core.proofs.NonEmpty.{fault_there}
 use Rattle.exchange_engines.proofs.NonEmpty.{no_sample}
 

@@ -3,20 +3,20 @@ use Rattle.std.proofs.Common.{◌≡◌, ℕ, Bool, true, false, List, [], ◌�
 use Rattle.std.specs.Prelude.{codes}
 use Rattle.std.specs.Fmt.{digits}
 use Rattle.hex.specs.Hex.{decode_pairs, encode_with}
-use Rattle.ber_core.specs.ContentsReading.{all_visible_at, any_integer_at, boolean_at, counted_at, integer_at}
-use Rattle.ber_core.specs.FieldReading.{required_at, there_at}
-use Rattle.ber_core.specs.Reading.{header_at, length_at}
-use Rattle.ber_core.specs.RepeatedReading.{each_within}
-use Rattle.mms_data.specs.ContentsReading.{simple_at}
-use Rattle.mms_data.specs.Kinds.{kind_at}
-use Rattle.mms_data.specs.Reading.{member_at, member_with, members_at, members_with}
-use Rattle.mms_data.specs.UtcReading.{utc_at}
-use Rattle.pdu_core.specs.ContentsReading.{few_at, fixed_in, members_in, number_in}
-use Rattle.pdu_core.specs.GooseReading.{goose_at}
-use Rattle.pdu_core.specs.SampledReading.{asdus_at, count_in, sv_at}
-use Rattle.frame_core.specs.EnvelopeReading.{envelope_at, envelope_judged}
+use Rattle.ber_core.specs.computed.ContentsReading.{all_visible_at, any_integer_at, boolean_at, counted_at, integer_at}
+use Rattle.ber_core.specs.computed.FieldReading.{required_at, there_at}
+use Rattle.ber_core.specs.computed.Reading.{header_at, length_at}
+use Rattle.ber_core.specs.computed.RepeatedReading.{each_within}
+use Rattle.mms_data.specs.computed.ContentsReading.{simple_at}
+use Rattle.mms_data.specs.computed.KindReading.{kind_at}
+use Rattle.mms_data.specs.computed.Reading.{member_at, member_with, members_at, members_with}
+use Rattle.mms_data.specs.computed.UtcReading.{utc_at}
+use Rattle.pdu_core.specs.computed.ContentsReading.{few_at, fixed_in, members_in, number_in}
+use Rattle.pdu_core.specs.computed.GooseReading.{goose_at}
+use Rattle.pdu_core.specs.computed.SampledReading.{asdus_at, count_in, sv_at}
+use Rattle.frame_core.specs.computed.EnvelopeReading.{envelope_at, envelope_judged}
 use Rattle.list_core.specs.EventLine.{event_rules}
-use Rattle.frame_core.specs.FrameReading.{frame_at}
+use Rattle.frame_core.specs.computed.FrameReading.{frame_at}
 use Rattle.list_core.specs.Items.{items_said, listing}
 use Rattle.list_core.specs.Lines.{finished, reading}
 use Rattle.list_core.specs.declared.device.InputEnd.TheVariants.{End}
@@ -27,9 +27,9 @@ use Rattle.block_core.specs.declared.block.Block.{Block}
 use Rattle.subscribe_core.specs.declared.watch.Seen.TheVariants as seen
 use Rattle.engine_core.specs.EngineText.{Text, told, told_after, whole_text}
 use Rattle.exchange_engines.specs.PublishText.{answer_text}
-use Rattle.exchange_engines.specs.ReplayStep.{replay_text}
+use Rattle.exchange_engines.specs.computed.ReplayStep.{replay_text}
 use Rattle.exchange_engines.specs.ReplayText.{twice_line}
-use Rattle.exchange_engines.specs.WatchStep.{watch_text}
+use Rattle.exchange_engines.specs.computed.WatchStep.{watch_text}
 use Rattle.exchange_engines.specs.WatchText.{sample_lines}
 
 -- ---- lists

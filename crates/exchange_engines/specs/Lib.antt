@@ -1,10 +1,9 @@
 pub mod ExchangeNames
 pub mod ReplayText
-pub mod ReplayStep
 pub mod WatchText
-pub mod WatchStep
 pub mod PublishText
-pub mod PublishStep
 pub mod EntryText
 pub mod ScriptLine
 pub mod SampleLine
+pub mod computed
+pub mod ScriptLaws

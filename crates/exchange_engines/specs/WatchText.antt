@@ -12,7 +12,7 @@ use Rattle.frame_core.specs.declared.frame.Apdu.TheVariants as apdus
 use Rattle.frame_core.specs.declared.frame.Frame.{Frame}
 use Rattle.list_core.specs.declared.line_rules.ItemFault.{ItemFault}
 use Rattle.list_core.specs.declared.list_fault.ListCause.{ListCause}
-use Rattle.frame_core.specs.FrameReading.{frame_at}
+use Rattle.frame_core.specs.computed.FrameReading.{frame_at}
 use Rattle.list_core.specs.ListReader.{list_fault_of}
 use Rattle.subscribe_core.specs.declared.watch.Seen.{Seen}
 use Rattle.subscribe_core.specs.declared.watch.Seen.TheVariants as seen
@@ -25,28 +25,28 @@ use Rattle.exchange_engines.specs.SampleLine.{sample_line}
 abbrev pub sample_at : {A : Type 0} → ℕ → List ℕ → Asdu A → List (ℕ × ℕ)
 sample_at k id a = if bytes_eq a.sv_id id then (k, a.smp_cnt) ∷ [] else []
 
--- those of ASDUs from a position on
+-- the positions and smpCnt of those of several ASDUs that are of the stream; the first of them has this position
 abbrev pub samples_from : {A : Type 0} → ℕ → List ℕ → List (Asdu A) → List (ℕ × ℕ)
 samples_from k id [] = []
 samples_from k id (a ∷ others) = sample_at k id a ++ samples_from (k + 1) id others
 
--- those of what a frame carries
+-- those of the ASDUs of an APDU; one of GOOSE has none
 abbrev pub samples_in : {A : Type 0} → List ℕ → Apdu A → List (ℕ × ℕ)
 samples_in id (apdus.Goose p) = []
 samples_in id (apdus.Sampled p) = samples_from 0 id p.asdus
 
--- those of octets, which read so
+-- those of the frame that octets spell; octets with a fault have none
 abbrev pub samples_read : {A : Type 0} → List ℕ → Result (Frame A) Fault → List (ℕ × ℕ)
 samples_read id (Ok f) = samples_in id f.apdu
 samples_read id (Err f) = []
 
--- those of an event
+-- those of an event; the clock and modes have none
 abbrev pub samples_of : {A : Type 0} → List ℕ → EventKind A → List (ℕ × ℕ)
 samples_of id (kinds.Frame octets) = samples_read {A = Unit {0}} id (frame_at octets)
 samples_of id kinds.Clock = []
 samples_of id (kinds.Mode on) = []
 
--- their counts
+-- the smpCnt of samples
 abbrev pub counts : List (ℕ × ℕ) → List ℕ
 counts samples = map (λ s. s.1) samples
 

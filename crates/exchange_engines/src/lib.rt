@@ -1,6 +1,6 @@
 //! The engines that speak of what publishers and receiving devices do over a whole list or script: `replay`, `watch` and
 //! `publish`.
-#![tactic(auto)]
+#![tactic(auto, using(text_core::proofs::Fronts::front_before))]
 
 mod engines;
 pub mod texts;

@@ -11,14 +11,14 @@ use Rattle.block_core.specs.declared.block.Block.{Block}
 use Rattle.subscribe_core.specs.declared.entry.Entry.{Entry}
 use Rattle.subscribe_core.specs.declared.entry.Entry.TheVariants as says
 use Rattle.subscribe_core.specs.declared.registers.Facts.{Facts}
-use Rattle.subscribe_core.specs.Content.{reading_of}
+use Rattle.subscribe_core.specs.computed.Content.{reading_of}
 use Rattle.subscribe_core.specs.Entries.{AreEntriesAt, AreReadEntriesAt}
 use Rattle.subscribe_core.specs.Epoch.{Acts, IsLastStart}
 use Rattle.subscribe_core.specs.Laws.{IsActOn, IsIn}
 use Rattle.subscribe_core.specs.Reading.{AreRead, FrameRead, OfGoose, EventRead}
 use Rattle.subscribe_core.specs.Sight.{trace_of_block}
 use Rattle.subscribe_core.specs.Standing.{AreApart, fresh_state}
-use Rattle.subscribe_core.specs.Steps.{run_events}
+use Rattle.subscribe_core.specs.computed.Steps.{run_events}
 use Rattle.subscribe_core.proofs.Acted.{acts_are_told}
 use Rattle.subscribe_core.proofs.Numbers.{acted_where_in_time, numbers_rise}
 use Rattle.subscribe_core.proofs.Readings.{read_length, reads_one}

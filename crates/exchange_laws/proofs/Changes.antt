@@ -4,7 +4,7 @@ use Rattle.std.proofs.lemmas.Bool.{cases_lt, cases_order}
 use Rattle.std.proofs.lemmas.Option.{none-some}
 use Rattle.publish_core.specs.Frames.{Change, Setup}
 use Rattle.publish_core.specs.Numbers.{state_number}
-use Rattle.publish_core.specs.Run.{Act, Call, Changed, IsChange, NoWrap, CallTrace, change_in, changes, trace_of_calls}
+use Rattle.publish_core.specs.Run.{Request, Call, Changed, IsChange, NoWrap, CallTrace, changes_of, changes, trace_of_calls}
 use Rattle.publish_core.proofs.GivesOne.{same_change}
 use Rattle.publish_core.proofs.NumberLaws.{state_number_plain}
 use Rattle.exchange_laws.specs.Laws.{PublishedIsOne}
@@ -19,7 +19,7 @@ changes_grow t i (suc n) le = elim (cases_lt i (suc n)) [
 
 counted : (t : CallTrace) (i c : ℕ) (change : Change) → IsChange t i c change → changes t (suc i) ≡ suc c
 counted t i c change x =
-    let one : change_in (t.act i) ≡ 1 = ap change_in x.act in
+    let one : changes_of (t.request i) ≡ 1 = ap changes_of x.request in
     let before : changes t i ≡ c = x.before in
     omega arith
 
@@ -33,7 +33,7 @@ one_call t i j c a b x y lt =
 
 one_change : (t : CallTrace) (i j c : ℕ) (a b : Change) → IsChange t i c a → IsChange t j c b → a ≡ b
 one_change t i j c a b x y = elim (cases_order i j) [
-  | inl same ↦ same_change a b (sym x.act ∙ (ap t.act same ∙ y.act))
+  | inl same ↦ same_change a b (sym x.request ∙ (ap t.request same ∙ y.request))
   | inr (inl lt) ↦ absurd (one_call t i j c a b x y lt)
   | inr (inr gt) ↦ absurd (one_call t j i c b a y x gt)
 ]
@@ -46,14 +46,14 @@ published_is_one p calls number x y u v =
     one_change (trace_of_calls calls) u.call v.call v.c x y (subst (λ (c : ℕ). IsChange (trace_of_calls calls) u.call c x) same u.is_change) v.is_change
 
 -- a change is one of the calls, so its number is below their count of changes
-pub act_below : (calls : List Call) (i : ℕ) (a : Act) → option_map (λ (c : Call). c.act) (slice_get calls i) ≡ Some a → i < length calls
-act_below [] i a e = absurd (none-some a e)
-act_below (c ∷ cs) zero a e = omega arith
-act_below (c ∷ cs) (suc i) a e = omega (arith, act_below cs i a e)
+pub request_below : (calls : List Call) (i : ℕ) (a : Request) → option_map (λ (c : Call). c.request) (slice_get calls i) ≡ Some a → i < length calls
+request_below [] i a e = absurd (none-some a e)
+request_below (c ∷ cs) zero a e = omega arith
+request_below (c ∷ cs) (suc i) a e = omega (arith, request_below cs i a e)
 
 change_below : (calls : List Call) (i c : ℕ) (change : Change) → IsChange (trace_of_calls calls) i c change → c < changes (trace_of_calls calls) (length calls)
 change_below calls i c change x =
-    let within : i < length calls = act_below calls i (Changed change) x.act in
+    let within : i < length calls = request_below calls i (Changed change) x.request in
     let up : changes (trace_of_calls calls) (suc i) ≤ changes (trace_of_calls calls) (length calls) = changes_grow (trace_of_calls calls) (suc i) (length calls) within in
     let past : changes (trace_of_calls calls) (suc i) ≡ suc c = counted (trace_of_calls calls) i c change x in
     omega arith
@@ -66,14 +66,14 @@ number_of_change p calls i c change some no_wrap x =
     state_number_plain p.first c some (omega arith)
 
 -- the changes among calls behind a first one
-pub changes_cons : (c : Call) (cs : List Call) (n : ℕ) → changes (trace_of_calls (c ∷ cs)) (suc n) ≡ change_in (Some c.act) + changes (trace_of_calls cs) n
+pub changes_cons : (c : Call) (cs : List Call) (n : ℕ) → changes (trace_of_calls (c ∷ cs)) (suc n) ≡ changes_of (Some c.request) + changes (trace_of_calls cs) n
 changes_cons c cs zero = omega arith
 changes_cons c cs (suc n) = omega (arith, changes_cons c cs n)
 
 abbrev pub count : List Call → ℕ
 count [] = 0
-count (c ∷ cs) = change_in (Some c.act) + count cs
+count (c ∷ cs) = changes_of (Some c.request) + count cs
 
 pub count_all : (cs : List Call) → changes (trace_of_calls cs) (length cs) ≡ count cs
 count_all [] = refl
-count_all (c ∷ cs) = changes_cons c cs (length cs) ∙ ap (λ (n : ℕ). change_in (Some c.act) + n) (count_all cs)
+count_all (c ∷ cs) = changes_cons c cs (length cs) ∙ ap (λ (n : ℕ). changes_of (Some c.request) + n) (count_all cs)

@@ -10,13 +10,13 @@ use Rattle.subscribe_core.specs.declared.registers.Facts.{Facts}
 use Rattle.subscribe_core.specs.declared.registers.Held.{Held}
 use Rattle.subscribe_core.specs.declared.registers.Register.{Register}
 use Rattle.subscribe_core.specs.declared.registers.Verdict.{Verdict}
-use Rattle.subscribe_core.specs.declared.registers.Verdict.TheVariants.{Acted, Renewed, Again, Stale}
+use Rattle.subscribe_core.specs.declared.registers.Verdict.TheVariants.{Act, Refreshed, Repeated, Older}
 use Rattle.subscribe_core.specs.Entries.{entry_of}
 use Rattle.subscribe_core.specs.Matching.{facts_of_frame, first_of, is_of, reason_of}
 use Rattle.subscribe_core.specs.Reading.{FrameRead, OfGoose, EventRead}
 use Rattle.subscribe_core.specs.Simulation.{is_against}
 use Rattle.subscribe_core.specs.Standing.{AreApart, State}
-use Rattle.subscribe_core.specs.Steps.{after_clock, after_switch, expired_entries, is_over, registers_by, run_events, said_of, step_entries, step_state, switched_entries, held_after_frame, verdict_on}
+use Rattle.subscribe_core.specs.computed.Steps.{after_clock, after_switch, expired_entries, is_dead, registers_by, run_events, said_of, step_entries, step_state, switched_entries, held_after_frame, verdict_on}
 use Rattle.subscribe_core.proofs.Clearing.{not_due_stays}
 use Rattle.subscribe_core.proofs.Frames.{answer_good, registers_good}
 
@@ -59,7 +59,7 @@ module _ {B : Type 0} (block : Block B) (x : FrameRead) where
   here good = rw good.own refl
 
   -- its entry
-  one_entry : (h : Option Held) (moment now : ℕ) → IsPlain → is_over h now ≡ false → moment ≤ now → step_entries (alone block h moment) (comes now x) ≡ entry_of 0 x (verdict_on h (facts_of_frame x)) ∷ []
+  one_entry : (h : Option Held) (moment now : ℕ) → IsPlain → is_dead h now ≡ false → moment ≤ now → step_entries (alone block h moment) (comes now x) ≡ entry_of 0 x (verdict_on h (facts_of_frame x)) ∷ []
   one_entry h moment now good alive le =
       let r : Register = record { held = h; simulated = false } in
       let m : max moment now ≡ now = omega arith in
@@ -71,7 +71,7 @@ module _ {B : Type 0} (block : Block B) (x : FrameRead) where
       ap (λ (o : Option Held). entry_of 0 x (verdict_on o (facts_of_frame x)) ∷ []) (not_due_stays h now alive))))
 
   -- and what is kept then
-  one_state : (h : Option Held) (moment now : ℕ) → IsPlain → is_over h now ≡ false → moment ≤ now → step_state (alone block h moment) (comes now x) ≡ alone block (held_after_frame (verdict_on h (facts_of_frame x)) h now (facts_of_frame x)) now
+  one_state : (h : Option Held) (moment now : ℕ) → IsPlain → is_dead h now ≡ false → moment ≤ now → step_state (alone block h moment) (comes now x) ≡ alone block (held_after_frame (verdict_on h (facts_of_frame x)) h now (facts_of_frame x)) now
   one_state h moment now good alive le =
       let r : Register = record { held = h; simulated = false } in
       let m : max moment now ≡ now = omega arith in
@@ -82,7 +82,7 @@ module _ {B : Type 0} (block : Block B) (x : FrameRead) where
       ap (λ (n : ℕ). record { blocks = block ∷ []; registers = registers_by n false (OfGoose x) (block ∷ []) (r ∷ []); mode = false; moment = n }) m ∙
       ap (λ (rs : List Register). record { blocks = block ∷ []; registers = rs; mode = false; moment = now }) kept
 
-  pub one_run : (h : Option Held) (moment now : ℕ) (v : Verdict) → IsPlain → is_over h now ≡ false → moment ≤ now → verdict_on h (facts_of_frame x) ≡ v → (es : List EventRead) (rest : List (List (Entry B))) → run_events (alone block (held_after_frame v h now (facts_of_frame x)) now) es ≡ rest → run_events (alone block h moment) (comes now x ∷ es) ≡ (entry_of 0 x v ∷ []) ∷ rest
+  pub one_run : (h : Option Held) (moment now : ℕ) (v : Verdict) → IsPlain → is_dead h now ≡ false → moment ≤ now → verdict_on h (facts_of_frame x) ≡ v → (es : List EventRead) (rest : List (List (Entry B))) → run_events (alone block (held_after_frame v h now (facts_of_frame x)) now) es ≡ rest → run_events (alone block h moment) (comes now x ∷ es) ≡ (entry_of 0 x v ∷ []) ∷ rest
   one_run h moment now v good alive le judged es rest next =
       ap (λ (w : List (Entry B)). w ∷ run_events (step_state (alone block h moment) (comes now x)) es) (one_entry h moment now good alive le ∙ ap (λ (w : Verdict). entry_of 0 x w ∷ []) judged) ∙
       (ap (λ (z : State B). (entry_of 0 x v ∷ []) ∷ run_events z es) (one_state h moment now good alive le ∙ ap (λ (w : Verdict). alone block (held_after_frame w h now (facts_of_frame x)) now) judged) ∙
@@ -90,16 +90,16 @@ module _ {B : Type 0} (block : Block B) (x : FrameRead) where
 
 -- verdicts
 
-pub verdict_above : (h : Held) (f : Facts) → h.state < f.state → verdict_on (Some h) f ≡ Acted
+pub verdict_above : (h : Held) (f : Facts) → h.state < f.state → verdict_on (Some h) f ≡ Act
 verdict_above h f lt =
-    ap (λ (b : Bool). if b then Acted else if h.state == f.state && nat_lt h.sequence f.sequence then Renewed else if h.state == f.state && h.sequence == f.sequence then Again else Stale)
+    ap (λ (b : Bool). if b then Act else if h.state == f.state && nat_lt h.sequence f.sequence then Refreshed else if h.state == f.state && h.sequence == f.sequence then Repeated else Older)
     (lt-ltb h.state f.state lt)
 
-pub verdict_next : (h : Held) (f : Facts) → h.state ≡ f.state → h.sequence < f.sequence → verdict_on (Some h) f ≡ Renewed
+pub verdict_next : (h : Held) (f : Facts) → h.state ≡ f.state → h.sequence < f.sequence → verdict_on (Some h) f ≡ Refreshed
 verdict_next h f same lt =
-    ap (λ (b : Bool). if b then Acted else if h.state == f.state && nat_lt h.sequence f.sequence then Renewed else if h.state == f.state && h.sequence == f.sequence then Again else Stale)
+    ap (λ (b : Bool). if b then Act else if h.state == f.state && nat_lt h.sequence f.sequence then Refreshed else if h.state == f.state && h.sequence == f.sequence then Repeated else Older)
     (le-ltb h.state f.state (omega arith)) ∙
-    (ap (λ (b : Bool). if b && nat_lt h.sequence f.sequence then Renewed else if h.state == f.state && h.sequence == f.sequence then Again else Stale)
+    (ap (λ (b : Bool). if b && nat_lt h.sequence f.sequence then Refreshed else if h.state == f.state && h.sequence == f.sequence then Repeated else Older)
     (eq-eqb h.state f.state same) ∙
-    ap (λ (b : Bool). if b then Renewed else if h.state == f.state && h.sequence == f.sequence then Again else Stale)
+    ap (λ (b : Bool). if b then Refreshed else if h.state == f.state && h.sequence == f.sequence then Repeated else Older)
     (lt-ltb h.sequence f.sequence lt))

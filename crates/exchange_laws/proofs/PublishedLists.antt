@@ -1,7 +1,7 @@
 -- A publisher's whole list, as events of a list, has one entry for each frame.
 use Rattle.std.proofs.Common.{◌≡◌, ℕ, suc, ◌+◌, ◌≤◌, Option, Some, None, List, [], ◌∷◌, length, map, slice_get, max, sym, refl, ap, ap₂, ◌∙◌, subst, arith}
 use Rattle.frame_core.specs.Frame.{SpellsFrame}
-use Rattle.frame_core.specs.FrameReading.{frame_at}
+use Rattle.frame_core.specs.computed.FrameReading.{frame_at}
 use Rattle.frame_core.specs.Written.{written_frame}
 use Rattle.frame_core.specs.declared.frame.Apdu.TheVariants as apdus
 use Rattle.frame_core.specs.declared.frame.Frame.{Frame}
@@ -10,16 +10,16 @@ use Rattle.frame_core.proofs.ReadingLaws.{frame_again}
 use Rattle.pdu_core.specs.declared.goose.GoosePdu.{GoosePdu}
 use Rattle.publish_core.specs.Frames.{Change, Setup, frame}
 use Rattle.publish_core.specs.Numbers.{sequence_number, state_number}
-use Rattle.publish_core.specs.Run.{Act, AreAnswers, Call, Changed, IsAnswer, Polled, changes, trace_of_calls}
-use Rattle.publish_core.specs.Step.{fresh_publisher as new_publisher, run_calls as run_publisher}
+use Rattle.publish_core.specs.Run.{Request, AreAnswers, Call, Changed, IsAnswer, Polled, changes, trace_of_calls}
+use Rattle.publish_core.specs.computed.Step.{fresh_publisher as new_publisher, run_calls as run_publisher}
 use Rattle.publish_core.specs.Table.{step_at, step_of}
 use Rattle.publish_core.proofs.GivesOne.{carried}
 use Rattle.publish_core.proofs.Runs.{answers_are_one, runs_are_whole as publisher_runs}
-use Rattle.subscribe_core.specs.Content.{content_by, reading_of}
+use Rattle.subscribe_core.specs.computed.Content.{content_by, reading_of}
 use Rattle.subscribe_core.specs.Entries.{AreEntries}
 use Rattle.subscribe_core.specs.Reading.{Content, EventRead}
 use Rattle.subscribe_core.specs.Standing.{fresh_state}
-use Rattle.subscribe_core.specs.Steps.{run_events}
+use Rattle.subscribe_core.specs.computed.Steps.{run_events}
 use Rattle.subscribe_core.proofs.Runs.{runs_are_whole}
 use Rattle.exchange_laws.specs.Laws.{WholeRunsReplay}
 use Rattle.exchange_laws.specs.PublishedList.{InTime, Sent, one_entry_each, published_events, sent_from, with_frame}
@@ -67,26 +67,26 @@ frame_spelled {A} p calls i f held accepted w =
       spelled = frame_is_spelled p c k change held (change_accepted p calls at.0 c change accepted at.2);
     })
 
-with_spelled : {A : Type 0} (m : ℕ) (act : Act) (a : Option (Frame A)) (rest : List (Sent A)) → ((f : Frame A) → a ≡ Some f → IsSpelled f) → AreSpelled rest → AreSpelled (with_frame m act a rest)
-with_spelled m act None rest one w = w
-with_spelled m act (Some f) rest one w = (one f refl, w)
+with_spelled : {A : Type 0} (m : ℕ) (request : Request) (a : Option (Frame A)) (rest : List (Sent A)) → ((f : Frame A) → a ≡ Some f → IsSpelled f) → AreSpelled rest → AreSpelled (with_frame m request a rest)
+with_spelled m request None rest one w = w
+with_spelled m request (Some f) rest one w = (one f refl, w)
 
 sent_spelled : {A : Type 0} (m : ℕ) (calls : List Call) (answers : List (Option (Frame A))) → ((i : ℕ) (f : Frame A) → slice_get answers i ≡ Some (Some f) → IsSpelled f) → AreSpelled (sent_from m calls answers)
 sent_spelled m [] answers each = tt
 sent_spelled m (c ∷ cs) [] each = tt
 sent_spelled {A} m (c ∷ cs) (a ∷ answers) each =
-    with_spelled (max m c.moment) c.act a (sent_from (max m c.moment) cs answers) (λ f e. each 0 f (ap (λ (o : Option (Frame A)). Some o) e))
+    with_spelled (max m c.moment) c.request a (sent_from (max m c.moment) cs answers) (λ f e. each 0 f (ap (λ (o : Option (Frame A)). Some o) e))
     (sent_spelled (max m c.moment) cs answers (λ i f e. each (suc i) f e))
 
 -- each accepted change has the control's count of values
 
-act_entries : (n : ℕ) (act : Act) → ((x : Change) → act ≡ Changed x → length x.values ≡ n) → HasEntries n act
-act_entries n (Changed x) each = each x refl
-act_entries n Polled each = tt
+request_entries : (n : ℕ) (request : Request) → ((x : Change) → request ≡ Changed x → length x.values ≡ n) → HasEntries n request
+request_entries n (Changed x) each = each x refl
+request_entries n Polled each = tt
 
-have_entries : (n : ℕ) (calls : List Call) → ((i : ℕ) (x : Change) → (trace_of_calls calls).act i ≡ Some (Changed x) → length x.values ≡ n) → HaveEntries n calls
+have_entries : (n : ℕ) (calls : List Call) → ((i : ℕ) (x : Change) → (trace_of_calls calls).request i ≡ Some (Changed x) → length x.values ≡ n) → HaveEntries n calls
 have_entries n [] each = tt
-have_entries n (c ∷ cs) each = (act_entries n c.act (λ x e. each 0 x (ap (λ (a : Act). Some a) e)), have_entries n cs (λ i x e. each (suc i) x e))
+have_entries n (c ∷ cs) each = (request_entries n c.request (λ x e. each 0 x (ap (λ (a : Request). Some a) e)), have_entries n cs (λ i x e. each (suc i) x e))
 
 pub whole_runs_replay : {A B : Type 0} → WholeRunsReplay A B
 whole_runs_replay {A} {B} p block calls answers w few =

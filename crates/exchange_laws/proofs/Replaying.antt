@@ -6,16 +6,16 @@ use Rattle.std.proofs.lemmas.Slice.Eq.{bytes_eq-Decides}
 use Rattle.publish_core.specs.declared.publisher.Last.{Last}
 use Rattle.publish_core.specs.Frames.{Change, Setup}
 use Rattle.publish_core.specs.Numbers.{number_behind}
-use Rattle.publish_core.specs.Run.{Act, Call, Changed, Polled, call, change_in}
+use Rattle.publish_core.specs.Run.{Request, Call, Changed, Polled, call, changes_of}
 use Rattle.publish_core.specs.Standing.{PublisherStanding, change_of}
-use Rattle.publish_core.specs.Step.{first_last, is_due as is_poll_due, last_frame, next_last, run_calls as run_publisher}
+use Rattle.publish_core.specs.computed.Step.{first_last, is_due as is_poll_due, last_frame, next_last, run_calls as run_publisher}
 use Rattle.publish_core.specs.Table.{AreSteps, step_at}
 use Rattle.block_core.specs.declared.block.Block.{Block}
 use Rattle.subscribe_core.specs.declared.registers.Held.{Held}
-use Rattle.subscribe_core.specs.declared.registers.Verdict.TheVariants.{Acted, Renewed}
+use Rattle.subscribe_core.specs.declared.registers.Verdict.TheVariants as verdicts
 use Rattle.subscribe_core.specs.Matching.{facts_of_frame, has_other_id, holds, reasons}
 use Rattle.subscribe_core.specs.Reading.{FrameRead}
-use Rattle.subscribe_core.specs.Steps.{run_events}
+use Rattle.subscribe_core.specs.computed.Steps.{run_events}
 use Rattle.subscribe_core.proofs.BlockNames.{key_is_of}
 use Rattle.exchange_laws.specs.PublishedList.{InTime, InTimeFrom, IsOwnBlock, Sent, one_entry_each, sent_from, with_frame}
 use Rattle.exchange_laws.proofs.Changes.{count}
@@ -24,13 +24,13 @@ use Rattle.exchange_laws.proofs.Received.{plain, readings_of}
 use Rattle.exchange_laws.proofs.Stemming.{pdu_with}
 
 -- each change has so many values
-abbrev pub HasEntries : ℕ → Act → Type 0
+abbrev pub HasEntries : ℕ → Request → Type 0
 HasEntries n (Changed handed_in) = length handed_in.values ≡ n
 HasEntries n Polled = Unit {0}
 
 abbrev pub HaveEntries : ℕ → List Call → Type 0
 HaveEntries n [] = Unit {0}
-HaveEntries n (c ∷ cs) = HasEntries n c.act × HaveEntries n cs
+HaveEntries n (c ∷ cs) = HasEntries n c.request × HaveEntries n cs
 
 -- tests of a block that is the publisher's own
 
@@ -129,7 +129,7 @@ module _ {A B : Type 0} (p : Setup A) (block : Block B) (own : IsOwnBlock p bloc
       let sequences : l.sequence + suc (length (sent_by (number_behind next) (max m now) (Some last) cs)) ≤ 4294967295 = k.sequences in
       let above : l.state < next = omega arith in
       let some : 0 < next = omega arith in
-      one_run block (read_of last) (Some (held_of l)) l.given (max m now) Acted (is_plain last some first entries)
+      one_run block (read_of last) (Some (held_of l)) l.given (max m now) verdicts.Act (is_plain last some first entries)
       (lt-leb _ _ time.0) (omega arith) (verdict_above (held_of l) (facts_of_frame (read_of last)) above) _ _
       (rest (number_behind next) (max m now) last
       (record { next_is = refl; states = omega arith; sequences = omega arith; some = some; given = omega arith; step = first; entries = entries })
@@ -145,7 +145,7 @@ module _ {A B : Type 0} (p : Setup A) (block : Block B) (own : IsOwnBlock p bloc
       let first : 0 < length p.table = steps.some in
       let below : min (l.step + 1) (length p.table - 1) < length p.table = omega arith in
       let above : l.sequence < number_behind l.sequence = omega arith in
-      one_run block (read_of last) (Some (held_of l)) l.given (max m now) Renewed (is_plain last k.some below k.entries)
+      one_run block (read_of last) (Some (held_of l)) l.given (max m now) verdicts.Refreshed (is_plain last k.some below k.entries)
       (lt-leb _ _ time.0) (omega arith) (verdict_next (held_of l) (facts_of_frame (read_of last)) refl above) _ _
       (rest next (max m now) last
       (record { next_is = k.next_is; states = states; sequences = omega arith; some = k.some; given = omega arith; step = below; entries = k.entries })
@@ -156,7 +156,7 @@ module _ {A B : Type 0} (p : Setup A) (block : Block B) (own : IsOwnBlock p bloc
       (record { next_is = k.next_is; states = k.states; sequences = k.sequences; some = k.some; given = omega arith; step = k.step; entries = k.entries })
       more time
 
-  replay_call : (cs : List Call) → Replays cs → (act : Act) (now next m : ℕ) (l : Last A) → Keeps (change_in (Some act) + count cs) (length (sent_by next m (Some l) (call now act ∷ cs))) next m l → HasEntries p.control.entries act → HaveEntries p.control.entries cs → InTimeFrom (l.given + 1000 * live_at l) (sent_by next m (Some l) (call now act ∷ cs)) → run_events (alone block (Some (held_of l)) l.given) (readings_of (sent_by next m (Some l) (call now act ∷ cs))) ≡ one_entry_each (sent_by next m (Some l) (call now act ∷ cs))
+  replay_call : (cs : List Call) → Replays cs → (request : Request) (now next m : ℕ) (l : Last A) → Keeps (changes_of (Some request) + count cs) (length (sent_by next m (Some l) (call now request ∷ cs))) next m l → HasEntries p.control.entries request → HaveEntries p.control.entries cs → InTimeFrom (l.given + 1000 * live_at l) (sent_by next m (Some l) (call now request ∷ cs)) → run_events (alone block (Some (held_of l)) l.given) (readings_of (sent_by next m (Some l) (call now request ∷ cs))) ≡ one_entry_each (sent_by next m (Some l) (call now request ∷ cs))
   replay_call cs rest (Changed handed_in) now next m l k entries more time = replay_change cs rest handed_in now next m l k entries more time
   replay_call cs rest Polled now next m l k entries more time =
       let states : l.state + (0 + count cs) ≤ 4294967295 = k.states in
@@ -166,7 +166,7 @@ module _ {A B : Type 0} (p : Setup A) (block : Block B) (own : IsOwnBlock p bloc
 
   replay_from : (cs : List Call) → Replays cs
   replay_from [] next m l k more time = refl
-  replay_from (c ∷ cs) next m l k more time = replay_call cs (replay_from cs) c.act c.moment next m l k more.0 more.1 time
+  replay_from (c ∷ cs) next m l k more time = replay_call cs (replay_from cs) c.request c.moment next m l k more.0 more.1 time
 
   -- before any change nothing is given
 
@@ -175,7 +175,7 @@ module _ {A B : Type 0} (p : Setup A) (block : Block B) (own : IsOwnBlock p bloc
       (next m u : ℕ) → 0 < next → next + count cs ≤ 4294967296 → length (sent_by next m None cs) ≤ 4294967295 → u ≤ m → HaveEntries p.control.entries cs →
       InTime (sent_by next m None cs) → run_events (alone block None u) (readings_of (sent_by next m None cs)) ≡ one_entry_each (sent_by next m None cs)
 
-  begin_call : (cs : List Call) → Begins cs → (act : Act) (now next m u : ℕ) → 0 < next → next + (change_in (Some act) + count cs) ≤ 4294967296 → length (sent_by next m None (call now act ∷ cs)) ≤ 4294967295 → u ≤ m → HasEntries p.control.entries act → HaveEntries p.control.entries cs → InTime (sent_by next m None (call now act ∷ cs)) → run_events (alone block None u) (readings_of (sent_by next m None (call now act ∷ cs))) ≡ one_entry_each (sent_by next m None (call now act ∷ cs))
+  begin_call : (cs : List Call) → Begins cs → (request : Request) (now next m u : ℕ) → 0 < next → next + (changes_of (Some request) + count cs) ≤ 4294967296 → length (sent_by next m None (call now request ∷ cs)) ≤ 4294967295 → u ≤ m → HasEntries p.control.entries request → HaveEntries p.control.entries cs → InTime (sent_by next m None (call now request ∷ cs)) → run_events (alone block None u) (readings_of (sent_by next m None (call now request ∷ cs))) ≡ one_entry_each (sent_by next m None (call now request ∷ cs))
   begin_call cs rest Polled now next m u some states short given entries more time =
       let all : next + (0 + count cs) ≤ 4294967296 = states in
       rest next (max m now) u some (omega arith) short (omega arith) more time
@@ -184,7 +184,7 @@ module _ {A B : Type 0} (p : Setup A) (block : Block B) (own : IsOwnBlock p bloc
       let first : 0 < length p.table = steps.some in
       let last : Last A = first_last next handed_in (max m now) in
       let frames : suc (length (sent_by (number_behind next) (max m now) (Some last) cs)) ≤ 4294967295 = short in
-      one_run block (read_of last) None u (max m now) Acted (is_plain last some first entries)
+      one_run block (read_of last) None u (max m now) verdicts.Act (is_plain last some first entries)
       refl (omega arith) refl _ _
       (replay_from cs (number_behind next) (max m now) last
       (record { next_is = refl; states = omega arith; sequences = omega arith; some = some; given = omega arith; step = first; entries = entries })
@@ -192,4 +192,4 @@ module _ {A B : Type 0} (p : Setup A) (block : Block B) (own : IsOwnBlock p bloc
 
   pub begin_from : (cs : List Call) → Begins cs
   begin_from [] next m u some states short given more time = refl
-  begin_from (c ∷ cs) next m u some states short given more time = begin_call cs (begin_from cs) c.act c.moment next m u some states short given more.0 more.1 time
+  begin_from (c ∷ cs) next m u some states short given more time = begin_call cs (begin_from cs) c.request c.moment next m u some states short given more.0 more.1 time

@@ -15,10 +15,10 @@ use Rattle.publish_core.specs.Frames.{Change, Setup, change, frame, setup}
 use Rattle.publish_core.specs.Run.{Call, Changed, First, GivesFrame, Next, Polled, call, trace_of_calls}
 use Rattle.block_core.specs.declared.block.Block.{Block}
 use Rattle.subscribe_core.specs.declared.entry.Entry.TheVariants as says
-use Rattle.subscribe_core.specs.Content.{content_by, reading_of}
+use Rattle.subscribe_core.specs.computed.Content.{content_by, reading_of}
 use Rattle.subscribe_core.specs.Reading.{Content}
 use Rattle.subscribe_core.specs.Standing.{fresh_state}
-use Rattle.subscribe_core.specs.Steps.{run_events}
+use Rattle.subscribe_core.specs.computed.Steps.{run_events}
 use Rattle.exchange_laws.specs.Stems.{IsOfRun, IsPublishedUnder, StemsFromRun}
 
 abbrev at_zero : UtcTime
@@ -57,10 +57,10 @@ calls = call 0 (Changed (to true)) ∷ call 10000 Polled ∷ call 20000 (Changed
 -- what is published under 5 and 6
 
 five : IsPublishedUnder p calls 5 (to true)
-five = record { c = 0; call = 0; is_change = record { act = refl; before = refl }; numbered = refl }
+five = record { c = 0; call = 0; is_change = record { request = refl; before = refl }; numbered = refl }
 
 six : IsPublishedUnder p calls 6 (to false)
-six = record { c = 1; call = 2; is_change = record { act = refl; before = refl }; numbered = refl }
+six = record { c = 1; call = 2; is_change = record { request = refl; before = refl }; numbered = refl }
 
 -- the retransmission of state 5, and the first frame of state 6
 
@@ -71,10 +71,10 @@ abbrev new : Frame (Unit {0})
 new = frame control steps 6 (to false) 0
 
 gives_again : GivesFrame steps (trace_of_calls calls) 1 0 1 (to true)
-gives_again = Next (First (record { act = refl; before = refl })) (record { later = le_refl 1; poll = refl; due = le_refl 10000; between = λ h more less. absurd (omega arith) })
+gives_again = Next (First (record { request = refl; before = refl })) (record { later = le_refl 1; poll = refl; due = le_refl 10000; between = λ h more less. absurd (omega arith) })
 
 gives_new : GivesFrame steps (trace_of_calls calls) 2 1 0 (to false)
-gives_new = First (record { act = refl; before = refl })
+gives_new = First (record { request = refl; before = refl })
 
 -- Octets that spell these two frames are received so: state 5 without its first frame, its retransmission twice, state 6,
 -- and the retransmission once more.

@@ -7,13 +7,13 @@ use Rattle.frame_core.proofs.PutLaws.{frame_spelled}
 use Rattle.publish_core.specs.Frames.{Change, Setup, frame, simulation_word}
 use Rattle.publish_core.specs.Numbers.{state_number}
 use Rattle.publish_core.specs.Refusal.{IsAccepted}
-use Rattle.publish_core.specs.Run.{Call, Changed, IsChange, change_in, changes, trace_of_calls}
+use Rattle.publish_core.specs.Run.{Call, Changed, IsChange, changes_of, changes, trace_of_calls}
 use Rattle.publish_core.specs.Table.{step_of}
 use Rattle.publish_core.proofs.GivesOne.{carried}
 use Rattle.publish_core.proofs.NumberLaws.{sequence_number_most}
 use Rattle.exchange_laws.specs.Laws.{EpochsOfWhatIsPublishedStem, WhatIsPublishedIsOfTheRun}
 use Rattle.exchange_laws.specs.Stems.{AreAccepted, AreHeld}
-use Rattle.exchange_laws.proofs.Changes.{act_below, changes_cons}
+use Rattle.exchange_laws.proofs.Changes.{request_below, changes_cons}
 
 -- the changes before call j
 taken_count : (calls : List Call) (j : ℕ) → j ≤ length calls → changes (trace_of_calls (take j calls)) (length (take j calls)) ≡ changes (trace_of_calls calls) j
@@ -21,13 +21,13 @@ taken_count calls zero le = refl
 taken_count [] (suc j) le = absurd (omega arith)
 taken_count (c ∷ cs) (suc j) le =
     changes_cons c (take j cs) (length (take j cs)) ∙
-    (ap (λ (n : ℕ). change_in (Some c.act) + n) (taken_count cs j (omega arith)) ∙ sym (changes_cons c cs j))
+    (ap (λ (n : ℕ). changes_of (Some c.request) + n) (taken_count cs j (omega arith)) ∙ sym (changes_cons c cs j))
 
 -- change c is accepted for the status number of state c
 pub change_accepted : {A : Type 0} (p : Setup A) (calls : List Call) (j c : ℕ) (change : Change) → AreAccepted p calls → IsChange (trace_of_calls calls) j c change → IsAccepted p.control p.table (state_number p.first c) change
 change_accepted p calls j c change accepted x =
-    let below : j < length calls = act_below calls j (Changed change) x.act in
-    subst (λ (n : ℕ). IsAccepted p.control p.table (state_number p.first n) change) (taken_count calls j (omega arith) ∙ x.before) (accepted j change x.act)
+    let below : j < length calls = request_below calls j (Changed change) x.request in
+    subst (λ (n : ℕ). IsAccepted p.control p.table (state_number p.first n) change) (taken_count calls j (omega arith) ∙ x.before) (accepted j change x.request)
 
 word_small : (simulation : Bool) → simulation_word simulation < 65536
 word_small true = omega arith

@@ -7,7 +7,7 @@ use Rattle.frame_core.specs.declared.frame.Apdu.{Apdu}
 use Rattle.frame_core.specs.declared.frame.Apdu.TheVariants as apdus
 use Rattle.frame_core.specs.declared.frame.Frame.{Frame}
 use Rattle.publish_core.specs.Frames.{Setup}
-use Rattle.publish_core.specs.Run.{Act, AreAnswers, Call, Changed, NoWrap, Polled}
+use Rattle.publish_core.specs.Run.{Request, AreAnswers, Call, Changed, NoWrap, Polled}
 use Rattle.publish_core.specs.Table.{AreSteps}
 use Rattle.block_core.specs.declared.block.Block.{Block}
 use Rattle.subscribe_core.specs.declared.entry.Entry.{Entry}
@@ -17,19 +17,19 @@ use Rattle.exchange_laws.specs.Stems.{AreAccepted, AreHeld}
 -- a frame that a call gives: the greatest moment of the calls up to there, what the call does, and the frame
 pub record Sent (A : Type 0) : Type 0 where
   pub moment : ℕ
-  pub act : Act
+  pub request : Request
   pub frame : Frame A
 
 -- in front of others the frame of one call, if it gives one
-abbrev pub with_frame : {A : Type 0} → ℕ → Act → Option (Frame A) → List (Sent A) → List (Sent A)
-with_frame moment act None sent = sent
-with_frame moment act (Some f) sent = record { moment = moment; act = act; frame = f } ∷ sent
+abbrev pub with_frame : {A : Type 0} → ℕ → Request → Option (Frame A) → List (Sent A) → List (Sent A)
+with_frame moment request None sent = sent
+with_frame moment request (Some f) sent = record { moment = moment; request = request; frame = f } ∷ sent
 
 -- the frames that calls give, by their answers; m is the greatest moment of the calls before them
 abbrev pub sent_from : {A : Type 0} → ℕ → List Call → List (Option (Frame A)) → List (Sent A)
 sent_from m [] answers = []
 sent_from m (c ∷ cs) [] = []
-sent_from m (c ∷ cs) (a ∷ answers) = with_frame (max m c.moment) c.act a (sent_from (max m c.moment) cs answers)
+sent_from m (c ∷ cs) (a ∷ answers) = with_frame (max m c.moment) c.request a (sent_from (max m c.moment) cs answers)
 
 -- the whole list: each frame's written form, at its moment
 abbrev pub published_events : {A B : Type 0} → List (Sent A) → List (Event B)
@@ -37,7 +37,7 @@ published_events [] = []
 published_events (s ∷ rest) = record { moment = s.moment; kind = kinds.Frame (written_frame s.frame) } ∷ published_events rest
 
 -- the entry for a frame of block 0: one of a change is acted on, one of a poll refreshes
-abbrev pub entry_for : {A B : Type 0} → Act → Apdu A → Entry B
+abbrev pub entry_for : {A B : Type 0} → Request → Apdu A → Entry B
 entry_for (Changed handed_in) (apdus.Goose q) = says.Act 0 q.st_num q.sq_num q.t q.members
 entry_for Polled (apdus.Goose q) = says.Refreshed 0 q.st_num q.sq_num
 entry_for (Changed handed_in) (apdus.Sampled q) = says.Sampled
@@ -46,7 +46,7 @@ entry_for Polled (apdus.Sampled q) = says.Sampled
 -- one entry for each frame, and no other
 abbrev pub one_entry_each : {A B : Type 0} → List (Sent A) → List (List (Entry B))
 one_entry_each [] = []
-one_entry_each (s ∷ rest) = (entry_for s.act s.frame.apdu ∷ []) ∷ one_entry_each rest
+one_entry_each (s ∷ rest) = (entry_for s.request s.frame.apdu ∷ []) ∷ one_entry_each rest
 
 -- how long a frame lives, in milliseconds
 abbrev pub live_of : {A : Type 0} → Apdu A → ℕ
@@ -58,6 +58,7 @@ abbrev pub InTimeFrom : {A : Type 0} → ℕ → List (Sent A) → Type 0
 InTimeFrom deadline [] = Unit {0}
 InTimeFrom deadline (s ∷ rest) = (s.moment < deadline) × InTimeFrom (s.moment + 1000 * live_of s.frame.apdu) rest
 
+-- each frame but the first comes before the lifetime of the one before it is over
 abbrev pub InTime : {A : Type 0} → List (Sent A) → Type 0
 InTime [] = Unit {0}
 InTime (s ∷ rest) = InTimeFrom (s.moment + 1000 * live_of s.frame.apdu) rest

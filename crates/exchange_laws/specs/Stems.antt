@@ -52,7 +52,7 @@ ChangeComesInTime t s first c = (i : ℕ) × ComesAt t s first c i × ((j d : �
 
 -- each change of the run is accepted behind the calls before it
 abbrev pub AreAccepted : {A : Type 0} → Setup A → List Call → Type 0
-AreAccepted p calls = (i : ℕ) (handed_in : Change) → (published_trace calls).act i ≡ Some (Changed handed_in) → Accepts p (take i calls) handed_in
+AreAccepted p calls = (i : ℕ) (handed_in : Change) → (published_trace calls).request i ≡ Some (Changed handed_in) → Accepts p (take i calls) handed_in
 
 -- the fields of the control and of the table's steps have the sizes that the types of the code give them
 pub record AreHeld {A : Type 0} (p : Setup A) : Type 0 where

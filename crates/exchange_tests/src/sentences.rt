@@ -17,16 +17,16 @@ fn faults_of_a_publisher(rt: HostRuntime) -> Result<(), Fail> {
         (PublishFault::StepCount, "a table has 1 to 16 steps"),
         (
             PublishFault::StepTimes(2),
-            "step 2 waits for nothing, or lives no longer than it waits",
+            "step 2 waits 0 ms, or does not live longer than it waits",
         ),
-        (PublishFault::FirstState, "the first status number is 0"),
+        (PublishFault::FirstState, "the first stNum is 0"),
         (
             PublishFault::EntriesDiffer,
-            "the count of values is not that of the control's entries",
+            "the number of members differs from the control's entries",
         ),
         (
             PublishFault::NotSpellable,
-            "a value, the time or a text has no spelling",
+            "a value, the time or a text has no encoding",
         ),
         (
             PublishFault::WouldNotFit,

@@ -6,6 +6,7 @@ pub mod FrameParts
 pub mod Seen
 pub mod WrittenLaws
 pub mod PutLaws
+pub mod WrittenSeen
 pub mod ReadingLaws
 pub mod SpelledSpellable
 pub mod StandardFacts

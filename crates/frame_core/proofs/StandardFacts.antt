@@ -1,24 +1,24 @@
 -- Frames that docs/FORMATS.md gives, computed: a wrong definition does not check.
 use Rattle.std.proofs.Common.{◌≡◌, ℕ, ◌+◌, true, false, List, [], ◌∷◌, ◌++◌, take, drop, Some, None, Ok, Err, refl}
 use Rattle.std.specs.Prelude.{Result}
-use Rattle.ber_core.specs.ContentsReading.{all_visible_at, any_integer_at, boolean_at, counted_at, integer_at}
-use Rattle.ber_core.specs.FieldReading.{required_at, there_at}
-use Rattle.ber_core.specs.Reading.{header_at, length_at, refused}
-use Rattle.ber_core.specs.RepeatedReading.{each_within}
+use Rattle.ber_core.specs.computed.ContentsReading.{all_visible_at, any_integer_at, boolean_at, counted_at, integer_at}
+use Rattle.ber_core.specs.computed.FieldReading.{required_at, there_at}
+use Rattle.ber_core.specs.computed.Reading.{header_at, length_at, refused}
+use Rattle.ber_core.specs.computed.RepeatedReading.{each_within}
 use Rattle.ber_core.specs.Written.{integer_size, short_integer, short_length, written_element}
 use Rattle.ber_core.specs.declared.fault.Cause.TheVariants as causes
 use Rattle.ber_core.specs.declared.fault.Fault.{Fault}
-use Rattle.mms_data.specs.ContentsReading.{simple_at}
+use Rattle.mms_data.specs.computed.ContentsReading.{simple_at}
 use Rattle.mms_data.specs.Data.{boolean, simple}
-use Rattle.mms_data.specs.Kinds.{kind_at}
-use Rattle.mms_data.specs.Reading.{member_at, member_with, members_at, members_with}
-use Rattle.mms_data.specs.UtcReading.{utc_at}
-use Rattle.pdu_core.specs.ContentsReading.{few_at, fixed_in, members_in, number_in}
-use Rattle.pdu_core.specs.GooseReading.{goose_at}
-use Rattle.pdu_core.specs.SampledReading.{asdus_at, count_in, sv_at}
-use Rattle.frame_core.specs.EnvelopeReading.{envelope_at, envelope_judged}
+use Rattle.mms_data.specs.computed.KindReading.{kind_at}
+use Rattle.mms_data.specs.computed.Reading.{member_at, member_with, members_at, members_with}
+use Rattle.mms_data.specs.computed.UtcReading.{utc_at}
+use Rattle.pdu_core.specs.computed.ContentsReading.{few_at, fixed_in, members_in, number_in}
+use Rattle.pdu_core.specs.computed.GooseReading.{goose_at}
+use Rattle.pdu_core.specs.computed.SampledReading.{asdus_at, count_in, sv_at}
+use Rattle.frame_core.specs.computed.EnvelopeReading.{envelope_at, envelope_judged}
 use Rattle.frame_core.specs.Frame.{SpellsFrame}
-use Rattle.frame_core.specs.FrameReading.{frame_at}
+use Rattle.frame_core.specs.computed.FrameReading.{frame_at}
 use Rattle.frame_core.specs.VlanTag.{drop_eligible_of, priority_of, vlan_of}
 use Rattle.frame_core.specs.Written.{written_frame}
 use Rattle.frame_core.specs.declared.frame.Apdu.TheVariants as apdus

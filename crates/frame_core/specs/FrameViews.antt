@@ -1,5 +1,5 @@
 -- What a view of a frame stands for, and what its octets are a part of.
-use Rattle.std.specs.Prelude.{◌≡◌, ℕ, List, Result, Ok, Err}
+use Rattle.std.specs.Prelude.{◌≡◌, ℕ, Bool, List, Result, Ok, Err}
 use Rattle.std.specs.Borrow.{Bor}
 use Rattle.ber_core.specs.declared.fault.Fault.{Fault}
 use Rattle.mms_data.specs.Place.{IsPart}
@@ -29,6 +29,11 @@ frame_of v = record {
   apdu = apdu_of v.apdu;
   trailer = v.trailer.now;
 }
+
+-- the octets that the view of an APDU was read from are known to be its written form
+abbrev pub is_written : ApduView → Bool
+is_written (views.Goose v) = v.written
+is_written (views.Sampled v) = v.written
 
 -- the call answers a view of this frame
 abbrev pub ShowsFrame : {A : Type 0} → Result FrameView Fault → Frame A → Type 0

@@ -1,14 +1,11 @@
 pub mod VlanTag
 pub mod Apdu
-pub mod ApduReading
 pub mod Envelope
-pub mod EnvelopeReading
 pub mod Frame
 pub mod FrameViews
 pub mod Memory
 pub mod GooseFrame
 pub mod FrameFault
-pub mod FrameReading
 pub mod Written
-pub mod WrittenTest
 pub mod Laws
+pub mod computed

@@ -5,7 +5,7 @@ ghost use Rattle.arrayvec.specs.ArrayVec.{array_vec_len};
 ghost use Rattle.frame_core.specs.Frame.{SpellsFrame};
 ghost use Rattle.frame_core.specs.GooseFrame.{frame_of_parts};
 ghost use Rattle.frame_core.specs.Written.{ApduIsSpellable, IsHeld, IsTooLong, written_frame, written_head};
-ghost use Rattle.frame_core.specs.WrittenTest.{fits};
+ghost use Rattle.frame_core.specs.computed.WrittenTest.{fits};
 ghost use Rattle.pdu_core.specs.Parts.{pdu_of_parts};
 ghost use Rattle.pdu_core.specs.Spellable.{IsSpellableGoose};
 ghost use Rattle.pdu_core.specs.Written.{written_goose};

@@ -4,17 +4,21 @@ use Rattle.std.specs.Prelude.{Option, ◌∷◌, ◌↔◌, IsErr, OnOk, codes}
 use Rattle.std.specs.Fmt.{decimal}
 use Rattle.std.specs.Str.{bytes_eq}
 use Rattle.std.proofs.lemmas.List.{append_assoc}
+use Rattle.std.proofs.lemmas.Slice.Eq.{bytes_eq-Decides}
 use Rattle.ber_core.specs.declared.fault.Fault.{Fault}
 use Rattle.ber_core.specs.declared.fault.Full.{Full}
 use Rattle.frame_core.specs.declared.frame.Frame.{Frame}
 use Rattle.frame_core.specs.declared.frame_view.FrameView.{FrameView}
 use Rattle.frame_core.specs.FrameViews.{frame_of}
-use Rattle.frame_core.specs.FrameReading.{frame_at}
+use Rattle.frame_core.specs.computed.FrameReading.{frame_at}
 use Rattle.frame_core.specs.Written.{ApduIsSpellable, IsTooLong, written_frame}
+use Rattle.frame_core.specs.computed.WrittenTest.{fits}
 use Rattle.frame_engines.specs.CheckText.{frame_notes, goes_where_recommended, is_form, note_unless, octets_notes}
 use Rattle.frame_engines.specs.WrittenForm.{fitting_form}
 use Rattle.list_core.proofs.Emptiness.{back_nil, front_nil}
-use Rattle.frame_engines.proofs.RewriteLemmas.{form_seen}
+use Rattle.text_core.specs.Pieces.{AppendsText}
+use Rattle.text_core.proofs.Fronts.{grown}
+use Rattle.frame_engines.proofs.RewriteLemmas.{form_known, form_seen}
 
 -- nothing is noted only where all holds
 pub all_holds : (holds : Bool) (n c : ℕ) (word : List ℕ) → note_unless holds n (c ∷ word) ≡ [] → holds ≡ true
@@ -28,11 +32,16 @@ form_compared f form octets (Ok u) v same spelled long is h e =
     e ∙ sym (ap (λ (x : Option (List ℕ)). is_form x octets) (form_seen f form (Ok u) spelled long is))
 form_compared f form octets (Err x) v same spelled long is h e = cc
 
+-- octets that are known to be the written form are compared with nothing
+pub own_form : {A : Type 0} (f : Frame A) (octets : List ℕ) → (octets ≡ written_frame f) × (fits f ≡ true) → true ≡ is_form (fitting_form (Ok f)) octets
+own_form f octets known =
+    sym ((bytes_eq-Decides octets octets).1 refl) ∙ ap (λ (x : Option (List ℕ)). is_form x octets) (sym (form_known f octets known))
+
 -- both notes, one after the other
 pub both_noted : {E : Type 0} (n : ℕ) (octets : List ℕ) (v : FrameView) (form to : Bool) (before mid after : List ℕ) (r : Result (Unit {0}) E)
     → frame_at octets ≡ Ok (frame_of {A = Unit {0}} v) → form ≡ is_form (fitting_form (Ok (frame_of {A = Unit {0}} v))) octets → to ≡ goes_where_recommended (frame_of {A = Unit {0}} v)
-    → mid ≡ before ++ note_unless form n (codes " not-written\n") → OnOk r (after ≡ mid ++ note_unless to n (codes " destination\n"))
-    → OnOk r (after ≡ before ++ octets_notes n octets)
+    → mid ≡ before ++ note_unless form n (codes " not-written\n") → AppendsText r mid after (note_unless to n (codes " destination\n"))
+    → AppendsText r before after (octets_notes n octets)
 both_noted n octets v form to before mid after (Ok u) read a b m l =
     l ∙ ap (λ (x : List ℕ). x ++ note_unless to n (codes " destination\n")) m
     ∙ append_assoc before (note_unless form n (codes " not-written\n")) (note_unless to n (codes " destination\n"))
@@ -40,7 +49,7 @@ both_noted n octets v form to before mid after (Ok u) read a b m l =
     (ap (λ (x : Bool). note_unless x n (codes " not-written\n") ++ note_unless to n (codes " destination\n")) a
     ∙ ap (λ (x : Bool). note_unless (is_form (fitting_form (Ok (frame_of {A = Unit {0}} v))) octets) n (codes " not-written\n") ++ note_unless x n (codes " destination\n")) b
     ∙ ap (λ (x : Result (Frame (Unit {0})) Fault). frame_notes n octets x) (sym read))
-both_noted n octets v form to before mid after (Err x) read a b m l = l
+both_noted n octets v form to before mid after (Err x) read a b m l = grown before mid after (note_unless form n (codes " not-written\n")) m l
 
 -- where nothing is noted, both hold
 pub both_hold : (n : ℕ) (octets : List ℕ) (v : FrameView) (form to : Bool)

@@ -20,7 +20,7 @@ use Rattle.capture_core.specs.Reading.{ReadsHeader, ReadsRecord, TakesFor, behin
 use Rattle.engine_core.specs.declared.ending.Ending.{Ending}
 use Rattle.engine_core.specs.declared.ending.Ending.TheVariants.{Done, Findings, WriteFault}
 use Rattle.frame_engines.specs.ImportText.{AtRecord, EndsBehind, Imports, ImportsToFault, capture_line, ending_of_capture, is_left_out, last_line, put_records, record_line, text_behind}
-use Rattle.frame_engines.specs.ImportStep.{FaultWrites, import_due}
+use Rattle.frame_engines.specs.computed.ImportStep.{FaultWrites, import_due}
 
 -- ---- texts
 

@@ -1,3 +1,5 @@
+pub mod GooseParts
+pub mod ShowLemmas
 pub mod RewriteLemmas
 pub mod CheckLemmas
 pub mod ImportLemmas

@@ -11,7 +11,7 @@ use Rattle.frame_core.specs.declared.frame.Apdu.{Apdu}
 use Rattle.frame_core.specs.declared.frame.Apdu.TheVariants as apdus
 use Rattle.frame_core.specs.declared.frame.Frame.{Frame}
 use Rattle.list_core.specs.declared.list_fault.ListCause.{ListCause}
-use Rattle.frame_core.specs.FrameReading.{frame_at}
+use Rattle.frame_core.specs.computed.FrameReading.{frame_at}
 use Rattle.list_core.specs.ListReader.{list_fault_of}
 use Rattle.engine_core.specs.EngineText.{Text}
 use Rattle.text_core.specs.LineText.{fault_line, list_line}

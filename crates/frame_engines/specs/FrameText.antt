@@ -34,6 +34,7 @@ envelope_parts f =
     ∷ (codes " r2=" ++ four_digits f.reserved2)
     ∷ []
 
+-- the text of what stands before the APDU
 abbrev pub envelope_text : {A : Type 0} → Frame A → List ℕ
 envelope_text f = concat (envelope_parts f)
 
@@ -55,6 +56,7 @@ goose_parts p =
     ∷ members_text p.members
     ∷ []
 
+-- the text of a GOOSE APDU
 abbrev pub goose_text : {A : Type 0} → GoosePdu A → List ℕ
 goose_text p = concat (goose_parts p)
 
@@ -63,6 +65,7 @@ abbrev pub apdu_word : {A : Type 0} → Apdu A → List ℕ
 apdu_word (apdu.Goose p) = codes " goose "
 apdu_word (apdu.Sampled p) = codes " sv "
 
+-- the text of an APDU
 abbrev pub apdu_text : {A : Type 0} → Apdu A → List ℕ
 apdu_text (apdu.Goose p) = goose_text p
 apdu_text (apdu.Sampled p) = sv_text p
@@ -78,5 +81,6 @@ line_parts n f =
     ∷ codes "\n"
     ∷ []
 
+-- the line of a frame
 abbrev pub frame_line : {A : Type 0} → ℕ → Frame A → List ℕ
 frame_line n f = concat (line_parts n f)

@@ -4,5 +4,5 @@ pub mod RewriteText
 pub mod WrittenForm
 pub mod CheckText
 pub mod ImportText
-pub mod ImportStep
 pub mod FrameText
+pub mod computed

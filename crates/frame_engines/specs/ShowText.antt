@@ -9,7 +9,7 @@ use Rattle.ber_core.specs.declared.fault.Fault.{Fault}
 use Rattle.list_core.specs.declared.event.EventKind.{EventKind}
 use Rattle.list_core.specs.declared.event.EventKind.TheVariants.{Frame, Clock, Mode}
 use Rattle.frame_core.specs.declared.frame.Frame as frames
-use Rattle.frame_core.specs.FrameReading.{frame_at}
+use Rattle.frame_core.specs.computed.FrameReading.{frame_at}
 use Rattle.text_core.specs.LineText.{clock_line, fault_line, list_line}
 use Rattle.frame_engines.specs.FrameText.{frame_line}
 use Rattle.engine_core.specs.EngineText.{Text}
@@ -19,6 +19,7 @@ abbrev pub answer_line : {A : Type 0} → ℕ → Result (frames.Frame A) Fault 
 answer_line n (Ok f) = frame_line n f
 answer_line n (Err f) = fault_line n f
 
+-- the line of the octets of a frame
 abbrev pub octets_line : ℕ → List ℕ → List ℕ
 octets_line n octets = answer_line {A = Unit {0}} n (frame_at octets)
 

@@ -2,9 +2,9 @@
 use Rattle.std.specs.Prelude.{ℕ, List, Option, Some, None, Result, Ok, Err, if◌then◌else◌}
 use Rattle.ber_core.specs.declared.fault.Fault.{Fault}
 use Rattle.frame_core.specs.declared.frame.Frame.{Frame}
-use Rattle.frame_core.specs.FrameReading.{frame_at}
+use Rattle.frame_core.specs.computed.FrameReading.{frame_at}
 use Rattle.frame_core.specs.Written.{written_frame}
-use Rattle.frame_core.specs.WrittenTest.{fits}
+use Rattle.frame_core.specs.computed.WrittenTest.{fits}
 
 -- the written form of a frame, where it fits
 abbrev pub fitting_form : {A : Type 0} → Result (Frame A) Fault → Option (List ℕ)

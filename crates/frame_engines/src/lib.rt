@@ -1,5 +1,5 @@
 //! The engines that speak of frames one by one: `show`, `check` and `rewrite` of a list, and `import` of a capture.
-#![tactic(auto)]
+#![tactic(auto, using(text_core::proofs::Fronts::front_before))]
 
 mod engines;
 pub mod texts;

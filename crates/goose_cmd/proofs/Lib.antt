@@ -10,3 +10,9 @@ pub mod ScriptRuns
 pub mod PublishedScripts
 pub mod PublishedTexts
 pub mod WorkedExamples
+pub mod ListedItems
+pub mod BlockTexts
+pub mod ReplayLines
+pub mod ListedTexts
+pub mod ListedBlocks
+pub mod WorkedListing

@@ -1,5 +1,6 @@
 -- What an engine writes is one text: two texts that agree on each item and on each fault agree on each list.
 use Rattle.std.proofs.Common.{◌≡◌, ℕ, false, List, [], ◌∷◌, ◌++◌, length, Bool, Option, Some, None, Result, Ok, Err, inl, inr, ap, ap₂, subst, sym, ◌∙◌, refl, append_assoc, arith}
+use Rattle.std.specs.List.{concat}
 use Rattle.std.proofs.lemmas.List.{append-nil, length-append}
 use Rattle.std.proofs.lemmas.Option.{none-some, same_Some}
 use Rattle.list_core.specs.declared.event.Event.{Event}
@@ -12,7 +13,7 @@ use Rattle.list_core.specs.Lines.{Stop, faulty, finished, unfinished}
 use Rattle.publish_core.specs.declared.fault.PublishFault.{PublishFault}
 use Rattle.publish_core.specs.Frames.{Setup, change}
 use Rattle.publish_core.specs.Refusal.{next_state}
-use Rattle.publish_core.specs.Run.{Act, Call, Changed, Polled, call, greatest_call_moment, trace_of_calls}
+use Rattle.publish_core.specs.Run.{Request, Call, Changed, Polled, call, greatest_call_moment, trace_of_calls}
 use Rattle.publish_core.specs.Table.{AreSteps}
 use Rattle.publish_core.proofs.Judged.{changes_are_judged}
 use Rattle.publish_core.proofs.Runs.{answer_one}
@@ -29,10 +30,15 @@ use Rattle.script_core.specs.declared.script.ScriptLines.TheVariants.{First}
 use Rattle.script_core.specs.Script.{script_rules}
 use Rattle.exchange_engines.specs.EntryText.{entry_lines}
 use Rattle.engine_core.specs.EngineText.{Account, Text, put_step, told_after, told_stop}
-use Rattle.exchange_engines.specs.PublishText.{IsCallText, IsPublishText, IsRefused, IsTaken, StandsBefore, answer_text, items_of_lines, script_cause}
+use Rattle.exchange_engines.specs.PublishText.{IsCallText, IsPublishText, IsRefused, IsTaken, answer_text, items_of_lines, script_cause}
+use Rattle.exchange_engines.specs.ScriptLaws.{StandsBefore}
 use Rattle.exchange_engines.specs.ReplayText.{IsReplayText, events_of}
 use Rattle.exchange_engines.specs.WatchText.{IsWatchText, counts, counts_of, samples_of, watched}
-use Rattle.goose_cmd.specs.OneText.{PublishTextsAreOne, ReplayTextsAreOne, SaySame, WatchTextsAreOne}
+use Rattle.inventory_engine.specs.Sightings.{sightings_in, sightings_of}
+use Rattle.inventory_engine.specs.BlocksText.{IsBlocksText}
+use Rattle.inventory_engine.proofs.FirstLines.{lines_one}
+use Rattle.goose_cmd.specs.OneText.{SaySame}
+use Rattle.goose_cmd.specs.OneTextLaws.{BlocksTextsAreOne, PublishTextsAreOne, ReplayTextsAreOne, WatchTextsAreOne}
 use Rattle.goose_cmd.proofs.ScriptOrder.{scripts_in_order}
 
 module _ {X C : Type 0} (t u : Text X C) (lasts : (f : ItemFault C) → t.last f ≡ u.last f) where
@@ -104,18 +110,31 @@ pub watch_texts_are_one : {A : Type 0} → WatchTextsAreOne A
 watch_texts_are_one period id t u l is other =
     say_same t u (λ f. is.last f ∙ sym (other.last f)) (is.first ∙ sym other.first) l (λ xs more e at. seen_same period id t u is other xs e)
 
+-- ---- blocks
+
+-- the lines of what an event shows are one
+seen_alike : {A : Type 0} (t u : Text (Event A) ListCause) → IsBlocksText t → IsBlocksText u → (before : List (ℕ × Event A)) (e : ℕ × Event A) → t.step before e ≡ u.step before e
+seen_alike t u is other before e =
+    let a = is.step before e in
+    let b = other.step before e in
+    a.2 ∙ (ap (λ (lines : List (List ℕ)). Ok (concat lines, false)) (lines_one e.0 (sightings_in before) (sightings_of e.1.kind) a.0 b.0 a.1 b.1) ∙ sym b.2)
+
+pub blocks_texts_are_one : {A : Type 0} → BlocksTextsAreOne A
+blocks_texts_are_one t u l is other =
+    say_same t u (λ f. is.last f ∙ sym (other.last f)) (is.first ∙ sym other.first) l (λ xs more e at. seen_alike t u is other xs e)
+
 -- ---- publish
 
 module _ {A : Type 0} (p : Setup A) (calls : List Call) (steps : AreSteps p.table) where
   -- a call is not both taken and refused
-  pub not_both : (act : Act) (why : PublishFault) → IsTaken p calls act → IsRefused p calls act why → ⊥
+  pub not_both : (request : Request) (why : PublishFault) → IsTaken p calls request → IsRefused p calls request why → ⊥
   not_both (Changed c) why taken refused =
       let judged = changes_are_judged p.control p.table (next_state p calls) c steps in
       none-some why (judged.2 None taken ∙ sym (judged.2 (Some why) refused))
   not_both Polled why taken refused = refused
 
   -- and refused for one reason
-  reason_one : (act : Act) (a b : PublishFault) → IsRefused p calls act a → IsRefused p calls act b → a ≡ b
+  reason_one : (request : Request) (a b : PublishFault) → IsRefused p calls request a → IsRefused p calls request b → a ≡ b
   reason_one (Changed c) a b first second =
       let judged = changes_are_judged p.control p.table (next_state p calls) c steps in
       same_Some a b (judged.2 (Some a) first ∙ sym (judged.2 (Some b) second))
@@ -127,9 +146,9 @@ module _ {A : Type 0} (p : Setup A) (calls : List Call) (steps : AreSteps p.tabl
       let a = x.1 in
       let b = y.1 in
       a.2 ∙ (ap (λ (answer : Option (Frame A)). Ok (answer_text (greatest_call_moment (calls ++ c ∷ [])) answer, false)) (answer_one p (trace_of_calls (calls ++ c ∷ [])) (length calls) a.0 b.0 a.1 b.1) ∙ sym b.2)
-  call_same c said other (inl x) (inr y) = absurd (not_both c.act y.0 x.0 y.1)
-  call_same c said other (inr x) (inl y) = absurd (not_both c.act x.0 y.0 x.1)
-  call_same c said other (inr x) (inr y) = x.2 ∙ (ap (λ (why : PublishFault). Err (script_cause why)) (reason_one c.act x.0 y.0 x.1 y.1) ∙ sym y.2)
+  call_same c said other (inl x) (inr y) = absurd (not_both c.request y.0 x.0 y.1)
+  call_same c said other (inr x) (inl y) = absurd (not_both c.request x.0 y.0 x.1)
+  call_same c said other (inr x) (inr y) = x.2 ∙ (ap (λ (why : PublishFault). Err (script_cause why)) (reason_one c.request x.0 y.0 x.1 y.1) ∙ sym y.2)
 
 module _ {A : Type 0} (t u : Text (ScriptItem A) ScriptCause) (is : IsPublishText t) (other : IsPublishText u) where
   -- where an item stands as in a script, the texts agree on it

@@ -12,7 +12,7 @@ use Rattle.list_core.specs.Lines.{Stop, faulty}
 use Rattle.publish_core.specs.declared.table.Step.{Step}
 use Rattle.publish_core.specs.Frames.{Change, Setup, setup}
 use Rattle.publish_core.specs.Refusal.{Accepts}
-use Rattle.publish_core.specs.Run.{Act, Call, Changed, IsAnswer, Polled, greatest_call_moment, trace_of_calls}
+use Rattle.publish_core.specs.Run.{Request, Call, Changed, IsAnswer, Polled, greatest_call_moment, trace_of_calls}
 use Rattle.publish_core.proofs.Runs.{answer_one, answers_stay}
 use Rattle.publish_core.proofs.Whole.{greatest-push}
 use Rattle.subscribe_core.proofs.Traces.{get_middle}
@@ -22,7 +22,8 @@ use Rattle.script_core.specs.declared.script.ScriptCause.{ScriptCause}
 use Rattle.script_core.specs.declared.script.ScriptItem.{ScriptItem}
 use Rattle.script_core.specs.declared.script.ScriptItem.TheVariants as item
 use Rattle.engine_core.specs.EngineText.{Account, Text, last_text, put_step, told, told_after, told_stop}
-use Rattle.goose_cmd.specs.PublishedReplay.{ScriptsGiveLists, StopsBehind, TellsStop}
+use Rattle.goose_cmd.specs.PublishedReplay.{StopsBehind, TellsStop}
+use Rattle.goose_cmd.specs.PublishedLaws.{ScriptsGiveLists}
 use Rattle.exchange_engines.specs.PublishText.{IsCallText, IsPublishText, IsScriptSound, IsTaken, answer_text, item_of_call, items_of_lines, script_cause, script_of}
 use Rattle.exchange_engines.proofs.PublishLemmas.{items-push}
 use Rattle.goose_cmd.specs.ListText.{list_text}
@@ -38,13 +39,13 @@ sent_text B sent = flat_map event_text (published_events {B = B} sent)
 abbrev sent_told : {A : Type 0} → Type 0 → Text (ScriptItem A) ScriptCause → List (Sent A) → Stop (ItemFault ScriptCause) → Account ScriptCause
 sent_told B t sent stop = record { text = sent_text B sent ++ last_text t stop; found = false; stop = stop }
 
-frame_text : {A : Type 0} (B : Type 0) (moment : ℕ) (act : Act) (a : Option (Frame A)) (rest : List (Sent A)) → answer_text moment a ++ sent_text B rest ≡ sent_text B (with_frame moment act a rest)
-frame_text B moment act None rest = refl
-frame_text B moment act (Some f) rest = refl
+frame_text : {A : Type 0} (B : Type 0) (moment : ℕ) (request : Request) (a : Option (Frame A)) (rest : List (Sent A)) → answer_text moment a ++ sent_text B rest ≡ sent_text B (with_frame moment request a rest)
+frame_text B moment request None rest = refl
+frame_text B moment request (Some f) rest = refl
 
-act_taken : {A : Type 0} (p : Setup A) (calls : List Call) (act : Act) → ((change : Change) → act ≡ Changed change → Accepts p calls change) → IsTaken p calls act
-act_taken p calls (Changed change) accepted = accepted change refl
-act_taken p calls Polled accepted = tt
+request_taken : {A : Type 0} (p : Setup A) (calls : List Call) (request : Request) → ((change : Change) → request ≡ Changed change → Accepts p calls change) → IsTaken p calls request
+request_taken p calls (Changed change) accepted = accepted change refl
+request_taken p calls Polled accepted = tt
 
 -- of these items the control line and the steps wrote nothing, and these calls are left
 abbrev CallsLeft : {A : Type 0} → Setup A → Text (ScriptItem A) ScriptCause → List Call → Listing (ScriptItem A) ScriptCause → Account ScriptCause → Type 0
@@ -58,10 +59,10 @@ module _ {A : Type 0} (B : Type 0) (p : Setup A) (t : Text (ScriptItem A) Script
   Stops done left before es script sent = (stop : Stop (ItemFault ScriptCause)) × (told_after t before es script.stop ≡ sent_told B t sent stop) × TellsStop p done left script stop
 
   -- a frame before those
-  told_first : (now : ℕ) (act : Act) (a : Option (Frame A)) (rest : List (Sent A)) (stop : Stop (ItemFault ScriptCause)) → put_step t 0 (Ok (answer_text now a, false)) (sent_told B t rest stop) ≡ sent_told B t (with_frame now act a rest) stop
-  told_first now act a rest stop =
+  told_first : (now : ℕ) (request : Request) (a : Option (Frame A)) (rest : List (Sent A)) (stop : Stop (ItemFault ScriptCause)) → put_step t 0 (Ok (answer_text now a, false)) (sent_told B t rest stop) ≡ sent_told B t (with_frame now request a rest) stop
+  told_first now request a rest stop =
       ap (λ (l : List ℕ). record { text = l; found = false; stop = stop })
-      (sym (append_assoc (answer_text now a) (sent_text B rest) (last_text t stop)) ∙ ap (λ (l : List ℕ). l ++ last_text t stop) (frame_text B now act a rest))
+      (sym (append_assoc (answer_text now a) (sent_text B rest) (last_text t stop)) ∙ ap (λ (l : List ℕ). l ++ last_text t stop) (frame_text B now request a rest))
 
   script_push : (done : List Call) (c : Call) (before : List (ℕ × ScriptItem A)) (n : ℕ) → items_of_lines before ≡ script_of p done → items_of_lines (before ++ (n, item_of_call c) ∷ []) ≡ script_of p (done ++ c ∷ [])
   script_push done c before n stands =
@@ -143,7 +144,7 @@ module _ {A : Type 0} (B : Type 0) (p : Setup A) (t : Text (ScriptItem A) Script
 
       by_call : IsCallText p done c (t.step before (e.0, item_of_call c)) →
           (stop : Stop (ItemFault ScriptCause)) × (put_step t e.0 (t.step before e) (told_after t (before ++ e ∷ []) es script.stop) ≡ sent_told B t [] stop) × TellsStop p done (c ∷ more) script stop
-      by_call (inl w) = absurd (not_both p done sound.steps c.act stops.0 w.0 stops.1)
+      by_call (inl w) = absurd (not_both p done sound.steps c.request stops.0 w.0 stops.1)
       by_call (inr w) = (
         faulty (fault.Line e.0 (script_cause w.0)),
         ap (λ s. put_step t e.0 s (told_after t (before ++ e ∷ []) es script.stop)) (ap (λ (x : ScriptItem A). t.step before (e.0, x)) here ∙ w.2),
@@ -163,10 +164,10 @@ module _ {A : Type 0} (B : Type 0) (p : Setup A) (t : Text (ScriptItem A) Script
           (subst (λ (l : List Call). IsAnswer p (trace_of_calls l) (length done) w.1.0) (append_assoc done (c ∷ []) more) stay) gives in
           w.1.2 ∙ ap₂ (λ (m : ℕ) (o : Option (Frame A)). Ok (answer_text m o, false)) (greatest-push done c) same
       go (inr w) =
-          let taken = act_taken p done c.act (λ change e.
+          let taken = request_taken p done c.request (λ change e.
           subst (λ (l : List Call). Accepts p l change) (take-append_seam done (c ∷ more))
-          (accepted (length done) change (ap (option_map (λ (x : Call). x.act)) (get_middle done c more) ∙ ap (λ (x : Act). Some x) e))) in
-          absurd (not_both p done sound.steps c.act w.0 taken w.1)
+          (accepted (length done) change (ap (option_map (λ (x : Call). x.request)) (get_middle done c more) ∙ ap (λ (x : Request). Some x) e))) in
+          absurd (not_both p done sound.steps c.request w.0 taken w.1)
 
   -- the calls that are left, up to where they stop
   calls_told : (cs done left : List Call) (answers : List (Option (Frame A))) (before es : List (ℕ × ScriptItem A)) (script : Listing (ScriptItem A) ScriptCause) → IsScriptSound p → before ++ es ≡ script.items → items_of_lines before ≡ script_of p done → items_of_lines es ≡ map item_of_call (cs ++ left) → length answers ≡ length cs → AreAccepted p (done ++ cs) → ((i : ℕ) (a : Option (Frame A)) → slice_get answers i ≡ Some a → IsAnswer p (trace_of_calls (done ++ cs)) (length done + i) a) → StopsBehind p (done ++ cs) left → Stops (done ++ cs) left before es script (sent_from (greatest_call_moment done) cs answers)
@@ -211,7 +212,7 @@ module _ {A : Type 0} (B : Type 0) (p : Setup A) (t : Text (ScriptItem A) Script
       goes_on w = (
         w.0,
         ap (λ s. put_step t e.0 s (told_after t (before ++ e ∷ []) es script.stop)) step ∙
-            (ap (put_step t e.0 (Ok (answer_text now a, false))) (w.1 ∙ ap (λ (m : ℕ). sent_told B t (sent_from m cs answers) w.0) (greatest-push done c)) ∙ told_first now c.act a (sent_from now cs answers) w.0),
+            (ap (put_step t e.0 (Ok (answer_text now a, false))) (w.1 ∙ ap (λ (m : ℕ). sent_told B t (sent_from m cs answers) w.0) (greatest-push done c)) ∙ told_first now c.request a (sent_from now cs answers) w.0),
         subst (λ (l : List Call). TellsStop p l left script w.0) (sym same) w.2,
       )
 

@@ -10,7 +10,7 @@ use Rattle.list_core.specs.declared.list_fault.ListCause.{ListCause}
 use Rattle.list_core.specs.Lines.{Stop, faulty, finished, unfinished}
 use Rattle.frame_core.specs.Written.{written_frame}
 use Rattle.publish_core.specs.Frames.{Setup}
-use Rattle.publish_core.specs.Run.{Act, Call, IsAnswer, trace_of_calls}
+use Rattle.publish_core.specs.Run.{Request, Call, IsAnswer, trace_of_calls}
 use Rattle.publish_core.specs.Numbers.{state_number}
 use Rattle.publish_core.proofs.GivesOne.{carried}
 use Rattle.block_core.specs.declared.block.Block.{Block}
@@ -24,7 +24,8 @@ use Rattle.script_core.specs.declared.script.ScriptItem.{ScriptItem}
 use Rattle.engine_core.specs.EngineText.{Text, last_text, told}
 use Rattle.exchange_engines.specs.ReplayText.{IsReplayText}
 use Rattle.exchange_engines.specs.ScriptLine.{script_line}
-use Rattle.goose_cmd.specs.PublishedReplay.{PublishedTextsReplay, script_of_text}
+use Rattle.goose_cmd.specs.PublishedReplay.{script_of_text}
+use Rattle.goose_cmd.specs.PublishedLaws.{PublishedTextsReplay}
 use Rattle.exchange_engines.specs.PublishText.{IsPublishText, IsScriptSound}
 use Rattle.goose_cmd.specs.ListText.{ReplayGives, SendsOctets, list_text}
 use Rattle.goose_cmd.proofs.ScriptLimits.{SaysOctets, script_moments, script_octets, script_room, script_sizes}
@@ -34,34 +35,34 @@ use Rattle.goose_cmd.proofs.WrittenOctets.{frame_octets}
 use Rattle.goose_cmd.proofs.WrittenLists.{EndsList, ended_lists_replay, ended_runs_replay, nothing_ends}
 use Rattle.goose_cmd.proofs.PublishedScripts.{no_front, scripts_give_lists}
 
-with_count : {A : Type 0} (m : ℕ) (act : Act) (a : Option (Frame A)) (rest : List (Sent A)) → length (with_frame m act a rest) ≤ suc (length rest)
-with_count m act None rest = omega arith
-with_count m act (Some f) rest = omega arith
+with_count : {A : Type 0} (m : ℕ) (request : Request) (a : Option (Frame A)) (rest : List (Sent A)) → length (with_frame m request a rest) ≤ suc (length rest)
+with_count m request None rest = omega arith
+with_count m request (Some f) rest = omega arith
 
 -- a call sends one frame at most
 sent_count : {A : Type 0} (m : ℕ) (calls : List Call) (answers : List (Option (Frame A))) → length (sent_from m calls answers) ≤ length calls
 sent_count m [] answers = omega arith
 sent_count m (c ∷ cs) [] = omega arith
 sent_count m (c ∷ cs) (a ∷ answers) =
-    omega (arith, with_count (max m c.moment) c.act a (sent_from (max m c.moment) cs answers), sent_count (max m c.moment) cs answers)
+    omega (arith, with_count (max m c.moment) c.request a (sent_from (max m c.moment) cs answers), sent_count (max m c.moment) cs answers)
 
 -- what is sent is octets where each frame is
-octets_sent : {A : Type 0} (m : ℕ) (act : Act) (a : Option (Frame A)) (rest : List (Sent A)) → ((f : Frame A) → a ≡ Some f → AreOctets (written_frame f)) → SendsOctets rest → SendsOctets (with_frame m act a rest)
-octets_sent m act None rest each more = more
-octets_sent m act (Some f) rest each more = (All-from_get_or (λ (x : ℕ). x < 256) (written_frame f) 0 (λ i below. each f refl i), more)
+octets_sent : {A : Type 0} (m : ℕ) (request : Request) (a : Option (Frame A)) (rest : List (Sent A)) → ((f : Frame A) → a ≡ Some f → AreOctets (written_frame f)) → SendsOctets rest → SendsOctets (with_frame m request a rest)
+octets_sent m request None rest each more = more
+octets_sent m request (Some f) rest each more = (All-from_get_or (λ (x : ℕ). x < 256) (written_frame f) 0 (λ i below. each f refl i), more)
 
 all_octets_sent : {A : Type 0} (m : ℕ) (calls : List Call) (answers : List (Option (Frame A))) → ((i : ℕ) (f : Frame A) → slice_get answers i ≡ Some (Some f) → AreOctets (written_frame f)) → SendsOctets (sent_from m calls answers)
 all_octets_sent m [] answers each = tt
 all_octets_sent m (c ∷ cs) [] each = tt
 all_octets_sent m (c ∷ cs) (a ∷ answers) each =
-    octets_sent (max m c.moment) c.act a (sent_from (max m c.moment) cs answers) (λ f e. each 0 f (ap (λ (o : Option _). Some o) e)) (all_octets_sent (max m c.moment) cs answers (λ i. each (suc i)))
+    octets_sent (max m c.moment) c.request a (sent_from (max m c.moment) cs answers) (λ f e. each 0 f (ap (λ (o : Option _). Some o) e)) (all_octets_sent (max m c.moment) cs answers (λ i. each (suc i)))
 
 -- the frame that a call gives is written as octets where its change is
 answer_octets : {A : Type 0} (p : Setup A) (calls : List Call) (i : ℕ) (f : Frame A) → SaysOctets p calls → AreAccepted p calls → IsAnswer p (trace_of_calls calls) i (Some f) → AreOctets (written_frame f)
 answer_octets {A} p calls i f octets accepted w =
     let at = carried w.3 in
     let spelled = (change_accepted p calls at.0 w.0 w.2 accepted at.2).spelled in
-    subst (λ (g : Frame A). AreOctets (written_frame g)) (sym w.4) (frame_octets p (state_number p.first w.0) w.1 w.2 octets.to octets.from spelled (octets.values at.0 w.2 at.2.act))
+    subst (λ (g : Frame A). AreOctets (written_frame g)) (sym w.4) (frame_octets p (state_number p.first w.0) w.1 w.2 octets.to octets.from spelled (octets.values at.0 w.2 at.2.request))
 
 -- a list says nothing by how the text of a script ends
 how_it_ends : {A B : Type 0} (t : Text (ScriptItem A) ScriptCause) (n : ℕ) (stop : Stop (ItemFault ScriptCause)) → IsPublishText t → n < 1000000 → EndsList B n (last_text t stop)

@@ -12,7 +12,7 @@ use Rattle.std.proofs.lemmas.Str.Parse.{digits_value_short}
 use Rattle.ber_core.specs.Length.{AreOctets}
 use Rattle.ber_core.specs.declared.fault.Fault.{Fault}
 use Rattle.mms_data.specs.Data.{Data}
-use Rattle.mms_data.specs.Reading.{members_at}
+use Rattle.mms_data.specs.computed.Reading.{members_at}
 use Rattle.mms_data.specs.Written.{written_all}
 use Rattle.mms_data.specs.declared.time.UtcTime.{UtcTime}
 use Rattle.list_core.specs.declared.device.InputEnd.{InputEnd}
@@ -27,7 +27,7 @@ use Rattle.list_core.specs.Lines.{Reading, Stop, fault_at, line_judged, pieces, 
 use Rattle.list_core.proofs.MomentDigits.{digits_test}
 use Rattle.publish_core.specs.declared.table.Step.{Step}
 use Rattle.publish_core.specs.Frames.{Change, Setup}
-use Rattle.publish_core.specs.Run.{Act, Call, Changed, Polled, trace_of_calls}
+use Rattle.publish_core.specs.Run.{Request, Call, Changed, Polled, trace_of_calls}
 use Rattle.exchange_laws.specs.Stems.{AreHeld}
 use Rattle.block_core.specs.Commas.{comma_fields}
 use Rattle.script_core.specs.declared.script.ScriptCause.{ScriptCause}
@@ -38,7 +38,7 @@ use Rattle.script_core.specs.declared.script.ScriptLines.TheVariants.{First, Aft
 use Rattle.script_core.specs.declared.script.ScriptPart.{ScriptPart}
 use Rattle.script_core.specs.declared.script.ScriptPart.TheVariants as part
 use Rattle.script_core.specs.Script.{ControlLine, all_octets_in, all_said, call_said, change_said, change_said_by, change_to, control_of, control_said, line_said, poll_of, poll_said, script_rules, script_said, settled, step_said, step_said_by, time_in, too_early}
-use Rattle.exchange_engines.specs.PublishText.{item_of_act, item_of_call, items_of_lines, script_of}
+use Rattle.exchange_engines.specs.PublishText.{item_of_request, item_of_call, items_of_lines, script_of}
 use Rattle.goose_cmd.specs.ListText.{MomentsAreShort}
 use Rattle.goose_cmd.specs.PublishedReplay.{SaysRun, script_of_text}
 use Rattle.goose_cmd.proofs.ScriptOrder.{either}
@@ -211,7 +211,7 @@ pieces_few z n (rest ∷ []) le = rest_few z n rest le
 pieces_few z n (line ∷ next ∷ more) le =
     judged_few n line (put_line (without_cr line) (reading_of_pieces z (n + 1) (next ∷ more))) le (λ lt. let w = pieces_few z (n + 1) (next ∷ more) (omega arith) in omega (arith, w))
 
-reading_few : (z : InputEnd) (text : List ℕ) → length (reading z 0 text).lines ≤ 1000000
+pub reading_few : (z : InputEnd) (text : List ℕ) → length (reading z 0 text).lines ≤ 1000000
 unfolding reading
 reading_few z text = let w = pieces_few z 0 (pieces text) (omega arith) in omega (arith, w)
 
@@ -234,20 +234,20 @@ behind_steps : {A : Type 0} (steps : List Step) (items : List (ScriptItem A)) �
 behind_steps [] items w = w
 behind_steps (s ∷ steps) items w = behind_steps steps items w.1
 
-act_short : (A : Type 0) (m : ℕ) (act : Act) → KeepsLimits {A = A} (item_of_act m act) → m < 10 ^ 18
-act_short A m (Changed change) w = w.0
-act_short A m Polled w = w
+request_short : (A : Type 0) (m : ℕ) (request : Request) → KeepsLimits {A = A} (item_of_request m request) → m < 10 ^ 18
+request_short A m (Changed change) w = w.0
+request_short A m Polled w = w
 
 calls_short : (A : Type 0) (calls : List Call) → AllKeep (map (item_of_call {A = A}) calls) → MomentsAreShort calls
 calls_short A [] w = tt
-calls_short A (c ∷ calls) w = (act_short A c.moment c.act w.0, calls_short A calls w.1)
+calls_short A (c ∷ calls) w = (request_short A c.moment c.request w.0, calls_short A calls w.1)
 
-values_octets : (A : Type 0) (calls : List Call) → AllKeep (map (item_of_call {A = A}) calls) → (i : ℕ) (change : Change) → (trace_of_calls calls).act i ≡ Some (Changed change) → AreOctets (written_all change.values)
+values_octets : (A : Type 0) (calls : List Call) → AllKeep (map (item_of_call {A = A}) calls) → (i : ℕ) (change : Change) → (trace_of_calls calls).request i ≡ Some (Changed change) → AreOctets (written_all change.values)
 values_octets A [] w zero change at = absurd cc
 values_octets A [] w (suc i) change at = absurd cc
-values_octets A (c ∷ calls) w zero change at = (subst (λ (act : Act). KeepsLimits {A = A} (item_of_act c.moment act)) here w.0).1
+values_octets A (c ∷ calls) w zero change at = (subst (λ (request : Request). KeepsLimits {A = A} (item_of_request c.moment request)) here w.0).1
   where
-    here : c.act ≡ Changed change
+    here : c.request ≡ Changed change
     here = cc
 values_octets A (c ∷ calls) w (suc i) change at = values_octets A calls w.1 i change at
 
@@ -274,7 +274,7 @@ script_sizes p calls z text says = let w = says_limits p calls z text says in se
 pub record SaysOctets {A : Type 0} (p : Setup A) (calls : List Call) : Type 0 where
   pub to : AreOctets p.control.destination
   pub from : AreOctets p.control.source
-  pub values : (i : ℕ) (change : Change) → (trace_of_calls calls).act i ≡ Some (Changed change) → AreOctets (written_all change.values)
+  pub values : (i : ℕ) (change : Change) → (trace_of_calls calls).request i ≡ Some (Changed change) → AreOctets (written_all change.values)
 
 pub script_octets : {A : Type 0} (p : Setup A) (calls : List Call) (z : InputEnd) (text : List ℕ) → SaysRun p calls (script_of_text z text) → SaysOctets p calls
 script_octets {A} p calls z text says =

@@ -7,7 +7,7 @@ use Rattle.std.proofs.lemmas.Bool.{and_from, and_parts, eqb-false, leb-true, ltb
 use Rattle.std.proofs.lemmas.List.{append-nil, length_push}
 use Rattle.ber_core.specs.declared.fault.Fault.{Fault}
 use Rattle.mms_data.specs.Data.{Data}
-use Rattle.mms_data.specs.Reading.{members_at}
+use Rattle.mms_data.specs.computed.Reading.{members_at}
 use Rattle.mms_data.specs.declared.time.UtcTime.{UtcTime}
 use Rattle.list_core.specs.declared.device.InputEnd.{InputEnd}
 use Rattle.list_core.specs.declared.event_lines.MomentUnit.{MomentUnit}
@@ -22,7 +22,7 @@ use Rattle.list_core.specs.Items.{Listing, close, items_said, put_said, stops}
 use Rattle.list_core.specs.Lines.{Stop, faulty, reading}
 use Rattle.publish_core.specs.declared.table.Step.{Step}
 use Rattle.publish_core.specs.Frames.{Setup, change, setup}
-use Rattle.publish_core.specs.Run.{Act, Call, Changed, Polled, call}
+use Rattle.publish_core.specs.Run.{Request, Call, Changed, Polled, call}
 use Rattle.publish_core.specs.Table.{AreSteps}
 use Rattle.script_core.specs.declared.script.ScriptCause.{ScriptCause}
 use Rattle.script_core.specs.declared.script.ScriptItem.{ScriptItem}
@@ -34,8 +34,9 @@ use Rattle.script_core.specs.declared.script.ScriptPart.TheVariants as part
 use Rattle.script_core.specs.declared.script_control.Numbers.{Numbers}
 use Rattle.block_core.specs.Commas.{at_most_32_bits, comma_fields, number_by, octets_in, text_in, word_in}
 use Rattle.script_core.specs.Script.{ControlLine, all_said, block_of_line, call_said, change_said_by, change_said, change_to, control_of, control_said, control_with, flag_in, line_said, all_octets_in, numbers_with, poll_of, poll_said, script_rules, script_said, settled, step_said_by, step_said, tag_in, time_in, too_early}
-use Rattle.exchange_engines.specs.PublishStep.{is_good, with_step}
-use Rattle.exchange_engines.specs.PublishText.{IsScriptSound, ScriptsAreInOrder, StandsBefore, item_of_act, item_of_call, items_of_lines, script_of}
+use Rattle.exchange_engines.specs.computed.PublishStep.{is_good, with_step}
+use Rattle.exchange_engines.specs.PublishText.{IsScriptSound, item_of_request, item_of_call, items_of_lines, script_of}
+use Rattle.exchange_engines.specs.ScriptLaws.{ScriptsAreInOrder, StandsBefore}
 use Rattle.exchange_engines.proofs.PublishLemmas.{good_each}
 use Rattle.goose_cmd.specs.PublishedReplay.{script_of_text}
 
@@ -197,11 +198,11 @@ module _ {A : Type 0} (before : List (ScriptItem A)) where
   IsCall (Err why) = Unit {0}
 
   stands_call : (c : Call) → HasCalls before → StandsBefore before (item_of_call c)
-  stands_call c h = by_act c.moment c.act
+  stands_call c h = by_request c.moment c.request
     where
-      by_act : (m : ℕ) (a : Act) → StandsBefore before (item_of_act m a)
-      by_act m (Changed change) = h
-      by_act m Polled = h
+      by_request : (m : ℕ) (a : Request) → StandsBefore before (item_of_request m a)
+      by_request m (Changed change) = h
+      by_request m Polled = h
 
   good_called : (r : Result (ScriptItem A) ScriptCause) → IsCall r → HasCalls before → Goes before (call_said None r)
   good_called (Err why) c h = tt
@@ -372,7 +373,7 @@ script_items {A} z text =
     let w = lines_settled {A = A} First [] 0 (reading z 0 text).lines (reading z 0 text).stop refl in
     settled_items (items_of_lines (script_of_text {A = A} z text).items) w.0 w.1
 
-not_step : (A : Type 0) (m : ℕ) (a : Act) (s : Step) → item_of_act {A = A} m a ≡ item.Step s → ⊥
+not_step : (A : Type 0) (m : ℕ) (a : Request) (s : Step) → item_of_request {A = A} m a ≡ item.Step s → ⊥
 not_step A m (Changed change) s e = absurd cc
 not_step A m Polled s e = absurd cc
 
@@ -380,9 +381,9 @@ not_step A m Polled s e = absurd cc
 same_table : (A : Type 0) (steps others : List Step) (calls more : List Call) → map item.Step steps ++ map (item_of_call {A = A}) calls ≡ map item.Step others ++ map item_of_call more → steps ≡ others
 same_table A [] [] calls more e = refl
 same_table A [] (s ∷ others) [] more e = absurd cc
-same_table A [] (s ∷ others) (c ∷ calls) more e = absurd (not_step A c.moment c.act s (same_head _ _ _ _ e))
+same_table A [] (s ∷ others) (c ∷ calls) more e = absurd (not_step A c.moment c.request s (same_head _ _ _ _ e))
 same_table A (s ∷ steps) [] calls [] e = absurd cc
-same_table A (s ∷ steps) [] calls (c ∷ more) e = absurd (not_step A c.moment c.act s (sym (same_head _ _ _ _ e)))
+same_table A (s ∷ steps) [] calls (c ∷ more) e = absurd (not_step A c.moment c.request s (sym (same_head _ _ _ _ e)))
 same_table A (s ∷ steps) (o ∷ others) calls more e = ap₂ (λ (x : Step) (l : List Step). x ∷ l) here (same_table A steps others calls more (same_tail _ _ _ _ e))
   where
     here : s ≡ o
@@ -393,7 +394,7 @@ no_calls : (A : Type 0) (steps others : List Step) (calls : List Call) → map i
 no_calls A [] [] [] e = refl
 no_calls A [] [] (c ∷ calls) e = absurd cc
 no_calls A [] (s ∷ others) [] e = refl
-no_calls A [] (s ∷ others) (c ∷ calls) e = absurd (not_step A c.moment c.act s (same_head _ _ _ _ e))
+no_calls A [] (s ∷ others) (c ∷ calls) e = absurd (not_step A c.moment c.request s (same_head _ _ _ _ e))
 no_calls A (s ∷ steps) [] calls e = absurd cc
 no_calls A (s ∷ steps) (o ∷ others) calls e = no_calls A steps others calls (same_tail _ _ _ _ e)
 

@@ -6,25 +6,26 @@ use Rattle.list_core.specs.declared.device.InputEnd.{InputEnd}
 use Rattle.publish_core.specs.declared.fault.PublishFault.{PublishFault}
 use Rattle.publish_core.specs.Frames.{Change, Setup}
 use Rattle.publish_core.specs.Refusal.{Accepts, next_state}
-use Rattle.publish_core.specs.Run.{Act, Call, Changed, Polled}
-use Rattle.publish_core.specs.Judgement.{IsJudged}
+use Rattle.publish_core.specs.Run.{Request, Call, Changed, Polled}
+use Rattle.publish_core.specs.computed.Judgement.{IsJudged}
 use Rattle.publish_core.specs.Table.{AreSteps}
 use Rattle.publish_core.proofs.Judged.{changes_are_judged}
-use Rattle.goose_cmd.specs.PublishedReplay.{SaysRun, ScriptsSayRuns, StopsBehind, script_of_text}
+use Rattle.goose_cmd.specs.PublishedReplay.{SaysRun, StopsBehind, script_of_text}
+use Rattle.goose_cmd.specs.PublishedLaws.{ScriptsSayRuns}
 use Rattle.exchange_engines.specs.PublishText.{IsRefused, IsScriptSound, IsTaken, items_of_lines, script_of}
 use Rattle.goose_cmd.proofs.ScriptOrder.{AreOfScript, script_items}
 
 -- behind others each of these calls is taken
 abbrev AllTaken : {A : Type 0} → Setup A → List Call → List Call → Type 0
 AllTaken p done [] = Unit {0}
-AllTaken p done (c ∷ cs) = IsTaken p done c.act × AllTaken p (done ++ c ∷ []) cs
+AllTaken p done (c ∷ cs) = IsTaken p done c.request × AllTaken p (done ++ c ∷ []) cs
 
-all_accepted : {A : Type 0} (p : Setup A) (cs done : List Call) → AllTaken p done cs → (i : ℕ) (change : Change) → option_map (λ (c : Call). c.act) (slice_get cs i) ≡ Some (Changed change) → Accepts p (done ++ take i cs) change
+all_accepted : {A : Type 0} (p : Setup A) (cs done : List Call) → AllTaken p done cs → (i : ℕ) (change : Change) → option_map (λ (c : Call). c.request) (slice_get cs i) ≡ Some (Changed change) → Accepts p (done ++ take i cs) change
 all_accepted p [] done w zero change e = absurd cc
 all_accepted p [] done w (suc i) change e = absurd cc
 all_accepted p (c ∷ cs) done w zero change e = subst (λ (l : List Call). Accepts p l change) (sym (append-nil done)) (subst (IsTaken p done) here w.0)
   where
-    here : c.act ≡ Changed change
+    here : c.request ≡ Changed change
     here = cc
 all_accepted p (c ∷ cs) done w (suc i) change e = subst (λ (l : List Call). Accepts p l change) (append_assoc done (c ∷ []) (take i cs)) (all_accepted p cs (done ++ c ∷ []) w.1 i change e)
 
@@ -32,7 +33,7 @@ all_accepted p (c ∷ cs) done w (suc i) change e = subst (λ (l : List Call). A
 abbrev UpToRefused : {A : Type 0} → Setup A → List Call → List Call → Type 0
 UpToRefused p done cs = (calls : List Call) × (left : List Call) × (cs ≡ calls ++ left) × AllTaken p done calls × StopsBehind p (done ++ calls) left
 
-one_more : {A : Type 0} (p : Setup A) (done cs : List Call) (c : Call) → IsTaken p done c.act → UpToRefused p (done ++ c ∷ []) cs → UpToRefused p done (c ∷ cs)
+one_more : {A : Type 0} (p : Setup A) (done cs : List Call) (c : Call) → IsTaken p done c.request → UpToRefused p (done ++ c ∷ []) cs → UpToRefused p done (c ∷ cs)
 one_more p done cs c taken w = (
   c ∷ w.0,
   w.1,
@@ -43,16 +44,16 @@ one_more p done cs c taken w = (
 
 -- a call is taken before those behind it, or refused
 call_judged : {A : Type 0} (p : Setup A) → AreSteps p.table → (done cs : List Call) (c : Call) → UpToRefused p (done ++ c ∷ []) cs → UpToRefused p done (c ∷ cs)
-call_judged {A} p steps done cs c rest = by_act c.act refl
+call_judged {A} p steps done cs c rest = by_request c.request refl
   where
-    by_answer : (change : Change) → c.act ≡ Changed change → (answer : Option PublishFault) → IsJudged p.control p.table (next_state p done) change answer → UpToRefused p done (c ∷ cs)
+    by_answer : (change : Change) → c.request ≡ Changed change → (answer : Option PublishFault) → IsJudged p.control p.table (next_state p done) change answer → UpToRefused p done (c ∷ cs)
     by_answer change is None accepted = one_more p done cs c (subst (IsTaken p done) (sym is) accepted) rest
     by_answer change is (Some why) refused =
-        ([], c ∷ cs, refl, tt, subst (λ (l : List Call). StopsBehind p l (c ∷ cs)) (sym (append-nil done)) (why, subst (λ (act : Act). IsRefused p done act why) (sym is) refused))
+        ([], c ∷ cs, refl, tt, subst (λ (l : List Call). StopsBehind p l (c ∷ cs)) (sym (append-nil done)) (why, subst (λ (request : Request). IsRefused p done request why) (sym is) refused))
 
-    by_act : (act : Act) → c.act ≡ act → UpToRefused p done (c ∷ cs)
-    by_act (Changed change) is = let w = changes_are_judged p.control p.table (next_state p done) change steps in by_answer change is w.0 w.1
-    by_act Polled is = one_more p done cs c (subst (IsTaken p done) (sym is) tt) rest
+    by_request : (request : Request) → c.request ≡ request → UpToRefused p done (c ∷ cs)
+    by_request (Changed change) is = let w = changes_are_judged p.control p.table (next_state p done) change steps in by_answer change is w.0 w.1
+    by_request Polled is = one_more p done cs c (subst (IsTaken p done) (sym is) tt) rest
 
 up_to_refused : {A : Type 0} (p : Setup A) → AreSteps p.table → (cs done : List Call) → UpToRefused p done cs
 up_to_refused p steps [] done = ([], [], refl, tt, tt)

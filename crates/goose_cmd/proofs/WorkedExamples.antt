@@ -3,12 +3,12 @@ use Rattle.std.proofs.Common.{◌≡◌, ℕ, zero, suc, true, false, List, [], 
 use Rattle.std.specs.Prelude.{codes}
 use Rattle.std.specs.Fmt.{digits}
 use Rattle.hex.specs.Hex.{decode_pairs, encode_with}
-use Rattle.ber_core.specs.ContentsReading.{all_visible_at, boolean_at}
-use Rattle.ber_core.specs.Reading.{header_at, length_at}
+use Rattle.ber_core.specs.computed.ContentsReading.{all_visible_at, boolean_at}
+use Rattle.ber_core.specs.computed.Reading.{header_at, length_at}
 use Rattle.ber_core.specs.Written.{integer_size, short_integer, short_length, written_element}
-use Rattle.mms_data.specs.ContentsReading.{simple_at}
-use Rattle.mms_data.specs.Kinds.{kind_at}
-use Rattle.mms_data.specs.Reading.{member_at, member_with, members_at, members_with}
+use Rattle.mms_data.specs.computed.ContentsReading.{simple_at}
+use Rattle.mms_data.specs.computed.KindReading.{kind_at}
+use Rattle.mms_data.specs.computed.Reading.{member_at, member_with, members_at, members_with}
 use Rattle.list_core.specs.declared.device.InputEnd.TheVariants.{End}
 use Rattle.list_core.specs.declared.event.Event.{Event}
 use Rattle.list_core.specs.declared.event.EventKind.TheVariants.{Clock, Mode}
@@ -19,7 +19,7 @@ use Rattle.subscribe_core.specs.declared.entry.Entry.TheVariants.{Expired, NotSu
 use Rattle.script_core.specs.declared.script.ScriptCause.{ScriptCause}
 use Rattle.script_core.specs.declared.script.ScriptItem.{ScriptItem}
 use Rattle.engine_core.specs.EngineText.{told, told_after, whole_text}
-use Rattle.exchange_engines.specs.PublishStep.{publish_text}
+use Rattle.exchange_engines.specs.computed.PublishStep.{publish_text}
 use Rattle.goose_cmd.specs.ListText.{lines_from, list_of_text, list_text}
 use Rattle.publish_core.specs.Frames.{Change, Setup, change, setup}
 use Rattle.publish_core.specs.Run.{Call, Changed, Polled, call, trace_of_calls}
@@ -125,6 +125,6 @@ is_polled_once = record {
     none_is_one : length no_value.values ≡ one_boolean.control.entries → ⊥
     none_is_one same = absurd (omega (arith, same))
 
-    polled_alone : (i : ℕ) (handed_in : Change) → (trace_of_calls (call 5000 Polled ∷ [])).act i ≡ Some (Changed handed_in) → ⊥
+    polled_alone : (i : ℕ) (handed_in : Change) → (trace_of_calls (call 5000 Polled ∷ [])).request i ≡ Some (Changed handed_in) → ⊥
     polled_alone zero handed_in at = absurd cc
     polled_alone (suc i) handed_in at = absurd cc

@@ -17,7 +17,7 @@ use Rattle.list_core.proofs.Lines.{reading-end}
 use Rattle.list_core.proofs.WrittenLines.{version-first, written-first}
 use Rattle.publish_core.specs.Frames.{Setup, frame}
 use Rattle.publish_core.specs.Numbers.{state_number}
-use Rattle.publish_core.specs.Run.{Act, Call, IsAnswer, trace_of_calls}
+use Rattle.publish_core.specs.Run.{Request, Call, IsAnswer, trace_of_calls}
 use Rattle.publish_core.proofs.GivesOne.{carried}
 use Rattle.block_core.specs.declared.block.Block.{Block}
 use Rattle.subscribe_core.specs.declared.entry.Entry.{Entry}
@@ -31,7 +31,8 @@ use Rattle.exchange_laws.proofs.PublishedLists.{whole_runs_replay}
 use Rattle.exchange_laws.proofs.WrittenForms.{change_accepted}
 use Rattle.engine_core.specs.EngineText.{Account, Text, put_step, told_after}
 use Rattle.exchange_engines.specs.EntryText.{entry_lines}
-use Rattle.goose_cmd.specs.ListText.{CanBeListed, MomentsAreShort, PublishedListsReplay, ReplayGives, SendsOctets, WrittenListsReplay, lines_from, list_of_text, list_text}
+use Rattle.goose_cmd.specs.ListText.{CanBeListed, MomentsAreShort, ReplayGives, SendsOctets, lines_from, list_of_text, list_text}
+use Rattle.goose_cmd.specs.ListLaws.{PublishedListsReplay, WrittenListsReplay}
 use Rattle.exchange_engines.specs.ReplayText.{IsReplayText, events_of}
 use Rattle.exchange_engines.proofs.ReplayLemmas.{events_push}
 
@@ -63,7 +64,7 @@ list_is : {A : Type 0} (events : List (Event A)) (end : List ℕ) → CanBeListe
 list_is {A} events end w room ends = version-first A End (flat_map event_text events ++ end) ∙ all_listed 1 events end w (omega arith) ends
 
 -- the step of an event is the lines of the entries that the whole list has there
-step_is : {A : Type 0} (blocks : List (Block A)) (t : Text (Event A) ListCause) → AreApart blocks → IsReplayText blocks t → (before : List (ℕ × Event A)) (n : ℕ) (e : Event A) (es : List (Event A)) (x : List (Entry A)) → AreEntriesAt blocks (events_of before ++ e ∷ es) (length (events_of before)) x → t.step before (n, e) ≡ Ok (entry_lines n x, false)
+pub step_is : {A : Type 0} (blocks : List (Block A)) (t : Text (Event A) ListCause) → AreApart blocks → IsReplayText blocks t → (before : List (ℕ × Event A)) (n : ℕ) (e : Event A) (es : List (Event A)) (x : List (Entry A)) → AreEntriesAt blocks (events_of before ++ e ∷ es) (length (events_of before)) x → t.step before (n, e) ≡ Ok (entry_lines n x, false)
 step_is {A} blocks t apart is before n e es x at =
     let w = is.step before (n, e) in
     let stay : AreEntriesAt blocks (events_of before ++ e ∷ es) (length (events_of before)) w.0 =
@@ -146,16 +147,16 @@ answer_size {A} p calls i f held accepted w =
       ],
     )
 
-with_can : {A : Type 0} (B : Type 0) (m : ℕ) (act : Act) (a : Option (Frame A)) (rest : List (Sent A)) → m < 10 ^ 18 → ((f : Frame A) → a ≡ Some f → HasSize f) → SendsOctets (with_frame m act a rest) → (SendsOctets rest → CanBeListed (published_events {B = B} rest)) → CanBeListed (published_events {B = B} (with_frame m act a rest))
-with_can B m act None rest short size octets can = can octets
-with_can B m act (Some f) rest short size octets can = (((short, size f refl), octets.0), can octets.1)
+with_can : {A : Type 0} (B : Type 0) (m : ℕ) (request : Request) (a : Option (Frame A)) (rest : List (Sent A)) → m < 10 ^ 18 → ((f : Frame A) → a ≡ Some f → HasSize f) → SendsOctets (with_frame m request a rest) → (SendsOctets rest → CanBeListed (published_events {B = B} rest)) → CanBeListed (published_events {B = B} (with_frame m request a rest))
+with_can B m request None rest short size octets can = can octets
+with_can B m request (Some f) rest short size octets can = (((short, size f refl), octets.0), can octets.1)
 
 sent_can : {A : Type 0} (B : Type 0) (m : ℕ) (calls : List Call) (answers : List (Option (Frame A))) → m < 10 ^ 18 → MomentsAreShort calls → ((i : ℕ) (f : Frame A) → slice_get answers i ≡ Some (Some f) → HasSize f) → SendsOctets (sent_from m calls answers) → CanBeListed (published_events {B = B} (sent_from m calls answers))
 sent_can B m [] answers small short size octets = tt
 sent_can B m (c ∷ cs) [] small short size octets = tt
 sent_can {A} B m (c ∷ cs) (a ∷ answers) small short size octets =
     let next : max m c.moment < 10 ^ 18 = let first : c.moment < 10 ^ 18 = short.0 in omega arith in
-    with_can B (max m c.moment) c.act a (sent_from (max m c.moment) cs answers) next (λ f e. size 0 f (ap (λ (o : Option (Frame A)). Some o) e)) octets
+    with_can B (max m c.moment) c.request a (sent_from (max m c.moment) cs answers) next (λ f e. size 0 f (ap (λ (o : Option (Frame A)). Some o) e)) octets
     (sent_can B (max m c.moment) cs answers next short.1 (λ i f e. size (suc i) f e))
 
 -- there are as many events as frames

@@ -7,21 +7,21 @@ use Rattle.std.specs.List.{AllByRecursion, list_all}
 use Rattle.std.proofs.lemmas.Bool.{and_parts, ltb-true}
 use Rattle.ber_core.specs.Contents.{AreVisible}
 use Rattle.ber_core.specs.Fields.{Field}
-use Rattle.ber_core.specs.ContentsReading.{all_visible_at, boolean_at, integer_at, visible_at}
+use Rattle.ber_core.specs.computed.ContentsReading.{all_visible_at, boolean_at, integer_at, visible_at}
 use Rattle.ber_core.specs.Length.{AreOctets}
-use Rattle.ber_core.specs.Reading.{◌>>=◌, header_at, refused}
+use Rattle.ber_core.specs.computed.Reading.{◌>>=◌, header_at, refused}
 use Rattle.ber_core.specs.Written.{number_size, short_integer, short_length, written_element}
 use Rattle.ber_core.specs.declared.element.Header.{Header}
 use Rattle.ber_core.specs.declared.fault.Fault.{Fault}
 use Rattle.ber_core.specs.declared.fault.Cause.TheVariants as causes
 use Rattle.ber_core.proofs.Shortest.{big_bytes_octets}
 use Rattle.mms_data.specs.Contents.{cleared, least_signed, most_signed}
-use Rattle.mms_data.specs.ContentsReading.{bits_at, counted_if, is_few_octets, is_time_count, is_unused, simple_at, unsigned_at}
+use Rattle.mms_data.specs.computed.ContentsReading.{bits_at, counted_if, is_few_octets, is_time_count, is_unused, simple_at, unsigned_at}
 use Rattle.mms_data.specs.Data.{Data, Simple}
 use Rattle.mms_data.specs.Kinds.{simple_identifier, simple_kind}
-use Rattle.mms_data.specs.Reading.{ReadsMembers, contents_at, contents_within, known_at, member_at, member_with, members_at, members_with}
+use Rattle.mms_data.specs.computed.Reading.{ReadsMembers, contents_at, contents_within, known_at, member_at, member_with, members_at, members_with}
 use Rattle.mms_data.specs.Spellable.{IsTime}
-use Rattle.mms_data.specs.UtcReading.{utc_at}
+use Rattle.mms_data.specs.computed.UtcReading.{utc_at}
 use Rattle.mms_data.specs.Written.{simple_contents, truth_octet, written, written_all, written_time}
 use Rattle.mms_data.specs.declared.kinds.Kind.{Kind}
 use Rattle.mms_data.specs.declared.kinds.Kind.TheVariants as kinds

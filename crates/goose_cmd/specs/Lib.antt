@@ -1,3 +1,7 @@
 pub mod ListText
 pub mod OneText
 pub mod PublishedReplay
+pub mod ListedBlocks
+pub mod ListLaws
+pub mod OneTextLaws
+pub mod PublishedLaws

@@ -1,38 +1,8 @@
 -- What an engine writes is one text: two texts of one engine say the same.
-use Rattle.std.specs.Prelude.{◌≡◌, ℕ, List}
-use Rattle.list_core.specs.declared.device.InputEnd.{InputEnd}
-use Rattle.list_core.specs.declared.event.Event.{Event}
-use Rattle.list_core.specs.declared.list_fault.ListCause.{ListCause}
-use Rattle.list_core.specs.Items.{Listing, listing}
-use Rattle.block_core.specs.declared.block.Block.{Block}
-use Rattle.subscribe_core.specs.Standing.{AreApart}
-use Rattle.script_core.specs.declared.script.ScriptCause.{ScriptCause}
-use Rattle.script_core.specs.declared.script.ScriptItem.{ScriptItem}
-use Rattle.script_core.specs.declared.script.ScriptLines.TheVariants.{First}
-use Rattle.script_core.specs.Script.{script_rules}
+use Rattle.std.specs.Prelude.{◌≡◌}
+use Rattle.list_core.specs.Items.{Listing}
 use Rattle.engine_core.specs.EngineText.{Text, told, whole_text}
-use Rattle.exchange_engines.specs.PublishText.{IsPublishText}
-use Rattle.exchange_engines.specs.ReplayText.{IsReplayText}
-use Rattle.exchange_engines.specs.WatchText.{IsWatchText}
 
 -- two texts say the same of a list, item by item and in its end
 abbrev pub SaySame : {X C : Type 0} → Text X C → Text X C → Listing X C → Type 0
 SaySame t u l = (whole_text t l ≡ whole_text u l) × (told t l ≡ told u l)
-
--- of each list, two texts of a replay with the same blocks
-abbrev pub ReplayTextsAreOne : Type 0 → Type 0
-ReplayTextsAreOne A =
-    (blocks : List (Block A)) (t u : Text (Event A) ListCause) (l : Listing (Event A) ListCause) → AreApart blocks → IsReplayText blocks t → IsReplayText blocks u →
-    SaySame t u l
-
--- of each list, two texts of a watch with the same period and svID
-abbrev pub WatchTextsAreOne : Type 0 → Type 0
-WatchTextsAreOne A =
-    (period : ℕ) (id : List ℕ) (t u : Text (Event A) ListCause) (l : Listing (Event A) ListCause) → IsWatchText period id t → IsWatchText period id u →
-    SaySame t u l
-
--- of each script, two texts of `publish`
-abbrev pub PublishTextsAreOne : Type 0 → Type 0
-PublishTextsAreOne A =
-    (t u : Text (ScriptItem A) ScriptCause) (z : InputEnd) (text : List ℕ) → IsPublishText t → IsPublishText u →
-    SaySame t u (listing script_rules First z 0 text)

@@ -3,10 +3,11 @@ ghost use Rattle.std.specs.Prelude.{◌≡◌, ◌++◌, ℕ, List, Bool};
 ghost use Rattle.std.specs.List.{flat_map, list_any};
 ghost use Rattle.list_core.specs.Items.{Listing};
 ghost use Rattle.engine_core.specs.EngineText.{IsPlain, Text, last_text, whole_text, told};
-ghost use Rattle.goose_cmd.specs.ListText.{PublishedListsReplay, WrittenListsReplay};
-ghost use Rattle.goose_cmd.specs.OneText.{PublishTextsAreOne, ReplayTextsAreOne, WatchTextsAreOne};
-ghost use Rattle.exchange_engines.specs.PublishText.{ScriptsAreInOrder};
-ghost use Rattle.goose_cmd.specs.PublishedReplay.{PublishedTextsReplay, ScriptsGiveLists, ScriptsSayRuns};
+ghost use Rattle.goose_cmd.specs.ListLaws.{PublishedListsReplay, WrittenListsReplay};
+ghost use Rattle.goose_cmd.specs.ListedBlocks.{ListedBlocksAreApart, ListedBlocksFit, ReplaysWriteEntries};
+ghost use Rattle.goose_cmd.specs.OneTextLaws.{BlocksTextsAreOne, PublishTextsAreOne, ReplayTextsAreOne, WatchTextsAreOne};
+ghost use Rattle.exchange_engines.specs.ScriptLaws.{ScriptsAreInOrder};
+ghost use Rattle.goose_cmd.specs.PublishedLaws.{PublishedTextsReplay, ScriptsGiveLists, ScriptsSayRuns};
 
 pub use exchange_laws::laws::{
     actions_carry_what_was_published, changes_are_acted_on_in_order,
@@ -49,10 +50,30 @@ pub fn watch_texts_are_one<A: Allocator>()
     ensures { WatchTextsAreOne A }
 {}
 
+/// What `blocks` writes of a list is one text: whatever says it says the same of each list.
+pub fn blocks_texts_are_one<A: Allocator>()
+    ensures { BlocksTextsAreOne A }
+{}
+
 /// What `publish` writes of a script is one text: whatever says it says the same of each script, also of one that has a
 /// fault or a change that is refused.
 pub fn publish_texts_are_one<A: Allocator>()
     ensures { PublishTextsAreOne A }
+{}
+
+/// What a replay writes of a list is the lines of the entries that its events have, and the line of its fault, if there is
+/// one.
+pub fn replays_write_entries<A: Allocator>()
+    ensures { ReplaysWriteEntries A }
+{}
+
+/// The BLOCKs of the lines `block` that `blocks` writes of a list say blocks of different names, so that a replay can have
+/// all of them. Where each TEXT of these lines is the BLOCK of one of some control blocks, and no line `block-changed`
+/// stands, a replay of the same list with these blocks tells no frame as not subscribed, and refuses none for its datSet,
+/// its goID, its confRev or the count of its members.
+pub fn listed_blocks_replay<A: Allocator>()
+    ensures apart { ListedBlocksAreApart A }
+    ensures fit { ListedBlocksFit A }
 {}
 
 /// The list of a publisher's whole run, replayed with its own block, gives one line for each frame: an action for that of a

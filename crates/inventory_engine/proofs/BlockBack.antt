@@ -13,7 +13,7 @@ use Rattle.std.proofs.lemmas.List.Elements.{All-get_or}
 use Rattle.std.proofs.lemmas.Str.Parse.{digit_at}
 use Rattle.hex.specs.Hex.{IsBytes, encode_lower, is_hex_digit}
 use Rattle.hex.proofs.HexLemmas.{decode_of-encode_lower, decode_of-ok, decode_sized-encode_lower}
-use Rattle.ber_core.specs.ContentsReading.{is_visible}
+use Rattle.ber_core.specs.Contents.{is_visible}
 use Rattle.list_core.specs.Cuts.{HasNo, cut_at}
 use Rattle.list_core.specs.EventLine.{decoded}
 use Rattle.list_core.proofs.Cuts.{cut-part, cut-rest}

@@ -4,7 +4,7 @@ use Rattle.std.proofs.lemmas.Bool.{cases_lt}
 use Rattle.std.proofs.lemmas.Option.{none-some, same_Some}
 use Rattle.inventory_engine.specs.Sightings.{Key, Sighting, key_of}
 use Rattle.inventory_engine.specs.BlocksText.{AreLines, IsNewest, line_after}
-use Rattle.inventory_engine.specs.KnownTexts.{same_key}
+use Rattle.inventory_engine.specs.computed.KnownTexts.{same_key}
 use Rattle.inventory_engine.specs.Laws.{IsFirst, LinesAreOne, OneFirstLine}
 use Rattle.inventory_engine.proofs.KeyLemmas.{same_is, same_yes}
 

@@ -11,7 +11,7 @@ use Rattle.std.proofs.lemmas.Slice.Eq.{bytes_eq-Decides, strip_prefix_is}
 use Rattle.std.proofs.lemmas.Bool.Decides.{Decides-eqb}
 use Rattle.std.specs.Prelude.{MatchOption}
 use Rattle.std.specs.Cmp.Lexicographic.{pointwise}
-use Rattle.inventory_engine.specs.PieceText.{IsAfter}
+use Rattle.inventory_engine.specs.computed.PieceText.{IsAfter}
 
 append_cancel : (a x y : List ℕ) → a ++ x ≡ a ++ y → x ≡ y
 append_cancel [] x y e = e

@@ -11,7 +11,7 @@ use Rattle.std.proofs.lemmas.List.Edits.{length-insert, get_or-insert_below, get
 use Rattle.std.proofs.lemmas.List.Sorted.{searchable_from_sorted}
 use Rattle.inventory_engine.specs.declared.known.Known.{Known}
 use Rattle.inventory_engine.specs.Sightings.{Key}
-use Rattle.inventory_engine.specs.KnownTexts.{AnswersSearch, InOrder, IsAt, IsGap, key_cmp, known_key, known_text, same_key, text_by}
+use Rattle.inventory_engine.specs.computed.KnownTexts.{AnswersSearch, InOrder, IsAt, IsGap, key_cmp, known_key, known_text, same_key, text_by}
 use Rattle.inventory_engine.proofs.KeyLemmas.{key_exact, key_total, greater_differs, less_differs, same_is, same_no, same_yes, stand_as, turned}
 
 -- two tests that do not both hold can be asked in either order

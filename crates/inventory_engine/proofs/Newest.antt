@@ -5,8 +5,8 @@ use Rattle.std.proofs.lemmas.List.{append-nil, reverse-append, reverse-reverse}
 use Rattle.std.proofs.lemmas.Option.{slice_get_within, none-some, same_Some}
 use Rattle.inventory_engine.specs.Sightings.{Key, Sighting, key_of, sightings_in, sightings_of}
 use Rattle.inventory_engine.specs.BlocksText.{AreLines, IsBlocksText, IsNewest, line_after}
-use Rattle.inventory_engine.specs.BlocksStep.{blocks_text, lines_by, newest, text_seen}
-use Rattle.inventory_engine.specs.KnownTexts.{same_key, text_by}
+use Rattle.inventory_engine.specs.computed.BlocksStep.{blocks_text, lines_by, newest, text_seen}
+use Rattle.inventory_engine.specs.computed.KnownTexts.{same_key, text_by}
 use Rattle.inventory_engine.proofs.KeyLemmas.{same_is, same_yes}
 
 module _ {X : Type 0} where

@@ -9,7 +9,7 @@ use Rattle.std.specs.Prelude.{OnErr, OnOk}
 use Rattle.std.proofs.lemmas.List.Concat.{flat_map-append}
 use Rattle.list_core.proofs.Emptiness.{back_nil, front_nil}
 use Rattle.list_core.specs.declared.event.Event.{Event}
-use Rattle.engine_core.specs.EngineStep.{Takes}
+use Rattle.engine_core.specs.computed.EngineStep.{Takes}
 use Rattle.pdu_core.specs.SampledViews.{asdu_of}
 use Rattle.pdu_core.specs.declared.sampled.asdu.Asdu.{Asdu}
 use Rattle.pdu_core.specs.declared.sampled.view.AsduView.{AsduView}
@@ -17,8 +17,8 @@ use Rattle.text_core.proofs.NonEmpty.{ends}
 use Rattle.inventory_engine.specs.declared.known.Known.{Known}
 use Rattle.inventory_engine.specs.Sightings.{Sighting, key_of, sightings_in, sightings_of, stream_seen, streams_seen}
 use Rattle.inventory_engine.specs.BlocksText.{changed_word, first_word, line_after, sighting_line}
-use Rattle.inventory_engine.specs.BlocksStep.{Keeps, Said, Wanted, blocks_text, lines_by, newest, said}
-use Rattle.inventory_engine.specs.KnownTexts.{InOrder, IsAt, IsGap, known_key, known_text, same_key}
+use Rattle.inventory_engine.specs.computed.BlocksStep.{Keeps, Said, Wanted, blocks_text, lines_by, newest, said}
+use Rattle.inventory_engine.specs.computed.KnownTexts.{InOrder, IsAt, IsGap, known_key, known_text, same_key}
 use Rattle.inventory_engine.proofs.KnownLemmas.{Updates, absent, none_at_gap, none_before, order_insert, order_set, present, updates_insert, updates_same, updates_set}
 use Rattle.inventory_engine.proofs.Newest.{newest-push}
 

@@ -1,6 +1,4 @@
 pub mod Sightings
 pub mod BlocksText
 pub mod Laws
-pub mod PieceText
-pub mod KnownTexts
-pub mod BlocksStep
+pub mod computed

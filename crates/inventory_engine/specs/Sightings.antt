@@ -2,7 +2,7 @@
 use Rattle.std.specs.Prelude.{ℕ, Bool, not, ◌&&◌, ◌==◌, List, [], ◌∷◌, length, map, Option, Some, None, Result, Ok, Err, codes, if◌then◌else◌}
 use Rattle.std.specs.List.{concat, flat_map, list_all}
 use Rattle.std.specs.Fmt.{decimal}
-use Rattle.ber_core.specs.ContentsReading.{is_visible}
+use Rattle.ber_core.specs.Contents.{is_visible}
 use Rattle.ber_core.specs.declared.fault.Fault.{Fault}
 use Rattle.pdu_core.specs.declared.goose.GoosePdu.{GoosePdu}
 use Rattle.pdu_core.specs.declared.sampled.asdu.Asdu.{Asdu}
@@ -12,7 +12,7 @@ use Rattle.list_core.specs.declared.event.EventKind.TheVariants as kinds
 use Rattle.frame_core.specs.declared.frame.Apdu.{Apdu}
 use Rattle.frame_core.specs.declared.frame.Apdu.TheVariants as apdus
 use Rattle.frame_core.specs.declared.frame.Frame.{Frame}
-use Rattle.frame_core.specs.FrameReading.{frame_at}
+use Rattle.frame_core.specs.computed.FrameReading.{frame_at}
 use Rattle.text_core.specs.Pieces.{four_digits, quoted, quoted_or_dash}
 
 -- A control block by its APPID and its gocbRef (IEC 61850-8-1), or a stream, which has no APPID here, by its svID (IEC 61850-9-2), and the text that tells how it is configured.
@@ -25,6 +25,7 @@ pub record Sighting : Type 0 where
 abbrev pub Key : Type 0
 Key = Option ℕ × List ℕ
 
+-- the key of a sighting: APPID and gocbRef, or svID alone
 abbrev pub key_of : Sighting → Key
 key_of s = (s.app_id, s.name)
 
@@ -32,6 +33,7 @@ key_of s = (s.app_id, s.name)
 abbrev pub is_field_octet : ℕ → Bool
 is_field_octet c = is_visible c && not (c == 44)
 
+-- a text that can stand in a field of a BLOCK
 abbrev pub is_field : List ℕ → Bool
 is_field text = list_all is_field_octet text
 
@@ -93,7 +95,7 @@ block_seen app_id p = record { app_id = Some app_id; name = p.gocb_ref; text = b
 abbrev pub stream_seen : {A : Type 0} → Asdu A → Sighting
 stream_seen a = record { app_id = None; name = a.sv_id; text = concat (stream_parts a) }
 
--- those of several ASDUs, in their order
+-- the streams of several ASDUs, in their order
 abbrev pub streams_seen : {A : Type 0} → List (Asdu A) → List Sighting
 streams_seen asdus = map stream_seen asdus
 

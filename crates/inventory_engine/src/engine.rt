@@ -10,7 +10,7 @@ ghost use Rattle.list_core.specs.EventLine.{event_rules};
 ghost use Rattle.engine_core.specs.EngineText.{Text, Writes, is_write_fault};
 ghost use Rattle.inventory_engine.specs.Sightings.{sightings_in};
 ghost use Rattle.inventory_engine.specs.BlocksText.{IsBlocksText};
-ghost use Rattle.inventory_engine.specs.BlocksStep.{Keeps, blocks_text};
+ghost use Rattle.inventory_engine.specs.computed.BlocksStep.{Keeps, blocks_text};
 
 use crate::known::Known;
 use crate::sighting::put_event;

@@ -1,7 +1,7 @@
 // The control blocks and streams that were seen, in order, each with the text that was written of it last.
 
 ghost use Rattle.std.specs.Prelude.{◌≡◌};
-ghost use Rattle.inventory_engine.specs.KnownTexts.{AnswersSearch, InOrder, key_cmp, known_key, rank};
+ghost use Rattle.inventory_engine.specs.computed.KnownTexts.{AnswersSearch, InOrder, key_cmp, known_key, rank};
 
 use ber_core::Octets;
 use std::alloc::Allocator;

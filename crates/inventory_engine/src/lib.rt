@@ -1,5 +1,5 @@
 //! The engine that tells which control blocks and streams a list holds: `blocks`.
-#![tactic(auto)]
+#![tactic(auto, using(text_core::proofs::Fronts::front_before))]
 
 mod engine;
 mod known;

@@ -1,13 +1,13 @@
 // The pieces of which the text of a sighting is made. It is compared with a text that is held piece by piece, so that
 // a sighting of which nothing is written asks for no memory.
 
-ghost use Rattle.std.specs.Prelude.{◌≡◌, ◌++◌, IfOk, OnOk};
+ghost use Rattle.std.specs.Prelude.{◌≡◌, IfOk};
 ghost use Rattle.std.specs.List.{flat_map};
 ghost use Rattle.std.specs.Str.{bytes_eq};
 ghost use Rattle.std.specs.Fmt.{decimal};
 ghost use Rattle.pdu_core.specs.Views.{octets_if};
-ghost use Rattle.text_core.specs.Pieces.{escaped, four_digits, quoted, quoted_or_dash};
-ghost use Rattle.inventory_engine.specs.PieceText.{IsAfter, piece_text};
+ghost use Rattle.text_core.specs.Pieces.{AppendsText, escaped, four_digits, quoted, quoted_or_dash};
+ghost use Rattle.inventory_engine.specs.computed.PieceText.{IsAfter, piece_text};
 
 use ber_core::Octets;
 use itoa::Buffer;
@@ -33,7 +33,7 @@ pub enum Piece<'a> {
 
 // Appends a piece.
 fn put_piece<A: Allocator>(out: &mut Vec<u8, A>, piece: &Piece<'_>) -> Result<(), AllocError>
-    ensures { OnOk result (out.new.items ≡ out.old.items ++ piece_text piece.now) }
+    ensures { AppendsText result out.old.items out.new.items (piece_text piece.now) }
 {
     match piece {
         Piece::Octets(octets) => out.extend_from_slice(octets),
@@ -49,7 +49,7 @@ pub fn put_pieces<A: Allocator>(
     out: &mut Vec<u8, A>,
     pieces: &[Piece<'_>],
 ) -> Result<(), AllocError>
-    ensures { OnOk result (out.new.items ≡ out.old.items ++ flat_map piece_text pieces.now) }
+    ensures { AppendsText result out.old.items out.new.items (flat_map piece_text pieces.now) }
 {
     for piece in pieces {
         put_piece(out, piece)?;

@@ -1,14 +1,15 @@
 // The lines of sightings.
 
-ghost use Rattle.std.specs.Prelude.{◌≡◌, ◌++◌, ◌∷◌, [], OnErr, OnOk, Some};
+ghost use Rattle.std.specs.Prelude.{◌≡◌, ◌∷◌, [], OnErr, OnOk, Some, length, take};
 ghost use Rattle.std.specs.List.{concat, flat_map};
 ghost use Rattle.pdu_core.specs.SampledViews.{asdu_of, asdus_left};
 ghost use Rattle.pdu_core.specs.Views.{octets_if, pdu_of};
 ghost use Rattle.list_core.specs.declared.event.EventKind.{EventKind as SpecKind};
-ghost use Rattle.inventory_engine.specs.PieceText.{piece_text};
+ghost use Rattle.text_core.specs.Pieces.{AppendsText};
+ghost use Rattle.inventory_engine.specs.computed.PieceText.{piece_text};
 ghost use Rattle.inventory_engine.specs.Sightings.{block_parts, block_seen, has_fields as fields_have, is_field as field_is, is_field_octet as octet_is, named_parts, sightings_of, stream_parts, stream_seen, streams_seen, text_or_none};
 ghost use Rattle.inventory_engine.specs.BlocksText.{changed_word, first_word, sighting_line};
-ghost use Rattle.inventory_engine.specs.BlocksStep.{Said, Wanted};
+ghost use Rattle.inventory_engine.specs.computed.BlocksStep.{Said, Wanted};
 
 use crate::known::{Known, find};
 use crate::pieces::{Piece, is_text, put_pieces, text_of};
@@ -45,7 +46,7 @@ fn put_line<A: Allocator>(
     word: &[u8],
     pieces: &[Piece<'_>],
 ) -> Result<(), AllocError>
-    ensures { OnOk result (line.new.items ≡ line.old.items ++ sighting_line number word.now (flat_map piece_text pieces.now)) }
+    ensures { AppendsText result line.old.items line.new.items (sighting_line number word.now (flat_map piece_text pieces.now)) }
 {
     put_decimal(line, number)?;
     line.extend_from_slice(word)?;
@@ -65,6 +66,7 @@ fn put_sighting<A: Allocator + Copy>(
 ) -> Result<(), AllocError>
     ensures said { OnOk result (Said number (record { app_id = app_id; name = name.now; text = flat_map piece_text pieces.now } ∷ []) known.old.items known.new.items line.old.items line.new.items) }
     ensures wants { OnErr result (Wanted number (record { app_id = app_id; name = name.now; text = flat_map piece_text pieces.now } ∷ []) known.old.items) }
+    ensures front { take (length line.old.items) line.new.items ≡ line.old.items }
 {
     match find(known.as_slice(), app_id, name) {
         Ok(at) => {
@@ -178,6 +180,7 @@ fn put_block<A: Allocator + Copy>(
 ) -> Result<(), AllocError>
     ensures said { OnOk result (Said number (block_seen app_id (pdu_of {A = Unit {0}} goose.now) ∷ []) known.old.items known.new.items line.old.items line.new.items) }
     ensures wants { OnErr result (Wanted number (block_seen app_id (pdu_of {A = Unit {0}} goose.now) ∷ []) known.old.items) }
+    ensures front { take (length line.old.items) line.new.items ≡ line.old.items }
 {
     let name = goose.gocb_ref;
     if has_fields(goose) {
@@ -199,6 +202,7 @@ fn put_stream<A: Allocator + Copy>(
 ) -> Result<(), AllocError>
     ensures said { OnOk result (Said number (stream_seen (asdu_of {A = Unit {0}} asdu.now) ∷ []) known.old.items known.new.items line.old.items line.new.items) }
     ensures wants { OnErr result (Wanted number (stream_seen (asdu_of {A = Unit {0}} asdu.now) ∷ []) known.old.items) }
+    ensures front { take (length line.old.items) line.new.items ≡ line.old.items }
 {
     let pieces = stream_pieces(asdu);
     put_sighting(alloc, known, line, number, None, asdu.sv_id, &pieces)
@@ -214,6 +218,7 @@ fn put_streams<A: Allocator + Copy>(
 ) -> Result<(), AllocError>
     ensures said { OnOk result (Said number (streams_seen (asdus_left {A = Unit {0}} sampled.now.asdus)) known.old.items known.new.items line.old.items line.new.items) }
     ensures wants { OnErr result (Wanted number (streams_seen (asdus_left {A = Unit {0}} sampled.now.asdus)) known.old.items) }
+    ensures front { take (length line.old.items) line.new.items ≡ line.old.items }
 {
     for asdu in sampled.asdus {
         put_stream(alloc, known, line, number, &asdu)?;
@@ -231,6 +236,7 @@ pub fn put_event<A: Allocator + Copy>(
 ) -> Result<(), AllocError>
     ensures said { OnOk result (Said number (sightings_of kind.now) known.old.items known.new.items line.old.items line.new.items) }
     ensures wants { OnErr result (Wanted number (sightings_of kind.now) known.old.items) }
+    ensures front { take (length line.old.items) line.new.items ≡ line.old.items }
 {
     let EventKind::Frame(octets) = kind else {
         return Ok(());

@@ -7,7 +7,7 @@ use Rattle.list_core.specs.declared.list_fault.ListCause.TheVariants.{LineForm, 
 use Rattle.list_core.specs.declared.event_lines.MomentUnit.{MomentUnit}
 use Rattle.list_core.specs.Cuts.{HasNo, IsFirst}
 use Rattle.list_core.specs.EventLine.{fields, event_of_fields, fields_keep, frame_event, frame_octets_by, is_moment, moment_of}
-use Rattle.list_core.specs.LineAnswer.{Answers, fields_after}
+use Rattle.list_core.specs.computed.LineAnswer.{Answers, fields_after}
 use Rattle.list_core.proofs.Cuts.{cut_some, cut-first, cut-rest}
 use Rattle.list_core.proofs.LineShapes.{hex_digits_word, octets_to, some_is}
 use Rattle.list_core.proofs.WrittenLines.{frame_fields, word-HasNo}

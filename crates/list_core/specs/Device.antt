@@ -5,7 +5,8 @@ use Rattle.std.specs.Io.KnownBytes.{Consumes}
 use Rattle.list_core.specs.declared.device.InputEnd.{InputEnd}
 use Rattle.list_core.specs.declared.device.InputEnd.TheVariants.{Open, End, Failed}
 
--- whether more can come after a read
+-- what a read tells of what can come after it: the end where it gave no octet, an open end where it gave some, a
+-- failure where it failed
 abbrev pub ending_after : {E : Type 0} → Result ℕ E → InputEnd
 ending_after (Ok zero) = End
 ending_after (Ok (suc n)) = Open
@@ -17,7 +18,8 @@ KeepsOrForgets None new = ⊤
 KeepsOrForgets (Some xs) None = ⊤
 KeepsOrForgets (Some xs) (Some ys) = ys ≡ xs
 
--- these octets were given, and the others are left or no longer told
+-- What a source tells it has left, before and after: these octets were given, from the front of what was left, and the
+-- others are left, or no longer told. Where nothing was told before, nothing is said.
 abbrev pub GivesOctets : Option (List ℕ) → Option (List ℕ) → List ℕ → Type 0
 GivesOctets None new bs = ⊤
 GivesOctets (Some xs) None bs = (ys : List ℕ) × (xs ≡ bs ++ ys)

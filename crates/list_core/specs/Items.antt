@@ -8,7 +8,8 @@ use Rattle.list_core.specs.declared.line_rules.LineError.{LineError}
 use Rattle.list_core.specs.declared.line_rules.LineError.TheVariants as line
 use Rattle.list_core.specs.Lines.{Reading, Stop, finished, unfinished, faulty, reading}
 
--- what lines say, one after another; S is what the lines before settled, X what a line gives, C why one is refused
+-- The rules of a kind of list: what a line says, given what the lines before it settled. S is what lines settle, as
+-- the unit of the moments behind them, X what a line gives, and C why one is refused.
 pub record Rules (S X C : Type 0) : Type 0 where
   -- what a line gives, if it gives anything, and what is settled after it
   pub said : S → List ℕ → Result (Option X × S) C
@@ -64,7 +65,9 @@ items_in r s n l = items_said r s n l.lines l.stop
 abbrev pub listing : {S X C : Type 0} → Rules S X C → S → InputEnd → ℕ → List ℕ → Listing X C
 listing r s z n text = items_in r s n (reading z n text)
 
--- what reading one line answers and leaves settled; memory is wanted only where there is something to keep
+-- What reading one line answers, and what is settled then: what the rules say that the line gives, or why it is
+-- refused; or memory was wanted, which is so only where the line has something to keep. On a refusal, and on want of
+-- memory, what was settled stays.
 abbrev pub Says : {S X C : Type 0} → Rules S X C → S → List ℕ → Result (Option X) (LineError C) → S → Type 0
 Says r s l (Ok x) t = r.said s l ≡ Ok (x, t)
 Says r s l (Err (line.Cause why)) t = (r.said s l ≡ Err why) × (t ≡ s)

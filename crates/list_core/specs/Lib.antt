@@ -4,9 +4,9 @@ pub mod Lines
 pub mod FirstLine
 pub mod Reader
 pub mod EventLine
-pub mod LineAnswer
 pub mod WriteAnswer
 pub mod Items
 pub mod ItemReader
 pub mod ListReader
 pub mod Decimal
+pub mod computed

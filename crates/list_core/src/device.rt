@@ -20,7 +20,7 @@ pub enum InputEnd {
 
 /// A read or a write that failed.
 #[derive(Clone, Copy, Debug, PartialEq, Eq, Error)]
-#[error("the device failed")]
+#[error("reading or writing failed")]
 pub struct DeviceFault;
 
 /// What octets are read from, some at a time.

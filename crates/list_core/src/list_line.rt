@@ -1,7 +1,7 @@
 //! One line of a list: the event that it says.
 ghost use Rattle.std.specs.Prelude.{◌≡◌, true, None, Err, ◌<◌, is_some, length, ◌∷◌, []};
 ghost use Rattle.list_core.specs.EventLine.{event_of, event_of_fields, fields, fields_keep, frame_event, is_moment, mode_of, moment_of, frame_octets_by};
-ghost use Rattle.list_core.specs.LineAnswer.{Answers, fields_after};
+ghost use Rattle.list_core.specs.computed.LineAnswer.{Answers, fields_after};
 
 use crate::cutting::{cut_short, find};
 use crate::decimal::decimal_in;

@@ -12,7 +12,7 @@ use thiserror::Error;
 pub enum WriteFault {
     /// The event has no line: its moment is over 999,999,999,999,999,999 or its frame has 0 octets or
     /// over 2,000. Nothing was written.
-    #[error("the event can't stand in a list")]
+    #[error("no line of a list can hold the event")]
     NotListable,
     /// The sink failed, after a front of the octets was written.
     #[error("writing failed")]

@@ -37,7 +37,7 @@ fn list_sentence(name: &str) -> Option<&'static str> {
         "LineTooLong" => Some("the line has over 4096 octets"),
         "LineForm" => Some("the line is neither an event, nor a comment, nor empty"),
         "Moment" => {
-            Some("the moment is not 1 to 15 decimal digits (1 to 18 after a first line V2)")
+            Some("the time is not 1 to 15 decimal digits (1 to 18 after a first line V2)")
         }
         "Hex" => Some("the octets are not an even count of 2 to 4000 hexadecimal digits"),
         "ListTooLong" => Some("the list has over 1000000 lines"),
@@ -50,17 +50,15 @@ fn list_sentence(name: &str) -> Option<&'static str> {
 fn script_sentence(name: &str) -> Option<&'static str> {
     match name {
         "ScriptForm" => Some("the line is none that a script has there"),
-        "FirstState" => Some("the first status number is 0"),
-        "StepTimes" => Some("the step waits for nothing, or lives no longer than it waits"),
+        "FirstState" => Some("the first stNum is 0"),
+        "StepTimes" => Some("the step waits 0 ms, or does not live longer than it waits"),
         "StepCount" => Some(
             "there are 16 steps before this one, or none before the first change or poll",
         ),
-        "Hex" => {
-            Some("the moment of change or the members are not written in hexadecimal digits")
-        }
+        "Hex" => Some("T is not 16 hexadecimal digits, or MEMBERS not an even count of them"),
         "Members" => Some("the members: "),
-        "EntriesDiffer" => Some("the count of values is not that of the control's entries"),
-        "NotSpellable" => Some("a value, the time or a text has no spelling"),
+        "EntriesDiffer" => Some("the number of members differs from the control's entries"),
+        "NotSpellable" => Some("a value, the time or a text has no encoding"),
         "WouldNotFit" => Some("a frame of the new state would be too long"),
         _ => list_sentence(name),
     }

@@ -4,12 +4,12 @@ use Rattle.std.proofs.lemmas.List.{length-append, take_at, drop_at}
 use Rattle.ber_core.specs.declared.fault.Fault.{Fault}
 use Rattle.ber_core.specs.Length.{Len}
 use Rattle.ber_core.specs.Element.{Elem}
-use Rattle.ber_core.specs.Reading.{◌>>=◌, header_at}
+use Rattle.ber_core.specs.computed.Reading.{◌>>=◌, header_at}
 use Rattle.ber_core.proofs.Headers.{header_for, length_again}
 use Rattle.mms_data.specs.Data.{Data, simple, array, structure, Items, no_items, item, items_of, list_of, list_of-items_of, items_of-list_of}
 use Rattle.mms_data.specs.Kinds.{identifier_of, simple_kind}
 use Rattle.mms_data.specs.Spelling.{Spells, SpellsItems, SpellsAll}
-use Rattle.mms_data.specs.Reading.{contents_within, contents_at, member_with, members_with, member_at, members_at}
+use Rattle.mms_data.specs.computed.Reading.{contents_within, contents_at, member_with, members_with, member_at, members_at}
 use Rattle.mms_data.specs.declared.kinds.Kind.{Kind}
 use Rattle.mms_data.specs.declared.kinds.Kind.TheVariants.{Array, Structure, Simple as of_kind}
 use Rattle.mms_data.proofs.KindLaws.{low_tag, here_again}

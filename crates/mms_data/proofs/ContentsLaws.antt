@@ -4,9 +4,9 @@ use Rattle.std.proofs.Common.{◌≡◌, ℕ, ◌+◌, Bool, true, false, cond, 
 use Rattle.std.proofs.lemmas.Bool.{leb-true, le-leb, eqb-true, and_parts, or_cases}
 use Rattle.std.specs.Prelude.{ℤ, pos}
 use Rattle.ber_core.specs.Contents.{SpellsInteger}
-use Rattle.ber_core.specs.ContentsReading.{boolean_at, integer_at, natural, visible_at}
+use Rattle.ber_core.specs.computed.ContentsReading.{boolean_at, integer_at, natural, visible_at}
 use Rattle.ber_core.specs.Faults.{fault_of}
-use Rattle.ber_core.specs.Reading.{◌>>=◌, refused}
+use Rattle.ber_core.specs.computed.Reading.{◌>>=◌, refused}
 use Rattle.ber_core.specs.declared.fault.Fault.{Fault}
 use Rattle.ber_core.specs.declared.fault.Cause.{Cause}
 use Rattle.ber_core.specs.declared.fault.Cause.TheVariants as causes
@@ -15,10 +15,10 @@ use Rattle.ber_core.proofs.Steps.{chosen, bind_ok, bind_err, fault_is}
 use Rattle.mms_data.specs.Data.{Simple, boolean, bits, integer, unsigned, floating, octets, visible, binary_time, mms_text, utc}
 use Rattle.mms_data.specs.Kinds.{simple_kind}
 use Rattle.mms_data.specs.Contents.{IsFewOctets, IsTimeCount, cleared, IsUnused, SpellsBits, SpellsSimple, BitsFault, SimpleFault, least_signed, most_signed, most_unsigned}
-use Rattle.mms_data.specs.ContentsReading.{unsigned_at, counted_if, is_few_octets, is_time_count, is_unused, bits_at, simple_at}
+use Rattle.mms_data.specs.computed.ContentsReading.{unsigned_at, counted_if, is_few_octets, is_time_count, is_unused, bits_at, simple_at}
 use Rattle.mms_data.specs.declared.kinds.SimpleKind.{SimpleKind}
 use Rattle.mms_data.specs.declared.kinds.SimpleKind.TheVariants as kinds
-use Rattle.mms_data.specs.UtcReading.{utc_at}
+use Rattle.mms_data.specs.computed.UtcReading.{utc_at}
 use Rattle.mms_data.proofs.UtcLaws.{utc_found, utc_again, utc_wrong, utc_wrong_again}
 
 -- a test that lets a value through

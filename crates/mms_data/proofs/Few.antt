@@ -3,7 +3,7 @@ use Rattle.std.proofs.Common.{◌-◌, ◌≤◌, List, [], ◌∷◌, length, a
 use Rattle.std.proofs.lemmas.List.{length-append}
 use Rattle.std.specs.Prelude.{ℕ}
 use Rattle.mms_data.specs.Data.{Data}
-use Rattle.mms_data.specs.Left.{data_in, AreMembers}
+use Rattle.mms_data.specs.computed.Left.{data_in, AreMembers}
 use Rattle.mms_data.specs.Spelling.{SpellsAll}
 use Rattle.mms_data.proofs.Again.{spelled_some}
 use Rattle.mms_data.proofs.Found.{all_found}

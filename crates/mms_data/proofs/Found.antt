@@ -5,14 +5,14 @@ use Rattle.std.proofs.lemmas.Bool.{eqb-false}
 use Rattle.ber_core.specs.declared.element.Header.{Header}
 use Rattle.ber_core.specs.declared.fault.Fault.{Fault}
 use Rattle.ber_core.specs.Length.{Len}
-use Rattle.ber_core.specs.Reading.{header_at}
+use Rattle.ber_core.specs.computed.Reading.{header_at}
 use Rattle.ber_core.proofs.Headers.{header_for, low_found, Parts}
 use Rattle.ber_core.proofs.Steps.{bind_ok, pair_is}
 use Rattle.mms_data.specs.Data.{Data, simple, array, structure, items_of}
 use Rattle.mms_data.specs.Kinds.{identifier_of, simple_kind, simple_identifier}
-use Rattle.mms_data.specs.ContentsReading.{simple_at}
+use Rattle.mms_data.specs.computed.ContentsReading.{simple_at}
 use Rattle.mms_data.specs.Spelling.{Spells, SpellsAll}
-use Rattle.mms_data.specs.Reading.{contents_within, contents_at, known_at, member_with, members_with, member_at, members_at}
+use Rattle.mms_data.specs.computed.Reading.{contents_within, contents_at, known_at, member_with, members_with, member_at, members_at}
 use Rattle.mms_data.specs.declared.kinds.Kind.{Kind}
 use Rattle.mms_data.specs.declared.kinds.Kind.TheVariants.{Array, Structure, Simple as of_kind}
 use Rattle.mms_data.proofs.KindLaws.{here_found, low_tag}

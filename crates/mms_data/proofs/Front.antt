@@ -4,12 +4,12 @@ use Rattle.std.proofs.lemmas.List.{take_all, length-drop}
 use Rattle.std.specs.Prelude.{slice_range}
 use Rattle.ber_core.specs.declared.element.Header.{Header}
 use Rattle.ber_core.specs.declared.fault.Fault.{Fault}
-use Rattle.ber_core.specs.Reading.{header_at}
+use Rattle.ber_core.specs.computed.Reading.{header_at}
 use Rattle.ber_core.proofs.Headers.{low_found}
 use Rattle.ber_core.proofs.Steps.{bind_ok, pair_is}
 use Rattle.mms_data.specs.Data.{Data, array, structure, items_of}
-use Rattle.mms_data.specs.Left.{data_or_none, was_read, data_in, AreMembers}
-use Rattle.mms_data.specs.Reading.{known_at, contents_within, contents_at, member_with, members_with, member_at, members_at}
+use Rattle.mms_data.specs.computed.Left.{data_or_none, was_read, data_in, AreMembers}
+use Rattle.mms_data.specs.computed.Reading.{known_at, contents_within, contents_at, member_with, members_with, member_at, members_at}
 use Rattle.mms_data.specs.Spelling.{SpellsAll, SpellSome}
 use Rattle.mms_data.specs.declared.kinds.Kind.{Kind}
 use Rattle.mms_data.specs.declared.kinds.Kind.TheVariants.{Array, Structure}

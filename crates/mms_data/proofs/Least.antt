@@ -1,17 +1,13 @@
 -- The written form of a value is no longer than any of its spellings.
-use Rattle.std.proofs.Common.{◌≡◌, ℕ, ◌+◌, ◌^◌, ◌<◌, ◌≤◌, List, [], ◌∷◌, ◌++◌, length, take, drop, refl, sym, ap, subst, ◌∙◌, arith}
+use Rattle.std.proofs.Common.{ℕ, ◌+◌, ◌^◌, ◌<◌, ◌≤◌, List, [], ◌∷◌, ◌++◌, length, ap, subst, arith}
 use Rattle.std.proofs.lemmas.Int.{ints}
-use Rattle.std.proofs.lemmas.List.{length-append, take_at, drop_at}
+use Rattle.std.proofs.lemmas.List.{length-append}
 use Rattle.std.specs.Prelude.{pos}
-use Rattle.ber_core.specs.declared.element.Header.{Header}
-use Rattle.ber_core.specs.Length.{AreOctets, Len}
+use Rattle.ber_core.specs.Length.{AreOctets}
 use Rattle.ber_core.specs.Element.{Elem}
-use Rattle.ber_core.specs.Reading.{length_at}
-use Rattle.ber_core.specs.Written.{short_length, written_element}
-use Rattle.ber_core.proofs.Headers.{header_for, length_again}
+use Rattle.ber_core.specs.Written.{written_element}
 use Rattle.ber_core.proofs.OneSize.{Len_small}
 use Rattle.ber_core.proofs.Shortest.{length_shortest, integer_shortest}
-use Rattle.ber_core.proofs.Steps.{ok_is}
 use Rattle.mms_data.specs.Contents.{SpellsSimple}
 use Rattle.mms_data.specs.Data.{Simple, boolean, bits, integer, unsigned, floating, octets, visible, binary_time, mms_text, utc, Data, simple, array, structure, Items, no_items, item}
 use Rattle.mms_data.specs.Spelling.{Spells, SpellsItems}
@@ -42,10 +38,10 @@ simple_least (utc t) c h (seconds, fraction, four, three, first, second, parts) 
 header_grows : (m n : ℕ) → m ≤ n → header_size m ≤ header_size n
 header_grows m n few = grind arith
 
-size_octets : (id : ℕ) (c o : List ℕ) → AreOctets o → (e : Elem id c o) → AreOctets e.size
+pub size_octets : (id : ℕ) (c o : List ℕ) → AreOctets o → (e : Elem id c o) → AreOctets e.size
 size_octets id c o h e = front_octets e.size c (back_octets (id ∷ []) (e.size ++ c) (subst AreOctets e.parts h))
 
-contents_small : (id : ℕ) (c o : List ℕ) → AreOctets o → Elem id c o → length c < 2 ^ 32
+pub contents_small : (id : ℕ) (c o : List ℕ) → AreOctets o → Elem id c o → length c < 2 ^ 32
 contents_small id c o h e = Len_small (length c) e.size (size_octets id c o h e) e.sized
 
 -- the written element of no more contents is no longer
@@ -74,23 +70,3 @@ mutual
         ap length parts,
         length-append first rest,
       )
-
--- ---- the front of octets
-
--- fronts of one count are the same, and so is what stands behind them
-same_fronts : (a b x y : List ℕ) → length a ≡ length b → a ++ x ≡ b ++ y → (a ≡ b) × (x ≡ y)
-same_fronts a b x y size e =
-    (sym (take_at a x (length a) refl) ∙ ap (take (length a)) e ∙ take_at b y (length a) (sym size), sym (drop_at a x (length a) refl) ∙ ap (drop (length a)) e ∙ drop_at b y (length a) (sym size))
-
--- a length and the contents behind it, read as the written ones are
-pub short_again : (size c rest cw more : List ℕ) → Len (length c) size → length cw < 2 ^ 32 → size ++ (c ++ rest) ≡ short_length (length cw) ++ (cw ++ more)
-    → (length size ≡ length (short_length (length cw))) × (c ≡ cw)
-short_again size c rest cw more len few e =
-    let short = short_length (length cw) in
-    let one : header_for 0 0 (length size) (length c) ≡ header_for 0 0 (length short) (length cw) =
-    ok_is _ _ (sym (length_again 0 0 size c rest len) ∙ ap (length_at 0 0) e ∙ length_again 0 0 short cw more (length_shortest (length cw) few).spells) in
-    let from : 0 + 1 + length size ≡ 0 + 1 + length short = ap (λ (h : Header). h.contents_from) one in
-    let to : 0 + 1 + length size + length c ≡ 0 + 1 + length short + length cw = ap (λ (h : Header). h.contents_to) one in
-    let sizes : length size ≡ length short = omega arith in
-    let counts : length c ≡ length cw = omega arith in
-    (sizes, (same_fronts c cw rest more counts (same_fronts size short (c ++ rest) (cw ++ more) sizes e).1).0)

@@ -18,6 +18,7 @@ pub mod OneReading
 pub mod WrittenSpelled
 pub mod SpelledSpellable
 pub mod Least
+pub mod ShortIntegers
 pub mod AsWritten
 pub mod Sizes
 pub mod Appends

@@ -3,10 +3,10 @@ use Rattle.std.proofs.Common.{◌≡◌, ℕ, ◌-◌, List, Result, Ok, Err, re
 use Rattle.std.specs.Prelude.{◌≤◌, ◌⊎◌}
 use Rattle.ber_core.specs.declared.fault.Fault.{Fault}
 use Rattle.mms_data.specs.Data.{Data}
-use Rattle.mms_data.specs.Laws.{MembersOrFault, MembersElseFault, FaultIsOne, MembersAreOne, SeenIsOne, SeenIsSpelled}
+use Rattle.mms_data.specs.Laws.{MembersOrFault, MembersElseFault, FaultIsOne, MembersAreOne, ReadingIsTrue, ReadingTells, SeenIsOne, SeenIsSpelled}
 use Rattle.mms_data.specs.Meaning.{left}
 use Rattle.mms_data.specs.Place.{level_of, source_of}
-use Rattle.mms_data.specs.Reading.{members_at}
+use Rattle.mms_data.specs.computed.Reading.{members_at}
 use Rattle.mms_data.specs.Spelling.{SpellSome, FaultIn}
 use Rattle.mms_data.proofs.Again.{all_again}
 use Rattle.mms_data.proofs.Found.{all_found}
@@ -37,3 +37,9 @@ seen_is_spelled m =
 
 pub seen_is_one : SeenIsOne
 seen_is_one m ds s = one_value (level_of m) (omega arith) (source_of m).now (left m) ds (seen_is_spelled m) s
+
+pub reading_tells : ReadingTells
+reading_tells L p o last = (all_again (17 - L) L (omega arith) p o, λ f. all_wrong_again (17 - L) L f (omega arith) p o)
+
+pub reading_is_true : ReadingIsTrue
+reading_is_true L p o last = (all_found (17 - L) L (omega arith) p o, λ f. all_wrong (17 - L) L f (omega arith) p o)

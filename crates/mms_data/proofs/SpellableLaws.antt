@@ -6,11 +6,11 @@ use Rattle.std.specs.Prelude.{ℤ, pos, negsuc, slice_index}
 use Rattle.ber_core.specs.declared.fault.Fault.{Fault}
 use Rattle.mms_data.specs.Data.{Simple, boolean, bits, integer, unsigned, floating, octets, visible, binary_time, mms_text, utc, Data, simple, array, structure, Items, no_items, item}
 use Rattle.ber_core.specs.Contents.{AreVisible}
-use Rattle.ber_core.specs.ContentsReading.{all_visible_at}
+use Rattle.ber_core.specs.computed.ContentsReading.{all_visible_at}
 use Rattle.ber_core.proofs.ContentsLaws.{all_visible_found, all_visible_again}
 use Rattle.mms_data.specs.Contents.{IsSigned, IsUnused, cleared}
 use Rattle.mms_data.specs.Spellable.{IsTime, IsSpellableSimple, IsSpellableAt, ItemsAreSpellable}
-use Rattle.mms_data.specs.SpellableTest.{is_text_read, is_text, are_bits, is_time, is_signed, is_spellable_simple, is_spellable_at, items_are_spellable}
+use Rattle.mms_data.specs.computed.SpellableTest.{is_text_read, is_text, are_bits, is_time, is_signed, is_spellable_simple, is_spellable_at, items_are_spellable}
 use Rattle.mms_data.specs.declared.time.UtcTime.{UtcTime}
 use Rattle.mms_data.proofs.ContentsLaws.{floating_true, floating_is, time_true, time_is}
 

@@ -1,20 +1,20 @@
 -- Octets that the standards and docs/FORMATS.md give, computed: a wrong definition does not check.
 use Rattle.std.proofs.Common.{◌≡◌, ℕ, ◌^◌, ◌-◌, true, List, [], ◌∷◌, Ok, slice_index, refl, ap, arith, inl, inr}
 use Rattle.std.specs.Prelude.{pos, negsuc}
-use Rattle.ber_core.specs.ContentsReading.{all_visible_at, any_integer_at, boolean_at, integer_at}
+use Rattle.ber_core.specs.computed.ContentsReading.{all_visible_at, any_integer_at, boolean_at, integer_at}
 use Rattle.ber_core.specs.Faults.{fault_of}
-use Rattle.ber_core.specs.Reading.{counted_length_at, header_at, length_at, refused}
+use Rattle.ber_core.specs.computed.Reading.{counted_length_at, header_at, length_at, refused}
 use Rattle.ber_core.specs.Written.{integer_size, short_integer, short_length, written_element}
 use Rattle.ber_core.specs.declared.fault.Cause.TheVariants as causes
 use Rattle.mms_data.specs.Contents.{SpellsBits}
-use Rattle.mms_data.specs.ContentsReading.{simple_at}
+use Rattle.mms_data.specs.computed.ContentsReading.{simple_at}
 use Rattle.mms_data.specs.Data.{Data, array, structure, items_of, simple, boolean, bits, integer, unsigned, floating, octets, visible, binary_time, mms_text, utc}
-use Rattle.mms_data.specs.Kinds.{kind_at}
-use Rattle.mms_data.specs.Reading.{member_at, member_with, members_at, members_with}
+use Rattle.mms_data.specs.computed.KindReading.{kind_at}
+use Rattle.mms_data.specs.computed.Reading.{member_at, member_with, members_at, members_with}
 use Rattle.mms_data.specs.Spellable.{IsSpellableAt}
 use Rattle.mms_data.specs.Spelling.{FaultIn, Spells, SpellsAll}
 use Rattle.mms_data.specs.Utc.{SpellsUtc}
-use Rattle.mms_data.specs.UtcReading.{utc_at}
+use Rattle.mms_data.specs.computed.UtcReading.{utc_at}
 use Rattle.mms_data.specs.Written.{written, written_all}
 use Rattle.mms_data.specs.declared.time.UtcTime.{UtcTime}
 use Rattle.mms_data.proofs.Found.{all_found}

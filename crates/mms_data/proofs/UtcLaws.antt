@@ -9,7 +9,7 @@ use Rattle.ber_core.specs.declared.fault.Fault.{Fault}
 use Rattle.ber_core.specs.declared.fault.Cause.TheVariants as causes
 use Rattle.ber_core.proofs.Steps.{chosen, fault_is}
 use Rattle.mms_data.specs.Utc.{SpellsUtc, utc_of}
-use Rattle.mms_data.specs.UtcReading.{utc_at}
+use Rattle.mms_data.specs.computed.UtcReading.{utc_at}
 use Rattle.mms_data.specs.declared.time.UtcTime.{UtcTime}
 
 -- the last of eight octets

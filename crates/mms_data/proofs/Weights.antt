@@ -2,7 +2,7 @@
 use Rattle.std.proofs.Common.{◌≡◌, ℕ, zero, suc, ◌+◌, ◌<◌, ◌≤◌, List, [], ◌∷◌, ◌++◌, length, get_or, sym, ap, ◌∙◌, subst, arith}
 use Rattle.mms_data.specs.declared.value.Value.{Value}
 use Rattle.mms_data.specs.Data.{Data}
-use Rattle.mms_data.specs.Weight.{weight, weight_of_all}
+use Rattle.mms_data.specs.computed.Weight.{weight, weight_of_all}
 use Rattle.mms_data.specs.Value.{data_of, datas}
 
 pub weight_at : {A : Type 0} (vs : List (Value A)) (i : ℕ) (d : Value A) → i < length vs → weight (data_of (get_or vs i d)) + 1 ≤ weight_of_all (datas vs)

@@ -3,14 +3,14 @@ use Rattle.std.proofs.Common.{◌≡◌, ℕ, zero, suc, ◌-◌, ◌+◌, ◌%�
 use Rattle.std.proofs.lemmas.List.{length-append}
 use Rattle.ber_core.specs.declared.fault.Fault.{Fault}
 use Rattle.ber_core.specs.Length.{Len}
-use Rattle.ber_core.specs.Reading.{header_at}
+use Rattle.ber_core.specs.computed.Reading.{header_at}
 use Rattle.ber_core.proofs.Headers.{header_for, length_wrong, low_found}
 use Rattle.ber_core.proofs.Steps.{bind_err, fault_is}
 use Rattle.mms_data.specs.Data.{Data}
 use Rattle.mms_data.specs.Kinds.{identifier_of, IsKnown}
-use Rattle.mms_data.specs.ContentsReading.{simple_at}
+use Rattle.mms_data.specs.computed.ContentsReading.{simple_at}
 use Rattle.mms_data.specs.Spelling.{FaultIn, later, too_deep, high, unexpected, in_length, in_contents, within}
-use Rattle.mms_data.specs.Reading.{contents_within, contents_at, known_at, member_with, members_with, member_at, members_at}
+use Rattle.mms_data.specs.computed.Reading.{contents_within, contents_at, known_at, member_with, members_with, member_at, members_at}
 use Rattle.mms_data.specs.declared.kinds.Kind.{Kind}
 use Rattle.mms_data.specs.declared.kinds.Kind.TheVariants.{Array, Structure, Simple as of_kind}
 use Rattle.mms_data.proofs.KindLaws.{here_found, here_wrong}

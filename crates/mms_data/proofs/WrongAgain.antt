@@ -7,12 +7,12 @@ use Rattle.ber_core.specs.declared.fault.Cause.TheVariants as causes
 use Rattle.ber_core.specs.Element.{IsIdentifier}
 use Rattle.ber_core.specs.Faults.{LengthFault, fault_of}
 use Rattle.ber_core.specs.Length.{Len}
-use Rattle.ber_core.specs.Reading.{◌>>=◌, header_at}
+use Rattle.ber_core.specs.computed.Reading.{◌>>=◌, header_at}
 use Rattle.ber_core.proofs.Headers.{length_wrong_again}
 use Rattle.mms_data.specs.Kinds.{identifier_of, simple_identifier, IsKnown}
 use Rattle.mms_data.specs.Contents.{SimpleFault}
 use Rattle.mms_data.specs.Spelling.{FaultIn, later, too_deep, high, unexpected, in_length, in_contents, within}
-use Rattle.mms_data.specs.Reading.{member_with, members_with, member_at, members_at}
+use Rattle.mms_data.specs.computed.Reading.{member_with, members_with, member_at, members_at}
 use Rattle.mms_data.specs.declared.kinds.Kind.TheVariants.{Array, Structure, Simple as of_kind}
 use Rattle.mms_data.specs.declared.kinds.SimpleKind.{SimpleKind}
 use Rattle.mms_data.proofs.KindLaws.{low_tag, here_again, here_high, here_unknown}

@@ -10,19 +10,23 @@ use Rattle.mms_data.specs.declared.kinds.SimpleKind.{SimpleKind}
 use Rattle.mms_data.specs.declared.kinds.SimpleKind.TheVariants as kinds
 use Rattle.mms_data.specs.Utc.{SpellsUtc}
 
--- profile: a signed number lies from -2^63 to 2^63 - 1, an unsigned one from 0 to 2^64 - 1
+-- profile: a signed number lies from -2^63 to 2^63 - 1: the least
 abbrev pub least_signed : ℤ
 least_signed = negsuc (2 ^ 63 - 1)
 
+-- and the greatest
 abbrev pub most_signed : ℤ
 most_signed = pos (2 ^ 63 - 1)
 
+-- profile: an unsigned number lies from 0 to 2^64 - 1: the greatest
 abbrev pub most_unsigned : ℤ
 most_unsigned = pos (2 ^ 64 - 1)
 
+-- a number that a signed integer may have
 abbrev pub IsSigned : ℤ → Type 0
 IsSigned n = (least_signed ≤ℤ n) × (n ≤ℤ most_signed)
 
+-- a number that an unsigned integer may have
 abbrev pub IsUnsigned : ℤ → Type 0
 IsUnsigned n = (pos 0 ≤ℤ n) × (n ≤ℤ most_unsigned)
 
@@ -30,7 +34,7 @@ IsUnsigned n = (pos 0 ≤ℤ n) × (n ≤ℤ most_unsigned)
 abbrev pub IsFewOctets : ℕ → Type 0
 IsFewOctets n = (1 ≤ n) × (n ≤ 16)
 
--- a binary time has 4 or 6 octets
+-- a binary time has 4 or 6 octets (ISO 9506-2)
 abbrev pub IsTimeCount : ℕ → Type 0
 IsTimeCount n = (n ≡ 4) ⊎ (n ≡ 6)
 
@@ -45,12 +49,14 @@ abbrev pub IsUnused : ℕ → List ℕ → Type 0
 IsUnused unused [] = unused ≡ 0
 IsUnused unused (first ∷ more) = unused ≤ 7
 
--- contents of a bit string: the count of unused bits, then octets, whose unused bits may have any value
+-- contents of a bit string (ISO/IEC 8825-1, 8.6): the count of unused bits, then octets, whose unused bits may have
+-- any value
 abbrev pub SpellsBits : ℕ → List ℕ → List ℕ → Type 0
 SpellsBits unused ns [] = ⊥
 SpellsBits unused ns (count ∷ more) = (count ≡ unused) × IsUnused count more × (ns ≡ cleared count more)
 
--- the contents of a value, c, by its kind
+-- c are contents that spell the value, by its kind; those of octets and of texts are the octets themselves, with the
+-- counts and the characters that the kind has
 abbrev pub SpellsSimple : Simple → List ℕ → Type 0
 SpellsSimple (boolean b) c = SpellsBoolean b c
 SpellsSimple (bits unused ns) c = SpellsBits unused ns c
@@ -65,12 +71,12 @@ SpellsSimple (utc t) c = SpellsUtc t c
 
 -- ---- faults: p is the identifier's place, s that of the first octet of contents
 
--- no count of unused bits, or a wrong one
+-- no count of unused bits, or a wrong one: the fault is at the first place of the contents
 abbrev pub BitsFault : Fault → ℕ → List ℕ → Type 0
 BitsFault f s [] = f ≡ fault_of s causes.BitUnused
 BitsFault f s (unused ∷ more) = (f ≡ fault_of s causes.BitUnused) × ¬ IsUnused unused more
 
--- what is wrong with contents, by the kind
+-- what is wrong with contents c that spell no value of the kind; any contents are an octet string, and an MMS string
 abbrev pub SimpleFault : Fault → SimpleKind → ℕ → ℕ → List ℕ → Type 0
 SimpleFault f kinds.Boolean p s c = BooleanFault f p c
 SimpleFault f kinds.BitString p s c = BitsFault f s c

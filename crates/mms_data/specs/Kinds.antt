@@ -1,5 +1,5 @@
 -- The kinds of Data and their identifiers (ISO 9506-2, Data, in the context class).
-use Rattle.std.specs.Prelude.{◌≡◌, ℕ, Option, Some, None, ◌==◌, if◌then◌else◌}
+use Rattle.std.specs.Prelude.{◌≡◌, ℕ}
 use Rattle.mms_data.specs.Data.{Simple, boolean, bits, integer, unsigned, floating, octets, visible, binary_time, mms_text, utc}
 use Rattle.mms_data.specs.declared.kinds.Kind.{Kind}
 use Rattle.mms_data.specs.declared.kinds.Kind.TheVariants.{Array, Structure, Simple as of_kind}
@@ -41,13 +41,3 @@ simple_kind (utc t) = kinds.UtcTime
 -- the identifier announces a kind
 abbrev pub IsKnown : ℕ → Type 0
 IsKnown id = (k : Kind) × (id ≡ identifier_of k)
-
--- the kind that an identifier announces
-unfoldable pub kind_at : ℕ → Option Kind
-kind_at id =
-    if id == 0xa1 then Some Array else (if id == 0xa2 then Some Structure
-    else (if id == 0x83 then Some (of_kind kinds.Boolean) else (if id == 0x84 then Some (of_kind kinds.BitString)
-    else (if id == 0x85 then Some (of_kind kinds.Integer) else (if id == 0x86 then Some (of_kind kinds.Unsigned)
-    else (if id == 0x87 then Some (of_kind kinds.FloatingPoint) else (if id == 0x89 then Some (of_kind kinds.OctetString)
-    else (if id == 0x8a then Some (of_kind kinds.VisibleString) else (if id == 0x8c then Some (of_kind kinds.BinaryTime)
-    else (if id == 0x90 then Some (of_kind kinds.MmsString) else (if id == 0x91 then Some (of_kind kinds.UtcTime) else None)))))))))))

@@ -1,5 +1,5 @@
 -- What the definitions say together: octets have one reading, and written forms are spellings, none of which is shorter.
-use Rattle.std.specs.Prelude.{◌≡◌, ◌≤◌, ◌<◌, ◌^◌, ◌⊎◌, ℕ, List, length}
+use Rattle.std.specs.Prelude.{◌≡◌, ◌≤◌, ◌<◌, ◌-◌, ◌^◌, ◌⊎◌, ℕ, List, Result, Ok, Err, length}
 use Rattle.ber_core.specs.declared.fault.Fault.{Fault}
 use Rattle.ber_core.specs.Length.{AreOctets}
 use Rattle.mms_data.specs.Data.{Data}
@@ -8,6 +8,7 @@ use Rattle.mms_data.specs.Spellable.{IsSpellableAt, AllAreSpellable}
 use Rattle.mms_data.specs.Written.{HasWritten, written, written_all}
 use Rattle.mms_data.specs.Meaning.{left}
 use Rattle.mms_data.specs.Place.{level_of, source_of}
+use Rattle.mms_data.specs.computed.Reading.{members_at}
 use Rattle.mms_data.specs.declared.view.Members.{Members}
 
 -- octets spell one list of members at most
@@ -25,6 +26,14 @@ MembersElseFault = (L p : ℕ) (o : List ℕ) → L ≤ 17 → SpellSome L o ⊎
 -- octets have one first fault at most
 abbrev pub FaultIsOne : Type 0
 FaultIsOne = (L p : ℕ) (o : List ℕ) (f g : Fault) → L ≤ 17 → FaultIn f L p o → FaultIn g L p o → f ≡ g
+
+-- the members that octets spell at a level are read, and so is the first fault that they have
+abbrev pub ReadingTells : Type 0
+ReadingTells = (L p : ℕ) (o : List ℕ) → L ≤ 17 → ((ds : List Data) → SpellsAll ds L o → members_at (17 - L) p o ≡ Ok ds) × ((f : Fault) → FaultIn f L p o → members_at (17 - L) p o ≡ Err f)
+
+-- what is read are members that the octets spell, or the first fault that they have
+abbrev pub ReadingIsTrue : Type 0
+ReadingIsTrue = (L p : ℕ) (o : List ℕ) → L ≤ 17 → ((ds : List Data) → members_at (17 - L) p o ≡ Ok ds → SpellsAll ds L o) × ((f : Fault) → members_at (17 - L) p o ≡ Err f → FaultIn f L p o)
 
 -- the written form of a value that has a spelling, and contents of at most 4294967295 octets, spells it
 abbrev pub WrittenIsSpelled : Type 0

@@ -2,7 +2,7 @@
 use Rattle.std.specs.Prelude.{List}
 use Rattle.mms_data.specs.Data.{Data, simple, array, structure, boolean, bits, integer, unsigned, floating, octets, visible, binary_time, mms_text, utc, items_of}
 use Rattle.mms_data.specs.Contents.{cleared}
-use Rattle.mms_data.specs.Left.{data_in}
+use Rattle.mms_data.specs.computed.Left.{data_in}
 use Rattle.mms_data.specs.declared.view.Members.{Members}
 use Rattle.mms_data.specs.declared.view.View.{View}
 use Rattle.mms_data.specs.declared.view.View.TheVariants as variants

@@ -29,10 +29,11 @@ abbrev mutual
   IsSpellableAt (array ds) L = (L ≤ 16) × ItemsAreSpellable ds (L + 1)
   IsSpellableAt (structure ds) L = (L ≤ 16) × ItemsAreSpellable ds (L + 1)
 
+  -- members, each of which has a spelling at the level
   pub ItemsAreSpellable : Items → ℕ → Type 0
   ItemsAreSpellable no_items L = Unit {0}
   ItemsAreSpellable (item d ds) L = IsSpellableAt d L × ItemsAreSpellable ds L
 
--- each of them has one
+-- a list of values, each of which has a spelling at the level
 abbrev pub AllAreSpellable : List Data → ℕ → Type 0
 AllAreSpellable ds L = ItemsAreSpellable (items_of ds) L

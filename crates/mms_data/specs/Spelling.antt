@@ -11,7 +11,8 @@ use Rattle.mms_data.specs.Contents.{SpellsSimple, SimpleFault}
 use Rattle.mms_data.specs.declared.kinds.SimpleKind.{SimpleKind}
 
 abbrev mutual
-  -- o spells the value, which stands at the level L, at most 16 (profile)
+  -- o spells the value, which stands at the level L, at most 16 (profile): it is the element of its kind, whose
+  -- contents spell it, or spell its members at the next level
   pub Spells : Data → ℕ → List ℕ → Type 0
   Spells (simple s) L o = (L ≤ 16) × (c : List ℕ) × Elem (simple_identifier (simple_kind s)) c o × SpellsSimple s c
   Spells (array ds) L o = (L ≤ 16) × (c : List ℕ) × Elem 0xa1 c o × SpellsItems ds (L + 1) c
@@ -22,11 +23,11 @@ abbrev mutual
   SpellsItems no_items L o = o ≡ []
   SpellsItems (item d ds) L o = (first : List ℕ) × (rest : List ℕ) × Spells d L first × SpellsItems ds L rest × (o ≡ first ++ rest)
 
--- the same of a list
+-- o is the spellings of a list of values at the level L, one after the other
 abbrev pub SpellsAll : List Data → ℕ → List ℕ → Type 0
 SpellsAll ds L o = SpellsItems (items_of ds) L o
 
--- the octets spell members, the first at the level
+-- o is the spellings of some list of values at the level L
 abbrev pub SpellSome : ℕ → List ℕ → Type 0
 SpellSome L o = (ds : List Data) × SpellsAll ds L o
 

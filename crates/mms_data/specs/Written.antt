@@ -36,12 +36,12 @@ abbrev mutual
   written (array ds) = written_element 0xa1 (written_items ds)
   written (structure ds) = written_element 0xa2 (written_items ds)
 
-  -- and of members, one after the other
+  -- the written forms of members, one after the other
   pub written_items : Items → List ℕ
   written_items no_items = []
   written_items (item d ds) = written d ++ written_items ds
 
--- the same of a list
+-- the written forms of a list of values, one after the other
 abbrev pub written_all : List Data → List ℕ
 written_all ds = written_items (items_of ds)
 

@@ -1,14 +1,16 @@
 // Whether octets spell members, with no memory.
 
-ghost use Rattle.std.specs.Prelude.{◌≡◌, ◌<◌, ◌≤◌, ◌+◌, ◌-◌, List, length, slice_range, Ok, Err, IfOk, IfErr};
+ghost use Rattle.std.specs.Prelude.{◌≡◌, ◌<◌, ◌≤◌, ◌+◌, ◌-◌, List, length, slice_range, true, Ok, Err, IfOk, IfErr};
 ghost use Rattle.ber_core.specs.declared.fault.Fault.{Fault};
 ghost use Rattle.mms_data.specs.Data.{Data};
-ghost use Rattle.mms_data.specs.Left.{less};
-ghost use Rattle.mms_data.specs.Reading.{contents_at, member_at, members_at};
+ghost use Rattle.mms_data.specs.computed.Left.{less};
+ghost use Rattle.mms_data.specs.computed.Reading.{contents_at, member_at, members_at};
 ghost use Rattle.mms_data.specs.Spelling.{SpellsAll, FaultIn};
+ghost use Rattle.mms_data.specs.Written.{written, written_all, written_contents};
 
 use crate::contents::simple;
 use crate::kinds::{Kind, member_kind};
+use crate::standing::{has_short_length, is_simple_written};
 use ber_core::{Cause, Fault, Header, header};
 
 /// How many members the octets from `at` to `end` spell, the first at the level (ISO 9506-2). Nothing but those
@@ -34,33 +36,55 @@ pub fn check_members(octets: &[u8], at: usize, end: usize, level: u8) -> Result<
     // For callers: the function on octets that it computes.
     ensures exact { result ≡ less length (members_at (17 - level) at (slice_range octets.now at end)) }
 {
-    count_members(octets, at, end, 17 - level)
+    count_alone(octets, at, end, 17 - level)
 }
 
 // The count of the members, of which `depth` levels may stand inside one another.
-#[cycle(checking)]
-fn count_members(octets: &[u8], at: usize, end: usize, depth: u8) -> Result<usize, Fault>
+fn count_alone(octets: &[u8], at: usize, end: usize, depth: u8) -> Result<usize, Fault>
     requires order { at ≤ end }
     requires inside { end ≤ length octets.now }
     ensures { result ≡ less length (members_at depth at (slice_range octets.now at end)) }
 {
-    let mut count = 0;
-    let mut place = at;
-    'members: while place < end {
-        place = pass_member(octets, place, end, depth)?;
-        count += 1;
+    match count_members(octets, at, end, depth) {
+        Ok((count, _)) => Ok(count),
+        Err(fault) => Err(fault),
     }
-    Ok(count)
 }
 
-// The place after the member at `at`.
+// The count of the members, and whether they are known to stand in their written form.
 #[cycle(checking)]
-#[tactic(auto, unfolding(crate::specs::Reading::member_with, crate::specs::Reading::member_at))]
-fn pass_member(octets: &[u8], at: usize, end: usize, depth: u8) -> Result<usize, Fault>
+pub(crate) fn count_members(
+    octets: &[u8],
+    at: usize,
+    end: usize,
+    depth: u8,
+) -> Result<(usize, bool), Fault>
+    requires order { at ≤ end }
+    requires inside { end ≤ length octets.now }
+    ensures exact { less (λ x. x.0) result ≡ less length (members_at depth at (slice_range octets.now at end)) }
+    ensures written { IfOk result (λ x. x.1 ≡ true → (ds : List Data) → members_at depth at (slice_range octets.now at end) ≡ Ok ds → slice_range octets.now at end ≡ written_all ds) }
+{
+    let mut count = 0;
+    let mut written = true;
+    let mut place = at;
+    'members: while place < end {
+        let (next, stands) = pass_member(octets, place, end, depth)?;
+        place = next;
+        written &= stands;
+        count += 1;
+    }
+    Ok((count, written))
+}
+
+// The place after the member at `at`, and whether that is known to stand in its written form.
+#[cycle(checking)]
+#[tactic(auto, unfolding(crate::specs::computed::Reading::member_with, crate::specs::computed::Reading::member_at))]
+fn pass_member(octets: &[u8], at: usize, end: usize, depth: u8) -> Result<(usize, bool), Fault>
     requires order { at < end }
     requires inside { end ≤ length octets.now }
-    ensures exact { result ≡ less (λ x. x.1) (member_at depth at (slice_range octets.now at end)) }
-    ensures next { IfOk result (λ x. (at < x) × (x ≤ end)) }
+    ensures exact { less (λ x. x.0) result ≡ less (λ x. x.1) (member_at depth at (slice_range octets.now at end)) }
+    ensures next { IfOk result (λ x. (at < x.0) × (x.0 ≤ end)) }
+    ensures written { IfOk result (λ x. x.1 ≡ true → (d : Data) → member_at depth at (slice_range octets.now at end) ≡ Ok (d, x.0) → slice_range octets.now at x.0 ≡ written d) }
 {
     if depth == 0 {
         return Err(Cause::TooDeep.at(at));
@@ -70,8 +94,8 @@ fn pass_member(octets: &[u8], at: usize, end: usize, depth: u8) -> Result<usize,
     match header(octets, at, end) {
         Ok(header) => {
             let kind = member_kind(&octets[at..end], at)?;
-            check_contents(octets, &header, kind, depth - 1)?;
-            Ok(header.contents_to)
+            let written = check_contents(octets, &header, kind, depth - 1)?;
+            Ok((header.contents_to, has_short_length(&header) & written))
         }
         Err(fault) => {
             let _kind = member_kind(&octets[at..end], at)?;
@@ -80,22 +104,26 @@ fn pass_member(octets: &[u8], at: usize, end: usize, depth: u8) -> Result<usize,
     }
 }
 
-// Whether the contents behind the header are those of a value of the kind.
+// The contents behind the header have to be those of a value of the kind: whether they are known to be its written ones.
 #[cycle(checking)]
-fn check_contents(octets: &[u8], header: &Header, kind: Kind, depth: u8) -> Result<(), Fault>
+fn check_contents(octets: &[u8], header: &Header, kind: Kind, depth: u8) -> Result<bool, Fault>
     requires begins { header.now.at < header.now.contents_from }
     requires order { header.now.contents_from ≤ header.now.contents_to }
     requires inside { header.now.contents_to ≤ length octets.now }
-    ensures { result ≡ less (λ _. tt) (contents_at (members_at depth) kind header.now (slice_range octets.now header.now.contents_from header.now.contents_to)) }
+    ensures exact { less (λ _. tt {0}) result ≡ less (λ _. tt {0}) (contents_at (members_at depth) kind header.now (slice_range octets.now header.now.contents_from header.now.contents_to)) }
+    ensures written { IfOk result (λ w. w ≡ true → (d : Data) → contents_at (members_at depth) kind header.now (slice_range octets.now header.now.contents_from header.now.contents_to) ≡ Ok d
+        → slice_range octets.now header.now.contents_from header.now.contents_to ≡ written_contents d) }
 {
     let (from, to) = (header.contents_from, header.contents_to);
     match kind {
         Kind::Array | Kind::Structure => {
-            let _count = count_members(octets, from, to, depth)?;
+            let (_count, written) = count_members(octets, from, to, depth)?;
+            Ok(written)
         }
         Kind::Simple(kind) => {
-            let _view = simple(kind, &octets[from..to], header.at, from)?;
+            let contents = &octets[from..to];
+            let _view = simple(kind, contents, header.at, from)?;
+            Ok(is_simple_written(kind, contents))
         }
     }
-    Ok(())
 }

@@ -2,13 +2,13 @@
 // identifier's, `from` that of the first octet of contents.
 
 ghost use Rattle.std.specs.Prelude.{◌≡◌, ◌+◌, ◌<◌, ◌^◌, length, Ok, Err, IfOk};
-ghost use Rattle.ber_core.specs.ContentsReading.{integer_at};
-ghost use Rattle.ber_core.specs.Reading.{Gives};
+ghost use Rattle.ber_core.specs.computed.ContentsReading.{integer_at};
+ghost use Rattle.ber_core.specs.computed.Reading.{Gives};
 ghost use Rattle.mms_data.specs.Contents.{least_signed, most_signed};
-ghost use Rattle.mms_data.specs.ContentsReading.{bits_at, unsigned_at};
+ghost use Rattle.mms_data.specs.computed.ContentsReading.{bits_at, unsigned_at};
 ghost use Rattle.mms_data.specs.Meaning.{meaning};
 ghost use Rattle.mms_data.specs.Place.{IsPart, ViewIsPart};
-ghost use Rattle.mms_data.specs.Reading.{simple_data_at};
+ghost use Rattle.mms_data.specs.computed.Reading.{simple_data_at};
 
 use crate::kinds::SimpleKind;
 use crate::utc::eight_octets;
@@ -19,7 +19,7 @@ use ber_core::{Cause, Fault};
 // The view of the contents of a kind. Inlined, so that a member is told apart by its identifier once, and no answer that
 // may be a fault is put together where members are known to be good.
 #[inline(always)]
-#[tactic(auto, unfolding(crate::specs::ContentsReading::simple_at))]
+#[tactic(auto, unfolding(crate::specs::computed::ContentsReading::simple_at))]
 pub(crate) fn simple<'a>(
     kind: SimpleKind,
     contents: &'a [u8],

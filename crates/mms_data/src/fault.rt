@@ -12,7 +12,7 @@ use thiserror::Error;
 pub enum ReadFault {
     #[error("{0}")]
     Fault(Fault),
-    #[error("memory was refused")]
+    #[error("out of memory")]
     Memory(AllocError),
 }
 
@@ -43,7 +43,7 @@ impl From<Fault> for ReadFault {
 /// Why a value is not written: it has no spelling, or its written form does not fit in what is left.
 #[derive(Clone, Copy, Debug, PartialEq, Eq, Error)]
 pub enum PutFault {
-    #[error("not spellable")]
+    #[error("it has no encoding")]
     NotSpellable,
     #[error("no room is left")]
     Full,

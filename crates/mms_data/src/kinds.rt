@@ -1,8 +1,8 @@
 // The kinds of Data, by their identifiers.
 
 ghost use Rattle.std.specs.Prelude.{◌≡◌};
-ghost use Rattle.mms_data.specs.Kinds.{kind_at};
-ghost use Rattle.mms_data.specs.Reading.{known_at};
+ghost use Rattle.mms_data.specs.computed.KindReading.{kind_at};
+ghost use Rattle.mms_data.specs.computed.Reading.{known_at};
 
 use ber_core::{Cause, Fault};
 
@@ -30,7 +30,7 @@ pub enum Kind {
 }
 
 // The kind that the identifier announces.
-#[tactic(auto, unfolding(crate::specs::Kinds::kind_at))]
+#[tactic(auto, unfolding(crate::specs::computed::KindReading::kind_at))]
 fn announced(identifier: u8) -> Option<Kind>
     ensures { result ≡ kind_at identifier }
 {

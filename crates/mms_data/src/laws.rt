@@ -1,6 +1,6 @@
 //! Laws about the definitions that the contracts of this crate cite. The functions compute nothing.
 
-ghost use Rattle.mms_data.specs.Laws.{AllWrittenAreShortest, AllWrittenAreSpelled, FaultIsOne, MembersAreOne, MembersElseFault, MembersOrFault, SeenIsOne, SeenIsSpelled, SpelledIsSpellable, WrittenIsShortest, WrittenIsSpelled};
+ghost use Rattle.mms_data.specs.Laws.{AllWrittenAreShortest, AllWrittenAreSpelled, FaultIsOne, MembersAreOne, MembersElseFault, MembersOrFault, ReadingIsTrue, ReadingTells, SeenIsOne, SeenIsSpelled, SpelledIsSpellable, WrittenIsShortest, WrittenIsSpelled};
 
 /// Octets spell one list of members, or have one first fault, and never both.
 pub fn one_reading()
@@ -8,6 +8,13 @@ pub fn one_reading()
     ensures either { MembersOrFault }
     ensures else_fault { MembersElseFault }
     ensures fault { FaultIsOne }
+{}
+
+/// The function on octets, by which scripts are defined, gives the members that octets spell, and the first fault that
+/// they have; and the octets spell the members that it gives, and have the fault that it gives as their first.
+pub fn reading_tells()
+    ensures told { ReadingTells }
+    ensures only { ReadingIsTrue }
 {}
 
 /// The written form of a value that has a spelling spells it.

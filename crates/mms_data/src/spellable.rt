@@ -2,7 +2,7 @@
 
 ghost use Rattle.std.specs.Prelude.{◌≡◌, ◌≤◌, ◌^◌, ◌↔◌, nat_lt, true};
 ghost use Rattle.mms_data.specs.Spellable.{AllAreSpellable, IsSpellableAt};
-ghost use Rattle.mms_data.specs.SpellableTest.{all_are_spellable, are_bits, is_signed, is_spellable_at, is_text, is_time};
+ghost use Rattle.mms_data.specs.computed.SpellableTest.{all_are_spellable, are_bits, is_signed, is_spellable_at, is_text, is_time};
 ghost use Rattle.mms_data.specs.Value.{data_of};
 
 use crate::time::UtcTime;

@@ -5,7 +5,7 @@ ghost use Rattle.ber_core.specs.Contents.{CountedFault};
 ghost use Rattle.ber_core.specs.Element.{contents_of};
 ghost use Rattle.ber_core.specs.declared.fault.Fault.{Fault};
 ghost use Rattle.mms_data.specs.Utc.{SpellsUtc};
-ghost use Rattle.mms_data.specs.UtcReading.{utc_at};
+ghost use Rattle.mms_data.specs.computed.UtcReading.{utc_at};
 ghost use Rattle.mms_data.specs.declared.time.UtcTime.{UtcTime};
 
 use crate::time::UtcTime;
@@ -37,7 +37,7 @@ pub fn utc_time(octets: &[u8], header: &Header) -> Result<UtcTime, Fault>
 }
 
 // The time that the contents spell, behind the identifier that stands at `at`.
-#[tactic(auto, unfolding(crate::specs::UtcReading::utc_at))]
+#[tactic(auto, unfolding(crate::specs::computed::UtcReading::utc_at))]
 pub(crate) fn eight_octets(contents: &[u8], at: usize) -> Result<UtcTime, Fault>
     requires { at + 1 < 2 ^ 64 }
     ensures { result ≡ utc_at at contents.now }

@@ -43,7 +43,7 @@ impl<A: Allocator> Model for ValueList<A> {
     ghost use Rattle.std.specs.Prelude.{List};
     ghost use Rattle.std.specs.Coded.{coded_list};
     ghost use Rattle.mms_data.specs.Data.{Data};
-    ghost use Rattle.mms_data.specs.DataCode.{data_code};
+    ghost use Rattle.mms_data.specs.computed.DataCode.{data_code};
 
     ghost Value = { List Data };
 
@@ -53,11 +53,11 @@ impl<A: Allocator> Model for ValueList<A> {
 
     ghost view = { λ l. datas l.values.items };
 
-    ghost use Rattle.mms_data.specs.Weight.{weight_of_all};
+    ghost use Rattle.mms_data.specs.computed.Weight.{weight_of_all};
 
     ghost size = { weight_of_all };
 
-    ghost use Rattle.mms_data.specs.Falls.{falls};
+    ghost use Rattle.mms_data.specs.computed.Falls.{falls};
 
     ghost size_decreases = { λ l h. falls _ A.Allocator l.values.items };
 }

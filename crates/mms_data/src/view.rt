@@ -1,11 +1,11 @@
 // Members of Data, seen where they stand.
 
-ghost use Rattle.std.specs.Prelude.{◌≡◌, ◌<◌, ◌≤◌, ◌+◌, ◌-◌, ◌^◌, ◌∷◌, length, slice_range};
-ghost use Rattle.mms_data.specs.Left.{AreMembers};
+ghost use Rattle.std.specs.Prelude.{◌≡◌, ◌<◌, ◌≤◌, ◌+◌, ◌-◌, ◌^◌, ◌∷◌, length, slice_range, true};
+ghost use Rattle.mms_data.specs.computed.Left.{AreMembers, data_in};
+ghost use Rattle.mms_data.specs.Written.{written_all};
 
 use crate::contents::simple;
 use crate::kinds::{Kind, member_kind};
-use crate::standing::are_written;
 use crate::time::UtcTime;
 use ber_core::{Header, header};
 
@@ -40,44 +40,66 @@ pub enum View<'a> {
 pub struct Members<'a> {
     octets: &'a [u8],
     depth: u8,
+    // Known to stand in their written form.
+    written: bool,
     pub ghost bounded: { depth ≤ 16 },
     pub ghost spelled: { AreMembers depth octets.now },
+    pub ghost stands: { written ≡ true → octets.now ≡ written_all (data_in depth octets.now) },
+}
+
+/// Members of Data, seen where they stand, and what was found when they were read.
+#[derive(Clone, Copy)]
+pub struct CountedMembers<'a> {
+    /// The count of the members.
+    pub count: usize,
+    /// Whether they are known to stand in their written form; false says nothing.
+    pub written: bool,
+    /// The members.
+    pub members: Members<'a>,
 }
 
 impl<'a> Members<'a> {
-    ghost use Rattle.std.specs.Prelude.{Ok, ◌↔◌, IfSome, IsSome};
+    ghost use Rattle.std.specs.Prelude.{Ok, IfSome};
     ghost use Rattle.mms_data.specs.Data.{Data};
     ghost use Rattle.mms_data.specs.Meaning.{left, meaning};
     ghost use Rattle.mms_data.specs.Place.{IsPart, ViewIsPart, source_of};
-    ghost use Rattle.mms_data.specs.Reading.{contents_at, members_at};
+    ghost use Rattle.mms_data.specs.computed.Reading.{contents_at, members_at};
     ghost use Rattle.mms_data.specs.Spelling.{SpellSome, SpellsAll};
-    ghost use Rattle.mms_data.specs.Written.{written_all};
 
-    // The octets of the members, exactly where they are the written forms of the members, one after the other.
+    // The octets of the members, where they are known to be the written forms of the members, one after the other.
     pub(crate) fn as_written(self) -> Option<&'a [u8]>
-        ensures exactly { IsSome result ↔ ((source_of self.entry).now ≡ written_all (left self.entry)) }
-        ensures octets { IfSome result (λ o. o.now ≡ written_all (left self.entry)) }
+        ensures { IfSome result (λ o. o.now ≡ written_all (left self.entry)) }
     {
-        if are_written(self.octets, self.depth) {
+        if self.written {
             Some(self.octets)
         } else {
             None
         }
     }
 
-    // The members that the octets from `at` to `end` spell, the first at the level.
-    pub(crate) fn new(octets: &'a [u8], at: usize, end: usize, level: u8) -> Members<'a>
+    // The members that the octets from `at` to `end` spell, the first at the level, and whether they are known to stand in
+    // their written form.
+    pub(crate) fn new(
+        octets: &'a [u8],
+        at: usize,
+        end: usize,
+        level: u8,
+        written: bool,
+    ) -> Members<'a>
         requires order { at ≤ end }
         requires inside { end ≤ length octets.now }
         requires first { 1 ≤ level }
         requires last { level ≤ 17 }
         requires accepted { SpellSome level (slice_range octets.now at end) }
+        requires stands { written ≡ true → slice_range octets.now at end ≡ written_all (data_in (17 - level) (slice_range octets.now at end)) }
+        ensures is { left result ≡ data_in (17 - level) (slice_range octets.now at end) }
         ensures spelled { SpellsAll (left result) level (slice_range octets.now at end) }
         ensures part { IsPart (source_of result) octets.entry }
     {
         Members {
             octets: &octets[at..end],
             depth: 17 - level,
+            written,
         }
     }
 
@@ -95,10 +117,12 @@ impl<'a> Members<'a> {
             Kind::Array => View::Array(Members {
                 octets: contents,
                 depth,
+                written: false,
             }),
             Kind::Structure => View::Structure(Members {
                 octets: contents,
                 depth,
+                written: false,
             }),
             Kind::Simple(kind) => {
                 let Ok(view) = simple(kind, contents, header.at, header.contents_from) else {
@@ -127,7 +151,12 @@ impl<'a> Members<'a> {
         };
         let view = Members::view(contents, &header, kind, depth - 1);
         let octets = &octets[header.contents_to..];
-        (view, Members { octets, depth })
+        let rest = Members {
+            octets,
+            depth,
+            written: false,
+        };
+        (view, rest)
     }
 }
 

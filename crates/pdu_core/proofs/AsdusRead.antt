@@ -1,8 +1,10 @@
 -- Reading ASDUs one after the other, as a loop and an iterator do.
-use Rattle.std.proofs.Common.{◌≡◌, ℕ, ◌+◌, ◌≤◌, ◌<◌, List, [], ◌∷◌, ◌++◌, length, Result, Ok, Err, Option, refl, sym, ap, ap₂, ◌∙◌, append_assoc, arith, inl, inr}
+use Rattle.std.proofs.Common.{◌≡◌, ℕ, Bool, true, ◌+◌, ◌≤◌, ◌<◌, List, [], ◌∷◌, ◌++◌, length, Result, Ok, Err, Option, refl, sym, ap, ap₂, ◌∙◌, append_assoc, arith, inl, inr}
+use Rattle.std.proofs.lemmas.Bool.{and_parts}
 use Rattle.std.proofs.lemmas.List.{append-nil, length-append}
-use Rattle.ber_core.specs.FieldReading.{required_at}
-use Rattle.ber_core.specs.Reading.{◌>>=◌}
+use Rattle.std.specs.Prelude.{◌&&◌, slice_range}
+use Rattle.ber_core.specs.computed.FieldReading.{required_at}
+use Rattle.ber_core.specs.computed.Reading.{◌>>=◌}
 use Rattle.ber_core.specs.declared.element.Header.{Header}
 use Rattle.ber_core.specs.declared.fault.Fault.{Fault}
 use Rattle.ber_core.proofs.FieldNested.{result_cases}
@@ -12,10 +14,12 @@ use Rattle.ber_core.proofs.Steps.{bind_ok, bind_err}
 use Rattle.pdu_core.specs.Asdu.{asdu_items}
 use Rattle.pdu_core.specs.Contents.{Item}
 use Rattle.pdu_core.specs.Sampled.{asdu_grammar, items_of_each}
-use Rattle.pdu_core.specs.SampledReading.{asdu_in, asdu_at, asdus_at}
-use Rattle.pdu_core.specs.SampledValue.{AreAsdus, are_read, asdu_of_items, asdus_in}
+use Rattle.pdu_core.specs.computed.SampledReading.{asdu_in, asdu_at, asdus_at}
+use Rattle.pdu_core.specs.computed.SampledValue.{AreAsdus, are_read, asdu_of_items, asdus_in}
 use Rattle.pdu_core.specs.declared.sampled.asdu.Asdu.{Asdu}
+use Rattle.pdu_core.specs.SampledWritten.{written_asdu, written_asdus}
 use Rattle.pdu_core.proofs.SampledItems.{asdu_sound}
+use Rattle.pdu_core.proofs.Standing.{join, nothing}
 
 module _ (octets : List ℕ) (e : ℕ) (within : e ≤ length octets) where
   behind_header : (p : ℕ) (h : Header) (ws : List (Option Item)) → p < e → required_at 0x30 octets p e ≡ Ok h → asdu_in tt octets h ≡ Ok ws → asdus_at octets p e ≡ (asdus_at octets h.contents_to e >>= λ xs. Ok (ws ∷ xs))
@@ -66,34 +70,46 @@ one_more : {A : Type 0} (xs : List (Asdu A)) (a : Asdu A) → items_of_each (xs 
 one_more [] a = refl
 one_more (x ∷ xs) a = ap (λ (y : List (List (Option Item))). asdu_items x ∷ y) (one_more xs a)
 
--- The ASDUs up to place are read, and there are so many: with those that are still read they are all.
-pub record Counts (octets : List ℕ) (at end place count : ℕ) : Type 0 where
+one_written : {A : Type 0} (xs : List (Asdu A)) (a : Asdu A) → written_asdus (xs ++ a ∷ []) ≡ written_asdus xs ++ written_asdu a
+one_written [] a = append-nil (written_asdu a)
+one_written (x ∷ xs) a = ap (λ (y : List ℕ). written_asdu x ++ y) (one_written xs a) ∙ sym (append_assoc (written_asdu x) (written_asdus xs) (written_asdu a))
+
+-- The ASDUs up to place are read, and there are so many: with those that are still read they are all. They stand in their
+-- written form where this is told.
+pub record Counts (octets : List ℕ) (at end place count : ℕ) (written : Bool) : Type 0 where
   pub done : List (Asdu (Unit {0}))
   pub counted : length done ≡ count
   pub few : count + at ≤ place
   pub order : place ≤ end
   pub goes : asdus_at octets at end ≡ with_front (items_of_each done) (asdus_at octets place end)
+  pub stand : written ≡ true → slice_range octets at place ≡ written_asdus done
 
 module _ (octets : List ℕ) (at end : ℕ) (within : end ≤ length octets) where
-  pub counts_none : at ≤ end → Counts octets at end at 0
-  counts_none order = record { done = []; counted = refl; few = omega arith; order = order; goes = none_before (asdus_at octets at end) }
+  pub counts_none : at ≤ end → Counts octets at end at 0 true
+  counts_none order = record { done = []; counted = refl; few = omega arith; order = order; goes = none_before (asdus_at octets at end); stand = λ _. nothing octets at at (omega arith) }
 
-  pub counts_on : (place next count : ℕ) (a : Asdu (Unit {0})) → place < end → place < next → next ≤ end → asdu_at octets place end ≡ Ok (asdu_items a, next) → Counts octets at end place count → Counts octets at end next (count + 1)
-  counts_on place next count a more later order is so_far = record {
+  pub counts_on : (place next count : ℕ) (written stands : Bool) (a : Asdu (Unit {0})) → place < end → place < next → next ≤ end → asdu_at octets place end ≡ Ok (asdu_items a, next)
+      → (stands ≡ true → slice_range octets place next ≡ written_asdu a) → Counts octets at end place count written → Counts octets at end next (count + 1) (written && stands)
+  counts_on place next count written stands a more later order is stand so_far = record {
     done = so_far.done ++ a ∷ [];
     counted = omega (arith, length-append so_far.done (a ∷ []), so_far.counted);
     few = omega (arith, so_far.few);
     order = order;
     goes = so_far.goes ∙ ap (with_front (items_of_each so_far.done)) (asdus_step octets end within place next (asdu_items a) more is) ∙ regroup (items_of_each so_far.done) (asdu_items a) (asdus_at octets next end)
         ∙ ap (λ (x : List (List (Option Item))). with_front x (asdus_at octets next end)) (sym (one_more so_far.done a));
+    stand = λ t.
+        let both = and_parts written stands t in
+        join octets at place next (omega (arith, so_far.few)) (omega (arith, later)) (so_far.stand both.0) (stand both.1) ∙ sym (one_written so_far.done a);
   }
 
-  pub counts_stop : (place count : ℕ) (f : Fault) → place < end → asdu_at octets place end ≡ Err f → Counts octets at end place count → asdus_at octets at end ≡ Err f
-  counts_stop place count f more is so_far = so_far.goes ∙ ap (with_front (items_of_each so_far.done)) (asdus_stop octets end within place f more is)
+  pub counts_stop : (place count : ℕ) (written : Bool) (f : Fault) → place < end → asdu_at octets place end ≡ Err f → Counts octets at end place count written → asdus_at octets at end ≡ Err f
+  counts_stop place count written f more is so_far = so_far.goes ∙ ap (with_front (items_of_each so_far.done)) (asdus_stop octets end within place f more is)
 
-  pub counts_all : (place count : ℕ) → end ≤ place → Counts octets at end place count → (xs : List (Asdu (Unit {0}))) × (asdus_at octets at end ≡ Ok (items_of_each xs)) × (length xs ≡ count)
-  counts_all place count done so_far =
-      (so_far.done, so_far.goes ∙ ap (with_front (items_of_each so_far.done)) (asdus_end octets end within place done) ∙ ap (λ (x : List (List (Option Item))). Ok x) (append-nil (items_of_each so_far.done)), so_far.counted)
+  pub counts_all : (place count : ℕ) (written : Bool) → end ≤ place → Counts octets at end place count written
+      → (xs : List (Asdu (Unit {0}))) × (asdus_at octets at end ≡ Ok (items_of_each xs)) × (length xs ≡ count) × (written ≡ true → slice_range octets at end ≡ written_asdus xs)
+  counts_all place count written done so_far =
+      let there : place ≡ end = omega (arith, done, so_far.order) in
+      (so_far.done, so_far.goes ∙ ap (with_front (items_of_each so_far.done)) (asdus_end octets end within place done) ∙ ap (λ (x : List (List (Option Item))). Ok x) (append-nil (items_of_each so_far.done)), so_far.counted, λ t. ap (slice_range octets at) (sym there) ∙ so_far.stand t)
 
 -- ---- ASDUs that are known to stand somewhere
 

@@ -3,11 +3,11 @@ use Rattle.std.proofs.Common.{◌≡◌, ℕ, ◌+◌, List, ◌++◌, length, R
 use Rattle.std.specs.Prelude.{◌⊎◌}
 use Rattle.ber_core.specs.declared.fault.Fault.{Fault}
 use Rattle.pdu_core.specs.Goose.{GooseFault, SpellsGoose}
-use Rattle.pdu_core.specs.GooseValue.{goose_value}
+use Rattle.pdu_core.specs.computed.GooseValue.{goose_value}
 use Rattle.pdu_core.specs.Laws.{PduElseFault}
 use Rattle.pdu_core.specs.Sampled.{SpellsSv, SvFault}
 use Rattle.pdu_core.specs.SampledLaws.{SvPduElseFault}
-use Rattle.pdu_core.specs.SampledValue.{sv_value}
+use Rattle.pdu_core.specs.computed.SampledValue.{sv_value}
 use Rattle.pdu_core.specs.declared.goose.GoosePdu.{GoosePdu}
 use Rattle.pdu_core.specs.declared.sampled.asdu.SvPdu.{SvPdu}
 use Rattle.pdu_core.proofs.KeptValues.{sv_value_found, sv_value_wrong, value_found, value_wrong}

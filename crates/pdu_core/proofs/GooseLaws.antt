@@ -8,7 +8,7 @@ use Rattle.ber_core.specs.declared.fault.Cause.TheVariants as causes
 use Rattle.ber_core.specs.declared.element.Header.{Header}
 use Rattle.mms_data.specs.Data.{Data}
 use Rattle.mms_data.specs.declared.time.UtcTime.{UtcTime}
-use Rattle.ber_core.specs.Reading.{◌>>=◌}
+use Rattle.ber_core.specs.computed.Reading.{◌>>=◌}
 use Rattle.ber_core.specs.Length.{Len}
 use Rattle.ber_core.specs.Element.{Elem, contents_of}
 use Rattle.ber_core.specs.Faults.{fault_of}
@@ -18,9 +18,9 @@ use Rattle.pdu_core.specs.declared.goose.GoosePdu.{GoosePdu}
 use Rattle.ber_core.specs.Fields.{SpellsFields, filled, left_out}
 use Rattle.pdu_core.specs.Contents.{Item, a_text, a_number, a_flag, a_time, some_members, a_fixed, some_octets, contents_grammar}
 use Rattle.pdu_core.specs.Goose.{goose_front, goose_end, goose_fields, goose_items, text_if, SpellsGoose, apdu_grammar, apdu_fields, CountFault, GooseFault, in_fields, in_entry_count}
-use Rattle.ber_core.specs.FieldReading.{Read, required_at, there_at, if_there, fields_at, ends_at}
-use Rattle.pdu_core.specs.ContentsReading.{item_at}
-use Rattle.pdu_core.specs.GooseReading.{count_at, counted_end, counted, goose_at}
+use Rattle.ber_core.specs.computed.FieldReading.{Read, required_at, there_at, if_there, fields_at, ends_at}
+use Rattle.pdu_core.specs.computed.ContentsReading.{item_at}
+use Rattle.pdu_core.specs.computed.GooseReading.{count_at, counted_end, counted, goose_at}
 use Rattle.ber_core.proofs.FieldRegions.{behind_front, contents_are, rest_is, if_there_again, if_there_found}
 use Rattle.ber_core.proofs.FieldSound.{IsSound, err_is, pair_is, required_found}
 use Rattle.ber_core.proofs.FieldSequence.{Outside, fields_found, fields_wrong, fields_again, fields_wrong_again, ended}

@@ -14,10 +14,10 @@ use Rattle.std.specs.Prelude.{◌≤ℤ◌, ◌&&◌}
 use Rattle.byteorder.specs.Endian.{big_number}
 use Rattle.ber_core.specs.Faults.{fault_of}
 use Rattle.ber_core.specs.declared.fault.Cause.TheVariants as causes
-use Rattle.ber_core.specs.ContentsReading.{boolean_at, counted_at, integer_at, visible_at, natural}
+use Rattle.ber_core.specs.computed.ContentsReading.{boolean_at, counted_at, integer_at, visible_at, natural}
 use Rattle.ber_core.specs.Contents.{SpellsInteger, CountedFault, IsContents}
 use Rattle.ber_core.specs.Element.{contents_of}
-use Rattle.ber_core.specs.Reading.{◌>>=◌}
+use Rattle.ber_core.specs.computed.Reading.{◌>>=◌}
 use Rattle.ber_core.specs.declared.element.Header.{Header}
 use Rattle.ber_core.specs.declared.fault.Fault.{Fault}
 use Rattle.ber_core.proofs.ContentsLaws.{boolean_found, boolean_again, boolean_wrong, boolean_wrong_again, counted_found, counted_again, counted_wrong, counted_wrong_again, integer_found, integer_again, integer_wrong, integer_wrong_again, visible_found, visible_again, visible_wrong, visible_wrong_again}
@@ -26,14 +26,14 @@ use Rattle.ber_core.proofs.FieldNested.{ok_is}
 use Rattle.ber_core.proofs.Steps.{chosen, bind_ok, bind_err}
 use Rattle.mms_data.specs.Data.{Data}
 use Rattle.mms_data.specs.Spelling.{SpellsAll, FaultIn}
-use Rattle.mms_data.specs.UtcReading.{utc_at}
+use Rattle.mms_data.specs.computed.UtcReading.{utc_at}
 use Rattle.mms_data.proofs.Found.{all_found}
 use Rattle.mms_data.proofs.Again.{all_again}
 use Rattle.mms_data.proofs.Wrong.{all_wrong}
 use Rattle.mms_data.proofs.WrongAgain.{all_wrong_again}
 use Rattle.mms_data.proofs.UtcLaws.{utc_found, utc_again, utc_wrong, utc_wrong_again}
 use Rattle.pdu_core.specs.Contents.{Kind, text, number, flag, time, members, fixed, raw, few, Item, a_text, a_number, a_flag, a_time, some_members, a_fixed, some_octets, SpellsFixed, FewFault, SpellsContents, ContentsFault, contents_grammar}
-use Rattle.pdu_core.specs.ContentsReading.{number_in, members_in, fixed_in, few_at, item_at}
+use Rattle.pdu_core.specs.computed.ContentsReading.{number_in, members_in, fixed_in, few_at, item_at}
 
 -- one step behind which nothing fails
 pub not_behind : {X Y : Type 0} (r : Result X Fault) (make : X → Y) (f : Fault) → (r >>= λ x. Ok (make x)) ≡ Err f → r ≡ Err f
@@ -48,7 +48,7 @@ pub natural_is : (n : ℤ) → pos 0 ≤ℤ n → n ≡ pos (natural n)
 natural_is (pos n) h = refl
 natural_is (negsuc n) h = absurd (omega (arith, ints))
 
-number_found : (octets : List ℕ) (h : Header) (n : ℕ) → number_in octets h ≡ Ok n → SpellsContents number (a_number n) (contents_of octets h)
+pub number_found : (octets : List ℕ) (h : Header) (n : ℕ) → number_in octets h ≡ Ok n → SpellsContents number (a_number n) (contents_of octets h)
 unfolding number_in
 number_found octets h n e =
     let c = contents_of octets h in

@@ -3,7 +3,7 @@
 use Rattle.std.proofs.Common.{◌≡◌, ℕ, ◌≤◌, eqb, List, [], ◌∷◌, length, drop, Option, Some, None, Ok, Err, refl, sym, ap, ap₂, ◌∙◌, inl, inr}
 use Rattle.std.proofs.lemmas.Bool.{eqb-true}
 use Rattle.std.specs.Prelude.{slice_range}
-use Rattle.ber_core.specs.FieldReading.{ends_at, fields_at, required_at}
+use Rattle.ber_core.specs.computed.FieldReading.{ends_at, fields_at, required_at}
 use Rattle.ber_core.specs.Fields.{AbsenceMeans, Field, Presence, SpellsField, SpellsFields, always, default, optional, filled, left_out}
 use Rattle.ber_core.specs.Repeated.{SpellsEach}
 use Rattle.ber_core.specs.declared.fault.Fault.{Fault}
@@ -12,13 +12,13 @@ use Rattle.ber_core.proofs.Steps.{bind_ok, chosen}
 use Rattle.mms_data.specs.Data.{Data}
 use Rattle.pdu_core.specs.Asdu.{asdu_fields, asdu_items, fixed_if, some_octets_if, time_if}
 use Rattle.pdu_core.specs.Contents.{Item, Kind, SpellsContents, a_fixed, a_flag, a_number, a_text, a_time, contents_grammar, few, fixed, flag, members, number, raw, some_members, some_octets, text, time}
-use Rattle.pdu_core.specs.ContentsReading.{item_at}
+use Rattle.pdu_core.specs.computed.ContentsReading.{item_at}
 use Rattle.pdu_core.specs.Goose.{GooseFault, SpellsGoose, goose_end, goose_fields, goose_front, goose_items, text_if}
-use Rattle.pdu_core.specs.GooseReading.{count_at, counted_end, goose_at}
-use Rattle.pdu_core.specs.GooseValue.{flag_of, goose_value, members_of, number_of, pdu_of_items, optional_text, text_of, time_of}
+use Rattle.pdu_core.specs.computed.GooseReading.{count_at, counted_end, goose_at}
+use Rattle.pdu_core.specs.computed.GooseValue.{flag_of, goose_value, members_of, number_of, pdu_of_items, optional_text, text_of, time_of}
 use Rattle.pdu_core.specs.Sampled.{SpellsSv, SvFault, a_count, asdu_grammar, items_of_each, some_asdus, sv_fields, sv_grammar}
-use Rattle.pdu_core.specs.SampledReading.{sv_at}
-use Rattle.pdu_core.specs.SampledValue.{asdu_of_items, asdus_of_items, optional_fixed, fixed_of, optional_octets, octets_of, sv_value, optional_time}
+use Rattle.pdu_core.specs.computed.SampledReading.{sv_at}
+use Rattle.pdu_core.specs.computed.SampledValue.{asdu_of_items, asdus_of_items, optional_fixed, fixed_of, optional_octets, octets_of, sv_value, optional_time}
 use Rattle.pdu_core.specs.declared.goose.GoosePdu.{GoosePdu}
 use Rattle.pdu_core.specs.declared.sampled.asdu.SvPdu.{SvPdu}
 use Rattle.pdu_core.proofs.GooseLaws.{goose_found, goose_wrong}

@@ -1,4 +1,5 @@
 pub mod Items
+pub mod Standing
 pub mod GooseLaws
 pub mod SampledItems
 pub mod SvLaws

@@ -7,7 +7,7 @@ use Rattle.ber_core.proofs.FieldNested.{ok_is}
 use Rattle.ber_core.proofs.FieldSound.{err_is}
 use Rattle.pdu_core.specs.Contents.{Item}
 use Rattle.pdu_core.specs.Goose.{goose_items, SpellsGoose, GooseFault}
-use Rattle.pdu_core.specs.GooseReading.{goose_at}
+use Rattle.pdu_core.specs.computed.GooseReading.{goose_at}
 use Rattle.pdu_core.specs.Laws.{PduIsOne, PduOrFault, FaultIsOne}
 use Rattle.pdu_core.specs.declared.goose.GoosePdu.{GoosePdu}
 use Rattle.pdu_core.proofs.GooseLaws.{goose_again, goose_wrong_again, items_one}

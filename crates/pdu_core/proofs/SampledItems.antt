@@ -8,7 +8,7 @@ use lib.IntN.{nat_abs}
 use lib.Signed.{non_neg}
 use mir.Syntax.{w128}
 use Rattle.ber_core.specs.Contents.{SpellsInteger, IntegerFault}
-use Rattle.ber_core.specs.ContentsReading.{integer_at, natural}
+use Rattle.ber_core.specs.computed.ContentsReading.{integer_at, natural}
 use Rattle.ber_core.specs.Element.{contents_of}
 use Rattle.ber_core.specs.Repeated.{SpellsEach, EachFault}
 use Rattle.ber_core.specs.declared.element.Header.{Header}
@@ -20,9 +20,9 @@ use Rattle.ber_core.proofs.Repeated.{each_at_found, each_at_again, each_at_wrong
 use Rattle.ber_core.proofs.Steps.{bind_ok}
 use Rattle.pdu_core.specs.Asdu.{asdu_fields}
 use Rattle.pdu_core.specs.Contents.{Item, contents_grammar}
-use Rattle.pdu_core.specs.ContentsReading.{item_at}
+use Rattle.pdu_core.specs.computed.ContentsReading.{item_at}
 use Rattle.pdu_core.specs.Sampled.{asdu_grammar, SvKind, asdu_count, asdus, SvItem, a_count, some_asdus, SpellsSvContents, SvContentsFault, sv_grammar}
-use Rattle.pdu_core.specs.SampledReading.{asdu_in, asdus_at, count_in, sv_item_at}
+use Rattle.pdu_core.specs.computed.SampledReading.{asdu_in, asdus_at, count_in, sv_item_at}
 use Rattle.pdu_core.proofs.Items.{cast_is, items_sound, natural_is, not_behind}
 
 pub asdu_sound : IsSound asdu_grammar asdu_in

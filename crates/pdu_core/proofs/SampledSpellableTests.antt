@@ -7,7 +7,7 @@ use Rattle.mms_data.proofs.SpellableLaws.{moment_is, moment_true}
 use Rattle.mms_data.specs.Spellable.{IsTime}
 use Rattle.mms_data.specs.declared.time.UtcTime.{UtcTime}
 use Rattle.pdu_core.specs.SampledSpellable.{AreFew, IsFixed, IsSpellableAsdu, IsSpellableSv}
-use Rattle.pdu_core.specs.SampledSpellableTest.{are_few_if, asdus_are_spellable, is_fixed_if, is_asdu_spellable, is_sv_spellable, is_time_if}
+use Rattle.pdu_core.specs.computed.SampledSpellableTest.{are_few_if, asdus_are_spellable, is_fixed_if, is_asdu_spellable, is_sv_spellable, is_time_if}
 use Rattle.pdu_core.specs.declared.sampled.asdu.Asdu.{Asdu}
 use Rattle.pdu_core.specs.declared.sampled.asdu.SvPdu.{SvPdu}
 use Rattle.pdu_core.proofs.SpellableTests.{both, test_text, test_text_if, text_if_test, text_test}

@@ -5,8 +5,8 @@ use Rattle.ber_core.specs.declared.fault.Fault.{Fault}
 use Rattle.pdu_core.specs.Contents.{Item}
 use Rattle.pdu_core.specs.Sampled.{asdu_grammar, items_of_each}
 use Rattle.pdu_core.specs.SampledLaws.{SeenIsOne, SeenIsSpelled}
-use Rattle.pdu_core.specs.SampledReading.{asdus_at}
-use Rattle.pdu_core.specs.SampledValue.{are_read, values_or_none}
+use Rattle.pdu_core.specs.computed.SampledReading.{asdus_at}
+use Rattle.pdu_core.specs.computed.SampledValue.{are_read, values_or_none}
 use Rattle.pdu_core.specs.SampledViews.{asdus_region}
 use Rattle.pdu_core.proofs.KeptValues.{each_kept}
 use Rattle.pdu_core.proofs.SampledItems.{asdus_again, asdus_found}

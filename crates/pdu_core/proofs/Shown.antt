@@ -1,12 +1,12 @@
 -- What a call that gives what reading gives says of spellings and faults of an APDU.
 use Rattle.std.proofs.Common.{◌≡◌, ℕ, ◌≤◌, List, length, Result, Ok, Err, sym, ◌∙◌}
 use Rattle.std.specs.Prelude.{slice_range, IfOk, IfErr}
-use Rattle.ber_core.specs.Reading.{Gives}
+use Rattle.ber_core.specs.computed.Reading.{Gives}
 use Rattle.ber_core.specs.declared.fault.Fault.{Fault}
 use Rattle.ber_core.proofs.Exact.{answer_fault, answer_fault_only}
 use Rattle.ber_core.proofs.FieldNested.{ok_is}
 use Rattle.pdu_core.specs.Goose.{goose_items, SpellsGoose, GooseFault}
-use Rattle.pdu_core.specs.GooseReading.{goose_at}
+use Rattle.pdu_core.specs.computed.GooseReading.{goose_at}
 use Rattle.pdu_core.specs.Views.{pdu_of, ShowsGoose}
 use Rattle.pdu_core.specs.declared.goose.GoosePdu.{GoosePdu}
 use Rattle.pdu_core.specs.declared.view.GooseView.{GooseView}

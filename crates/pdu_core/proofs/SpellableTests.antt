@@ -2,14 +2,14 @@
 use Rattle.std.proofs.Common.{◌≡◌, ℕ, ◌^◌, Bool, true, false, ◌&&◌, List, length, Option, Some, None, Result, Ok, Err, refl}
 use Rattle.std.proofs.lemmas.Bool.{ltb-true, lt-ltb}
 use Rattle.std.specs.Prelude.{IfSome}
-use Rattle.ber_core.specs.ContentsReading.{all_visible_at}
+use Rattle.ber_core.specs.computed.ContentsReading.{all_visible_at}
 use Rattle.ber_core.specs.declared.fault.Fault.{Fault}
 use Rattle.ber_core.specs.Contents.{AreVisible}
-use Rattle.mms_data.specs.SpellableTest.{is_text, is_text_read}
+use Rattle.mms_data.specs.computed.SpellableTest.{is_text, is_text_read}
 use Rattle.mms_data.specs.Data.{items_of}
 use Rattle.mms_data.proofs.SpellableLaws.{all_is, all_true, moment_is, moment_true}
 use Rattle.pdu_core.specs.Spellable.{IsSpellableGoose}
-use Rattle.pdu_core.specs.SpellableTest.{are_numbers, are_texts, is_goose_spellable, is_text_if}
+use Rattle.pdu_core.specs.computed.SpellableTest.{are_numbers, are_texts, is_goose_spellable, is_text_if}
 use Rattle.pdu_core.specs.declared.goose.GoosePdu.{GoosePdu}
 use Rattle.pdu_core.proofs.Texts.{text_is, text_is_not}
 

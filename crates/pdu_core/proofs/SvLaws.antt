@@ -8,9 +8,9 @@ use Rattle.ber_core.specs.declared.fault.Fault.{Fault}
 use Rattle.ber_core.specs.declared.fault.Cause.TheVariants as causes
 use Rattle.ber_core.specs.Element.{Elem, contents_of}
 use Rattle.ber_core.specs.Faults.{fault_of}
-use Rattle.ber_core.specs.FieldReading.{Read, required_at, fields_at, ends_at}
+use Rattle.ber_core.specs.computed.FieldReading.{Read, required_at, fields_at, ends_at}
 use Rattle.ber_core.specs.Fields.{SpellsFields, filled, left_out}
-use Rattle.ber_core.specs.Reading.{◌>>=◌}
+use Rattle.ber_core.specs.computed.Reading.{◌>>=◌}
 use Rattle.ber_core.proofs.FieldNested.{nothing, nested_read, nested_sound, fills_found, fills_again, result_cases, ok_is}
 use Rattle.ber_core.proofs.FieldRegions.{contents_are, rest_is, if_there_again, if_there_found}
 use Rattle.ber_core.proofs.FieldSequence.{fields_wrong, fields_wrong_again, ended}
@@ -19,7 +19,7 @@ use Rattle.ber_core.proofs.Headers.{header_for}
 use Rattle.ber_core.proofs.Steps.{chosen, bind_ok, bind_err}
 use Rattle.pdu_core.specs.Contents.{Item}
 use Rattle.pdu_core.specs.Sampled.{SvItem, a_count, some_asdus, sv_grammar, sv_fields, items_of_each, sv_items, SpellsSv, sv_apdu_grammar, sv_apdu_fields, AsduCountFault, SvFault, in_sv_fields, in_asdu_count}
-use Rattle.pdu_core.specs.SampledReading.{sv_item_at, asdu_count_at, counted_asdus, sv_at}
+use Rattle.pdu_core.specs.computed.SampledReading.{sv_item_at, asdu_count_at, counted_asdus, sv_at}
 use Rattle.pdu_core.specs.declared.sampled.asdu.Asdu.{Asdu}
 use Rattle.pdu_core.specs.declared.sampled.asdu.SvPdu.{SvPdu}
 use Rattle.pdu_core.proofs.GooseLaws.{required_again, ends_here, not_both, left_count}

@@ -6,7 +6,7 @@ use Rattle.ber_core.proofs.FieldSound.{err_is}
 use Rattle.pdu_core.specs.Contents.{Item}
 use Rattle.pdu_core.specs.Sampled.{items_of_each, SpellsSv, SvFault}
 use Rattle.pdu_core.specs.SampledLaws.{SvPduIsOne, SvPduOrFault, SvFaultIsOne}
-use Rattle.pdu_core.specs.SampledReading.{sv_at}
+use Rattle.pdu_core.specs.computed.SampledReading.{sv_at}
 use Rattle.pdu_core.specs.declared.sampled.asdu.SvPdu.{SvPdu}
 use Rattle.pdu_core.proofs.OneReading.{zeros, region_is, region_fits}
 use Rattle.pdu_core.proofs.SvLaws.{sv_again, sv_wrong_again}

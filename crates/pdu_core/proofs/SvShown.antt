@@ -3,7 +3,7 @@ use Rattle.std.proofs.Common.{◌≡◌, ℕ, ◌≤◌, List, [], ◌∷◌, �
 use Rattle.std.proofs.lemmas.List.{append-nil, length-append}
 use Rattle.std.specs.Prelude.{slice_range, IfOk, IfErr}
 use Rattle.ber_core.specs.Fields.{SpellsFields}
-use Rattle.ber_core.specs.Reading.{Gives}
+use Rattle.ber_core.specs.computed.Reading.{Gives}
 use Rattle.ber_core.specs.declared.fault.Fault.{Fault}
 use Rattle.ber_core.proofs.Exact.{answer_fault, answer_fault_only}
 use Rattle.ber_core.proofs.FieldNested.{ok_is}
@@ -11,7 +11,7 @@ use Rattle.ber_core.proofs.FieldSound.{err_is}
 use Rattle.pdu_core.specs.Asdu.{asdu_items}
 use Rattle.pdu_core.specs.Contents.{Item}
 use Rattle.pdu_core.specs.Sampled.{items_of_each, sv_grammar, sv_fields, SpellsSv, SvFault}
-use Rattle.pdu_core.specs.SampledReading.{sv_at}
+use Rattle.pdu_core.specs.computed.SampledReading.{sv_at}
 use Rattle.pdu_core.specs.SampledViews.{asdu_of, asdus_left, sv_of, ShowsSv}
 use Rattle.pdu_core.specs.declared.sampled.asdu.Asdu.{Asdu}
 use Rattle.pdu_core.specs.declared.sampled.asdu.SvPdu.{SvPdu}

@@ -2,16 +2,16 @@
 -- there.
 use Rattle.std.proofs.Common.{◌≡◌, ℕ, ◌≤◌, List, [], ◌∷◌, length, Option, Some, None, Result, Ok, Err, refl, sym, ap, ap₂, ◌∙◌}
 use Rattle.std.specs.Prelude.{slice_range}
-use Rattle.ber_core.specs.Reading.{◌>>=◌}
+use Rattle.ber_core.specs.computed.Reading.{◌>>=◌}
 use Rattle.ber_core.specs.declared.fault.Fault.{Fault}
 use Rattle.mms_data.specs.declared.time.UtcTime.{UtcTime}
 use Rattle.pdu_core.specs.Goose.{text_if}
-use Rattle.pdu_core.specs.GooseValue.{optional_text}
+use Rattle.pdu_core.specs.computed.GooseValue.{optional_text}
 use Rattle.pdu_core.specs.Asdu.{asdu_items, fixed_if, some_octets_if, time_if}
 use Rattle.pdu_core.specs.Contents.{Item}
 use Rattle.pdu_core.specs.Sampled.{items_of_each, SpellsSv, SvFault}
-use Rattle.pdu_core.specs.SampledReading.{asdus_at}
-use Rattle.pdu_core.specs.SampledValue.{asdu_of_items, asdus_in, asdus_of_items, optional_fixed, optional_octets, sv_value, optional_time}
+use Rattle.pdu_core.specs.computed.SampledReading.{asdus_at}
+use Rattle.pdu_core.specs.computed.SampledValue.{asdu_of_items, asdus_in, asdus_of_items, optional_fixed, optional_octets, sv_value, optional_time}
 use Rattle.pdu_core.specs.declared.sampled.asdu.Asdu.{Asdu}
 use Rattle.pdu_core.specs.declared.sampled.asdu.SvPdu.{SvPdu}
 use Rattle.pdu_core.proofs.SvLaws.{sv_again, sv_wrong_again}

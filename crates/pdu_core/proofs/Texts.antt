@@ -1,6 +1,6 @@
 -- Octets of which reading finds that all are visible, or that one is not.
 use Rattle.std.proofs.Common.{◌≡◌, List, ℕ, Ok, Err, refl, sym, ◌∙◌}
-use Rattle.ber_core.specs.ContentsReading.{all_visible_at, visible_at}
+use Rattle.ber_core.specs.computed.ContentsReading.{all_visible_at, visible_at}
 use Rattle.ber_core.specs.declared.fault.Fault.{Fault}
 use Rattle.ber_core.proofs.ContentsLaws.{visible_found, visible_again}
 use Rattle.ber_core.specs.Contents.{AreVisible}

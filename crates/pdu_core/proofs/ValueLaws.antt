@@ -1,11 +1,11 @@
 -- Reading gives the APDU that is spelled, and the fault that is there.
 use Rattle.std.proofs.Common.{◌≡◌, ℕ, ◌≤◌, List, length, Option, Some, None, Result, Ok, Err, refl, ap, ◌∙◌}
 use Rattle.std.specs.Prelude.{slice_range}
-use Rattle.ber_core.specs.Reading.{◌>>=◌}
+use Rattle.ber_core.specs.computed.Reading.{◌>>=◌}
 use Rattle.ber_core.specs.declared.fault.Fault.{Fault}
 use Rattle.pdu_core.specs.Contents.{Item}
 use Rattle.pdu_core.specs.Goose.{GooseFault, SpellsGoose, goose_items, text_if}
-use Rattle.pdu_core.specs.GooseValue.{goose_value, pdu_of_items, optional_text}
+use Rattle.pdu_core.specs.computed.GooseValue.{goose_value, pdu_of_items, optional_text}
 use Rattle.pdu_core.specs.declared.goose.GoosePdu.{GoosePdu}
 use Rattle.pdu_core.proofs.GooseLaws.{goose_again, goose_wrong_again}
 

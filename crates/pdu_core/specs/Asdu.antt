@@ -6,7 +6,9 @@ use Rattle.pdu_core.specs.Contents.{Kind, text, time, fixed, raw, few, Item, a_t
 use Rattle.pdu_core.specs.Goose.{text_if}
 use Rattle.pdu_core.specs.declared.sampled.asdu.Asdu.{Asdu}
 
--- the fields of an ASDU, in their order
+-- the fields of an ASDU, in their order (IEC 61850-9-2, 8.5): svID, datSet (optional), smpCnt of two octets, confRev
+-- of four, refrTm (optional), smpSynch of one, smpRate of two (optional), sample, and smpMod and the field 89 (both
+-- optional, of one to sixteen octets)
 abbrev pub asdu_fields : List (Field Kind Item)
 asdu_fields =
     record { identifier = 0x80; kind = text; presence = always }
@@ -21,14 +23,17 @@ asdu_fields =
     ∷ record { identifier = 0x89; kind = few; presence = optional }
     ∷ []
 
+-- the value of a field that holds a time, if it is there
 abbrev pub time_if : Option UtcTime → Option Item
 time_if None = None
 time_if (Some t) = Some (a_time t)
 
+-- the value of a field that holds a number in so many octets, if it is there
 abbrev pub fixed_if : ℕ → Option ℕ → Option Item
 fixed_if size None = None
 fixed_if size (Some n) = Some (a_fixed size n)
 
+-- the value of a field that holds octets, if it is there
 abbrev pub some_octets_if : Option (List ℕ) → Option Item
 some_octets_if None = None
 some_octets_if (Some o) = Some (some_octets o)

@@ -1,4 +1,5 @@
--- The kinds of contents that the fields of an APDU have, what they spell, and their faults.
+-- The kinds of contents that the fields of a GOOSE APDU and of an ASDU have (IEC 61850-8-1, annex A; IEC 61850-9-2,
+-- 8.5), what contents of each kind spell, and their faults.
 use Rattle.std.specs.Prelude.{◌≡◌, ℕ, pos, ◌^◌, ◌+◌, ◌-◌, Bool, List, length}
 use Rattle.ber_core.specs.Contents.{SpellsBoolean, BooleanFault, SpellsInteger, IntegerFault, SpellsVisible, VisibleFault, CountedFault}
 use Rattle.ber_core.specs.Faults.{fault_of}
@@ -65,5 +66,6 @@ ContentsFault f (fixed size) at from c = CountedFault f size at c
 ContentsFault f raw at from c = ⊥
 ContentsFault f few at from c = FewFault f at c
 
+-- what contents of each of these kinds spell, and what is wrong with those that spell nothing
 abbrev pub contents_grammar : Grammar Kind Item
 contents_grammar = record { spells = SpellsContents; fault = ContentsFault }

@@ -11,7 +11,8 @@ use Rattle.mms_data.specs.Data.{Data}
 use Rattle.pdu_core.specs.Contents.{Kind, text, number, flag, time, members, Item, a_text, a_number, a_flag, a_time, some_members, contents_grammar}
 use Rattle.pdu_core.specs.declared.goose.GoosePdu.{GoosePdu}
 
--- the fields before the count of entries
+-- the fields before the count of entries: gocbRef, timeAllowedtoLive, datSet, goID (optional), t, stNum, sqNum,
+-- simulation (absent: false), confRev, ndsCom (absent: false)
 abbrev pub goose_front : List (Field Kind Item)
 goose_front =
     record { identifier = 0x80; kind = text; presence = always }
@@ -26,17 +27,18 @@ goose_front =
     ∷ record { identifier = 0x89; kind = flag; presence = default (a_flag false) }
     ∷ []
 
--- the count of entries, and the entries
+-- numDatSetEntries, the count of entries, and allData, the entries
 abbrev pub goose_end : List (Field Kind Item)
 goose_end =
     record { identifier = 0x8a; kind = number; presence = always }
     ∷ record { identifier = 0xab; kind = members; presence = always }
     ∷ []
 
--- the fields of an APDU, in their order
+-- the fields of an IECGoosePdu, in their order (IEC 61850-8-1, annex A)
 abbrev pub goose_fields : List (Field Kind Item)
 goose_fields = goose_front ++ goose_end
 
+-- the value of a field that holds a text, if it is there
 abbrev pub text_if : Option (List ℕ) → Option Item
 text_if None = None
 text_if (Some t) = Some (a_text t)
@@ -58,14 +60,16 @@ goose_items p =
     ∷ Some (some_members p.members)
     ∷ []
 
--- o is the element 61, and its contents are the fields in their order
+-- o is the element 61, and its contents are the fields in their order, with the values of the APDU, of which the count
+-- of entries is that of its members
 abbrev pub SpellsGoose : {A : Type 0} → GoosePdu A → List ℕ → Type 0
 SpellsGoose p o = (c : List ℕ) × Elem 0x61 c o × SpellsFields contents_grammar goose_fields (goose_items p) c
 
--- the element 61 as the one field of a sequence, whose contents are the fields, whatever the count says
+-- what the contents of the element 61 spell: the values of the fields, whatever the count says
 abbrev pub apdu_grammar : Grammar (Unit {0}) (List (Option Item))
 apdu_grammar = nested contents_grammar goose_fields
 
+-- the element 61 as the one field of a sequence
 abbrev pub apdu_fields : List (Field (Unit {0}) (List (Option Item)))
 apdu_fields = record { identifier = 0x61; kind = tt; presence = always } ∷ []
 

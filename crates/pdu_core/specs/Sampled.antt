@@ -18,11 +18,12 @@ use Rattle.pdu_core.specs.declared.sampled.asdu.SvPdu.{SvPdu}
 abbrev pub asdu_grammar : Grammar (Unit {0}) (List (Option Item))
 asdu_grammar = nested contents_grammar asdu_fields
 
--- a count of ASDUs, and ASDUs, one after the other
+-- the kinds of contents of the fields of a savPdu: the count of ASDUs, and the ASDUs, one after the other
 pub data SvKind : Type 0 where
   asdu_count : SvKind
   asdus : SvKind
 
+-- what such contents spell: a count, or for each ASDU the values of its fields
 pub data SvItem : Type 0 where
   a_count : ℕ → SvItem
   some_asdus : List (List (Option Item)) → SvItem
@@ -38,10 +39,11 @@ abbrev pub SvContentsFault : Fault → SvKind → ℕ → ℕ → List ℕ → T
 SvContentsFault f asdu_count at from c = IntegerFault f (pos 1) (pos 65535) at from c
 SvContentsFault f asdus at from c = EachFault asdu_grammar 0x30 tt f from c
 
+-- what contents of these kinds spell, and what is wrong with those that spell nothing
 abbrev pub sv_grammar : Grammar SvKind SvItem
 sv_grammar = record { spells = SpellsSvContents; fault = SvContentsFault }
 
--- noASDU, and the ASDUs
+-- the fields of a savPdu, in their order (IEC 61850-9-2, 8.5): noASDU, the count of ASDUs, and the ASDUs
 abbrev pub sv_fields : List (Field SvKind SvItem)
 sv_fields = record { identifier = 0x80; kind = asdu_count; presence = always } ∷ record { identifier = 0xa2; kind = asdus; presence = always } ∷ []
 
@@ -62,10 +64,11 @@ sv_items p = Some (a_count (length p.asdus)) ∷ Some (some_asdus (items_of_each
 abbrev pub SpellsSv : {A : Type 0} → SvPdu A → List ℕ → Type 0
 SpellsSv p o = (c : List ℕ) × Elem 0x60 c o × SpellsFields sv_grammar sv_fields (sv_items p) c
 
--- the element 60 as the one field of a sequence, whose contents are the fields, whatever the count says
+-- what the contents of the element 60 spell: the values of the fields, whatever the count says
 abbrev pub sv_apdu_grammar : Grammar (Unit {0}) (List (Option SvItem))
 sv_apdu_grammar = nested sv_grammar sv_fields
 
+-- the element 60 as the one field of a sequence
 abbrev pub sv_apdu_fields : List (Field (Unit {0}) (List (Option SvItem)))
 sv_apdu_fields = record { identifier = 0x60; kind = tt; presence = always } ∷ []
 

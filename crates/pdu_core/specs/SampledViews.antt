@@ -4,7 +4,7 @@ use Rattle.std.specs.Borrow.{Bor}
 use Rattle.std.specs.Iterator.{YieldsFirstBy}
 use Rattle.ber_core.specs.declared.fault.Fault.{Fault}
 use Rattle.mms_data.specs.Place.{IsPart}
-use Rattle.pdu_core.specs.SampledValue.{asdus_in}
+use Rattle.pdu_core.specs.computed.SampledValue.{asdus_in}
 use Rattle.pdu_core.specs.Views.{IsPartIf, octets_if}
 use Rattle.pdu_core.specs.declared.sampled.asdu.Asdu.{Asdu}
 use Rattle.pdu_core.specs.declared.sampled.asdu.SvPdu.{SvPdu}

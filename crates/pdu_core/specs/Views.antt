@@ -7,6 +7,7 @@ use Rattle.mms_data.specs.Place.{IsPart, source_of}
 use Rattle.pdu_core.specs.declared.goose.GoosePdu.{GoosePdu}
 use Rattle.pdu_core.specs.declared.view.GooseView.{GooseView}
 
+-- the octets of a text in memory, if there is one
 abbrev pub octets_if : Option (Bor (List ℕ)) → Option (List ℕ)
 octets_if None = None
 octets_if (Some t) = Some t.now
@@ -32,6 +33,7 @@ abbrev pub ShowsGoose : {A : Type 0} → Result GooseView Fault → GoosePdu A �
 ShowsGoose (Ok v) p = pdu_of v ≡ p
 ShowsGoose (Err f) p = ⊥
 
+-- a text that is there is a part of the source
 abbrev pub IsPartIf : Option (Bor (List ℕ)) → Bor (List ℕ) → Type 0
 IsPartIf None source = Unit {0}
 IsPartIf (Some t) source = IsPart t source

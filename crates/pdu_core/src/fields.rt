@@ -1,32 +1,29 @@
-// The fields of an APDU, kind by kind: the value of each, and the place behind it. Inlined, so that no answer is put
-// together in memory for each field.
+// The fields of an APDU, kind by kind: the value of each, the place behind it, and whether it and what was read before are
+// known to stand in their written form. Inlined, so that no answer is put together in memory for each field.
 
-ghost use Rattle.std.specs.Prelude.{◌≡◌, ◌<◌, ◌≤◌, length, IfOk, Some, None, false};
-ghost use Rattle.ber_core.specs.FieldReading.{field_as};
+ghost use Rattle.std.specs.Prelude.{Bool, ◌≡◌, ◌<◌, ◌≤◌, length, slice_range, IfOk, Some, None, true, false};
+ghost use Rattle.ber_core.specs.Contents.{SpellsBoolean};
+ghost use Rattle.ber_core.specs.Element.{contents_of};
+ghost use Rattle.ber_core.specs.computed.FieldReading.{field_as};
 ghost use Rattle.ber_core.specs.Fields.{always, optional, default};
-ghost use Rattle.ber_core.specs.Reading.{Gives};
+ghost use Rattle.ber_core.specs.computed.Reading.{Gives};
 ghost use Rattle.mms_data.specs.Meaning.{left};
 ghost use Rattle.mms_data.specs.Place.{IsPart, source_of};
 ghost use Rattle.pdu_core.specs.Contents.{text, number, flag, time, members, a_text, a_number, a_flag, a_time, some_members};
-ghost use Rattle.pdu_core.specs.ContentsReading.{item_at, number_in, members_in};
+ghost use Rattle.pdu_core.specs.computed.ContentsReading.{item_at, number_in, members_in};
 ghost use Rattle.pdu_core.specs.Goose.{text_if};
 ghost use Rattle.pdu_core.specs.Views.{octets_if, IsPartIf};
+ghost use Rattle.pdu_core.specs.Written.{written_field, written_item};
 
 use ber_core::contents::{boolean, integer_in, visible};
 use ber_core::fields::{required, there};
 use ber_core::{Fault, Header};
+use mms_data::standing::{has_short_length, is_short};
 use mms_data::utc::utc_time;
-use mms_data::{Members, UtcTime, check_members, members};
-
-// Members of Data, and their count.
-#[derive(Clone, Copy)]
-pub struct CountedMembers<'a> {
-    pub count: usize,
-    pub members: Members<'a>,
-}
+use mms_data::{CountedMembers, UtcTime, counted_members};
 
 // The number behind a header.
-#[tactic(auto, unfolding(crate::specs::ContentsReading::number_in))]
+#[tactic(auto, unfolding(crate::specs::computed::ContentsReading::number_in))]
 fn number(octets: &[u8], header: &Header) -> Result<u32, Fault>
     requires behind { header.now.at < header.now.contents_from }
     requires ordered { header.now.contents_from ≤ header.now.contents_to }
@@ -36,20 +33,14 @@ fn number(octets: &[u8], header: &Header) -> Result<u32, Fault>
     Ok(integer_in(octets, header, 0, 0xffff_ffff)? as u32)
 }
 
-// The members behind a header.
-fn entries<'a>(octets: &'a [u8], header: &Header) -> Result<CountedMembers<'a>, Fault>
+// Whether the boolean behind a header is 0 or FF.
+fn is_plain(octets: &[u8], header: &Header) -> bool
     requires ordered { header.now.contents_from ≤ header.now.contents_to }
     requires inside { header.now.contents_to ≤ length octets.now }
-    ensures exact { Gives (λ e. left e.members) result (members_in octets.now header.now) }
-    ensures count { IfOk result (λ e. e.count ≡ length (left e.members)) }
-    ensures part { IfOk result (λ e. IsPart (source_of e.members) octets.entry) }
+    ensures { result ≡ true → (b : Bool) → SpellsBoolean b (contents_of octets.now header.now) → contents_of octets.now header.now ≡ written_item (a_flag b) }
 {
-    let (from, to) = (header.contents_from, header.contents_to);
-    let count = check_members(octets, from, to, 1)?;
-    Ok(CountedMembers {
-        count,
-        members: members(octets, from, to, 1),
-    })
+    let contents = &octets[header.contents_from..header.contents_to];
+    matches!(contents, [0 | 0xff])
 }
 
 /// A text that is always there.
@@ -59,15 +50,19 @@ pub fn text_field<'a>(
     at: usize,
     end: usize,
     identifier: u8,
-) -> Result<(&'a [u8], usize), Fault>
+    written: bool,
+) -> Result<(&'a [u8], usize, bool), Fault>
     requires ordered { at ≤ end }
     requires inside { end ≤ length octets.now }
     ensures exact { Gives (λ x. (Some (a_text x.0.now), x.1)) result (field_as item_at identifier text always octets.now at end) }
     ensures next { IfOk result (λ x. (at ≤ x.1) × (x.1 ≤ end)) }
     ensures part { IfOk result (λ x. IsPart x.0 octets.entry) }
+    ensures stands { IfOk result (λ x. x.2 ≡ true → (written ≡ true) × (slice_range octets.now at x.1 ≡ written_field identifier (Some (a_text x.0.now)))) }
 {
     let header = required(octets, at, end, identifier)?;
-    Ok((visible(octets, &header)?, header.contents_to))
+    let text = visible(octets, &header)?;
+    let written = written & has_short_length(&header);
+    Ok((text, header.contents_to, written))
 }
 
 /// A text that may be absent.
@@ -77,16 +72,22 @@ pub fn text_if_there<'a>(
     at: usize,
     end: usize,
     identifier: u8,
-) -> Result<(Option<&'a [u8]>, usize), Fault>
+    written: bool,
+) -> Result<(Option<&'a [u8]>, usize, bool), Fault>
     requires ordered { at ≤ end }
     requires inside { end ≤ length octets.now }
     ensures exact { Gives (λ x. (text_if (octets_if x.0), x.1)) result (field_as item_at identifier text optional octets.now at end) }
     ensures next { IfOk result (λ x. (at ≤ x.1) × (x.1 ≤ end)) }
     ensures part { IfOk result (λ x. IsPartIf x.0 octets.entry) }
+    ensures stands { IfOk result (λ x. x.2 ≡ true → (written ≡ true) × (slice_range octets.now at x.1 ≡ written_field identifier (text_if (octets_if x.0)))) }
 {
     match there(octets, at, end, identifier)? {
-        Some(header) => Ok((Some(visible(octets, &header)?), header.contents_to)),
-        None => Ok((None, at)),
+        Some(header) => {
+            let text = visible(octets, &header)?;
+            let written = written & has_short_length(&header);
+            Ok((Some(text), header.contents_to, written))
+        }
+        None => Ok((None, at, written)),
     }
 }
 
@@ -97,14 +98,19 @@ pub fn number_field(
     at: usize,
     end: usize,
     identifier: u8,
-) -> Result<(u32, usize), Fault>
+    written: bool,
+) -> Result<(u32, usize, bool), Fault>
     requires ordered { at ≤ end }
     requires inside { end ≤ length octets.now }
     ensures exact { Gives (λ x. (Some (a_number x.0), x.1)) result (field_as item_at identifier number always octets.now at end) }
     ensures next { IfOk result (λ x. (at ≤ x.1) × (x.1 ≤ end)) }
+    ensures stands { IfOk result (λ x. x.2 ≡ true → (written ≡ true) × (slice_range octets.now at x.1 ≡ written_field identifier (Some (a_number x.0)))) }
 {
     let header = required(octets, at, end, identifier)?;
-    Ok((number(octets, &header)?, header.contents_to))
+    let number = number(octets, &header)?;
+    let short = is_short(&octets[header.contents_from..header.contents_to]);
+    let written = written & has_short_length(&header) & short;
+    Ok((number, header.contents_to, written))
 }
 
 /// A time that is always there.
@@ -114,14 +120,18 @@ pub fn time_field(
     at: usize,
     end: usize,
     identifier: u8,
-) -> Result<(UtcTime, usize), Fault>
+    written: bool,
+) -> Result<(UtcTime, usize, bool), Fault>
     requires ordered { at ≤ end }
     requires inside { end ≤ length octets.now }
     ensures exact { Gives (λ x. (Some (a_time x.0), x.1)) result (field_as item_at identifier time always octets.now at end) }
     ensures next { IfOk result (λ x. (at ≤ x.1) × (x.1 ≤ end)) }
+    ensures stands { IfOk result (λ x. x.2 ≡ true → (written ≡ true) × (slice_range octets.now at x.1 ≡ written_field identifier (Some (a_time x.0)))) }
 {
     let header = required(octets, at, end, identifier)?;
-    Ok((utc_time(octets, &header)?, header.contents_to))
+    let time = utc_time(octets, &header)?;
+    let written = written & has_short_length(&header);
+    Ok((time, header.contents_to, written))
 }
 
 /// A boolean whose absence means false.
@@ -131,33 +141,45 @@ pub fn flag_if_there(
     at: usize,
     end: usize,
     identifier: u8,
-) -> Result<(bool, usize), Fault>
+    written: bool,
+) -> Result<(bool, usize, bool), Fault>
     requires ordered { at ≤ end }
     requires inside { end ≤ length octets.now }
     ensures exact { Gives (λ x. (Some (a_flag x.0), x.1)) result (field_as item_at identifier flag (default (a_flag false)) octets.now at end) }
     ensures next { IfOk result (λ x. (at ≤ x.1) × (x.1 ≤ end)) }
+    ensures stands { IfOk result (λ x. x.2 ≡ true → (written ≡ true) × (slice_range octets.now at x.1 ≡ written_field identifier (Some (a_flag x.0)))) }
 {
     match there(octets, at, end, identifier)? {
-        Some(header) => Ok((boolean(octets, &header)?, header.contents_to)),
-        None => Ok((false, at)),
+        Some(header) => {
+            let flag = boolean(octets, &header)?;
+            let plain = is_plain(octets, &header);
+            let written = written & has_short_length(&header) & plain;
+            Ok((flag, header.contents_to, written))
+        }
+        None => Ok((false, at, false)),
     }
 }
 
 /// Members of Data that are always there.
 #[inline(always)]
+#[tactic(auto, unfolding(crate::specs::computed::ContentsReading::members_in))]
 pub fn members_field<'a>(
     octets: &'a [u8],
     at: usize,
     end: usize,
     identifier: u8,
-) -> Result<(CountedMembers<'a>, usize), Fault>
+    written: bool,
+) -> Result<(CountedMembers<'a>, usize, bool), Fault>
     requires ordered { at ≤ end }
     requires inside { end ≤ length octets.now }
     ensures exact { Gives (λ x. (Some (some_members (left x.0.members)), x.1)) result (field_as item_at identifier members always octets.now at end) }
     ensures next { IfOk result (λ x. (at ≤ x.1) × (x.1 ≤ end)) }
     ensures count { IfOk result (λ x. x.0.count ≡ length (left x.0.members)) }
     ensures part { IfOk result (λ x. IsPart (source_of x.0.members) octets.entry) }
+    ensures stands { IfOk result (λ x. x.2 ≡ true → (written ≡ true) × (slice_range octets.now at x.1 ≡ written_field identifier (Some (some_members (left x.0.members))))) }
 {
     let header = required(octets, at, end, identifier)?;
-    Ok((entries(octets, &header)?, header.contents_to))
+    let entries = counted_members(octets, header.contents_from, header.contents_to, 1)?;
+    let written = written & has_short_length(&header) & entries.written;
+    Ok((entries, header.contents_to, written))
 }

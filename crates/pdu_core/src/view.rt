@@ -33,5 +33,7 @@ pub struct GooseView<'a> {
     pub entries: usize,
     /// allData, the members of the data set.
     pub members: Members<'a>,
+    /// Whether the octets that were read are known to be the written form of the APDU; false says nothing.
+    pub written: bool,
     pub ghost counted: { entries ≡ length (left members) },
 }

@@ -1,26 +1,29 @@
 // Seeing an APDU where it stands.
 
-ghost use Rattle.std.specs.Prelude.{◌≡◌, ◌≤◌, Err, length, slice_range, IfOk, IfErr};
-ghost use Rattle.ber_core.specs.Reading.{Gives};
+ghost use Rattle.std.specs.Prelude.{◌≡◌, ◌≤◌, Err, length, slice_range, true, IfOk, IfErr};
+ghost use Rattle.ber_core.specs.computed.Reading.{Gives};
 ghost use Rattle.ber_core.specs.declared.fault.Fault.{Fault};
 ghost use Rattle.mms_data.specs.Meaning.{left};
 ghost use Rattle.pdu_core.specs.Goose.{goose_items, SpellsGoose, GooseFault};
-ghost use Rattle.pdu_core.specs.GooseReading.{count_at, goose_at};
+ghost use Rattle.pdu_core.specs.computed.GooseReading.{count_at, goose_at};
 ghost use Rattle.pdu_core.specs.Views.{pdu_of, GooseIsPart, ShowsGoose};
+ghost use Rattle.pdu_core.specs.Written.{written_goose};
 ghost use Rattle.pdu_core.specs.declared.goose.GoosePdu.{GoosePdu};
 
 use crate::fields::{
-    CountedMembers, flag_if_there, members_field, number_field, text_field, text_if_there,
-    time_field,
+    flag_if_there, members_field, number_field, text_field, text_if_there, time_field,
 };
 use crate::view::GooseView;
 use ber_core::fields::{check_end, required};
 use ber_core::{Cause, Fault};
+use mms_data::CountedMembers;
+use mms_data::standing::has_short_length;
 
 // Whether the count at this place is that of the entries.
 fn check_count(place: usize, count: u32, entries: &CountedMembers<'_>) -> Result<(), Fault>
     requires { entries.now.count ≡ length (left entries.now.members) }
-    ensures { result ≡ count_at place count (left entries.now.members) }
+    ensures exact { result ≡ count_at place count (left entries.now.members) }
+    ensures same { IfOk result (λ _. count ≡ length (left entries.now.members)) }
 {
     if count as usize == entries.count {
         Ok(())
@@ -30,29 +33,31 @@ fn check_count(place: usize, count: u32, entries: &CountedMembers<'_>) -> Result
 }
 
 // The APDU that fills the octets from `at` to `end`, as reading from left to right gives it.
-#[tactic(auto, unfolding(crate::specs::GooseReading::goose_at))]
+#[tactic(auto, unfolding(crate::specs::computed::GooseReading::goose_at))]
 fn goose<'a>(octets: &'a [u8], at: usize, end: usize) -> Result<GooseView<'a>, Fault>
     requires ordered { at ≤ end }
     requires inside { end ≤ length octets.now }
     ensures exact { Gives (λ v. goose_items (pdu_of {A = Unit {0}} v)) result (goose_at octets.now at end) }
     ensures parts { IfOk result (λ v. GooseIsPart v octets.entry) }
     ensures entries { IfOk result (λ v. v.entries ≡ length (left v.members)) }
+    ensures written { IfOk result (λ v. v.written ≡ true → slice_range octets.now at end ≡ written_goose (pdu_of {A = Unit {0}} v)) }
 {
     let header = required(octets, at, end, 0x61)?;
     let to = header.contents_to;
-    let (gocb_ref, place) = text_field(octets, header.contents_from, to, 0x80)?;
-    let (live, place) = number_field(octets, place, to, 0x81)?;
-    let (dat_set, place) = text_field(octets, place, to, 0x82)?;
-    let (go_id, place) = text_if_there(octets, place, to, 0x83)?;
-    let (t, place) = time_field(octets, place, to, 0x84)?;
-    let (st_num, place) = number_field(octets, place, to, 0x85)?;
-    let (sq_num, place) = number_field(octets, place, to, 0x86)?;
-    let (simulation, place) = flag_if_there(octets, place, to, 0x87)?;
-    let (conf_rev, place) = number_field(octets, place, to, 0x88)?;
-    let (nds_com, place) = flag_if_there(octets, place, to, 0x89)?;
+    let written = has_short_length(&header);
+    let (gocb_ref, place, written) = text_field(octets, header.contents_from, to, 0x80, written)?;
+    let (live, place, written) = number_field(octets, place, to, 0x81, written)?;
+    let (dat_set, place, written) = text_field(octets, place, to, 0x82, written)?;
+    let (go_id, place, written) = text_if_there(octets, place, to, 0x83, written)?;
+    let (t, place, written) = time_field(octets, place, to, 0x84, written)?;
+    let (st_num, place, written) = number_field(octets, place, to, 0x85, written)?;
+    let (sq_num, place, written) = number_field(octets, place, to, 0x86, written)?;
+    let (simulation, place, written) = flag_if_there(octets, place, to, 0x87, written)?;
+    let (conf_rev, place, written) = number_field(octets, place, to, 0x88, written)?;
+    let (nds_com, place, written) = flag_if_there(octets, place, to, 0x89, written)?;
     let count_at = place;
-    let (count, place) = number_field(octets, place, to, 0x8a)?;
-    let (entries, place) = members_field(octets, place, to, 0xab)?;
+    let (count, place, written) = number_field(octets, place, to, 0x8a, written)?;
+    let (entries, place, written) = members_field(octets, place, to, 0xab, written)?;
     check_end(place, to)?;
     check_end(to, end)?;
     check_count(count_at, count, &entries)?;
@@ -69,6 +74,7 @@ fn goose<'a>(octets: &'a [u8], at: usize, end: usize) -> Result<GooseView<'a>, F
         nds_com,
         entries: entries.count,
         members: entries.members,
+        written,
     })
 }
 
@@ -93,6 +99,9 @@ pub fn view_goose<'a>(octets: &'a [u8], at: usize, end: usize) -> Result<GooseVi
     // Texts and members are parts of the octets, and the entries are counted.
     ensures parts { IfOk result (λ v. GooseIsPart v octets.entry) }
     ensures entries { IfOk result (λ v. v.entries ≡ length (left v.members)) }
+
+    // The octets are the written form of the APDU, where the view says so.
+    ensures written { IfOk result (λ v. v.written ≡ true → slice_range octets.now at end ≡ written_goose (pdu_of {A = Unit {0}} v)) }
 
     // For callers: the function on octets that it computes.
     ensures exact { Gives (λ v. goose_items (pdu_of {A = Unit {0}} v)) result (goose_at octets.now at end) }

@@ -8,7 +8,7 @@ use Rattle.publish_core.specs.Numbers.{sequence_number}
 use Rattle.publish_core.specs.Table.{AreSteps, step_at, step_of}
 use Rattle.publish_core.specs.Frames.{Change, frame, frame_with}
 use Rattle.publish_core.specs.Refusal.{EveryFrameFits}
-use Rattle.publish_core.specs.Step.{judged_frame, judged_number}
+use Rattle.publish_core.specs.computed.Step.{judged_frame, judged_number}
 use Rattle.publish_core.proofs.NumberLaws.{sequence_number_low, sequence_number_most}
 use Rattle.publish_core.proofs.Sizes.{sequence_shorter, too_long_grows}
 

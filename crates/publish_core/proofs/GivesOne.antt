@@ -3,19 +3,19 @@ use Rattle.std.proofs.Common.{◌≡◌, ℕ, zero, suc, ◌<◌, ◌≤◌, inl
 use Rattle.std.proofs.lemmas.Bool.{cases_order}
 use Rattle.publish_core.specs.declared.table.Step.{Step}
 use Rattle.publish_core.specs.Frames.{Change}
-use Rattle.publish_core.specs.Run.{Act, Changed, Polled, CallTrace, IsChange, IsDue, IsNext, GivesFrame, First, Next}
+use Rattle.publish_core.specs.Run.{Request, Changed, Polled, CallTrace, IsChange, IsDue, IsNext, GivesFrame, First, Next}
 
 -- a change is no poll
-is_changed : Option Act → Type 0
+is_changed : Option Request → Type 0
 is_changed None = ⊥
 is_changed (Some (Changed change)) = Unit {0}
 is_changed (Some Polled) = ⊥
 
-pub changed-polled : (o : Option Act) (change : Change) → o ≡ Some (Changed change) → o ≡ Some Polled → ⊥
+pub changed-polled : (o : Option Request) (change : Change) → o ≡ Some (Changed change) → o ≡ Some Polled → ⊥
 unfolding is_changed
 changed-polled o change a b = let e : Some (Changed change) ≡ Some Polled = sym a ∙ b in subst is_changed e tt
 
-change_or : Change → Option Act → Change
+change_or : Change → Option Request → Change
 change_or d None = d
 change_or d (Some (Changed change)) = change
 change_or d (Some Polled) = d
@@ -39,7 +39,7 @@ pub record IsSettled (table : List Step) (t : CallTrace) (n : ℕ) : Type 0 wher
   pub apart : (i j h c k d m : ℕ) (a b : Change) → j < n → GivesFrame table t i c k a → IsNext table t i k j → i < h → h < j → ¬ GivesFrame table t h d m b
 
 apart_step : (table : List Step) (t : CallTrace) (n : ℕ) → IsSettled table t n → (i j h c k d m : ℕ) (a b : Change) → j < suc n → GivesFrame table t i c k a → IsNext table t i k j → i < h → h < j → GivesFrame table t h d m b → ⊥
-apart_step table t n s i j h c k d m a b lt g w after below (First x) = changed-polled (t.act h) b x.act (w.between h after below).0
+apart_step table t n s i j h c k d m a b lt g w after below (First x) = changed-polled (t.request h) b x.request (w.between h after below).0
 apart_step table t n s i j h c k d m a b lt g w after below (Next {i = p} {k = l} u v) =
     let less : p < h = v.later in
     elim (cases_order p i) [
@@ -53,9 +53,9 @@ apart_step table t n s i j h c k d m a b lt g w after below (Next {i = p} {k = l
 
 same_step : (table : List Step) (t : CallTrace) (n : ℕ) → IsSettled table t n → (i c k d m : ℕ) (a b : Change) → i < suc n → GivesFrame table t i c k a → GivesFrame table t i d m b → IsSame c k d m a b
 same_step table t n s i c k d m a b lt (First x) (First y) =
-    record { state = sym x.before ∙ y.before; frame = refl; change = same_change a b (sym x.act ∙ y.act) }
-same_step table t n s i c k d m a b lt (First x) (Next g w) = absurd (changed-polled (t.act i) a x.act w.poll)
-same_step table t n s i c k d m a b lt (Next g w) (First y) = absurd (changed-polled (t.act i) b y.act w.poll)
+    record { state = sym x.before ∙ y.before; frame = refl; change = same_change a b (sym x.request ∙ y.request) }
+same_step table t n s i c k d m a b lt (First x) (Next g w) = absurd (changed-polled (t.request i) a x.request w.poll)
+same_step table t n s i c k d m a b lt (Next g w) (First y) = absurd (changed-polled (t.request i) b y.request w.poll)
 same_step table t n s i c k d m a b lt (Next {i = p} {k = l} g v) (Next {i = q} {k = r} h w) =
     let first : p < i = v.later in
     let second : q < i = w.later in

@@ -3,9 +3,9 @@ use Rattle.std.proofs.Common.{◌≡◌, ℕ, zero, suc, ◌+◌, ◌<◌, ◌�
 use Rattle.std.specs.Prelude.{nat_le}
 use Rattle.std.proofs.lemmas.Bool.{and_parts, and_cases, both_ways, cases_Bool, cases_lt, eqb-false, eqb-true, eq-eqb, ne_eqb, false_from_ne_true, leb-false, leb-true}
 use Rattle.mms_data.specs.Data.{items_of}
-use Rattle.mms_data.specs.SpellableTest.{is_text, is_time}
+use Rattle.mms_data.specs.computed.SpellableTest.{is_text, is_time}
 use Rattle.mms_data.proofs.SpellableLaws.{all_is, all_true, moment_is, moment_true}
-use Rattle.pdu_core.specs.SpellableTest.{are_texts}
+use Rattle.pdu_core.specs.computed.SpellableTest.{are_texts}
 use Rattle.pdu_core.proofs.SpellableTests.{test_text, test_text_if, text_if_test, text_test}
 use Rattle.frame_core.specs.declared.frame.Frame.{Frame}
 use Rattle.frame_core.specs.Written.{IsTooLong, written_apdu, written_frame}
@@ -14,9 +14,9 @@ use Rattle.publish_core.specs.declared.fault.PublishFault.{PublishFault}
 use Rattle.publish_core.specs.declared.fault.PublishFault.TheVariants as faults
 use Rattle.publish_core.specs.declared.table.Step.{Step}
 use Rattle.publish_core.specs.Frames.{Change, frame}
-use Rattle.publish_core.specs.Judgement.{ChangesAreJudged, IsJudged, are_short, is_short, is_change_spellable, refusal}
+use Rattle.publish_core.specs.computed.Judgement.{ChangesAreJudged, IsJudged, are_short, is_short, is_change_spellable, refusal}
 use Rattle.publish_core.specs.Refusal.{CanBeSpelled, EveryFrameFits}
-use Rattle.publish_core.specs.Step.{judged_frame}
+use Rattle.publish_core.specs.computed.Step.{judged_frame}
 use Rattle.publish_core.specs.Table.{AreSteps}
 use Rattle.publish_core.proofs.Fits.{every_frame, some_frame}
 

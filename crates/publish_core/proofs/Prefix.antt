@@ -4,21 +4,21 @@ use Rattle.publish_core.specs.declared.table.Step.{Step}
 use Rattle.publish_core.specs.declared.publisher.Last.{Last}
 use Rattle.publish_core.specs.Table.{step_at, step_of}
 use Rattle.publish_core.specs.Frames.{Setup, Change}
-use Rattle.publish_core.specs.Run.{CallTrace, IsDue, IsNext, GivesFrame, First, Next, changes, change_in}
+use Rattle.publish_core.specs.Run.{CallTrace, IsDue, IsNext, GivesFrame, First, Next, changes, changes_of}
 use Rattle.publish_core.specs.Standing.{PublisherHolds}
 
 pub record SameBelow (n : ℕ) (t u : CallTrace) : Type 0 where
   pub now : (i : ℕ) → i < n → t.now i ≡ u.now i
-  pub act : (i : ℕ) → i < n → t.act i ≡ u.act i
+  pub request : (i : ℕ) → i < n → t.request i ≡ u.request i
 
 pub same_sym : {n : ℕ} {t u : CallTrace} → SameBelow n t u → SameBelow n u t
-same_sym a = record { now = λ i lt. sym (a.now i lt); act = λ i lt. sym (a.act i lt) }
+same_sym a = record { now = λ i lt. sym (a.now i lt); request = λ i lt. sym (a.request i lt) }
 
 pub changes_same : (n : ℕ) (t u : CallTrace) → SameBelow n t u → (i : ℕ) → i ≤ n → changes t i ≡ changes u i
 changes_same n t u a zero le = refl
 changes_same n t u a (suc i) le =
     let rest : changes t i ≡ changes u i = changes_same n t u a i (omega arith) in
-    let here : change_in (t.act i) ≡ change_in (u.act i) = ap change_in (a.act i (omega arith)) in
+    let here : changes_of (t.request i) ≡ changes_of (u.request i) = ap changes_of (a.request i (omega arith)) in
     omega (arith, rest, here)
 
 pub due_as : {n : ℕ} {t u : CallTrace} (table : List Step) → SameBelow n t u → (i k j : ℕ) → i < n → j < n → IsDue table t i k j → IsDue table u i k j
@@ -33,17 +33,17 @@ next_same table a i k j lt w =
     let later : i < j = w.later in
     record {
       later = w.later;
-      poll = sym (a.act j lt) ∙ w.poll;
+      poll = sym (a.request j lt) ∙ w.poll;
       due = due_as table a i k j (omega arith) lt w.due;
       between = λ h more less. (
-        sym (a.act h (omega arith)) ∙ (w.between h more less).0,
+        sym (a.request h (omega arith)) ∙ (w.between h more less).0,
         λ due. (w.between h more less).1 (due_as table (same_sym a) i k h (omega arith) (omega arith) due),
       );
     }
 
 pub gives_same : {n : ℕ} {t u : CallTrace} {table : List Step} → SameBelow n t u → {i c k : ℕ} {change : Change} → i < n → GivesFrame table t i c k change → GivesFrame table u i c k change
 gives_same {n} {t} {u} {table} a {i} {c} {k} {change} lt (First x) =
-    First (record { act = sym (a.act i lt) ∙ x.act; before = sym (changes_same n t u a i (omega arith)) ∙ x.before })
+    First (record { request = sym (a.request i lt) ∙ x.request; before = sym (changes_same n t u a i (omega arith)) ∙ x.before })
 gives_same {n} {t} {u} {table} a {i} {c} {k} {change} lt (Next {i = p} {k = l} g w) =
     let later : p < i = w.later in
     Next (gives_same a (omega arith) g) (next_same table a p l i lt w)

@@ -5,10 +5,10 @@ use Rattle.std.proofs.lemmas.List.{length_push, take-append-le}
 use Rattle.publish_core.specs.Numbers.{state_number}
 use Rattle.frame_core.specs.declared.frame.Frame.{Frame}
 use Rattle.publish_core.specs.Frames.{Setup, Change, frame}
-use Rattle.publish_core.specs.Run.{Act, Changed, Polled, Call, call, CallTrace, greatest_call_moment, trace_of_calls, IsAnswer, AreAnswers}
+use Rattle.publish_core.specs.Run.{Request, Changed, Polled, Call, call, CallTrace, greatest_call_moment, trace_of_calls, IsAnswer, AreAnswers}
 use Rattle.publish_core.specs.Laws.{AnswersAreOne, AnswersAreThere, AnswersStay, PollsGive}
 use Rattle.publish_core.specs.Standing.{PublisherStanding, PublisherStandsAfter}
-use Rattle.publish_core.specs.Step.{act_frame, act_state, run_calls, fresh_publisher}
+use Rattle.publish_core.specs.computed.Step.{request_frame, request_state, run_calls, fresh_publisher}
 use Rattle.publish_core.proofs.NumberLaws.{state_number_first}
 use Rattle.publish_core.proofs.GivesOne.{gives_one}
 use Rattle.publish_core.proofs.Prefix.{SameBelow, same_sym, gives_same}
@@ -47,7 +47,7 @@ trace_longer : (calls later : List Call) → SameBelow (length calls) (trace_of_
 trace_longer calls later =
     record {
       now = λ i lt. ap greatest_call_moment (sym (take-append-le (i + 1) calls later (omega arith)));
-      act = λ i lt. ap (option_map (λ (c : Call). c.act)) (sym (get_front calls later i lt));
+      request = λ i lt. ap (option_map (λ (c : Call). c.request)) (sym (get_front calls later i lt));
     }
 
 answer_same : {A : Type 0} {n : ℕ} {t u : CallTrace} → SameBelow n t u → (p : Setup A) (i : ℕ) (a : Option (Frame A)) → i < n → IsAnswer p t i a → IsAnswer p u i a
@@ -59,28 +59,28 @@ answers_stay p calls later i a lt x = answer_same (trace_longer calls later) p i
 
 -- a run
 
-pub act_ok : {A : Type 0} (p : Setup A) (calls : List Call) (s : PublisherStanding A) (act : Act) (now : ℕ) → PublisherStandsAfter p calls s → IsAnswer p (trace_of_calls (calls ++ call now act ∷ [])) (length calls) (act_frame s act now) × PublisherStandsAfter p (calls ++ call now act ∷ []) (act_state s act now)
-act_ok p calls s (Changed change) now w = change_ok p calls s change now w
-act_ok p calls s Polled now w = poll_ok p calls s now w
+pub request_ok : {A : Type 0} (p : Setup A) (calls : List Call) (s : PublisherStanding A) (request : Request) (now : ℕ) → PublisherStandsAfter p calls s → IsAnswer p (trace_of_calls (calls ++ call now request ∷ [])) (length calls) (request_frame s request now) × PublisherStandsAfter p (calls ++ call now request ∷ []) (request_state s request now)
+request_ok p calls s (Changed change) now w = change_ok p calls s change now w
+request_ok p calls s Polled now w = poll_ok p calls s now w
 
 run_length : {A : Type 0} (cs : List Call) (s : PublisherStanding A) → length (run_calls s cs) ≡ length cs
 run_length [] s = refl
-run_length (c ∷ cs) s = ap suc (run_length cs (act_state s c.act c.moment))
+run_length (c ∷ cs) s = ap suc (run_length cs (request_state s c.request c.moment))
 
 run_from : {A : Type 0} (p : Setup A) (cs before : List Call) (s : PublisherStanding A) → PublisherStandsAfter p before s → (i : ℕ) (a : Option (Frame A)) → slice_get (run_calls s cs) i ≡ Some a → IsAnswer p (trace_of_calls (before ++ cs)) (length before + i) a
 run_from p [] before s w i a e = absurd (none-some a e)
 run_from {A} p (c ∷ cs) before s w zero a is =
-    let step = act_ok p before s c.act c.moment w in
-    let here : IsAnswer p (trace_of_calls ((before ++ c ∷ []) ++ cs)) (length before) (act_frame s c.act c.moment) =
-    answers_stay p (before ++ c ∷ []) cs (length before) (act_frame s c.act c.moment) (omega (arith, length_push before c)) step.0 in
-    let there : IsAnswer p (trace_of_calls (before ++ c ∷ cs)) (length before) (act_frame s c.act c.moment) =
-    subst (λ (l : List Call). IsAnswer p (trace_of_calls l) (length before) (act_frame s c.act c.moment)) (append_assoc before (c ∷ []) cs) here in
+    let step = request_ok p before s c.request c.moment w in
+    let here : IsAnswer p (trace_of_calls ((before ++ c ∷ []) ++ cs)) (length before) (request_frame s c.request c.moment) =
+    answers_stay p (before ++ c ∷ []) cs (length before) (request_frame s c.request c.moment) (omega (arith, length_push before c)) step.0 in
+    let there : IsAnswer p (trace_of_calls (before ++ c ∷ cs)) (length before) (request_frame s c.request c.moment) =
+    subst (λ (l : List Call). IsAnswer p (trace_of_calls l) (length before) (request_frame s c.request c.moment)) (append_assoc before (c ∷ []) cs) here in
     let e : length before ≡ length before + 0 = omega arith in
     subst (λ (n : ℕ). IsAnswer p (trace_of_calls (before ++ c ∷ cs)) n a) e
-    (subst (λ (x : Option (Frame A)). IsAnswer p (trace_of_calls (before ++ c ∷ cs)) (length before) x) (same_Some (act_frame s c.act c.moment) a is) there)
+    (subst (λ (x : Option (Frame A)). IsAnswer p (trace_of_calls (before ++ c ∷ cs)) (length before) x) (same_Some (request_frame s c.request c.moment) a is) there)
 run_from {A} p (c ∷ cs) before s w (suc i) a is =
-    let step = act_ok p before s c.act c.moment w in
-    let rest = run_from p cs (before ++ c ∷ []) (act_state s c.act c.moment) step.1 i a is in
+    let step = request_ok p before s c.request c.moment w in
+    let rest = run_from p cs (before ++ c ∷ []) (request_state s c.request c.moment) step.1 i a is in
     let e : length (before ++ c ∷ []) + i ≡ length before + suc i = omega (arith, length_push before c) in
     subst (λ (n : ℕ). IsAnswer p (trace_of_calls (before ++ c ∷ cs)) n a) e
     (subst (λ (l : List Call). IsAnswer p (trace_of_calls l) (length (before ++ c ∷ []) + i) a) (append_assoc before (c ∷ []) cs) rest)
@@ -108,16 +108,16 @@ get_less (y ∷ xs) zero j x e lt n = none-some y (sym n)
 get_less (y ∷ xs) (suc i) zero x e lt n = absurd (omega arith)
 get_less (y ∷ xs) (suc i) (suc j) x e lt n = get_less xs i j x e (omega arith) n
 
-act_less : (calls : List Call) (n h : ℕ) (a : Act) → (trace_of_calls calls).act n ≡ Some a → h < n → (trace_of_calls calls).act h ≡ None → ⊥
-act_less calls n h a is lt none = go (slice_get calls n) (slice_get calls h) refl refl is none
+request_less : (calls : List Call) (n h : ℕ) (a : Request) → (trace_of_calls calls).request n ≡ Some a → h < n → (trace_of_calls calls).request h ≡ None → ⊥
+request_less calls n h a is lt none = go (slice_get calls n) (slice_get calls h) refl refl is none
   where
-    go : (o q : Option Call) → slice_get calls n ≡ o → slice_get calls h ≡ q → option_map (λ (c : Call). c.act) o ≡ Some a → option_map (λ (c : Call). c.act) q ≡ None → ⊥
+    go : (o q : Option Call) → slice_get calls n ≡ o → slice_get calls h ≡ q → option_map (λ (c : Call). c.request) o ≡ Some a → option_map (λ (c : Call). c.request) q ≡ None → ⊥
     go None q e f x y = none-some a x
     go (Some c) None e f x y = get_less calls h n c e lt f
-    go (Some c) (Some d) e f x y = none-some d.act (sym y)
+    go (Some c) (Some d) e f x y = none-some d.request (sym y)
 
 pub polls_give : PollsGive
 polls_give table calls n poll = (
-  poll_gives table (trace_of_calls calls) n (λ h lt. act_less calls n h Polled poll lt) poll,
+  poll_gives table (trace_of_calls calls) n (λ h lt. request_less calls n h Polled poll lt) poll,
   λ zero_yet c k change. none_yet table (trace_of_calls calls) n zero_yet poll c k change,
 )

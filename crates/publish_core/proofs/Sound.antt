@@ -7,7 +7,7 @@ use Rattle.publish_core.specs.Numbers.{number_behind}
 use Rattle.publish_core.specs.Table.{step_of}
 use Rattle.publish_core.specs.Frames.{Change}
 use Rattle.publish_core.specs.Refusal.{IsAccepted}
-use Rattle.publish_core.specs.Step.{IsFrameOf, first_last}
+use Rattle.publish_core.specs.computed.Step.{IsFrameOf, first_last}
 use Rattle.publish_core.proofs.NumberLaws.{sequence_number_next}
 use Rattle.publish_core.proofs.Steps.{step_next}
 

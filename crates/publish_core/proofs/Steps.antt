@@ -6,9 +6,9 @@ use Rattle.publish_core.specs.declared.publisher.Last.{Last}
 use Rattle.publish_core.specs.Numbers.{state_number, sequence_number, number_behind}
 use Rattle.publish_core.specs.Table.{step_at, step_of}
 use Rattle.publish_core.specs.Frames.{Setup, Change, frame_with}
-use Rattle.publish_core.specs.Run.{Act, Changed, Polled, CallTrace, IsDue, IsNewestFrame, GivesFrame, First, Next, changes, change_in, IsAnswer}
+use Rattle.publish_core.specs.Run.{Request, Changed, Polled, CallTrace, IsDue, IsNewestFrame, GivesFrame, First, Next, changes, changes_of, IsAnswer}
 use Rattle.publish_core.specs.Standing.{change_of, HoldsNewest, PublisherHolds}
-use Rattle.publish_core.specs.Step.{is_due, last_frame, next_last, polled, polled_frame, first_last}
+use Rattle.publish_core.specs.computed.Step.{is_due, last_frame, next_last, polled, polled_frame, first_last}
 use Rattle.publish_core.proofs.NumberLaws.{sequence_number_next}
 use Rattle.publish_core.proofs.GivesOne.{changed-polled, gives_one, gives_apart, due_same}
 
@@ -16,10 +16,10 @@ use Rattle.publish_core.proofs.GivesOne.{changed-polled, gives_one, gives_apart,
 pub record Open (table : List Step) (t : CallTrace) (n i c k : ℕ) (change : Change) : Type 0 where
   pub gives : GivesFrame table t i c k change
   pub below : i < n
-  pub quiet : (h : ℕ) → i < h → h < n → (t.act h ≡ Some Polled) × ¬ IsDue table t i k h
+  pub quiet : (h : ℕ) → i < h → h < n → (t.request h ≡ Some Polled) × ¬ IsDue table t i k h
 
 pub open_none : {table : List Step} {t : CallTrace} {n i c k j d m : ℕ} {a b : Change} → Open table t n i c k a → i < j → j < n → GivesFrame table t j d m b → ⊥
-open_none {table} {t} {n} {i} {c} {k} {j} {d} {m} {a} {b} o later below (First x) = changed-polled (t.act j) b x.act (o.quiet j later below).0
+open_none {table} {t} {n} {i} {c} {k} {j} {d} {m} {a} {b} o later below (First x) = changed-polled (t.request j) b x.request (o.quiet j later below).0
 open_none {table} {t} {n} {i} {c} {k} {j} {d} {m} {a} {b} o later below (Next {i = p} {k = l} g w) =
     let less : p < j = w.later in
     elim (cases_order p i) [
@@ -31,10 +31,10 @@ open_none {table} {t} {n} {i} {c} {k} {j} {d} {m} {a} {b} o later below (Next {i
     ]
 
 -- no change came at h, and no poll there was due, if h gives nothing and neither does what is between
-quiet_at : (table : List Step) (t : CallTrace) (n i c k : ℕ) (a : Change) (b : IsNewestFrame table t n i c k a) (h : ℕ) → i < h → h < n → ((g : ℕ) → i < g → g < h → (t.act g ≡ Some Polled) × ¬ IsDue table t i k g) → (o : Option Act) → t.act h ≡ o → (t.act h ≡ None → ⊥) → (t.act h ≡ Some Polled) × ¬ IsDue table t i k h
+quiet_at : (table : List Step) (t : CallTrace) (n i c k : ℕ) (a : Change) (b : IsNewestFrame table t n i c k a) (h : ℕ) → i < h → h < n → ((g : ℕ) → i < g → g < h → (t.request g ≡ Some Polled) × ¬ IsDue table t i k g) → (o : Option Request) → t.request h ≡ o → (t.request h ≡ None → ⊥) → (t.request h ≡ Some Polled) × ¬ IsDue table t i k h
 quiet_at table t n i c k a b h later lt before None is some = absurd (some is)
 quiet_at table t n i c k a b h later lt before (Some (Changed change)) is some =
-    let le : h ≤ i = b.newest h (changes t h) 0 change (First (record { act = is; before = refl })) lt in
+    let le : h ≤ i = b.newest h (changes t h) 0 change (First (record { request = is; before = refl })) lt in
     absurd (omega arith)
 quiet_at table t n i c k a b h later lt before (Some Polled) is some = (
   is,
@@ -43,13 +43,13 @@ quiet_at table t n i c k a b h later lt before (Some Polled) is some = (
       absurd (omega arith),
 )
 
-pub open_in : (table : List Step) (t : CallTrace) (n i c k : ℕ) (a : Change) → ((h : ℕ) → h < n → t.act h ≡ None → ⊥) → IsNewestFrame table t n i c k a → Open table t n i c k a
+pub open_in : (table : List Step) (t : CallTrace) (n i c k : ℕ) (a : Change) → ((h : ℕ) → h < n → t.request h ≡ None → ⊥) → IsNewestFrame table t n i c k a → Open table t n i c k a
 open_in table t n i c k a some b = record { gives = b.gives; below = b.before; quiet = λ h later lt. quiet (suc h) h (omega arith) later lt }
   where
-    quiet : (m h : ℕ) → h < m → i < h → h < n → (t.act h ≡ Some Polled) × ¬ IsDue table t i k h
+    quiet : (m h : ℕ) → h < m → i < h → h < n → (t.request h ≡ Some Polled) × ¬ IsDue table t i k h
     quiet zero h under later lt = absurd (omega arith)
     quiet (suc m) h under later lt =
-        quiet_at table t n i c k a b h later lt (λ g more less. quiet m g (omega arith) more (omega arith)) (t.act h) refl (some h lt)
+        quiet_at table t n i c k a b h later lt (λ g more less. quiet m g (omega arith) more (omega arith)) (t.request h) refl (some h lt)
 
 pub open_out : {A : Type 0} (p : Setup A) (t : CallTrace) (n i c k : ℕ) (l : Last A) → Open p.table t n i c k (change_of l) → l.state ≡ state_number p.first c → l.sequence ≡ sequence_number k → l.step ≡ step_of p.table k → l.given ≡ t.now i → HoldsNewest p t n l
 open_out p t n i c k l o state sequence step given =
@@ -73,7 +73,7 @@ open_out p t n i c k l o state sequence step given =
 
 -- the calls go on by one
 
-pub open_more : {table : List Step} {t : CallTrace} {n i c k : ℕ} {change : Change} → Open table t n i c k change → t.act n ≡ Some Polled → ¬ IsDue table t i k n → Open table t (suc n) i c k change
+pub open_more : {table : List Step} {t : CallTrace} {n i c k : ℕ} {change : Change} → Open table t n i c k change → t.request n ≡ Some Polled → ¬ IsDue table t i k n → Open table t (suc n) i c k change
 open_more {table} {t} {n} {i} {c} {k} {change} o poll not_due =
     let below : i < n = o.below in
     record {
@@ -81,7 +81,7 @@ open_more {table} {t} {n} {i} {c} {k} {change} o poll not_due =
       below = omega arith;
       quiet = λ h later lt. elim (cases_order h n) [
         | inl e ↦ (
-          subst (λ (x : ℕ). t.act x ≡ Some Polled) (sym e) poll,
+          subst (λ (x : ℕ). t.request x ≡ Some Polled) (sym e) poll,
           λ due. not_due (subst (λ (x : ℕ). IsDue table t i k x) e due),
         )
         | inr (inl less) ↦ o.quiet h later less
@@ -89,7 +89,7 @@ open_more {table} {t} {n} {i} {c} {k} {change} o poll not_due =
       ];
     }
 
-pub open_next : {table : List Step} {t : CallTrace} {n i c k : ℕ} {change : Change} → Open table t n i c k change → t.act n ≡ Some Polled → IsDue table t i k n → Open table t (suc n) n c (suc k) change
+pub open_next : {table : List Step} {t : CallTrace} {n i c k : ℕ} {change : Change} → Open table t n i c k change → t.request n ≡ Some Polled → IsDue table t i k n → Open table t (suc n) n c (suc k) change
 open_next {table} {t} {n} {i} {c} {k} {change} o poll due =
     record {
       gives = Next o.gives (record { later = o.below; poll = poll; due = due; between = o.quiet });
@@ -97,33 +97,33 @@ open_next {table} {t} {n} {i} {c} {k} {change} o poll due =
       quiet = λ h later lt. absurd (omega arith);
     }
 
-pub open_first : {table : List Step} {t : CallTrace} {n : ℕ} {change : Change} → t.act n ≡ Some (Changed change) → Open table t (suc n) n (changes t n) 0 change
+pub open_first : {table : List Step} {t : CallTrace} {n : ℕ} {change : Change} → t.request n ≡ Some (Changed change) → Open table t (suc n) n (changes t n) 0 change
 open_first is =
     record {
-      gives = First (record { act = is; before = refl });
+      gives = First (record { request = is; before = refl });
       below = omega arith;
       quiet = λ h later lt. absurd (omega arith);
     }
 
 -- before any change nothing is given
 
-pub changes_some : (t : CallTrace) (n i : ℕ) (change : Change) → i < n → t.act i ≡ Some (Changed change) → 0 < changes t n
+pub changes_some : (t : CallTrace) (n i : ℕ) (change : Change) → i < n → t.request i ≡ Some (Changed change) → 0 < changes t n
 changes_some t zero i change lt is = absurd (omega arith)
 changes_some t (suc n) i change lt is =
     elim (cases_lt i n) [
       | inl less ↦ omega (arith, changes_some t n i change less is)
       | inr ge ↦
           let e : i ≡ n = omega arith in
-          let one : change_in (t.act n) ≡ 1 = ap change_in (subst (λ (x : ℕ). t.act x ≡ Some (Changed change)) e is) in
+          let one : changes_of (t.request n) ≡ 1 = ap changes_of (subst (λ (x : ℕ). t.request x ≡ Some (Changed change)) e is) in
           omega (arith, one)
     ]
 
 pub gives_some : {table : List Step} {t : CallTrace} {i c k : ℕ} {change : Change} (n : ℕ) → i < n → GivesFrame table t i c k change → 0 < changes t n
-gives_some {table} {t} {i} {c} {k} {change} n lt (First x) = changes_some t n i change lt x.act
+gives_some {table} {t} {i} {c} {k} {change} n lt (First x) = changes_some t n i change lt x.request
 gives_some {table} {t} {i} {c} {k} {change} n lt (Next {i = p} g w) = let less : p < i = w.later in gives_some n (omega arith) g
 
-pub none_yet : (table : List Step) (t : CallTrace) (n : ℕ) → changes t n ≡ 0 → t.act n ≡ Some Polled → (c k : ℕ) (change : Change) → ¬ GivesFrame table t n c k change
-none_yet table t n zero_yet poll c k change (First x) = changed-polled (t.act n) change x.act poll
+pub none_yet : (table : List Step) (t : CallTrace) (n : ℕ) → changes t n ≡ 0 → t.request n ≡ Some Polled → (c k : ℕ) (change : Change) → ¬ GivesFrame table t n c k change
+none_yet table t n zero_yet poll c k change (First x) = changed-polled (t.request n) change x.request poll
 none_yet table t n zero_yet poll c k change (Next g w) = let some = gives_some n w.later g in absurd (omega arith)
 
 -- the steps
@@ -131,10 +131,10 @@ none_yet table t n zero_yet poll c k change (Next g w) = let some = gives_some n
 pub step_next : (table : List Step) (k : ℕ) → min (step_of table k + 1) (length table - 1) ≡ step_of table (suc k)
 step_next table k = omega arith
 
-pub poll_step : {A : Type 0} (p : Setup A) (t : CallTrace) (n : ℕ) (last : Option (Last A)) → t.act n ≡ Some Polled → ((h : ℕ) → h < n → t.act h ≡ None → ⊥) → PublisherHolds p t n last → PublisherHolds p t (suc n) (polled p.table last (t.now n)) × IsAnswer p t n (polled_frame p.control p.table last (t.now n))
+pub poll_step : {A : Type 0} (p : Setup A) (t : CallTrace) (n : ℕ) (last : Option (Last A)) → t.request n ≡ Some Polled → ((h : ℕ) → h < n → t.request h ≡ None → ⊥) → PublisherHolds p t n last → PublisherHolds p t (suc n) (polled p.table last (t.now n)) × IsAnswer p t n (polled_frame p.control p.table last (t.now n))
 poll_step p t n None poll some holds =
-    let zero_more : change_in (t.act n) ≡ 0 = ap change_in poll in
-    let still : changes t n + change_in (t.act n) ≡ 0 = omega (arith, holds, zero_more) in
+    let zero_more : changes_of (t.request n) ≡ 0 = ap changes_of poll in
+    let still : changes t n + changes_of (t.request n) ≡ 0 = omega (arith, holds, zero_more) in
     (still, none_yet p.table t n holds poll)
 poll_step p t n (Some l) poll some b = go (is_due p.table l (t.now n)) refl
   where
@@ -171,7 +171,7 @@ poll_step p t n (Some l) poll some b = go (is_due p.table l (t.now n)) refl
           λ c k change g. open_none x b.newest.before (omega arith) g,
         )
 
-pub change_step : {A : Type 0} (p : Setup A) (t : CallTrace) (n : ℕ) (change : Change) → t.act n ≡ Some (Changed change) → PublisherHolds p t (suc n) (Some (first_last (state_number p.first (changes t n)) change (t.now n))) × IsAnswer p t n (Some (last_frame p.control p.table (first_last (state_number p.first (changes t n)) change (t.now n))))
+pub change_step : {A : Type 0} (p : Setup A) (t : CallTrace) (n : ℕ) (change : Change) → t.request n ≡ Some (Changed change) → PublisherHolds p t (suc n) (Some (first_last (state_number p.first (changes t n)) change (t.now n))) × IsAnswer p t n (Some (last_frame p.control p.table (first_last (state_number p.first (changes t n)) change (t.now n))))
 change_step p t n change is =
     let s : 0 ≡ step_of p.table 0 = omega arith in
     let x = open_first {table = p.table} is in (
@@ -187,8 +187,8 @@ change_step p t n change is =
 
 -- what gives a frame after the newest one is due
 
-gives_due : {table : List Step} {t : CallTrace} {n i c k d m : ℕ} {a b : Change} → IsNewestFrame table t n i c k a → t.act n ≡ Some Polled → GivesFrame table t n d m b → IsDue table t i k n
-gives_due {table} {t} {n} {i} {c} {k} {d} {m} {a} {b} w poll (First x) = absurd (changed-polled (t.act n) b x.act poll)
+gives_due : {table : List Step} {t : CallTrace} {n i c k d m : ℕ} {a b : Change} → IsNewestFrame table t n i c k a → t.request n ≡ Some Polled → GivesFrame table t n d m b → IsDue table t i k n
+gives_due {table} {t} {n} {i} {c} {k} {d} {m} {a} {b} w poll (First x) = absurd (changed-polled (t.request n) b x.request poll)
 gives_due {table} {t} {n} {i} {c} {k} {d} {m} {a} {b} w poll (Next {i = p} {k = l} g v) =
     let le : p ≤ i = w.newest p d l b g v.later in
     elim (cases_order p i) [
@@ -200,7 +200,7 @@ gives_due {table} {t} {n} {i} {c} {k} {d} {m} {a} {b} w poll (Next {i = p} {k = 
     ]
 
 -- two frames of one call, the second of which is frame k + 1 of state c
-pub poll_gives : (table : List Step) (t : CallTrace) (n : ℕ) → ((h : ℕ) → h < n → t.act h ≡ None → ⊥) → t.act n ≡ Some Polled → (i c k : ℕ) (change : Change) → IsNewestFrame table t n i c k change → (GivesFrame table t n c (suc k) change ↔ IsDue table t i k n) × ((d m : ℕ) (other : Change) → GivesFrame table t n d m other → (d ≡ c) × (m ≡ suc k) × (other ≡ change))
+pub poll_gives : (table : List Step) (t : CallTrace) (n : ℕ) → ((h : ℕ) → h < n → t.request h ≡ None → ⊥) → t.request n ≡ Some Polled → (i c k : ℕ) (change : Change) → IsNewestFrame table t n i c k change → (GivesFrame table t n c (suc k) change ↔ IsDue table t i k n) × ((d m : ℕ) (other : Change) → GivesFrame table t n d m other → (d ≡ c) × (m ≡ suc k) × (other ≡ change))
 poll_gives table t n some poll i c k change w = (((λ g. gives_due w poll g), next_given), only)
   where
     next_given : IsDue table t i k n → GivesFrame table t n c (suc k) change

@@ -6,11 +6,11 @@ use Rattle.publish_core.specs.declared.table.Step.{Step}
 use Rattle.publish_core.specs.declared.control.Control.{Control}
 use Rattle.publish_core.specs.Numbers.{state_number, number_behind}
 use Rattle.publish_core.specs.Frames.{Setup, Change}
-use Rattle.publish_core.specs.Run.{Changed, Polled, Call, call, CallTrace, changes, change_in, greatest_call_moment, trace_of_calls, IsAnswer}
+use Rattle.publish_core.specs.Run.{Changed, Polled, Call, call, CallTrace, changes, changes_of, greatest_call_moment, trace_of_calls, IsAnswer}
 use Rattle.publish_core.specs.declared.fault.PublishFault.{PublishFault}
 use Rattle.publish_core.specs.Refusal.{Accepts, IsAccepted, IsRefusal, Refuses}
 use Rattle.publish_core.specs.Standing.{PublisherStanding, PublisherStandsAfter, PublisherHolds}
-use Rattle.publish_core.specs.Step.{polled, polled_frame, poll_frame, poll_state, change_frame, change_state, first_last, last_frame}
+use Rattle.publish_core.specs.computed.Step.{polled, polled_frame, poll_frame, poll_state, change_frame, change_state, first_last, last_frame}
 use Rattle.publish_core.proofs.NumberLaws.{state_number_next}
 use Rattle.publish_core.proofs.Prefix.{SameBelow, holds_same, changes_same}
 use Rattle.publish_core.proofs.Steps.{poll_step, change_step}
@@ -41,22 +41,22 @@ pub trace_same : (calls : List Call) (e : Call) → SameBelow (length calls) (tr
 trace_same calls e =
     record {
       now = λ i lt. ap greatest_call_moment (sym (take-append-le (i + 1) calls (e ∷ []) (omega arith)));
-      act = λ i lt. ap (option_map (λ (c : Call). c.act)) (sym (get_front calls (e ∷ []) i lt));
+      request = λ i lt. ap (option_map (λ (c : Call). c.request)) (sym (get_front calls (e ∷ []) i lt));
     }
 
 pub trace_now : (calls : List Call) (e : Call) → (trace_of_calls (calls ++ e ∷ [])).now (length calls) ≡ max (greatest_call_moment calls) e.moment
 trace_now calls e =
     ap greatest_call_moment (take_all (length calls + 1) (calls ++ e ∷ []) (omega (arith, length_push calls e))) ∙ greatest-push calls e
 
-pub trace_act : (calls : List Call) (e : Call) → (trace_of_calls (calls ++ e ∷ [])).act (length calls) ≡ Some e.act
-trace_act calls e = ap (option_map (λ (c : Call). c.act)) (get_pushed calls e)
+pub trace_request : (calls : List Call) (e : Call) → (trace_of_calls (calls ++ e ∷ [])).request (length calls) ≡ Some e.request
+trace_request calls e = ap (option_map (λ (c : Call). c.request)) (get_pushed calls e)
 
-trace_some : (calls : List Call) (e : Call) (h : ℕ) → h < length calls → (trace_of_calls (calls ++ e ∷ [])).act h ≡ None → ⊥
+trace_some : (calls : List Call) (e : Call) (h : ℕ) → h < length calls → (trace_of_calls (calls ++ e ∷ [])).request h ≡ None → ⊥
 trace_some calls e h lt is = go (slice_get (calls ++ e ∷ []) h) (get_some (calls ++ e ∷ []) h (omega (arith, length_push calls e))) is
   where
-    go : (o : Option Call) → (o ≡ None → ⊥) → option_map (λ (c : Call). c.act) o ≡ None → ⊥
+    go : (o : Option Call) → (o ≡ None → ⊥) → option_map (λ (c : Call). c.request) o ≡ None → ⊥
     go None no_none is = no_none refl
-    go (Some c) no_none is = none-some c.act (sym is)
+    go (Some c) no_none is = none-some c.request (sym is)
 
 pushed : (calls : List Call) (e : Call) → suc (length calls) ≡ length (calls ++ e ∷ [])
 pushed calls e = omega (arith, length_push calls e)
@@ -91,12 +91,12 @@ poll_ok {A} p calls s now w = (
     m_is = trace_now calls (call now Polled) ∙ ap (λ (m : ℕ). max m now) (sym w.moment)
 
     step : PublisherHolds p t (suc n) (polled p.table s.last (t.now n)) × IsAnswer p t n (polled_frame p.control p.table s.last (t.now n))
-    step = poll_step p t n s.last (trace_act calls (call now Polled)) (trace_some calls (call now Polled)) (holds_same (trace_same calls (call now Polled)) p s.last w.holds)
+    step = poll_step p t n s.last (trace_request calls (call now Polled)) (trace_some calls (call now Polled)) (holds_same (trace_same calls (call now Polled)) p s.last w.holds)
 
     count : changes (trace_of_calls calls) n ≡ changes t (length (calls ++ call now Polled ∷ []))
     count =
         let a : changes (trace_of_calls calls) n ≡ changes t n = changes_same n (trace_of_calls calls) t (trace_same calls (call now Polled)) n (omega arith) in
-        let b : change_in (t.act n) ≡ 0 = ap change_in (trace_act calls (call now Polled)) in
+        let b : changes_of (t.request n) ≡ 0 = ap changes_of (trace_request calls (call now Polled)) in
         let c : changes (trace_of_calls calls) n ≡ changes t (suc n) = omega (arith, a, b) in
         c ∙ ap (changes t) (pushed calls (call now Polled))
 
@@ -134,11 +134,11 @@ change_ok {A} p calls s change now w = (
     next_is = w.next ∙ ap (state_number p.first) (changes_same n (trace_of_calls calls) t (trace_same calls (call now (Changed change))) n (omega arith))
 
     step : PublisherHolds p t (suc n) (Some (first_last (state_number p.first (changes t n)) change (t.now n))) × IsAnswer p t n (Some (last_frame p.control p.table (first_last (state_number p.first (changes t n)) change (t.now n))))
-    step = change_step p t n change (trace_act calls (call now (Changed change)))
+    step = change_step p t n change (trace_request calls (call now (Changed change)))
 
     count : changes t n + 1 ≡ changes t (length (calls ++ call now (Changed change) ∷ []))
     count =
-        let b : change_in (t.act n) ≡ 1 = ap change_in (trace_act calls (call now (Changed change))) in
+        let b : changes_of (t.request n) ≡ 1 = ap changes_of (trace_request calls (call now (Changed change))) in
         let c : changes t n + 1 ≡ changes t (suc n) = omega (arith, b) in
         c ∙ ap (changes t) (pushed calls (call now (Changed change)))
 

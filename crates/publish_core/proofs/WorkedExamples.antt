@@ -1,7 +1,7 @@
 -- A few numbers, what short lists of calls give, and why changes are refused, computed.
 use Rattle.std.proofs.Common.{◌≡◌, ℕ, ◌-◌, ◌^◌, false, true, Option, None, Some, List, [], ◌∷◌, refl}
 use Rattle.std.specs.Prelude.{replicate}
-use Rattle.ber_core.specs.ContentsReading.{all_visible_at}
+use Rattle.ber_core.specs.computed.ContentsReading.{all_visible_at}
 use Rattle.ber_core.specs.Written.{integer_size, short_integer, short_length, written_element}
 use Rattle.mms_data.specs.Data.{Data, boolean, octets, simple, unsigned}
 use Rattle.frame_core.specs.declared.frame.Frame.{Frame}
@@ -10,10 +10,10 @@ use Rattle.publish_core.specs.declared.fault.PublishFault.{PublishFault}
 use Rattle.publish_core.specs.declared.fault.PublishFault.TheVariants as faults
 use Rattle.publish_core.specs.declared.table.Step.{Step}
 use Rattle.publish_core.specs.Frames.{change, frame_with, setup}
-use Rattle.publish_core.specs.Judgement.{refusal}
+use Rattle.publish_core.specs.computed.Judgement.{refusal}
 use Rattle.publish_core.specs.Numbers.{number_behind, sequence_number, state_number}
 use Rattle.publish_core.specs.Run.{Call, Changed, Polled, call}
-use Rattle.publish_core.specs.Step.{fresh_publisher, run_calls}
+use Rattle.publish_core.specs.computed.Step.{fresh_publisher, run_calls}
 
 -- status numbers and sequence numbers go on at 1 behind 4294967295
 pub record AreNumbers : Type 0 where

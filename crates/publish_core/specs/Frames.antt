@@ -15,6 +15,7 @@ pub record Setup (A : Type 0) : Type 0 where
   pub table : List Step
   pub first : ℕ
 
+-- what a publisher is made of, by its parts
 abbrev pub setup : {A : Type 0} → Control A → List Step → ℕ → Setup A
 setup control table first = record { control = control; table = table; first = first }
 
@@ -23,6 +24,7 @@ pub record Change : Type 0 where
   pub t : UtcTime
   pub values : List Data
 
+-- what a change hands in, by its parts
 abbrev pub change : UtcTime → List Data → Change
 change t values = record { t = t; values = values }
 

@@ -22,7 +22,7 @@ AnswersStay A = (p : Setup A) (calls later : List Call) (i : ℕ) (a : Option (F
 -- any change it gives none
 abbrev pub PollsGive : Type 0
 PollsGive =
-    (table : List Step) (calls : List Call) (n : ℕ) → (trace_of_calls calls).act n ≡ Some Polled →
+    (table : List Step) (calls : List Call) (n : ℕ) → (trace_of_calls calls).request n ≡ Some Polled →
     ((i c k : ℕ) (change : Change) → IsNewestFrame table (trace_of_calls calls) n i c k change →
     (GivesFrame table (trace_of_calls calls) n c (suc k) change ↔ IsDue table (trace_of_calls calls) i k n) ×
     ((d m : ℕ) (other : Change) → GivesFrame table (trace_of_calls calls) n d m other → (d ≡ c) × (m ≡ suc k) × (other ≡ change))) ×

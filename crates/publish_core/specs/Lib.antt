@@ -5,5 +5,4 @@ pub mod Run
 pub mod Refusal
 pub mod Standing
 pub mod Laws
-pub mod Step
-pub mod Judgement
+pub mod computed

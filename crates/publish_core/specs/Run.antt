@@ -7,46 +7,48 @@ use Rattle.publish_core.specs.Numbers.{state_number}
 use Rattle.publish_core.specs.Table.{step_at, step_of}
 use Rattle.publish_core.specs.Frames.{Setup, Change, frame}
 
--- what a call does: it hands in a change that is accepted, or it asks for a frame
-pub data Act : Type 0 where
-  Changed : Change → Act
-  Polled : Act
+-- what a call asks for: a change that it hands in, and that is accepted, or a frame
+pub data Request : Type 0 where
+  Changed : Change → Request
+  Polled : Request
 
 -- a call, with the moment that it hands in, in microseconds
 pub record Call : Type 0 where
   pub moment : ℕ
-  pub act : Act
+  pub request : Request
 
-abbrev pub call : ℕ → Act → Call
-call moment act = record { moment = moment; act = act }
+-- a call, by its parts
+abbrev pub call : ℕ → Request → Call
+call moment request = record { moment = moment; request = request }
 
--- what a list of calls says, position by position: the greatest moment of the calls up to there, and what the call does
+-- what a list of calls says, position by position: the greatest moment of the calls up to there, and what the call asks for
 pub record CallTrace : Type 0 where
   pub now : ℕ → ℕ
-  pub act : ℕ → Option Act
+  pub request : ℕ → Option Request
 
 -- the greatest of the moments, 0 for none
 abbrev pub greatest_call_moment : List Call → ℕ
 greatest_call_moment [] = 0
 greatest_call_moment (c ∷ cs) = max c.moment (greatest_call_moment cs)
 
+-- what this list of calls says, position by position
 abbrev pub trace_of_calls : List Call → CallTrace
-trace_of_calls calls = record { now = λ i. greatest_call_moment (take (i + 1) calls); act = λ i. option_map (λ (c : Call). c.act) (slice_get calls i) }
+trace_of_calls calls = record { now = λ i. greatest_call_moment (take (i + 1) calls); request = λ i. option_map (λ (c : Call). c.request) (slice_get calls i) }
 
--- how many changes an act is
-abbrev pub change_in : Option Act → ℕ
-change_in None = 0
-change_in (Some (Changed change)) = 1
-change_in (Some Polled) = 0
+-- how many changes a request is, one or none
+abbrev pub changes_of : Option Request → ℕ
+changes_of None = 0
+changes_of (Some (Changed change)) = 1
+changes_of (Some Polled) = 0
 
 -- how many of the first n calls are changes
 abbrev pub changes : CallTrace → ℕ → ℕ
 changes t zero = 0
-changes t (suc n) = changes t n + change_in (t.act n)
+changes t (suc n) = changes t n + changes_of (t.request n)
 
 -- call i is change c, counted from 0
 pub record IsChange (t : CallTrace) (i c : ℕ) (change : Change) : Type 0 where
-  pub act : t.act i ≡ Some (Changed change)
+  pub request : t.request i ≡ Some (Changed change)
   pub before : changes t i ≡ c
 
 -- at call j the wait behind frame k, which call i gave, is over: waits are in milliseconds
@@ -56,9 +58,9 @@ IsDue table t i k j = t.now i + 1000 * (step_at table (step_of table k)).wait_ms
 -- call j is the first poll at which the wait behind frame k, which call i gave, is over, and no change comes before it
 pub record IsNext (table : List Step) (t : CallTrace) (i k j : ℕ) : Type 0 where
   pub later : i < j
-  pub poll : t.act j ≡ Some Polled
+  pub poll : t.request j ≡ Some Polled
   pub due : IsDue table t i k j
-  pub between : (h : ℕ) → i < h → h < j → (t.act h ≡ Some Polled) × ¬ IsDue table t i k h
+  pub between : (h : ℕ) → i < h → h < j → (t.request h ≡ Some Polled) × ¬ IsDue table t i k h
 
 -- Call i gives frame k of state c, which is the state of this change. A change gives frame 0 of its state, and the first
 -- poll that is due behind a frame gives the next one. Nothing else gives a frame.

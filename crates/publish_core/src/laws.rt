@@ -1,6 +1,6 @@
 //! Laws about the definitions that the contracts of this crate cite. The functions compute nothing.
 
-ghost use Rattle.publish_core.specs.Judgement.{ChangesAreJudged};
+ghost use Rattle.publish_core.specs.computed.Judgement.{ChangesAreJudged};
 ghost use Rattle.publish_core.specs.Laws.{AnswersAreOne, AnswersAreThere, AnswersStay, FramesCarryTheirChange, NumbersGoOn, PollsGive};
 
 use std::alloc::Allocator;

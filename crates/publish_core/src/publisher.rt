@@ -8,7 +8,7 @@ ghost use Rattle.publish_core.specs.Numbers.{number_behind};
 ghost use Rattle.publish_core.specs.Refusal.{Accepts, IsAccepted, IsRefusal, Refuses};
 ghost use Rattle.publish_core.specs.Run.{Call, Changed, Polled, PublishesNone, PublishesOctets, call, greatest_call_moment};
 ghost use Rattle.publish_core.specs.Standing.{PublisherStandsAfter};
-ghost use Rattle.publish_core.specs.Step.{IsFrameOf, IsWritten, change_frame, change_state, last_frame, poll_frame, poll_state};
+ghost use Rattle.publish_core.specs.computed.Step.{IsFrameOf, IsWritten, change_frame, change_state, last_frame, poll_frame, poll_state};
 ghost use Rattle.publish_core.specs.Table.{AreSteps};
 
 use crate::control::Control;
@@ -47,9 +47,9 @@ pub struct Publisher<A: Allocator> {
 impl<A: Allocator> Model for Publisher<A> {
     ghost use Rattle.std.specs.Prelude.{◌<◌};
     ghost use Rattle.publish_core.specs.Standing.{PublisherStanding};
-    ghost use Rattle.publish_core.specs.Step.{IsStandingSound};
+    ghost use Rattle.publish_core.specs.computed.Step.{IsStandingSound};
     ghost use Rattle.std.specs.Coded.{codes};
-    ghost use Rattle.mms_data.specs.DataCode.{data_code};
+    ghost use Rattle.mms_data.specs.computed.DataCode.{data_code};
 
     ghost Value = { PublisherStanding A };
 

@@ -4,7 +4,7 @@ use Rattle.std.proofs.lemmas.Grind.{common_steps}
 use Rattle.std.specs.Prelude.{[], Result, IsOk, is_ok, is_some, slice_range}
 use Rattle.ber_core.specs.declared.fault.Fault.{Fault}
 use Rattle.mms_data.specs.Data.{Data}
-use Rattle.mms_data.specs.Reading.{members_at}
+use Rattle.mms_data.specs.computed.Reading.{members_at}
 use Rattle.mms_data.specs.declared.fault.ReadFault.{ReadFault}
 use Rattle.mms_data.specs.declared.fault.ReadFault.TheVariants as read
 use Rattle.mms_data.specs.Spelling.{FaultIn, SpellsAll}

@@ -2,13 +2,13 @@
 use Rattle.std.proofs.Common.{◌≡◌, false, true, None, Some, [], ◌∷◌, Ok, Err, refl}
 use Rattle.std.specs.Prelude.{codes}
 use Rattle.hex.specs.Hex.{decode_pairs}
-use Rattle.ber_core.specs.ContentsReading.{all_visible_at, boolean_at}
-use Rattle.ber_core.specs.Reading.{header_at, length_at}
+use Rattle.ber_core.specs.computed.ContentsReading.{all_visible_at, boolean_at}
+use Rattle.ber_core.specs.computed.Reading.{header_at, length_at}
 use Rattle.ber_core.specs.declared.fault.Cause.TheVariants as causes
-use Rattle.mms_data.specs.ContentsReading.{simple_at}
+use Rattle.mms_data.specs.computed.ContentsReading.{simple_at}
 use Rattle.mms_data.specs.Data.{boolean, simple}
-use Rattle.mms_data.specs.Kinds.{kind_at}
-use Rattle.mms_data.specs.Reading.{member_at, member_with, members_at, members_with}
+use Rattle.mms_data.specs.computed.KindReading.{kind_at}
+use Rattle.mms_data.specs.computed.Reading.{member_at, member_with, members_at, members_with}
 use Rattle.list_core.specs.declared.event_lines.MomentUnit.TheVariants.{Milliseconds, Microseconds}
 use Rattle.script_core.specs.Script.{flag_in, line_said, script_said, tag_in}
 use Rattle.script_core.specs.declared.script.ScriptCause.TheVariants as cause

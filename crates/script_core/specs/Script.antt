@@ -5,7 +5,7 @@ use Rattle.std.specs.Str.{bytes_eq}
 use Rattle.hex.specs.Hex.{decode_of}
 use Rattle.ber_core.specs.declared.fault.Fault.{Fault}
 use Rattle.mms_data.specs.Data.{Data}
-use Rattle.mms_data.specs.Reading.{members_at}
+use Rattle.mms_data.specs.computed.Reading.{members_at}
 use Rattle.mms_data.specs.Utc.{utc_of}
 use Rattle.mms_data.specs.declared.time.UtcTime.{UtcTime}
 use Rattle.list_core.specs.EventLine.{decoded, is_version, moment_of}
@@ -147,10 +147,12 @@ abbrev pub poll_of : {A : Type 0} → Option ℕ → Result (ScriptItem A) Scrip
 poll_of None = Err cause.Moment
 poll_of (Some moment) = Ok (item.Poll moment)
 
+-- the line of a change: MOMENT, T, MEMBERS
 abbrev pub change_said : {A : Type 0} → MomentUnit → ScriptPart → List (List ℕ) → Result (Option (ScriptItem A) × ScriptPart) ScriptCause
 change_said unit p (moment ∷ t ∷ members ∷ []) = call_said (too_early p) (change_said_by (moment_of unit moment) (time_in t) (all_octets_in members))
 change_said unit p _ = Err cause.ScriptForm
 
+-- the line of a poll: MOMENT
 abbrev pub poll_said : {A : Type 0} → MomentUnit → ScriptPart → List (List ℕ) → Result (Option (ScriptItem A) × ScriptPart) ScriptCause
 poll_said unit p (moment ∷ []) = call_said (too_early p) (poll_of (moment_of unit moment))
 poll_said unit p _ = Err cause.ScriptForm
@@ -207,23 +209,28 @@ abbrev pub members_keep : Option ℕ → Option UtcTime → Option (List ℕ) �
 members_keep (Some moment) (Some t) (Some octets) = octets_keep octets
 members_keep _ _ _ = false
 
+-- a change that may stand here, and whose members are good
 abbrev pub change_keeps : MomentUnit → ScriptPart → List (List ℕ) → Bool
 change_keeps unit p (moment ∷ t ∷ members ∷ []) = is_none (too_early p) && members_keep (moment_of unit moment) (time_in t) (all_octets_in members)
 change_keeps unit p _ = false
 
+-- whether the fields of a line have something to keep, by the first of them
 abbrev pub part_keeps : MomentUnit → ScriptPart → List ℕ → List (List ℕ) → Bool
 part_keeps unit p name fields =
     if bytes_eq name (codes "control") then control_keeps p (control_of fields)
     else (if bytes_eq name (codes "change") then change_keeps unit p fields else false)
 
+-- the same of all fields of a line
 abbrev pub all_keep : MomentUnit → ScriptPart → List (List ℕ) → Bool
 all_keep unit p [] = false
 all_keep unit p (name ∷ fields) = part_keeps unit p name fields
 
+-- whether a line has something to keep: none that is empty or begins with `#`
 abbrev pub line_keeps : MomentUnit → ScriptPart → List ℕ → Bool
 line_keeps unit p [] = false
 line_keeps unit p (x ∷ xs) = if x == 35 then false else all_keep unit p (comma_fields (x ∷ xs))
 
+-- whether a line of a script has something to keep, by what the lines before it settled
 abbrev pub script_keeps : ScriptLines → List ℕ → Bool
 script_keeps First line = line_keeps Milliseconds part.Control line
 script_keeps (After unit p) line = line_keeps unit p line

@@ -7,6 +7,7 @@ use Rattle.script_core.specs.Script.{ControlLine, flag_in, numbers_with}
 use Rattle.script_core.specs.declared.script_control.ControlView.{ControlView}
 use Rattle.script_core.specs.declared.script_control.Numbers.{Numbers}
 
+-- the control line that a view stands for: the same numbers and addresses, and the octets of its texts
 abbrev pub control_seen : ControlView → ControlLine
 control_seen v = record {
   destination = v.destination;

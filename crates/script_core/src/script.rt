@@ -28,28 +28,28 @@ pub enum ScriptCause {
     #[error("the line is none that a script has there")]
     ScriptForm,
     /// The first status number is 0.
-    #[error("the first status number is 0")]
+    #[error("the first stNum is 0")]
     FirstState,
     /// The step waits for nothing, or lives no longer than it waits.
-    #[error("the step waits for nothing, or lives no longer than it waits")]
+    #[error("the step waits 0 ms, or does not live longer than it waits")]
     StepTimes,
     /// There are 16 steps before this one, or none before the first change or poll.
     #[error("there are 16 steps before this one, or none before the first change or poll")]
     StepCount,
     /// The moment has no such digits.
-    #[error("the moment is not 1 to 15 decimal digits (1 to 18 after a first line V2)")]
+    #[error("the time is not 1 to 15 decimal digits (1 to 18 after a first line V2)")]
     Moment,
     /// The moment of change or the members have no such digits.
-    #[error("the moment of change or the members are not written in hexadecimal digits")]
+    #[error("T is not 16 hexadecimal digits, or MEMBERS not an even count of them")]
     Hex,
     /// The members have this fault, its place counted in their octets.
     #[error("the members: {0}")]
     Members(Fault),
     /// The count of values is not the control's.
-    #[error("the count of values is not that of the control's entries")]
+    #[error("the number of members differs from the control's entries")]
     EntriesDiffer,
     /// A value, the moment of the change or a text of the control has no spelling.
-    #[error("a value, the time or a text has no spelling")]
+    #[error("a value, the time or a text has no encoding")]
     NotSpellable,
     /// A frame of the new state would be too long.
     #[error("a frame of the new state would be too long")]

@@ -11,7 +11,7 @@ use Rattle.subscribe_core.specs.declared.entry.Entry.TheVariants as says
 use Rattle.subscribe_core.specs.declared.entry.Reason.{Reason}
 use Rattle.subscribe_core.specs.declared.registers.Facts.{Facts}
 use Rattle.subscribe_core.specs.declared.registers.Verdict.{Verdict}
-use Rattle.subscribe_core.specs.declared.registers.Verdict.TheVariants.{Acted, Renewed, Again, Stale}
+use Rattle.subscribe_core.specs.declared.registers.Verdict.TheVariants.{Act, Refreshed, Repeated, Older}
 use Rattle.subscribe_core.specs.Entries.{AreExpired, AreOfContent, AreReadEntriesAt, IsBlockEntry, IsFrameEntry, entry_of, reason_at, switched_at}
 use Rattle.subscribe_core.specs.Epoch.{Acts, IsVerdict}
 use Rattle.subscribe_core.specs.Laws.{ActsAreTold, IsActOn}
@@ -65,20 +65,20 @@ record IsActionOf {A : Type 0} (blocks : List (Block A)) (events : List EventRea
   block : Block A
   at : slice_get blocks b ≡ Some block
   acts : Acts (trace_of_block block events) i
-  told : entry ≡ entry_of b f Acted
+  told : entry ≡ entry_of b f Act
 
 verdict_action : {A : Type 0} → (blocks : List (Block A)) (events : List EventRead) (i c : ℕ) (block : Block A) (f : FrameRead) (v : Verdict) (b st sq : ℕ) (t : UtcTime) (m : List Data) → slice_get blocks c ≡ Some block → IsVerdict (trace_of_block block events) i (facts_of_frame f) v → entry_of {A = A} c f v ≡ says.Act b st sq t m → IsActionOf blocks events i b f (says.Act b st sq t m)
-verdict_action {A} blocks events i c block f Acted b st sq t m here w e =
+verdict_action {A} blocks events i c block f Act b st sq t m here w e =
     let place : c ≡ b = cc in
     record {
       block = block;
       at = ap (slice_get blocks) (sym place) ∙ here;
       acts = w;
-      told = sym e ∙ ap (λ (n : ℕ). entry_of {A = A} n f Acted) place;
+      told = sym e ∙ ap (λ (n : ℕ). entry_of {A = A} n f Act) place;
     }
-verdict_action blocks events i c block f Renewed b st sq t m here w e = absurd cc
-verdict_action blocks events i c block f Again b st sq t m here w e = absurd cc
-verdict_action blocks events i c block f Stale b st sq t m here w e = absurd cc
+verdict_action blocks events i c block f Refreshed b st sq t m here w e = absurd cc
+verdict_action blocks events i c block f Repeated b st sq t m here w e = absurd cc
+verdict_action blocks events i c block f Older b st sq t m here w e = absurd cc
 
 block_action : {A : Type 0} → (blocks : List (Block A)) (events : List EventRead) (i c : ℕ) (block : Block A) (f : FrameRead) (r : Option Reason) (b st sq : ℕ) (t : UtcTime) (m : List Data) → slice_get blocks c ≡ Some block → IsBlockEntry events i c block f r (says.Act b st sq t m) → IsActionOf blocks events i b f (says.Act b st sq t m)
 block_action blocks events i c block f (Some r) b st sq t m here a = absurd cc
@@ -129,12 +129,12 @@ good_at block events i e f g at kind good =
     (ap (facts_of block (mode_at events i) (takes_simulated block events i)) (sym kind) ∙
     (ap (facts_at block (mode_at events i) (takes_simulated block events i)) (sym at) ∙ good))
 
-acted_block : {A : Type 0} → (events : List EventRead) (i c : ℕ) (block : Block A) (f : FrameRead) (r : Option Reason) (x : Entry A) → Acts (trace_of_block block events) i → r ≡ None → IsBlockEntry events i c block f r x → x ≡ entry_of c f Acted
+acted_block : {A : Type 0} → (events : List EventRead) (i c : ℕ) (block : Block A) (f : FrameRead) (r : Option Reason) (x : Entry A) → Acts (trace_of_block block events) i → r ≡ None → IsBlockEntry events i c block f r x → x ≡ entry_of c f Act
 acted_block events i c block f (Some r) x acts none a = absurd cc
 acted_block {A} events i c block f None x acts none a =
-    a.2 ∙ ap (entry_of {A = A} c f) (verdict_unique (trace_of_block block events) i (facts_of_frame f) a.0 Acted a.1 acts)
+    a.2 ∙ ap (entry_of {A = A} c f) (verdict_unique (trace_of_block block events) i (facts_of_frame f) a.0 Act a.1 acts)
 
-acted_frame : {A : Type 0} → (blocks : List (Block A)) (events : List EventRead) (i b : ℕ) (block : Block A) (f : FrameRead) (x : Entry A) → AreApart blocks → slice_get blocks b ≡ Some block → is_of f block ≡ true → reason_at block events i f ≡ None → Acts (trace_of_block block events) i → IsFrameEntry blocks events i f x → x ≡ entry_of b f Acted
+acted_frame : {A : Type 0} → (blocks : List (Block A)) (events : List EventRead) (i b : ℕ) (block : Block A) (f : FrameRead) (x : Entry A) → AreApart blocks → slice_get blocks b ≡ Some block → is_of f block ≡ true → reason_at block events i f ≡ None → Acts (trace_of_block block events) i → IsFrameEntry blocks events i f x → x ≡ entry_of b f Act
 acted_frame blocks events i b block f x apart here yes_of clear acts (inl a) = absurd (false≢true (sym (a.0 b block here) ∙ yes_of))
 acted_frame {A} blocks events i b block f x apart here yes_of clear acts (inr a) =
     let place : a.0 ≡ b = same_place blocks apart f a.0 b a.1 block a.2 here a.3 yes_of in

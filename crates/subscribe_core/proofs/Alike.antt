@@ -9,9 +9,9 @@ use Rattle.subscribe_core.specs.declared.entry.Reason.{Reason}
 use Rattle.subscribe_core.specs.declared.entry.Reason.TheVariants.{DatSet, GoId, ConfRev, Commissioning, Simulated, Entries, StateZero, LiveZero}
 use Rattle.subscribe_core.specs.Epoch.{Trace, IsOver, Ends, Next, IsLastStart}
 use Rattle.subscribe_core.specs.Matching.{first_of, holds, is_of, reason_of, is_clear, facts_unless_refused, facts_of_frame}
-use Rattle.subscribe_core.specs.Simulation.{is_against, holds_at, is_plain_simulated, mode_at, invites, sets_off, takes_simulated, is_switched}
+use Rattle.subscribe_core.specs.Simulation.{is_against, holds_at, is_plain_simulated, mode_at, invites, sets_off, takes_simulated, is_switched, TakesSimulated}
 use Rattle.subscribe_core.specs.Sight.{facts_of, facts_at, trace_of_block}
-use Rattle.subscribe_core.specs.Laws.{IsIn, OneKind}
+use Rattle.subscribe_core.specs.Laws.{IsIn, OneKind, SimulatedAreTaken}
 use Rattle.subscribe_core.proofs.Epochs.{first_good, over_after}
 use Rattle.subscribe_core.proofs.Flags.{taken_is, taken_from, taken_here, taken_back, taken_same}
 
@@ -157,6 +157,15 @@ kind_is b events s i g e f a at kind =
           kind_later b events i f told (quiet i lt (omega arith)) ∙
           (steady (i - suc s) b events s i quiet (omega arith) ∙ ap (takes_simulated b events) at)
     ]
+
+pub simulated_are_taken : {A : Type 0} → SimulatedAreTaken A
+simulated_are_taken block events i = (
+  (λ is.
+      let w = taken_is (invites block events) (sets_off events) i is in
+      record { since = w.0; earlier = w.1; invited = w.2; lasts = w.3 }),
+  (λ (x : TakesSimulated block events i).
+      taken_from (invites block events) (sets_off events) i (x.since, x.earlier, x.invited, x.lasts)),
+)
 
 pub one_kind : {A : Type 0} → OneKind A
 one_kind block events s i j f g d e x y a b at_i kind_i at_j kind_j =

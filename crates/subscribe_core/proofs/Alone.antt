@@ -7,7 +7,7 @@ use Rattle.subscribe_core.specs.Reading.{FrameRead, EventRead, Content, OfGoose,
 use Rattle.subscribe_core.specs.declared.registers.Facts.{Facts}
 use Rattle.subscribe_core.specs.declared.entry.Reason.{Reason}
 use Rattle.subscribe_core.specs.declared.registers.Verdict.{Verdict}
-use Rattle.subscribe_core.specs.declared.registers.Verdict.TheVariants.{Acted, Renewed, Again, Stale}
+use Rattle.subscribe_core.specs.declared.registers.Verdict.TheVariants.{Act, Refreshed, Repeated, Older}
 use Rattle.subscribe_core.specs.declared.entry.Entry.{Entry}
 use Rattle.subscribe_core.specs.declared.entry.Entry.TheVariants as says
 use Rattle.subscribe_core.specs.Epoch.{Trace, IsExpiry, IsVerdict}
@@ -22,22 +22,22 @@ use Rattle.subscribe_core.specs.Laws.{own, own_of}
 -- one verdict
 
 pub verdict_unique : (t : Trace) (i : ℕ) (f : Facts) (v w : Verdict) → IsVerdict t i f v → IsVerdict t i f w → v ≡ w
-verdict_unique t i f Acted Acted a b = refl
-verdict_unique t i f Acted Renewed a b = absurd (b.0 a)
-verdict_unique t i f Acted Again a b = absurd (b.0 a)
-verdict_unique t i f Acted Stale a b = absurd (b.0 a)
-verdict_unique t i f Renewed Acted a b = absurd (a.0 b)
-verdict_unique t i f Renewed Renewed a b = refl
-verdict_unique t i f Renewed Again a b = absurd (b.1 a.1)
-verdict_unique t i f Renewed Stale a b = absurd (b.1 a.1)
-verdict_unique t i f Again Acted a b = absurd (a.0 b)
-verdict_unique t i f Again Renewed a b = absurd (a.1 b.1)
-verdict_unique t i f Again Again a b = refl
-verdict_unique t i f Again Stale a b = absurd (b.2 a.2)
-verdict_unique t i f Stale Acted a b = absurd (a.0 b)
-verdict_unique t i f Stale Renewed a b = absurd (a.1 b.1)
-verdict_unique t i f Stale Again a b = absurd (a.2 b.2)
-verdict_unique t i f Stale Stale a b = refl
+verdict_unique t i f Act Act a b = refl
+verdict_unique t i f Act Refreshed a b = absurd (b.0 a)
+verdict_unique t i f Act Repeated a b = absurd (b.0 a)
+verdict_unique t i f Act Older a b = absurd (b.0 a)
+verdict_unique t i f Refreshed Act a b = absurd (a.0 b)
+verdict_unique t i f Refreshed Refreshed a b = refl
+verdict_unique t i f Refreshed Repeated a b = absurd (b.1 a.1)
+verdict_unique t i f Refreshed Older a b = absurd (b.1 a.1)
+verdict_unique t i f Repeated Act a b = absurd (a.0 b)
+verdict_unique t i f Repeated Refreshed a b = absurd (a.1 b.1)
+verdict_unique t i f Repeated Repeated a b = refl
+verdict_unique t i f Repeated Older a b = absurd (b.2 a.2)
+verdict_unique t i f Older Act a b = absurd (a.0 b)
+verdict_unique t i f Older Refreshed a b = absurd (a.1 b.1)
+verdict_unique t i f Older Repeated a b = absurd (a.2 b.2)
+verdict_unique t i f Older Older a b = refl
 
 -- one list of entries
 
@@ -178,16 +178,16 @@ own_three {A} b xs ys zs = own-append b xs (ys ++ zs) ∙ ap (λ (l : List (Entr
 
 -- a verdict's entry is the block's own
 own_entry_is : (A : Type 0) (b : ℕ) (f : FrameRead) (v : Verdict) → own_of {A = A} b (entry_of b f v) ≡ entry_of 0 f v ∷ []
-own_entry_is A b f Acted = ap (λ (x : Bool). if x then entry_of {A = A} 0 f Acted ∷ [] else []) (eq-eqb b b refl)
-own_entry_is A b f Renewed = ap (λ (x : Bool). if x then entry_of {A = A} 0 f Renewed ∷ [] else []) (eq-eqb b b refl)
-own_entry_is A b f Again = ap (λ (x : Bool). if x then entry_of {A = A} 0 f Again ∷ [] else []) (eq-eqb b b refl)
-own_entry_is A b f Stale = ap (λ (x : Bool). if x then entry_of {A = A} 0 f Stale ∷ [] else []) (eq-eqb b b refl)
+own_entry_is A b f Act = ap (λ (x : Bool). if x then entry_of {A = A} 0 f Act ∷ [] else []) (eq-eqb b b refl)
+own_entry_is A b f Refreshed = ap (λ (x : Bool). if x then entry_of {A = A} 0 f Refreshed ∷ [] else []) (eq-eqb b b refl)
+own_entry_is A b f Repeated = ap (λ (x : Bool). if x then entry_of {A = A} 0 f Repeated ∷ [] else []) (eq-eqb b b refl)
+own_entry_is A b f Older = ap (λ (x : Bool). if x then entry_of {A = A} 0 f Older ∷ [] else []) (eq-eqb b b refl)
 
 own_entry_not : (A : Type 0) (b c : ℕ) (f : FrameRead) (v : Verdict) → (c ≡ b → ⊥) → own_of {A = A} b (entry_of c f v) ≡ []
-own_entry_not A b c f Acted ne = ap (λ (x : Bool). if x then entry_of {A = A} 0 f Acted ∷ [] else []) (ne_eqb c b ne)
-own_entry_not A b c f Renewed ne = ap (λ (x : Bool). if x then entry_of {A = A} 0 f Renewed ∷ [] else []) (ne_eqb c b ne)
-own_entry_not A b c f Again ne = ap (λ (x : Bool). if x then entry_of {A = A} 0 f Again ∷ [] else []) (ne_eqb c b ne)
-own_entry_not A b c f Stale ne = ap (λ (x : Bool). if x then entry_of {A = A} 0 f Stale ∷ [] else []) (ne_eqb c b ne)
+own_entry_not A b c f Act ne = ap (λ (x : Bool). if x then entry_of {A = A} 0 f Act ∷ [] else []) (ne_eqb c b ne)
+own_entry_not A b c f Refreshed ne = ap (λ (x : Bool). if x then entry_of {A = A} 0 f Refreshed ∷ [] else []) (ne_eqb c b ne)
+own_entry_not A b c f Repeated ne = ap (λ (x : Bool). if x then entry_of {A = A} 0 f Repeated ∷ [] else []) (ne_eqb c b ne)
+own_entry_not A b c f Older ne = ap (λ (x : Bool). if x then entry_of {A = A} 0 f Older ∷ [] else []) (ne_eqb c b ne)
 
 own_block_not : {A : Type 0} → (events : List EventRead) (i b c : ℕ) (block : Block A) (f : FrameRead) (r : Option Reason) (x : Entry A) → (c ≡ b → ⊥) → IsBlockEntry events i c block f r x → own_of b x ≡ []
 own_block_not {A} events i b c block f (Some r) x ne a =

@@ -5,7 +5,9 @@ use Rattle.std.proofs.lemmas.List.{length-append, length_push}
 use Rattle.std.proofs.lemmas.Option.{none-some, same_Some}
 use Rattle.subscribe_core.specs.declared.watch.Seen.{Seen}
 use Rattle.subscribe_core.specs.declared.watch.Seen.TheVariants as seen
-use Rattle.subscribe_core.specs.Watch.{AreSeen, SeenAreOne, GoesOn, IsLastCount, IsSeenLast, SkipsAddUp, WatchState, WatchesAfter, advance, advances, by_way, greatest_index, last_by, moves, seen_after, seen_all, way}
+use Rattle.subscribe_core.specs.Watch.{AreSeen, IsLastCount, IsSeenLast, WatchState, WatchesAfter, by_way, moves, seen_after, way}
+use Rattle.subscribe_core.specs.computed.WatchAnswers.{last_by, seen_all}
+use Rattle.subscribe_core.specs.WatchLaws.{SeenAreOne, GoesOn, SkipsAddUp, advance, advances, greatest_index}
 use Rattle.subscribe_core.proofs.Traces.{get_front, get_middle, get_pushed}
 use Rattle.std.proofs.Math.Nat.{add-mod_left, div-add-mod, mod-add-mod, mod-eq_of_lt, mod-lt, mul-add-mod_self_left}
 

@@ -22,8 +22,8 @@ use Rattle.subscribe_core.specs.declared.entry.Entry.{Entry}
 use Rattle.subscribe_core.specs.declared.entry.Entry.TheVariants as says
 use Rattle.subscribe_core.specs.declared.registers.Register.{Register}
 use Rattle.subscribe_core.specs.Entries.{expired_count}
-use Rattle.subscribe_core.specs.Steps.{is_over, expired_entries}
-use Rattle.subscribe_core.specs.Deadlines.{pair_cmp, has_deadline, helds, AreDeadlinesOf, due_pairs, due_count, due_positions}
+use Rattle.subscribe_core.specs.computed.Steps.{is_dead, expired_entries}
+use Rattle.subscribe_core.specs.computed.Deadlines.{pair_cmp, has_deadline, helds, AreDeadlinesOf, due_pairs, due_count, due_positions}
 use Rattle.subscribe_core.proofs.Pairs.{pair_total, at_same, due_has, due_from, within_from}
 
 -- the positions that are due, by recursion
@@ -40,24 +40,24 @@ no_lower : (now b : ℕ) (held : List (Option Held)) (q : ℕ) → q < b → lis
 no_lower now b [] q lt = refl
 no_lower now b (h ∷ hs) q lt =
     let rest : list_any (is_at (nat_cmp q)) (due_positions now (b + 1) hs) ≡ false = no_lower now (b + 1) hs q (omega arith) in
-    elim (cases_Bool (is_over h now)) [
+    elim (cases_Bool (is_dead h now)) [
       | inl d ↦ rw d (rw (nat_at_other q b (λ e. omega arith), rest) refl)
       | inr d ↦ rw d rest
     ]
 
 pub due_member : (now b : ℕ) (held : List (Option Held)) (k : ℕ)
-    → list_any (is_at (nat_cmp (b + k))) (due_positions now b held) ≡ is_over (get_or held k None) now
+    → list_any (is_at (nat_cmp (b + k))) (due_positions now b held) ≡ is_dead (get_or held k None) now
 due_member now b [] k = refl
 due_member now b (h ∷ hs) zero =
     let same : b + 0 ≡ b = omega arith in
-    elim (cases_Bool (is_over h now)) [
+    elim (cases_Bool (is_dead h now)) [
       | inl d ↦ rw (same, d) (rw (nat_at_itself b) refl)
       | inr d ↦ rw (same, d) (no_lower now (b + 1) hs b (omega arith))
     ]
 due_member now b (h ∷ hs) (suc k) =
     let next : b + suc k ≡ (b + 1) + k = omega arith in
-    let rest : list_any (is_at (nat_cmp ((b + 1) + k))) (due_positions now (b + 1) hs) ≡ is_over (get_or hs k None) now = due_member now (b + 1) hs k in
-    elim (cases_Bool (is_over h now)) [
+    let rest : list_any (is_at (nat_cmp ((b + 1) + k))) (due_positions now (b + 1) hs) ≡ is_dead (get_or hs k None) now = due_member now (b + 1) hs k in
+    elim (cases_Bool (is_dead h now)) [
       | inl d ↦ rw (next, d) (rw (nat_at_other ((b + 1) + k) b (λ e. omega arith)) rest)
       | inr d ↦ rw (next, d) rest
     ]
@@ -67,7 +67,7 @@ due_above : (now b c : ℕ) (held : List (Option Held)) → c < b → AllByRecur
 due_above now b c [] lt = tt
 due_above now b c (h ∷ hs) lt =
     let rest : AllByRecursion (λ y. nat_cmp c y ≡ Less) (due_positions now (b + 1) hs) = due_above now (b + 1) c hs (omega arith) in
-    elim (cases_Bool (is_over h now)) [
+    elim (cases_Bool (is_dead h now)) [
       | inl d ↦ rw d (rw (lt-ltb c b lt) refl, rest)
       | inr d ↦ rw d rest
     ]
@@ -77,7 +77,7 @@ unfolding IsStrictlySortedBy
 due_sorted now b [] = tt
 due_sorted now b (h ∷ hs) =
     let rest : IsStrictlySortedBy nat_cmp (due_positions now (b + 1) hs) = due_sorted now (b + 1) hs in
-    elim (cases_Bool (is_over h now)) [
+    elim (cases_Bool (is_dead h now)) [
       | inl d ↦ rw d (due_above now (b + 1) b hs (omega arith), rest)
       | inr d ↦ rw d rest
     ]
@@ -90,7 +90,7 @@ pub entries_are : (A : Type 0) (now b : ℕ) (rs : List Register) → map (expir
 entries_are A now b [] = refl
 entries_are A now b (r ∷ rs) =
     let rest : map (expired_at A) (due_positions now (b + 1) (helds rs)) ≡ expired_entries now (b + 1) rs = entries_are A now (b + 1) rs in
-    elim (cases_Bool (is_over r.held now)) [
+    elim (cases_Bool (is_dead r.held now)) [
       | inl d ↦ rw d (ap (λ (es : List (Entry A)). says.Expired b ∷ es) rest)
       | inr d ↦ rw d rest
     ]
@@ -162,16 +162,16 @@ due_pair now set held q agree c =
     (range_first now q parts.0, sym (agree q) ∙ parts.1)
 
 due_sound : (now : ℕ) (set : BTreeSet (ℕ × ℕ)) (held : List (Option Held)) (p : ℕ) → AreDeadlinesOf set held
-    → Contains (map second (due_pairs now set)) p → is_over (get_or held p None) now ≡ true
+    → Contains (map second (due_pairs now set)) p → is_dead (get_or held p None) now ≡ true
 due_sound now set held p agree c =
     let lt : c.0 < length (due_pairs now set) = subst (λ (n : ℕ). c.0 < n) (length-map (due_pairs now set) second) c.1 in
     let q : ℕ × ℕ = get_or (due_pairs now set) c.0 (0, 0) in
     let w = due_pair now set held q agree (Contains-get_or (due_pairs now set) c.0 (0, 0) lt) in
     let at : q.1 ≡ p = sym (get_or-map second (due_pairs now set) c.0 (0, 0) p lt) ∙ c.2 in
-    subst (λ (i : ℕ). is_over (get_or held i None) now ≡ true) at (due_from (get_or held q.1 None) q.0 now w.1 w.0)
+    subst (λ (i : ℕ). is_dead (get_or held i None) now ≡ true) at (due_from (get_or held q.1 None) q.0 now w.1 w.0)
 
 due_complete : (now : ℕ) (set : BTreeSet (ℕ × ℕ)) (held : List (Option Held)) (p : ℕ) → AreDeadlinesOf set held → length held < 2 ^ 64
-    → is_over (get_or held p None) now ≡ true → Contains (map second (due_pairs now set)) p
+    → is_dead (get_or held p None) now ≡ true → Contains (map second (due_pairs now set)) p
 due_complete now set held p agree small e =
     let w = due_has (get_or held p None) now e in
     let lt : p < length held = within_from held p w.0 w.1 in
@@ -224,9 +224,9 @@ due_is now set held sorted agree up small moved order =
     btree_set_from_contains nat_cmp_total (record { keys = sorted }) (record { keys = due_positions now 0 held }) rising (due_sorted now 0 held)
     (λ q.
     let iff = btree_set_contains_iff nat_cmp_total exact_unsigned (record { keys = sorted }) q in
-    let from : list_any (is_at (nat_cmp q)) (due_positions now 0 held) ≡ is_over (get_or held q None) now =
-    subst (λ (x : ℕ). list_any (is_at (nat_cmp x)) (due_positions now 0 held) ≡ is_over (get_or held q None) now) (zero-add q) (due_member now 0 held q) in
-    same_bool (contains nat_cmp (record { keys = sorted }) q) (is_over (get_or held q None) now)
+    let from : list_any (is_at (nat_cmp q)) (due_positions now 0 held) ≡ is_dead (get_or held q None) now =
+    subst (λ (x : ℕ). list_any (is_at (nat_cmp x)) (due_positions now 0 held) ≡ is_dead (get_or held q None) now) (zero-add q) (due_member now 0 held q) in
+    same_bool (contains nat_cmp (record { keys = sorted }) q) (is_dead (get_or held q None) now)
     (λ e. due_sound now set held q agree (Contains-permutation sorted listed q (IsPermutation-sym listed sorted moved) (iff.0 e)))
     (λ e. iff.1 (Contains-permutation listed sorted q moved (due_complete now set held q agree small e)))
     ∙ sym from)
@@ -253,7 +253,7 @@ pub expired_counted : {A : Type 0} (now b : ℕ) (rs : List Register) (said : Li
 expired_counted now b [] said = omega arith
 expired_counted now b (r ∷ rs) said =
     let rest : due_count now (helds rs) ≤ expired_count (expired_entries now (b + 1) rs ++ said) = expired_counted now (b + 1) rs said in
-    elim (cases_Bool (is_over r.held now)) [
+    elim (cases_Bool (is_dead r.held now)) [
       | inl d ↦ rw d (omega arith)
       | inr d ↦ rw d rest
     ]

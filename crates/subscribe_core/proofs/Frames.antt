@@ -13,14 +13,14 @@ use Rattle.subscribe_core.specs.declared.registers.Facts.{Facts}
 use Rattle.subscribe_core.specs.declared.registers.Held.{Held}
 use Rattle.subscribe_core.specs.declared.registers.Register.{Register}
 use Rattle.subscribe_core.specs.declared.registers.Verdict.{Verdict}
-use Rattle.subscribe_core.specs.declared.registers.Verdict.TheVariants.{Acted, Renewed, Again, Stale}
-use Rattle.subscribe_core.specs.Deadlines.{due_count, helds}
-use Rattle.subscribe_core.specs.Indexed.{registers_after_clock, register_after_clock, good_entries, good_held, good_register, good_renewal, switches}
+use Rattle.subscribe_core.specs.declared.registers.Verdict.TheVariants.{Act, Refreshed, Repeated, Older}
+use Rattle.subscribe_core.specs.computed.Deadlines.{due_count, helds}
+use Rattle.subscribe_core.specs.computed.Indexed.{registers_after_clock, register_after_clock, good_entries, good_held, good_register, good_renewal, switches}
 use Rattle.subscribe_core.specs.Matching.{facts_of_frame, holds, is_clear, is_of, reason_of}
 use Rattle.subscribe_core.specs.Reading.{FrameRead, OfGoose}
 use Rattle.subscribe_core.specs.Simulation.{is_against, is_plain_simulated}
 use Rattle.subscribe_core.specs.Standing.{AreApart}
-use Rattle.subscribe_core.specs.Steps.{after_clock, after_switch, block_entry, block_held, flag_by, is_over, register_by, registers_by, said_of, switch_by, switched_entries, held_after_frame, turned, verdict_on}
+use Rattle.subscribe_core.specs.computed.Steps.{after_clock, after_switch, block_entry, block_held, flag_by, is_dead, register_by, registers_by, said_of, switch_by, switched_entries, held_after_frame, turned, verdict_on}
 use Rattle.subscribe_core.proofs.Alike.{no_reason, refused}
 use Rattle.subscribe_core.proofs.BlockNames.{is_of_key}
 use Rattle.subscribe_core.proofs.Clearing.{not_due_stays}
@@ -279,22 +279,22 @@ registers_good now mode xs rs f at x r same apart e p q clear =
 -- what is written of a good frame
 
 taken_some : (v : Verdict) (held : Option Held) (now : ℕ) (f : Facts) (new : Held) → held_after_frame v None now f ≡ Some new → held_after_frame v held now f ≡ Some new
-taken_some Acted held now f new e = e
-taken_some Renewed held now f new e = e
-taken_some Again held now f new e = absurd (none-some new e)
-taken_some Stale held now f new e = absurd (none-some new e)
+taken_some Act held now f new e = e
+taken_some Refreshed held now f new e = e
+taken_some Repeated held now f new e = absurd (none-some new e)
+taken_some Older held now f new e = absurd (none-some new e)
 
 taken_none : (v : Verdict) (held : Option Held) (now : ℕ) (f : Facts) → held_after_frame v None now f ≡ None → held_after_frame v held now f ≡ held
-taken_none Acted held now f e = absurd (none-some _ (sym e))
-taken_none Renewed held now f e = absurd (none-some _ (sym e))
-taken_none Again held now f e = refl
-taken_none Stale held now f e = refl
+taken_none Act held now f e = absurd (none-some _ (sym e))
+taken_none Refreshed held now f e = absurd (none-some _ (sym e))
+taken_none Repeated held now f e = refl
+taken_none Older held now f e = refl
 
 taken_deadline : (v : Verdict) (now : ℕ) (f : Facts) (new : Held) → held_after_frame v None now f ≡ Some new → new.deadline ≡ now + f.lifetime
-taken_deadline Acted now f new e = sym (ap (λ (h : Held). h.deadline) (same_Some _ new e))
-taken_deadline Renewed now f new e = sym (ap (λ (h : Held). h.deadline) (same_Some _ new e))
-taken_deadline Again now f new e = absurd (none-some new e)
-taken_deadline Stale now f new e = absurd (none-some new e)
+taken_deadline Act now f new e = sym (ap (λ (h : Held). h.deadline) (same_Some _ new e))
+taken_deadline Refreshed now f new e = sym (ap (λ (h : Held). h.deadline) (same_Some _ new e))
+taken_deadline Repeated now f new e = absurd (none-some new e)
+taken_deadline Older now f new e = absurd (none-some new e)
 
 -- an idle block takes any good frame
 taken_idle : (o : Option Held) (now : ℕ) (f : Facts) → o ≡ None → held_after_frame (verdict_on o f) None now f ≡ None → ⊥
@@ -310,13 +310,13 @@ lives b f against e =
           absurd (no_reason (holds against b f) (DatSet ∷ GoId ∷ ConfRev ∷ Commissioning ∷ Simulated ∷ Entries ∷ StateZero ∷ []) [] LiveZero (eq-eqb f.pdu.live 0 dead) e)
     ]
 
-pub new_lives : {A : Type 0} (now : ℕ) (b : Block A) (r : Register) (f : FrameRead) (against : Bool) (new : Held) → reason_of against b f ≡ None → good_renewal now r f ≡ Some new → is_over (Some new) now ≡ false
+pub new_lives : {A : Type 0} (now : ℕ) (b : Block A) (r : Register) (f : FrameRead) (against : Bool) (new : Held) → reason_of against b f ≡ None → good_renewal now r f ≡ Some new → is_dead (Some new) now ≡ false
 new_lives now b r f against new clear e =
     let lt = lives b f against clear in
     let at = taken_deadline (verdict_on (good_held now r f) (facts_of_frame f)) now (facts_of_frame f) new e in
     lt-leb new.deadline now (omega arith)
 
-pub written_new : (now : ℕ) (rs : List Register) (at : ℕ) (r : Register) (f : FrameRead) (new : Held) → is_over (Some new) now ≡ false → good_renewal now r f ≡ Some new
+pub written_new : (now : ℕ) (rs : List Register) (at : ℕ) (r : Register) (f : FrameRead) (new : Held) → is_dead (Some new) now ≡ false → good_renewal now r f ≡ Some new
     → registers_after_clock now (set rs at (record { held = Some new; simulated = r.simulated || f.pdu.simulation })) ≡ set (registers_after_clock now rs) at (good_register now r f)
 written_new now rs at r f new fresh e =
     let here : register_after_clock now (record { held = Some new; simulated = r.simulated || f.pdu.simulation }) ≡ good_register now r f =
@@ -344,15 +344,15 @@ written_none now rs at r f q e =
     ]
 
 -- one block more holds what isn't due
-due_fewer : (held : List (Option Held)) (at now : ℕ) (new : Option Held) → is_over new now ≡ false → due_count now (set held at new) ≤ due_count now held
+due_fewer : (held : List (Option Held)) (at now : ℕ) (new : Option Held) → is_dead new now ≡ false → due_count now (set held at new) ≤ due_count now held
 due_fewer [] at now new e = omega arith
 due_fewer (h ∷ hs) zero now new e =
-    elim (cases_Bool (is_over h now)) [ inl d ↦ rw (e, d) (omega arith) | inr d ↦ rw (e, d) (omega arith) ]
+    elim (cases_Bool (is_dead h now)) [ inl d ↦ rw (e, d) (omega arith) | inr d ↦ rw (e, d) (omega arith) ]
 due_fewer (h ∷ hs) (suc at) now new e =
     let rest : due_count now (set hs at new) ≤ due_count now hs = due_fewer hs at now new e in
-    elim (cases_Bool (is_over h now)) [ inl d ↦ rw d (omega arith) | inr d ↦ rw d rest ]
+    elim (cases_Bool (is_dead h now)) [ inl d ↦ rw d (omega arith) | inr d ↦ rw d rest ]
 
-pub written_fewer : (now : ℕ) (rs : List Register) (at : ℕ) (r : Register) → is_over r.held now ≡ false → due_count now (helds (set rs at r)) ≤ due_count now (helds rs)
+pub written_fewer : (now : ℕ) (rs : List Register) (at : ℕ) (r : Register) → is_dead r.held now ≡ false → due_count now (helds (set rs at r)) ≤ due_count now (helds rs)
 written_fewer now rs at r e =
     subst (λ (hs : List (Option Held)). due_count now hs ≤ due_count now (helds rs)) (sym (map-set (λ (x : Register). x.held) rs at r)) (due_fewer (helds rs) at now r.held e)
 

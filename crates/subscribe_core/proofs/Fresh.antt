@@ -7,9 +7,9 @@ use Rattle.std.specs.BTreeSet.{BTreeSet}
 use Rattle.block_core.specs.declared.block.Block.{Block}
 use Rattle.subscribe_core.specs.declared.names.Name.{Name}
 use Rattle.subscribe_core.specs.declared.registers.Register.{Register}
-use Rattle.subscribe_core.specs.Deadlines.{has_deadline, helds}
-use Rattle.subscribe_core.specs.Indexed.{IsIndexed}
-use Rattle.subscribe_core.specs.Names.{AreSorted, AreNamesOf}
+use Rattle.subscribe_core.specs.computed.Deadlines.{has_deadline, helds}
+use Rattle.subscribe_core.specs.computed.Indexed.{IsIndexed}
+use Rattle.subscribe_core.specs.computed.Names.{AreSorted, AreNamesOf}
 use Rattle.subscribe_core.specs.Standing.{AreApart, IsTwice, idle}
 
 pub apart_from : {A : Type 0} → (blocks : List (Block A)) → ((k : ℕ) → k < length blocks → ¬ IsTwice blocks k) → AreApart blocks

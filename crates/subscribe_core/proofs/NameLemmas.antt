@@ -22,7 +22,7 @@ use Rattle.subscribe_core.specs.declared.names.Name.{Name}
 use Rattle.subscribe_core.specs.Matching.{is_of}
 use Rattle.subscribe_core.specs.Standing.{AreApart}
 use Rattle.subscribe_core.proofs.BlockNames.{is_of_key, key_is_of}
-use Rattle.subscribe_core.specs.Names.{key_cmp, key_of, block_key, HasName, AreNamesOf}
+use Rattle.subscribe_core.specs.computed.Names.{key_cmp, key_of, block_key, HasName, AreNamesOf}
 
 pub key_total : IsTotalOrder key_cmp
 key_total = then_total (on_total (λ (p : ℕ × List ℕ). p.0) nat_cmp_total) (on_total (λ (p : ℕ × List ℕ). p.1) nat_list_cmp_total)

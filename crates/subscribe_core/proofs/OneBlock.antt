@@ -5,9 +5,9 @@ use Rattle.std.proofs.lemmas.Option.{same_Some}
 use Rattle.subscribe_core.specs.declared.registers.Facts.{Facts}
 use Rattle.subscribe_core.specs.declared.registers.Held.{Held}
 use Rattle.subscribe_core.specs.declared.registers.Verdict.{Verdict}
-use Rattle.subscribe_core.specs.declared.registers.Verdict.TheVariants.{Acted, Renewed, Again, Stale}
+use Rattle.subscribe_core.specs.declared.registers.Verdict.TheVariants.{Act, Refreshed, Repeated, Older}
 use Rattle.subscribe_core.specs.Epoch.{Trace, IsBefore, IsBest, Dead, IsOver, Ends, IsFirstGood, IsStart, First, Next, IsExpiry, IsLastStart, Acts, IsIdleAfter, HoldsBest, BlockHolds, Refreshes, Repeats, IsVerdict}
-use Rattle.subscribe_core.specs.Steps.{is_over, after_clock, after_switch, verdict_on, held_after_frame}
+use Rattle.subscribe_core.specs.computed.Steps.{is_dead, after_clock, after_switch, verdict_on, held_after_frame}
 use Rattle.subscribe_core.proofs.Epochs.{IsBefore-irrefl, IsBefore-trans, IsBefore-between, best_unique, best_facts, over_after, ends_unique, good_not_none, MayStart, start_good, start_at, settled, later, first_good}
 
 -- an epoch starts at n, if that is a good position
@@ -374,7 +374,7 @@ HoldsAt t n None = Ready t n
 HoldsAt t n (Some h) = Going t n h
 
 -- the expiry at n, and then the switch, if there is one
-pub clock_step : (t : Trace) (n : ℕ) (held : Option Held) → BlockHolds t n held → ((is_over held (t.now n) ≡ true) ↔ IsExpiry t n) × HoldsAt t n (after_switch (t.switched n) (after_clock held (t.now n)))
+pub clock_step : (t : Trace) (n : ℕ) (held : Option Held) → BlockHolds t n held → ((is_dead held (t.now n) ≡ true) ↔ IsExpiry t n) × HoldsAt t n (after_switch (t.switched n) (after_clock held (t.now n)))
 clock_step t n None i = go (t.switched n)
   where
     idle : Idle t n
@@ -465,9 +465,9 @@ frame_step t n (Some h) g w e =
     o = w.is_open
 
     by : Bool → Bool → Bool → Bool → Verdict
-    by a b c d = if a then Acted else if b && c then Renewed else if b && d then Again else Stale
+    by a b c d = if a then Act else if b && c then Refreshed else if b && d then Repeated else Older
 
-    stale : (g.state ≤ w.facts.state) → ¬ IsBefore w.facts g → (g.state ≡ w.facts.state → g.sequence ≡ w.facts.sequence → ⊥) → IsVerdict t n g Stale × BlockHolds t (n + 1) (Some h)
+    stale : (g.state ≤ w.facts.state) → ¬ IsBefore w.facts g → (g.state ≡ w.facts.state → g.sequence ≡ w.facts.sequence → ⊥) → IsVerdict t n g Older × BlockHolds t (n + 1) (Some h)
     stale le past differ = (
       (
         open_not_acts t n w.start w.best w.facts g o e le,

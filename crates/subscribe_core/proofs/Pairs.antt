@@ -12,8 +12,8 @@ use Rattle.std.specs.Ordering.{nat_cmp, is_eq, is_gt, ordering_then}
 use Rattle.std.specs.BTreeMap.{is_at}
 use Rattle.std.specs.BTreeSet.{BTreeSet, contains}
 use Rattle.subscribe_core.specs.declared.registers.Held.{Held}
-use Rattle.subscribe_core.specs.Steps.{is_over}
-use Rattle.subscribe_core.specs.Deadlines.{pair_cmp, has_deadline}
+use Rattle.subscribe_core.specs.computed.Steps.{is_dead}
+use Rattle.subscribe_core.specs.computed.Deadlines.{pair_cmp, has_deadline}
 
 pub pair_total : IsTotalOrder pair_cmp
 pair_total = then_total (on_total (λ (p : ℕ × ℕ). p.0) nat_cmp_total) (on_total (λ (p : ℕ × ℕ). p.1) nat_cmp_total)
@@ -113,12 +113,12 @@ pub has_only : (o : Option Held) (d e : ℕ) → has_deadline o d ≡ true → (
 has_only None d e h apart = refl
 has_only (Some x) d e h apart = ne_eqb x.deadline e (λ same. apart (sym same ∙ eqb-true x.deadline d h))
 
-pub due_from : (o : Option Held) (d now : ℕ) → has_deadline o d ≡ true → d ≤ now → is_over o now ≡ true
+pub due_from : (o : Option Held) (d now : ℕ) → has_deadline o d ≡ true → d ≤ now → is_dead o now ≡ true
 due_from None d now h le = absurd (false≢true h)
 due_from (Some x) d now h le = let same : x.deadline ≡ d = eqb-true x.deadline d h in le-leb x.deadline now (omega arith)
 
 -- what is due has a deadline that is at most the moment
-pub due_has : (o : Option Held) (now : ℕ) → is_over o now ≡ true → (d : ℕ) × (has_deadline o d ≡ true) × (d ≤ now)
+pub due_has : (o : Option Held) (now : ℕ) → is_dead o now ≡ true → (d : ℕ) × (has_deadline o d ≡ true) × (d ≤ now)
 due_has None now e = absurd (false≢true e)
 due_has (Some x) now e = (x.deadline, eq-eqb x.deadline x.deadline refl, leb-true x.deadline now e)
 
@@ -149,9 +149,9 @@ timed_take held k s n has u agree =
 pub none_due : (held : List (Option Held)) (at now : ℕ) (s : ℕ × ℕ → Bool)
     → ((q : ℕ × ℕ) → s q ≡ has_deadline (get_or held q.1 None) q.0)
     → ((q : ℕ × ℕ) → s q ≡ true → q.0 ≤ now → ⊥)
-    → is_over (get_or held at None) now ≡ false
+    → is_dead (get_or held at None) now ≡ false
 none_due held at now s agree none =
-    elim (cases_Bool (is_over (get_or held at None) now)) [
+    elim (cases_Bool (is_dead (get_or held at None) now)) [
       | inl e ↦
           let w = due_has (get_or held at None) now e in
           absurd (none (w.0, at) (agree (w.0, at) ∙ w.1) w.2)

@@ -3,7 +3,7 @@ use Rattle.std.proofs.Common.{◌≡◌, ℕ, ◌+◌, ◌<◌, ◌≤◌, inl, 
 use Rattle.subscribe_core.specs.declared.registers.Facts.{Facts}
 use Rattle.subscribe_core.specs.declared.registers.Held.{Held}
 use Rattle.subscribe_core.specs.declared.registers.Verdict.{Verdict}
-use Rattle.subscribe_core.specs.declared.registers.Verdict.TheVariants.{Acted, Renewed, Again, Stale}
+use Rattle.subscribe_core.specs.declared.registers.Verdict.TheVariants.{Act, Refreshed, Repeated, Older}
 use Rattle.subscribe_core.proofs.Epochs.{over_after}
 use Rattle.subscribe_core.specs.Epoch.{Trace, IsBest, Dead, IsOver, Ends, IsFirstGood, IsStart, First, Next, IsExpiry, IsLastStart, Acts, Refreshes, Repeats, IsVerdict, BlockHolds}
 
@@ -101,15 +101,15 @@ repeats_same a i f lt w = (
 )
 
 pub verdict_same : {n : ℕ} {t u : Trace} → SameBelow n t u → (i : ℕ) (f : Facts) (v : Verdict) → i < n → IsVerdict t i f v → IsVerdict u i f v
-verdict_same a i f Acted lt w = acts_same a i lt w
-verdict_same a i f Renewed lt w =
+verdict_same a i f Act lt w = acts_same a i lt w
+verdict_same a i f Refreshed lt w =
     ((λ x. w.0 (acts_same (same_sym a) i lt x)), refreshes_same a i f lt w.1)
-verdict_same a i f Again lt w = (
+verdict_same a i f Repeated lt w = (
   (λ x. w.0 (acts_same (same_sym a) i lt x)),
   (λ x. w.1 (refreshes_same (same_sym a) i f lt x)),
   repeats_same a i f lt w.2,
 )
-verdict_same a i f Stale lt w = (
+verdict_same a i f Older lt w = (
   (λ x. w.0 (acts_same (same_sym a) i lt x)),
   (λ x. w.1 (refreshes_same (same_sym a) i f lt x)),
   (λ x. w.2 (repeats_same (same_sym a) i f lt x)),

@@ -1,6 +1,6 @@
 -- Where there is no entry.
 use Rattle.std.proofs.Common.{◌≡◌, ℕ, List, [], ◌∷◌, ◌++◌, length}
-use Rattle.frame_core.specs.FrameReading.{frame_at}
+use Rattle.frame_core.specs.computed.FrameReading.{frame_at}
 use Rattle.list_core.specs.declared.event.Event.{Event}
 use Rattle.list_core.specs.declared.event.EventKind.{EventKind}
 use Rattle.list_core.specs.declared.event.EventKind.TheVariants as kinds
@@ -11,11 +11,11 @@ use Rattle.ber_core.specs.declared.fault.Fault.{Fault}
 use Rattle.std.specs.Prelude.{Bool, Result, Ok, Err}
 use Rattle.block_core.specs.declared.block.Block.{Block}
 use Rattle.subscribe_core.specs.declared.registers.Register.{Register}
-use Rattle.subscribe_core.specs.Content.{content_by, content_of, content_with, reading_of}
+use Rattle.subscribe_core.specs.computed.Content.{content_by, content_of, content_with, reading_of}
 use Rattle.subscribe_core.specs.Entries.{AreEntriesAt}
 use Rattle.subscribe_core.specs.Reading.{IsFrame}
 use Rattle.subscribe_core.specs.Standing.{AreApart, State, StandsAfter}
-use Rattle.subscribe_core.specs.Steps.{said_of, step_entries}
+use Rattle.subscribe_core.specs.computed.Steps.{said_of, step_entries}
 use Rattle.list_core.proofs.Emptiness.{back_nil}
 use Rattle.subscribe_core.proofs.Readings.{is_read}
 use Rattle.subscribe_core.proofs.Runs.{entries_are_one, entries_step}

@@ -1,7 +1,7 @@
 -- Each event is read as one content.
 use Rattle.std.proofs.Common.{◌≡◌, ℕ, suc, List, [], ◌∷◌, ◌++◌, length, map, Result, Ok, Err, sym, refl, ap, ap₂, ◌∙◌}
 use Rattle.ber_core.specs.declared.fault.Fault.{Fault}
-use Rattle.frame_core.specs.FrameReading.{frame_at}
+use Rattle.frame_core.specs.computed.FrameReading.{frame_at}
 use Rattle.frame_core.specs.declared.frame.Frame.{Frame}
 use Rattle.frame_core.specs.declared.frame.Apdu.{Apdu}
 use Rattle.frame_core.specs.declared.frame.Apdu.TheVariants as apdus
@@ -10,7 +10,7 @@ use Rattle.list_core.specs.declared.event.EventKind.{EventKind}
 use Rattle.list_core.specs.declared.event.EventKind.TheVariants as kinds
 use Rattle.frame_core.proofs.ReadingLaws.{frame_again, frame_read_found, frame_read_wrong, frame_wrong_again}
 use Rattle.subscribe_core.specs.Reading.{Content, OfGoose, OfSampled, OfFault, OfClock, OfMode, EventRead, IsContent, IsRead, AreRead}
-use Rattle.subscribe_core.specs.Content.{content_with, content_by, content_of, reading_of}
+use Rattle.subscribe_core.specs.computed.Content.{content_with, content_by, content_of, reading_of}
 
 -- the function reads what is there
 

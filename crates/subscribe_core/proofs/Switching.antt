@@ -8,9 +8,9 @@ use Rattle.subscribe_core.specs.declared.entry.Entry.{Entry}
 use Rattle.subscribe_core.specs.declared.entry.Entry.TheVariants as says
 use Rattle.subscribe_core.specs.declared.names.Name.{Name}
 use Rattle.subscribe_core.specs.declared.registers.Register.{Register}
-use Rattle.subscribe_core.specs.Indexed.{IsIndexed, registers_after_clock, register_after_clock, flagged_entries, switched_off, switched_off_one}
+use Rattle.subscribe_core.specs.computed.Indexed.{IsIndexed, registers_after_clock, register_after_clock, flagged_entries, switched_off, switched_off_one}
 use Rattle.subscribe_core.specs.Reading.{Content, OfClock, OfFault, OfMode, OfSampled}
-use Rattle.subscribe_core.specs.Steps.{register_by, registers_by, said_of, switch_by, switched_entries}
+use Rattle.subscribe_core.specs.computed.Steps.{register_by, registers_by, said_of, switch_by, switched_entries}
 
 -- what switches no block
 

@@ -14,7 +14,7 @@ use Rattle.subscribe_core.specs.declared.entry.Reason.{Reason}
 use Rattle.subscribe_core.specs.declared.entry.Entry.{Entry}
 use Rattle.subscribe_core.specs.declared.entry.Entry.TheVariants as says
 use Rattle.subscribe_core.specs.Epoch.{IsExpiry, BlockHolds}
-use Rattle.subscribe_core.specs.Steps.{is_over, after_clock, after_switch, verdict_on, held_after_frame, switch_by, flag_by, expired_entries, switched_entries, turned, block_entry, block_held, held_by, register_by, registers_by, found_entry, frame_entry, said_of, step_entries, step_state}
+use Rattle.subscribe_core.specs.computed.Steps.{is_dead, after_clock, after_switch, verdict_on, held_after_frame, switch_by, flag_by, expired_entries, switched_entries, turned, block_entry, block_held, held_by, register_by, registers_by, found_entry, frame_entry, said_of, step_entries, step_state}
 use Rattle.subscribe_core.specs.Matching.{is_of, reason_of, facts_of_frame, facts_unless_refused}
 use Rattle.subscribe_core.specs.Simulation.{is_against, mode_by, mode_at, takes_simulated, is_switched}
 use Rattle.subscribe_core.specs.Sight.{facts_of, greatest_event_moment, trace_of_block}
@@ -51,7 +51,7 @@ record Agrees {A : Type 0} (events : List EventRead) (e : EventRead) (now : ℕ)
   good_is : (trace_of_block x (events ++ e ∷ [])).good (length events) ≡ facts_of x mode r.simulated e.content
   reason_is : (f : FrameRead) → reason_of (is_against f (mode_at (events ++ e ∷ []) (length events)) (takes_simulated x (events ++ e ∷ []) (length events))) x f ≡ reason_of (is_against f mode r.simulated) x f
   flag_is : flag_by x mode r.simulated e.content ≡ takes_simulated x (events ++ e ∷ []) (length events + 1)
-  expiry : (is_over r.held now ≡ true) ↔ IsExpiry (trace_of_block x (events ++ e ∷ [])) (length events)
+  expiry : (is_dead r.held now ≡ true) ↔ IsExpiry (trace_of_block x (events ++ e ∷ [])) (length events)
   held : HoldsAt (trace_of_block x (events ++ e ∷ [])) (length events) (turned now mode e.content x r)
 
 agrees : {A : Type 0} → (events : List EventRead) (e : EventRead) (s : State A) → StandsAfterRead events s → (b : ℕ) (x : Block A) (r : Register) → slice_get s.blocks b ≡ Some x → slice_get s.registers b ≡ Some r → Agrees events e (max s.moment e.moment) s.mode x r
@@ -70,7 +70,7 @@ agrees events e s w b x r p q =
           ap (λ m. reason_of (is_against f m (takes_simulated x (events ++ e ∷ []) (length events))) x f) (mode_new events e ∙ sym w.mode) ∙
           ap (λ y. reason_of (is_against f s.mode y) x f) (takes_front x events (e ∷ []) (length events) (omega arith) ∙ sym flag);
       flag_is = sym (flag_new x events e ∙ (ap (λ m. flag_by x m (takes_simulated x events (length events)) e.content) (sym w.mode) ∙ ap (λ y. flag_by x s.mode y e.content) (sym flag)));
-      expiry = subst (λ m. (is_over r.held m ≡ true) ↔ IsExpiry (trace_of_block x (events ++ e ∷ [])) (length events)) (sym now) step.0;
+      expiry = subst (λ m. (is_dead r.held m ≡ true) ↔ IsExpiry (trace_of_block x (events ++ e ∷ [])) (length events)) (sym now) step.0;
       held = subst (λ m. HoldsAt (trace_of_block x (events ++ e ∷ [])) (length events) (after_switch (switch_by x s.mode r.simulated e.content) (after_clock r.held m))) (sym now)
           (subst (λ y. HoldsAt (trace_of_block x (events ++ e ∷ [])) (length events) (after_switch y (after_clock r.held ((trace_of_block x (events ++ e ∷ [])).now (length events))))) sw step.1);
     }
@@ -116,7 +116,7 @@ register_at {A} now mode k (z ∷ xs) (r ∷ rs) zero x y p q =
     (r, refl, ap (λ (w : Block A). register_by now mode k w r) (sym (same_Some z x p)) ∙ same_Some (register_by now mode k z r) y q)
 register_at now mode k (z ∷ xs) (r ∷ rs) (suc b) x y p q = register_at now mode k xs rs b x y p q
 
-expired_one : {A : Type 0} → (events : List EventRead) (n now b : ℕ) (x : Block A) (xs : List (Block A)) (r : Register) (rs : List Register) (due : Bool) → is_over r.held now ≡ due → ((is_over r.held now ≡ true) ↔ IsExpiry (trace_of_block x events) n) → AreExpired events n (b + 1) xs (expired_entries now (b + 1) rs) → AreExpired events n b (x ∷ xs) (if due then says.Expired b ∷ expired_entries now (b + 1) rs else expired_entries now (b + 1) rs)
+expired_one : {A : Type 0} → (events : List EventRead) (n now b : ℕ) (x : Block A) (xs : List (Block A)) (r : Register) (rs : List Register) (due : Bool) → is_dead r.held now ≡ due → ((is_dead r.held now ≡ true) ↔ IsExpiry (trace_of_block x events) n) → AreExpired events n (b + 1) xs (expired_entries now (b + 1) rs) → AreExpired events n b (x ∷ xs) (if due then says.Expired b ∷ expired_entries now (b + 1) rs else expired_entries now (b + 1) rs)
 expired_one events n now b x xs r rs true is iff rest = inl (iff.0 is, (expired_entries now (b + 1) rs, refl, rest))
 expired_one events n now b x xs r rs false is iff rest = inr ((λ w. false≢true (sym is ∙ iff.1 w)), rest)
 
@@ -125,7 +125,7 @@ expired_ok events e now mode b [] [] same all = refl
 expired_ok events e now mode b [] (r ∷ rs) same all = absurd (omega arith)
 expired_ok events e now mode b (x ∷ xs) [] same all = absurd (omega arith)
 expired_ok events e now mode b (x ∷ xs) (r ∷ rs) same all =
-    expired_one (events ++ e ∷ []) (length events) now b x xs r rs (is_over r.held now) refl (all 0 x r refl refl).expiry
+    expired_one (events ++ e ∷ []) (length events) now b x xs r rs (is_dead r.held now) refl (all 0 x r refl refl).expiry
     (expired_ok events e now mode (b + 1) xs rs (omega arith) (λ j. all (suc j)))
 
 switched_ok : {A : Type 0} → (events : List EventRead) (e : EventRead) (now : ℕ) (mode : Bool) (b : ℕ) (xs : List (Block A)) (rs : List Register) → length rs ≡ length xs → AllAgree events e now mode xs rs → switched_entries mode e.content b xs rs ≡ switched_at (events ++ e ∷ []) (length events) b xs

@@ -5,7 +5,7 @@ use Rattle.subscribe_core.specs.declared.entry.Reason.{Reason}
 use Rattle.subscribe_core.specs.declared.entry.Entry.{Entry}
 use Rattle.subscribe_core.specs.declared.entry.Entry.TheVariants as says
 use Rattle.subscribe_core.specs.declared.registers.Verdict.{Verdict}
-use Rattle.subscribe_core.specs.declared.registers.Verdict.TheVariants.{Acted, Renewed, Again, Stale}
+use Rattle.subscribe_core.specs.declared.registers.Verdict.TheVariants.{Act, Refreshed, Repeated, Older}
 use Rattle.list_core.specs.declared.event.Event.{Event}
 use Rattle.subscribe_core.specs.Epoch.{IsExpiry, IsVerdict}
 use Rattle.subscribe_core.specs.Matching.{is_of, reason_of, facts_of_frame}
@@ -15,10 +15,10 @@ use Rattle.subscribe_core.specs.Simulation.{mode_at, takes_simulated, is_switche
 
 -- the entry that says the verdict on a frame, with the frame's own numbers, time and members
 abbrev pub entry_of : {A : Type 0} → ℕ → FrameRead → Verdict → Entry A
-entry_of b f Acted = says.Act b f.pdu.st_num f.pdu.sq_num f.pdu.t f.pdu.members
-entry_of b f Renewed = says.Refreshed b f.pdu.st_num f.pdu.sq_num
-entry_of b f Again = says.Repeated b f.pdu.st_num f.pdu.sq_num
-entry_of b f Stale = says.Older b f.pdu.st_num f.pdu.sq_num
+entry_of b f Act = says.Act b f.pdu.st_num f.pdu.sq_num f.pdu.t f.pdu.members
+entry_of b f Refreshed = says.Refreshed b f.pdu.st_num f.pdu.sq_num
+entry_of b f Repeated = says.Repeated b f.pdu.st_num f.pdu.sq_num
+entry_of b f Older = says.Older b f.pdu.st_num f.pdu.sq_num
 
 -- an Expired entry for each of the blocks of which i is an expiry, in their order; the first has position b
 abbrev pub AreExpired : {A : Type 0} → List EventRead → ℕ → ℕ → List (Block A) → List (Entry A) → Type 0

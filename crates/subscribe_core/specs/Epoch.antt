@@ -4,7 +4,7 @@ use Rattle.std.specs.Prelude.{◌≡◌, ℕ, ◌+◌, ◌<◌, ◌≤◌, ◌�
 use Rattle.subscribe_core.specs.declared.registers.Facts.{Facts}
 use Rattle.subscribe_core.specs.declared.registers.Held.{Held}
 use Rattle.subscribe_core.specs.declared.registers.Verdict.{Verdict}
-use Rattle.subscribe_core.specs.declared.registers.Verdict.TheVariants.{Acted, Renewed, Again, Stale}
+use Rattle.subscribe_core.specs.declared.registers.Verdict.TheVariants.{Act, Refreshed, Repeated, Older}
 
 -- what a block sees of a list of events, position by position: the greatest moment up to there, the facts of the frame
 -- there where that is a good one, and whether the block goes over to simulated frames there, or back to real ones
@@ -25,7 +25,8 @@ pub record IsBest (t : Trace) (s k p : ℕ) (f : Facts) : Type 0 where
   pub greatest : (q : ℕ) (g : Facts) → s ≤ q → q < k → t.good q ≡ Some g → ¬ IsBefore f g
   pub first : (q : ℕ) (g : Facts) → s ≤ q → q < p → t.good q ≡ Some g → IsBefore g f
 
--- at k the lifetime of the best frame since s is over
+-- at k, a position after s, the lifetime of the best frame since s is over: the greatest moment up to k is no less
+-- than the greatest up to that frame plus the frame's timeAllowedtoLive (IEC 61850-8-1)
 pub record Dead (t : Trace) (s k : ℕ) : Type 0 where
   pub after : s < k
   pub best : ℕ
@@ -82,14 +83,15 @@ Repeats t i f =
     (s : ℕ) × IsLastStart t i s ×
     ((p : ℕ) × (g : Facts) × IsBest t s i p g × (f.state ≡ g.state) × (f.sequence ≡ g.sequence))
 
--- the verdict on a good frame at i with facts f
+-- the verdict on the good frame at i, with facts f: it is acted on; else it is the best of its epoch so far, and
+-- renews the lifetime; else it has the pair of the best one before it, and repeats that; else it is older
 abbrev pub IsVerdict : Trace → ℕ → Facts → Verdict → Type 0
-IsVerdict t i f Acted = Acts t i
-IsVerdict t i f Renewed = ¬ Acts t i × Refreshes t i f
-IsVerdict t i f Again = ¬ Acts t i × ¬ Refreshes t i f × Repeats t i f
-IsVerdict t i f Stale = ¬ Acts t i × ¬ Refreshes t i f × ¬ Repeats t i f
+IsVerdict t i f Act = Acts t i
+IsVerdict t i f Refreshed = ¬ Acts t i × Refreshes t i f
+IsVerdict t i f Repeated = ¬ Acts t i × ¬ Refreshes t i f × Repeats t i f
+IsVerdict t i f Older = ¬ Acts t i × ¬ Refreshes t i f × ¬ Repeats t i f
 
--- there is no start among the first n positions, or what started last is over
+-- after the first n positions the block is idle: there is no start among them, or what started last is over
 abbrev pub IsIdleAfter : Trace → ℕ → Type 0
 IsIdleAfter t n =
     ((s : ℕ) → s < n → ¬ IsStart t s) ⊎
@@ -109,7 +111,8 @@ pub record HoldsBest (t : Trace) (n : ℕ) (h : Held) : Type 0 where
   pub sequence : h.sequence ≡ facts.sequence
   pub deadline : h.deadline ≡ t.now best + facts.lifetime
 
--- what a block holds after the first n positions
+-- what a block holds after the first n positions of its trace: nothing, where it is idle; or the pair of the best
+-- frame since the last start, and the moment at which that frame's lifetime is over
 abbrev pub BlockHolds : Trace → ℕ → Option Held → Type 0
 BlockHolds t n None = IsIdleAfter t n
 BlockHolds t n (Some h) = HoldsBest t n h

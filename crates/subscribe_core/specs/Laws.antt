@@ -1,5 +1,5 @@
 -- What follows from the definitions, for every list of events.
-use Rattle.std.specs.Prelude.{◌≡◌, ℕ, ◌<◌, ◌≤◌, ◌↔◌, ◌==◌, Some, List, [], ◌∷◌, ◌++◌, map, slice_get, flat_map, Contains, if◌then◌else◌}
+use Rattle.std.specs.Prelude.{◌≡◌, ℕ, ◌<◌, ◌≤◌, ◌↔◌, ◌==◌, true, Some, List, [], ◌∷◌, ◌++◌, map, slice_get, flat_map, Contains, if◌then◌else◌}
 use Rattle.block_core.specs.declared.block.Block.{Block}
 use Rattle.subscribe_core.specs.declared.entry.Entry.{Entry}
 use Rattle.subscribe_core.specs.declared.entry.Entry.TheVariants as says
@@ -7,14 +7,15 @@ use Rattle.subscribe_core.specs.declared.registers.Facts.{Facts}
 use Rattle.list_core.specs.declared.event.Event.{Event}
 use Rattle.mms_data.specs.Data.{Data}
 use Rattle.mms_data.specs.declared.time.UtcTime.{UtcTime}
-use Rattle.subscribe_core.specs.declared.registers.Verdict.TheVariants.{Acted}
+use Rattle.subscribe_core.specs.declared.registers.Verdict.TheVariants.{Act}
 use Rattle.subscribe_core.specs.Entries.{AreReadEntriesAt, AreEntriesAt, AreEntries, entry_of}
 use Rattle.subscribe_core.specs.Epoch.{Trace, IsLastStart, Acts}
 use Rattle.subscribe_core.specs.Reading.{FrameRead, OfGoose, EventRead}
 use Rattle.subscribe_core.specs.Sight.{trace_of_block}
-use Rattle.subscribe_core.specs.Content.{reading_of}
+use Rattle.subscribe_core.specs.computed.Content.{reading_of}
+use Rattle.subscribe_core.specs.Simulation.{TakesSimulated, takes_simulated}
 use Rattle.subscribe_core.specs.Standing.{AreApart, fresh_state}
-use Rattle.subscribe_core.specs.Steps.{run_events}
+use Rattle.subscribe_core.specs.computed.Steps.{run_events}
 
 -- i is a good position of the epoch that starts at s, and f are its facts
 pub record IsIn (t : Trace) (s i : ℕ) (f : Facts) : Type 0 where
@@ -51,6 +52,11 @@ ComesInTime t s number =
 -- a number is acted on exactly where it comes in time
 abbrev pub ActedWhereInTime : Trace → Type 0
 ActedWhereInTime t = (s number : ℕ) → IsActedOn t s number ↔ ComesInTime t s number
+
+-- a block takes simulated frames exactly where the test says so
+abbrev pub SimulatedAreTaken : Type 0 → Type 0
+SimulatedAreTaken A =
+    (block : Block A) (events : List EventRead) (i : ℕ) → (takes_simulated block events i ≡ true) ↔ TakesSimulated block events i
 
 -- the good frames of one epoch are all simulated or all real
 abbrev pub OneKind : Type 0 → Type 0
@@ -110,7 +116,7 @@ pub record IsActOn {A : Type 0} (blocks : List (Block A)) (events : List EventRe
   pub frame : FrameRead
   pub goose : event.content ≡ OfGoose frame
   pub acts : Acts (trace_of_block block events) i
-  pub told : entry ≡ entry_of b frame Acted
+  pub told : entry ≡ entry_of b frame Act
 
 -- the actions among the entries of an event are exactly those of the blocks that act on it: of which its frame is a good one,
 -- with a status number above those of all good ones before it in their epoch

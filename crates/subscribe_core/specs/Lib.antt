@@ -5,12 +5,8 @@ pub mod Simulation
 pub mod Sight
 pub mod Entries
 pub mod Standing
-pub mod Steps
 pub mod Laws
-pub mod Content
-pub mod Names
-pub mod Deadlines
-pub mod Indexed
-pub mod Received
 pub mod Faults
 pub mod Watch
+pub mod computed
+pub mod WatchLaws

@@ -12,7 +12,7 @@ use Rattle.list_core.specs.declared.event.Event.{Event}
 use Rattle.list_core.specs.declared.event.EventKind.{EventKind}
 use Rattle.list_core.specs.declared.event.EventKind.TheVariants as kinds
 
--- a frame of GOOSE as a subscriber goes by it (IEC 61850-8-1)
+-- a frame of GOOSE as a subscriber goes by it (IEC 61850-8-1): its APPID and its APDU, and nothing else
 pub record FrameRead : Type 0 where
   pub app_id : ℕ
   pub pdu : GoosePdu (Unit {0})

@@ -1,5 +1,5 @@
 -- The simulation mode, and which blocks take simulated frames (profile). All is said by positions in the list.
-use Rattle.std.specs.Prelude.{ℕ, zero, suc, Bool, false, not, ◌&&◌, ◌||◌, Option, Some, None, List, [], ◌∷◌, take, nat_lt, slice_get, if◌then◌else◌}
+use Rattle.std.specs.Prelude.{◌≡◌, ℕ, zero, suc, ◌<◌, Bool, true, false, not, ◌&&◌, ◌||◌, Option, Some, None, List, [], ◌∷◌, take, nat_lt, slice_get, if◌then◌else◌}
 use Rattle.block_core.specs.declared.block.Block.{Block}
 use Rattle.subscribe_core.specs.Reading.{FrameRead, Content, OfGoose, OfSampled, OfFault, OfClock, OfMode, EventRead}
 use Rattle.subscribe_core.specs.Matching.{is_of, reason_of, is_clear}
@@ -55,7 +55,15 @@ invites b events j = holds_at (is_plain_simulated b) (slice_get events j) && mod
 abbrev pub sets_off : List EventRead → ℕ → Bool
 sets_off events k = holds_at is_off (slice_get events k)
 
--- the block takes simulated frames at i: such a frame came before with the mode on, and no event between sets the mode off
+-- the block takes simulated frames at i: at an earlier position such a frame comes with the mode on, and no event between sets
+-- the mode off
+pub record TakesSimulated {A : Type 0} (b : Block A) (events : List EventRead) (i : ℕ) : Type 0 where
+  pub since : ℕ
+  pub earlier : since < i
+  pub invited : invites b events since ≡ true
+  pub lasts : (k : ℕ) → since < k → k < i → ¬ (sets_off events k ≡ true)
+
+-- the same as a test, by what a law says
 abbrev pub takes_simulated : {A : Type 0} → Block A → List EventRead → ℕ → Bool
 takes_simulated b events i =
     some_below i (λ j. invites b events j && not (some_below i (λ k. nat_lt j k && sets_off events k)))

@@ -15,12 +15,13 @@ pub record State (A : Type 0) : Type 0 where
   pub mode : Bool
   pub moment : ℕ
 
--- and how often the last event reached a block or its register
+-- what a subscriber keeps, and how often the last event reached a block or its register
 pub record Standing (A : Type 0) : Type 0 where
   pub state : State A
   pub looks : ℕ
 
--- the same, and how often a block or its register was reached in all
+-- what a subscriber keeps, how often the last event reached a block or its register, and how often one was reached in
+-- all, up to 2^64 - 1
 pub record Counted (A : Type 0) : Type 0 where
   pub state : State A
   pub looks : ℕ

@@ -1,7 +1,6 @@
 -- The counter of samples (IEC 61850-9-2, smpCnt): what each count is after the counts before it (profile). All is said by
 -- positions in the list of counts.
-use Rattle.std.specs.Prelude.{◌≡◌, ℕ, ◌+◌, ◌-◌, ◌*◌, ◌%◌, ◌<◌, ◌≤◌, ◌⊎◌, ◌==◌, max, nat_lt, Bool, true, false, Option, Some, None, List, [], ◌∷◌, ◌++◌, length, map, slice_get, if◌then◌else◌}
-use Rattle.block_core.specs.Period.{IsPeriod}
+use Rattle.std.specs.Prelude.{◌≡◌, ℕ, ◌+◌, ◌-◌, ◌*◌, ◌%◌, ◌<◌, ◌==◌, nat_lt, Bool, true, false, Option, Some, None, List, [], ◌∷◌, ◌++◌, length, slice_get, if◌then◌else◌}
 use Rattle.subscribe_core.specs.declared.watch.Seen.{Seen}
 use Rattle.subscribe_core.specs.declared.watch.Seen.TheVariants as seen
 
@@ -56,61 +55,3 @@ pub record WatchState : Type 0 where
 -- it keeps what the counts say
 abbrev pub WatchesAfter : List ℕ → WatchState → Type 0
 WatchesAfter counts w = (answers : List Seen) × AreSeen w.period counts answers × IsLastCount counts answers (length counts) w.last
-
--- the last count lies below the period
-abbrev pub IsBelow : ℕ → Option ℕ → Type 0
-IsBelow period None = Unit {0}
-IsBelow period (Some last) = last < period
-
--- what is kept after a count
-abbrev pub last_by : Option ℕ → ℕ → Seen → Option ℕ
-last_by last count seen.First = Some count
-last_by last count seen.Next = Some count
-last_by last count (seen.Skipped m) = Some count
-last_by last count seen.Same = last
-last_by last count seen.Late = last
-last_by last count seen.OutOfRange = last
-
--- the answers to counts one after another, as a function; a law makes it the relation above
-abbrev pub seen_all : ℕ → Option ℕ → List ℕ → List Seen
-seen_all period last [] = []
-seen_all period last (c ∷ cs) = seen_after period last c ∷ seen_all period (last_by last c (seen_after period last c)) cs
-
--- Indexes of samples without bound, of which the counts are the rests by the period. Each index is one above the greatest
--- before it, or less than half a period away from that.
-abbrev pub GoesOn : ℕ → ℕ → List ℕ → Type 0
-GoesOn period greatest [] = Unit {0}
-GoesOn period greatest (k ∷ ks) =
-    ((k ≡ greatest + 1) ⊎ (2 * ((k - greatest) + (greatest - k)) < period)) × GoesOn period (max greatest k) ks
-
--- the greatest of these indexes
-abbrev pub greatest_index : ℕ → List ℕ → ℕ
-greatest_index greatest [] = greatest
-greatest_index greatest (k ∷ ks) = greatest_index (max greatest k) ks
-
--- how far an answer goes on: one for Next and for Skipped, and the count of those skipped
-abbrev pub advance : Seen → ℕ
-advance seen.First = 0
-advance seen.Next = 1
-advance (seen.Skipped m) = 1 + m
-advance seen.Same = 0
-advance seen.Late = 0
-advance seen.OutOfRange = 0
-
-abbrev pub advances : List Seen → ℕ
-advances [] = 0
-advances (s ∷ ss) = advance s + advances ss
-
--- over such indexes the Next and Skipped answers, with the counts of those skipped, add up to the greatest index minus the
--- first
-abbrev pub SkipsAddUp : Type 0
-SkipsAddUp =
-    (period first : ℕ) (rest : List ℕ) (answers : List Seen) → IsPeriod period → GoesOn period first rest →
-    AreSeen period (map (λ k. k % period) (first ∷ rest)) answers → first + advances answers ≡ greatest_index first rest
-
--- every list of counts has answers, those of the function, and they are one
-abbrev pub SeenAreOne : Type 0
-SeenAreOne =
-    (period : ℕ) (counts : List ℕ) →
-    AreSeen period counts (seen_all period None counts) ×
-    ((a b : List Seen) → AreSeen period counts a → AreSeen period counts b → a ≡ b)

@@ -2,9 +2,9 @@
 
 ghost use Rattle.std.specs.Prelude.{◌≡◌, ◌++◌, Some, None, IfOk, OnOk};
 ghost use Rattle.subscribe_core.specs.Entries.{entry_of};
-ghost use Rattle.subscribe_core.specs.Indexed.{good_entries, good_renewal};
-ghost use Rattle.subscribe_core.specs.Received.{received_frame};
-ghost use Rattle.subscribe_core.specs.Steps.{held_after_frame};
+ghost use Rattle.subscribe_core.specs.computed.Indexed.{good_entries, good_renewal};
+ghost use Rattle.subscribe_core.specs.computed.Received.{received_frame};
+ghost use Rattle.subscribe_core.specs.computed.Steps.{held_after_frame};
 
 use crate::entry::Entry;
 use crate::matching::{Received, facts_in};
@@ -23,24 +23,24 @@ fn verdict_entry<A: Allocator + Copy>(
 {
     let (state, sequence) = (frame.goose.st_num, frame.goose.sq_num);
     match verdict {
-        Verdict::Acted => Ok(Entry::Act {
+        Verdict::Act => Ok(Entry::Act {
             block,
             state,
             sequence,
             t: frame.goose.t,
             members: ValueList::from(frame.goose.members.to_values(alloc)?),
         }),
-        Verdict::Renewed => Ok(Entry::Refreshed {
+        Verdict::Refreshed => Ok(Entry::Refreshed {
             block,
             state,
             sequence,
         }),
-        Verdict::Again => Ok(Entry::Repeated {
+        Verdict::Repeated => Ok(Entry::Repeated {
             block,
             state,
             sequence,
         }),
-        Verdict::Stale => Ok(Entry::Older {
+        Verdict::Older => Ok(Entry::Older {
             block,
             state,
             sequence,
@@ -53,12 +53,12 @@ fn renewal(verdict: Verdict, now: u64, facts: &Facts) -> Option<Held>
     ensures { result ≡ held_after_frame verdict None now facts.now }
 {
     match verdict {
-        Verdict::Acted | Verdict::Renewed => Some(Held {
+        Verdict::Act | Verdict::Refreshed => Some(Held {
             state: facts.state,
             sequence: facts.sequence,
             deadline: u128::from(now) + u128::from(facts.lifetime),
         }),
-        Verdict::Again | Verdict::Stale => None,
+        Verdict::Repeated | Verdict::Older => None,
     }
 }
 

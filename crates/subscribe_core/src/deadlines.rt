@@ -4,9 +4,9 @@ ghost use Rattle.std.specs.Prelude.{◌≡◌, ℕ, ◌<◌, ◌+◌, [], List, 
 ghost use Rattle.std.specs.List.Sorted.{IsPermutation, IsSorted};
 ghost use Rattle.std.specs.Ordering.{nat_cmp};
 ghost use Rattle.std.specs.BTreeSet.{btree_set_len, IsOrdered};
-ghost use Rattle.subscribe_core.specs.declared.registers.Held.{Held as Holding};
-ghost use Rattle.subscribe_core.specs.Steps.{is_over};
-ghost use Rattle.subscribe_core.specs.Deadlines.{AreDeadlinesOf, due_pairs, pair_cmp};
+ghost use Rattle.subscribe_core.specs.declared.registers.Held.{Held as SpecHeld};
+ghost use Rattle.subscribe_core.specs.computed.Steps.{is_dead};
+ghost use Rattle.subscribe_core.specs.computed.Deadlines.{AreDeadlinesOf, due_pairs, pair_cmp};
 
 use crate::registers::Held;
 use std::alloc::{AllocError, Allocator};
@@ -52,7 +52,7 @@ pub(crate) fn swap<A: Allocator + Copy>(
     old: Option<Held>,
     deadline: u128,
 ) -> Result<(), AllocError>
-    ensures swapped { OnOk result ((held : List (Option Holding)) (new : Holding) → at < length held → slice_index_or held at None ≡ old
+    ensures swapped { OnOk result ((held : List (Option SpecHeld)) (new : SpecHeld) → at < length held → slice_index_or held at None ≡ old
         → new.deadline ≡ deadline → AreDeadlinesOf deadlines.old held → AreDeadlinesOf deadlines.new (slice_set held at (Some new))) }
     ensures err { OnErr result (deadlines.new.keys ≡ deadlines.old.keys) }
 {
@@ -75,7 +75,7 @@ pub(crate) fn leave<A: Allocator + Copy>(
     at: usize,
     old: Option<Held>,
 )
-    ensures { (held : List (Option Holding)) → slice_index_or held at None ≡ old → AreDeadlinesOf deadlines.old held → AreDeadlinesOf deadlines.new (slice_set held at None) }
+    ensures { (held : List (Option SpecHeld)) → slice_index_or held at None ≡ old → AreDeadlinesOf deadlines.old held → AreDeadlinesOf deadlines.new (slice_set held at None) }
 {
     if let Some(old) = old {
         deadlines.remove(&(old.deadline, at));
@@ -87,9 +87,9 @@ pub(crate) fn take_due<A: Allocator + Copy>(
     deadlines: &mut BTreeSet<(u128, usize), A>,
     now: u64,
 ) -> Option<usize>
-    ensures due { IfSome result (λ at. (held : List (Option Holding)) → AreDeadlinesOf deadlines.old held → IsTrue (is_over (slice_index_or held at None) now)) }
-    ensures taken { IfSome result (λ at. (held : List (Option Holding)) → AreDeadlinesOf deadlines.old held → AreDeadlinesOf deadlines.new (slice_set held at None)) }
-    ensures none { IfNone result ((held : List (Option Holding)) (at : ℕ) → AreDeadlinesOf deadlines.old held → is_over (slice_index_or held at None) now ≡ false) }
+    ensures due { IfSome result (λ at. (held : List (Option SpecHeld)) → AreDeadlinesOf deadlines.old held → IsTrue (is_dead (slice_index_or held at None) now)) }
+    ensures taken { IfSome result (λ at. (held : List (Option SpecHeld)) → AreDeadlinesOf deadlines.old held → AreDeadlinesOf deadlines.new (slice_set held at None)) }
+    ensures none { IfNone result ((held : List (Option SpecHeld)) (at : ℕ) → AreDeadlinesOf deadlines.old held → is_dead (slice_index_or held at None) now ≡ false) }
     ensures len { btree_set_len deadlines.new + (if is_some result then 1 else 0) ≡ btree_set_len deadlines.old }
     ensures unchanged { IfNone result (deadlines.new.keys ≡ deadlines.old.keys) }
 {

@@ -1,19 +1,19 @@
 // What a subscriber keeps, and one event at it: blocks are found by name and by deadline, and each reach is counted.
 
 ghost use Rattle.std.specs.Prelude.{◌≡◌, ◌<◌, ◌≤◌, ◌+◌, ◌-◌, ◌++◌, [], ℕ, false, ◌⊎◌, None, Some, IfOk, OnOk, OnErr, IfErr, IsOk, length, max, position, replicate, slice_get, slice_set};
-ghost use Rattle.subscribe_core.specs.Content.{content_by, content_of, reading_of};
-ghost use Rattle.subscribe_core.specs.Deadlines.{due_count, helds};
+ghost use Rattle.subscribe_core.specs.computed.Content.{content_by, content_of, reading_of};
+ghost use Rattle.subscribe_core.specs.computed.Deadlines.{due_count, helds};
 ghost use Rattle.subscribe_core.specs.Entries.{expired_count};
 ghost use Rattle.subscribe_core.specs.Faults.{IsFaultOf};
-ghost use Rattle.subscribe_core.specs.Indexed.{registers_after_clock, flagged_entries, switched_off};
+ghost use Rattle.subscribe_core.specs.computed.Indexed.{registers_after_clock, flagged_entries, switched_off};
 ghost use Rattle.subscribe_core.specs.Matching.{is_of};
 ghost use Rattle.subscribe_core.specs.Reading.{IsFrame, IsMode, OfGoose, OfMode};
-ghost use Rattle.subscribe_core.specs.Received.{received_frame};
+ghost use Rattle.subscribe_core.specs.computed.Received.{received_frame};
 ghost use Rattle.subscribe_core.specs.Simulation.{mode_by};
 ghost use Rattle.subscribe_core.specs.Standing.{AreApart, fresh_state, idle};
-ghost use Rattle.subscribe_core.specs.Steps.{expired_entries, said_of, step_entries, step_state, switched_entries, registers_by};
-ghost use Rattle.frame_core.specs.FrameReading.{frame_at};
-ghost use Rattle.subscribe_core.specs.declared.registers.Register.{Register as Holding};
+ghost use Rattle.subscribe_core.specs.computed.Steps.{expired_entries, said_of, step_entries, step_state, switched_entries, registers_by};
+ghost use Rattle.frame_core.specs.computed.FrameReading.{frame_at};
+ghost use Rattle.subscribe_core.specs.declared.registers.Register.{Register as SpecRegister};
 
 use crate::answering::push_good;
 use crate::deadlines;
@@ -44,7 +44,7 @@ pub struct Keeper<A: Allocator> {
 
 impl<A: Allocator> Model for Keeper<A> {
     ghost use Rattle.subscribe_core.specs.Standing.{Counted};
-    ghost use Rattle.subscribe_core.specs.Indexed.{IsIndexed};
+    ghost use Rattle.subscribe_core.specs.computed.Indexed.{IsIndexed};
 
     ghost Value = { Counted A };
 
@@ -176,7 +176,7 @@ impl<A: Allocator + Copy> Keeper<A> {
         held: Held,
         simulated: bool,
     ) -> Result<(), AllocError>
-        requires was { (r : Holding) × (slice_get self.old.state.registers at ≡ Some r) × (r.held ≡ old) }
+        requires was { (r : SpecRegister) × (slice_get self.old.state.registers at ≡ Some r) × (r.held ≡ old) }
         ensures registers { OnOk result (self.new.state.registers ≡ slice_set self.old.state.registers at (record { held = Some held; simulated = simulated })) }
         ensures blocks { OnOk result (self.new.state.blocks ≡ self.old.state.blocks) }
         ensures mode { OnOk result (self.new.state.mode ≡ self.old.state.mode) }

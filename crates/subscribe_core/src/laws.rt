@@ -1,10 +1,10 @@
 //! Laws about the definitions that the contracts of this crate cite. The functions compute nothing.
 
 ghost use Rattle.std.specs.Prelude.{List};
-ghost use Rattle.subscribe_core.specs.Laws.{ActedWhereInTime, ActsAreTold, BlocksAreAlone, EntriesAreOne, EntriesExist, EntriesStay, NumbersAreBelow, NumbersRise, OneKind};
+ghost use Rattle.subscribe_core.specs.Laws.{ActedWhereInTime, ActsAreTold, BlocksAreAlone, EntriesAreOne, EntriesExist, EntriesStay, NumbersAreBelow, NumbersRise, OneKind, SimulatedAreTaken};
 ghost use Rattle.subscribe_core.specs.Reading.{EventRead};
 ghost use Rattle.subscribe_core.specs.Sight.{trace_of_block};
-ghost use Rattle.subscribe_core.specs.Watch.{SeenAreOne, SkipsAddUp};
+ghost use Rattle.subscribe_core.specs.WatchLaws.{SeenAreOne, SkipsAddUp};
 ghost use Rattle.block_core.specs.declared.block.Block.{Block};
 
 use std::alloc::Allocator;
@@ -22,6 +22,12 @@ pub fn acted_numbers_rise<A: Allocator>()
 /// number above those of all good ones before it in their epoch, and each has the frame's own numbers, time and members.
 pub fn acts_are_told<A: Allocator>()
     ensures { ActsAreTold A }
+{}
+
+/// A block takes simulated frames exactly where a simulated frame of it came earlier with the mode on, and no event between set
+/// the mode off.
+pub fn simulated_frames_are_taken<A: Allocator>()
+    ensures { SimulatedAreTaken A }
 {}
 
 /// The good frames of one epoch are all simulated or all real.

@@ -3,7 +3,7 @@
 ghost use Rattle.std.specs.Prelude.{◌≡◌};
 ghost use Rattle.subscribe_core.specs.Matching.{facts_of_frame, has_other_id, reason_of};
 ghost use Rattle.pdu_core.specs.Views.{octets_if};
-ghost use Rattle.subscribe_core.specs.Received.{received_frame};
+ghost use Rattle.subscribe_core.specs.computed.Received.{received_frame};
 ghost use Rattle.subscribe_core.specs.Simulation.{is_against as holds_against};
 
 use crate::entry::Reason;

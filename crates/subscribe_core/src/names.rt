@@ -2,7 +2,7 @@
 
 ghost use Rattle.std.specs.Prelude.{◌≡◌, [], IfOk, IsOk, MatchOption};
 ghost use Rattle.std.specs.List.{All};
-ghost use Rattle.subscribe_core.specs.Names.{key_cmp, key_of, AreSorted, HasName, AreNamesOf};
+ghost use Rattle.subscribe_core.specs.computed.Names.{key_cmp, key_of, AreSorted, HasName, AreNamesOf};
 
 use block_core::Block;
 use mms_data::Octets;

@@ -1,7 +1,7 @@
 // What a subscriber keeps of a block, and how one frame changes it.
 
 ghost use Rattle.std.specs.Prelude.{◌≡◌};
-ghost use Rattle.subscribe_core.specs.Steps.{after_clock, verdict_on};
+ghost use Rattle.subscribe_core.specs.computed.Steps.{after_clock, verdict_on};
 
 /// What a block reads off a good frame.
 #[derive(Clone, Copy, Debug, PartialEq, Eq)]
@@ -17,10 +17,10 @@ pub struct Facts {
 /// What is said of a good frame.
 #[derive(Clone, Copy, Debug, PartialEq, Eq)]
 pub enum Verdict {
-    Acted,
-    Renewed,
-    Again,
-    Stale,
+    Act,
+    Refreshed,
+    Repeated,
+    Older,
 }
 
 /// What a block holds: the numbers of a frame, and the moment at which its lifetime is over, in microseconds.
@@ -43,16 +43,16 @@ pub(crate) fn judge(held: &Option<Held>, facts: &Facts) -> Verdict
     ensures { result ≡ verdict_on held.now facts.now }
 {
     match held {
-        None => Verdict::Acted,
+        None => Verdict::Act,
         Some(h) => {
             if h.state < facts.state {
-                Verdict::Acted
+                Verdict::Act
             } else if h.state == facts.state && h.sequence < facts.sequence {
-                Verdict::Renewed
+                Verdict::Refreshed
             } else if h.state == facts.state && h.sequence == facts.sequence {
-                Verdict::Again
+                Verdict::Repeated
             } else {
-                Verdict::Stale
+                Verdict::Older
             }
         }
     }

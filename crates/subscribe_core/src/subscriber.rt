@@ -1,13 +1,13 @@
 // The subscriber: one event at a time.
 
 ghost use Rattle.std.specs.Prelude.{◌≡◌, ◌≤◌, ◌+◌, ◌∷◌, ◌++◌, [], List, ◌⊎◌, IfOk, OnOk, OnErr, IfErr, IsOk, length};
-ghost use Rattle.subscribe_core.specs.Content.{reading_of};
+ghost use Rattle.subscribe_core.specs.computed.Content.{reading_of};
 ghost use Rattle.subscribe_core.specs.Entries.{AreEntriesAt, expired_count};
 ghost use Rattle.subscribe_core.specs.Faults.{IsFaultOf};
 ghost use Rattle.subscribe_core.specs.Reading.{IsMode};
 ghost use Rattle.subscribe_core.specs.Standing.{AreApart, StandsAfter, fresh_state};
-ghost use Rattle.subscribe_core.specs.Steps.{step_entries, step_state};
-ghost use Rattle.list_core.specs.declared.event.Event.{Event as Happening};
+ghost use Rattle.subscribe_core.specs.computed.Steps.{step_entries, step_state};
+ghost use Rattle.list_core.specs.declared.event.Event.{Event as SpecEvent};
 
 use crate::entry::Entry;
 use crate::fault::SubscribeFault;
@@ -70,14 +70,14 @@ impl<A: Allocator + Copy> Subscriber<A> {
     pub fn take(&mut self, event: &Event<A>) -> Result<Vec<Entry<A>, A>, AllocError>
         // For every list of events after which the subscriber stands, the answer is the entries that the list with this event
         // has at it, and the subscriber then stands after that list.
-        ensures entries { (events : List (Happening A)) → StandsAfter events self.old.state →
+        ensures entries { (events : List (SpecEvent A)) → StandsAfter events self.old.state →
             IfOk result (λ entries. AreEntriesAt self.old.state.blocks (events ++ event.now ∷ []) (length events) entries.items) }
-        ensures stands { (events : List (Happening A)) → StandsAfter events self.old.state →
+        ensures stands { (events : List (SpecEvent A)) → StandsAfter events self.old.state →
             OnOk result (StandsAfter (events ++ event.now ∷ []) self.new.state) }
 
         // Where memory is refused nothing is changed; where the event has no entry no memory is asked for.
         ensures unchanged { OnErr result (self.new ≡ self.old) }
-        ensures quiet { (events : List (Happening A)) → StandsAfter events self.old.state →
+        ensures quiet { (events : List (SpecEvent A)) → StandsAfter events self.old.state →
             AreEntriesAt self.old.state.blocks (events ++ event.now ∷ []) (length events) [] → IsOk result }
 
         // How often a block or its register was reached.

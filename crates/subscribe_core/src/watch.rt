@@ -2,7 +2,8 @@
 
 ghost use Rattle.std.specs.Prelude.{◌≡◌, ◌<◌, ◌≤◌, ◌+◌, ◌-◌, ◌%◌, ◌++◌, ◌∷◌, ◌↔◌, [], ℕ, List, IsOk, IfOk, Some};
 ghost use Rattle.block_core.specs.Period.{IsPeriod};
-ghost use Rattle.subscribe_core.specs.Watch.{IsSeenLast, WatchesAfter, by_way as way_means, last_by, seen_after};
+ghost use Rattle.subscribe_core.specs.Watch.{IsSeenLast, WatchesAfter, by_way as way_means, seen_after};
+ghost use Rattle.subscribe_core.specs.computed.WatchAnswers.{last_by};
 
 use std::marker::Model;
 use thiserror::Error;
@@ -41,7 +42,8 @@ pub struct Watch {
 
 impl Model for Watch {
     ghost use Rattle.block_core.specs.Period.{IsPeriod};
-    ghost use Rattle.subscribe_core.specs.Watch.{IsBelow, WatchState};
+    ghost use Rattle.subscribe_core.specs.Watch.{WatchState};
+    ghost use Rattle.subscribe_core.specs.computed.WatchAnswers.{IsBelow};
 
     ghost Value = { WatchState };
 

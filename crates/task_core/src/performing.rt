@@ -18,7 +18,7 @@ use words_core::Task;
 /// and the reader as it then stands.
 ///
 /// The reader is Open and the writer has not failed. What is written at each ending, and which of them there are, is what
-/// the engine of the task says; the exit status is that of [`status`](engine_core::status).
+/// the engine of the task says; the exit status is that of `engine_core::status`.
 pub fn perform<R: Source, W: Sink>(
     alloc: Global,
     task: Task,

@@ -4,7 +4,7 @@ use Rattle.std.specs.Prelude.{if◌then◌else◌}
 use Rattle.std.specs.List.{concat}
 use Rattle.std.proofs.lemmas.List.{length-take, take-append-le, take-take, take_all}
 use Rattle.text_core.specs.Pieces.{AppendsText}
-use Rattle.text_core.proofs.PieceLemmas.{Chain, row, then_text}
+use Rattle.text_core.proofs.PieceLemmas.{Chain, concat-append, row, then_text}
 
 stands : (old : List ℕ) → take (length old) old ≡ old
 stands old = take_all (length old) old (omega arith)
@@ -25,7 +25,7 @@ front_fits old mid h = omega (arith, length-take (length old) mid, ap length h)
 pub front_grows : (old mid x : List ℕ) → take (length old) mid ≡ old → take (length old) (mid ++ x) ≡ old
 front_grows old mid x h = take-append-le (length old) mid x (front_fits old mid h) ∙ h
 
-front_twice : (old mid new : List ℕ) → take (length old) mid ≡ old → take (length mid) new ≡ mid → take (length old) new ≡ old
+pub front_twice : (old mid new : List ℕ) → take (length old) mid ≡ old → take (length mid) new ≡ mid → take (length old) new ≡ old
 front_twice old mid new h k = sym (take-take (length old) (length mid) new (front_fits old mid h)) ∙ ap (take (length old)) k ∙ h
 
 -- what was appended, by another name
@@ -51,6 +51,6 @@ same_stands old new e = ap (take (length old)) e ∙ stands old
 pub grown : (old mid new x : List ℕ) → mid ≡ old ++ x → take (length mid) new ≡ mid → take (length old) new ≡ old
 grown old mid new x e h = (front_before old x new).1 (subst (λ l. take (length l) new ≡ l) e h)
 
--- what stood before several appended texts stands in front
-pub grown_row : (old mid new : List ℕ) (xs : List (List ℕ)) → Chain mid old xs → take (length mid) new ≡ mid → take (length old) new ≡ old
-grown_row old mid new xs texts h = grown old mid new (concat xs) (row old mid xs texts) h
+-- several texts were appended, and then the others
+pub row_then : {T E : Type 0} (r : Result T E) (old mid new : List ℕ) (xs ys : List (List ℕ)) → Chain mid old xs → AppendsText r mid new (concat ys) → AppendsText r old new (concat (xs ++ ys))
+row_then r old mid new xs ys texts others = then_appended r old mid new (concat xs) (concat ys) (concat (xs ++ ys)) (row old mid xs texts) others (sym (concat-append xs ys))

@@ -1,7 +1,7 @@
 -- Values by their members.
 use Rattle.std.proofs.Common.{◌≡◌, ℕ, ◌+◌, ◌≤◌, List, [], ◌∷◌, ◌++◌, map, ap, refl, sym, subst, ◌∙◌, arith}
 use Rattle.mms_data.specs.Data.{Data, items_of}
-use Rattle.mms_data.specs.Weight.{weight, weight_of_all}
+use Rattle.mms_data.specs.computed.Weight.{weight, weight_of_all}
 use Rattle.text_core.specs.ValueText.{value_text, item_texts}
 
 pub item_texts_items_of : (ds : List Data) → item_texts (items_of ds) ≡ map value_text ds

@@ -30,6 +30,7 @@ asdu_parts a =
     ∷ codes ")"
     ∷ []
 
+-- the text of an ASDU
 abbrev pub asdu_text : {A : Type 0} → Asdu A → List ℕ
 asdu_text a = concat (asdu_parts a)
 

@@ -8,4 +8,5 @@ pub mod names;
 pub mod owned;
 pub mod pieces;
 pub mod sampled;
+pub mod short;
 pub mod value;

@@ -6,7 +6,7 @@ ghost use Rattle.text_core.specs.Pieces.{AppendsText, after_space, spaced};
 ghost use Rattle.text_core.specs.ValueText.{members_text, value_text};
 
 use crate::fields::{put_octets, put_time};
-use crate::pieces::{boolean_name, put_bits, put_decimal, put_quoted, put_signed};
+use crate::pieces::{put_bits, put_boolean, put_decimal, put_quoted, put_signed};
 use mms_data::{Value, ValueList};
 use std::alloc::{AllocError, Allocator};
 
@@ -17,7 +17,7 @@ fn put_value<A: Allocator>(out: &mut Vec<u8, A>, value: &Value<A>) -> Result<(),
     ensures { AppendsText result out.old.items out.new.items (value_text (data_of value.now)) }
 {
     match value {
-        Value::Boolean(is_true) => out.extend_from_slice(boolean_name(*is_true)),
+        Value::Boolean(is_true) => put_boolean(out, *is_true),
         Value::Bits(bits) => {
             out.extend_from_slice(b"bits:")?;
             put_bits(out, bits.unused, bits.octets.as_slice())

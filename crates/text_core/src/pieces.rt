@@ -6,7 +6,7 @@ ghost use Rattle.hex.specs.Hex.{encode_lower};
 ghost use Rattle.text_core.specs.Pieces.{AppendsText, octet_bits, bits_text, escaped, quoted, boolean_text, four_digits};
 
 use itoa::Buffer;
-use list_core::write_digits;
+use list_core::hexadecimal_digit;
 use std::alloc::{AllocError, Allocator};
 
 /// Appends a number in decimal.
@@ -24,25 +24,34 @@ pub fn put_signed<A: Allocator>(out: &mut Vec<u8, A>, integer: i64) -> Result<()
 }
 
 /// How many octets are written at once.
-const BLOCK: usize = 16;
+pub(crate) const BLOCK: usize = 32;
 
-// The digits of so many octets, which the compiler makes all at once.
+// The digits of so many octets, which the compiler makes all at once: first those of all high halves and of all low ones.
 #[inline(always)]
-fn block_digits(octets: &[u8; BLOCK]) -> [u8; 2 * BLOCK]
+pub(crate) fn block_digits(octets: &[u8; BLOCK]) -> [u8; 2 * BLOCK]
     ensures { result ≡ encode_lower octets.now }
 {
+    let mut high = [0; BLOCK];
+    let mut low = [0; BLOCK];
+    for at in 0..BLOCK {
+        high[at] = hexadecimal_digit(octets[at] / 16);
+        low[at] = hexadecimal_digit(octets[at] % 16);
+    }
     let mut digits = [0; 2 * BLOCK];
-    let _fits = write_digits(octets, &mut digits);
+    for at in 0..BLOCK {
+        digits[2 * at] = high[at];
+        digits[2 * at + 1] = low[at];
+    }
     digits
 }
 
-/// Appends at most 16 octets in lower case hexadecimal. Inlined, so that their count is known where it is one alone.
+/// Appends at most 32 octets in lower case hexadecimal. Inlined, so that their count is known where it is one alone.
 #[inline(always)]
 pub fn put_short_hexadecimal<A: Allocator>(
     out: &mut Vec<u8, A>,
     octets: &[u8],
 ) -> Result<(), AllocError>
-    requires { length octets.now ≤ 16 }
+    requires { length octets.now ≤ 32 }
     ensures { AppendsText result out.old.items out.new.items (encode_lower octets.now) }
 {
     let mut block = [0; BLOCK];
@@ -182,9 +191,14 @@ pub fn put_quoted<A: Allocator>(out: &mut Vec<u8, A>, text: &[u8]) -> Result<(),
     Ok(())
 }
 
-/// A truth value in words.
-pub fn boolean_name(is_true: bool) -> &'static [u8]
-    ensures { result.now ≡ boolean_text is_true }
+/// Appends a truth value in words. Inlined, so that either word is written without a call.
+#[inline(always)]
+pub fn put_boolean<A: Allocator>(out: &mut Vec<u8, A>, is_true: bool) -> Result<(), AllocError>
+    ensures { AppendsText result out.old.items out.new.items (boolean_text is_true) }
 {
-    if is_true { b"true" } else { b"false" }
+    if is_true {
+        out.extend_from_slice(b"true")
+    } else {
+        out.extend_from_slice(b"false")
+    }
 }

@@ -1,15 +1,50 @@
 //! The text of an APDU of Sampled Values, from the octets in which it stands.
-ghost use Rattle.std.specs.Prelude.{◌++◌};
-ghost use Rattle.std.specs.List.{flat_map};
+ghost use Rattle.std.specs.Prelude.{◌∷◌, [], ◌++◌, codes};
+ghost use Rattle.std.specs.List.{concat, flat_map};
+ghost use Rattle.std.specs.Fmt.{decimal};
 ghost use Rattle.pdu_core.specs.SampledViews.{asdu_of, asdus_left, sv_of};
-ghost use Rattle.text_core.specs.Pieces.{AppendsText, after_space, spaced};
-ghost use Rattle.text_core.specs.SampledText.{asdu_text, sv_text};
+ghost use Rattle.pdu_core.specs.Views.{octets_if};
+ghost use Rattle.text_core.specs.Pieces.{AppendsText, after_space, decimal_or_dash, octets_or_dash, spaced};
+ghost use Rattle.text_core.specs.SampledText.{asdu_text, sv_text, time_or_dash};
 
-use crate::fields::{
-    put_number, put_number_if, put_octets, put_octets_if, put_optional, put_text, put_time_if,
-};
+use crate::fields::{put_octets, put_octets_if, put_optional, put_text};
+use crate::short::ShortText;
 use pdu_core::{AsduView, Asdus, SvView};
 use std::alloc::{AllocError, Allocator};
+
+// Appends the fields of an ASDU between its data set and its sample.
+fn put_counts<A: Allocator>(out: &mut Vec<u8, A>, asdu: &AsduView<'_>) -> Result<(), AllocError>
+    ensures { AppendsText result out.old.items out.new.items (concat ((codes " cnt=" ++ decimal asdu.now.smp_cnt) ∷ (codes " rev=" ++ decimal asdu.now.conf_rev)
+        ∷ (codes " t=" ++ time_or_dash asdu.now.refr_tm) ∷ (codes " synch=" ++ decimal asdu.now.smp_synch) ∷ (codes " rate=" ++ decimal_or_dash asdu.now.smp_rate) ∷ [])) }
+{
+    let mut text = ShortText::new();
+    text.put_decimal_if(asdu.smp_rate);
+    text.put(b" rate=");
+    text.put_decimal(asdu.smp_synch as u64);
+    text.put(b" synch=");
+    text.put_time_if(asdu.refr_tm);
+    text.put(b" t=");
+    text.put_decimal(asdu.conf_rev as u64);
+    text.put(b" rev=");
+    text.put_decimal(asdu.smp_cnt as u64);
+    text.put(b" cnt=");
+    text.append_to(out)
+}
+
+// Appends the last fields of an ASDU, which are absent from nearly all.
+fn put_end<A: Allocator>(out: &mut Vec<u8, A>, asdu: &AsduView<'_>) -> Result<(), AllocError>
+    ensures { AppendsText result out.old.items out.new.items (concat ((codes " mod=" ++ octets_or_dash (octets_if asdu.now.smp_mod))
+        ∷ (codes " f89=" ++ octets_or_dash (octets_if asdu.now.field_89)) ∷ codes ")" ∷ [])) }
+{
+    match (asdu.smp_mod, asdu.field_89) {
+        (None, None) => out.extend_from_slice(b" mod=- f89=-)"),
+        _ => {
+            put_octets_if(out, b" mod=", asdu.smp_mod)?;
+            put_octets_if(out, b" f89=", asdu.field_89)?;
+            out.extend_from_slice(b")")
+        }
+    }
+}
 
 // Appends the text of an ASDU.
 fn put_asdu<A: Allocator>(out: &mut Vec<u8, A>, asdu: &AsduView<'_>) -> Result<(), AllocError>
@@ -17,16 +52,9 @@ fn put_asdu<A: Allocator>(out: &mut Vec<u8, A>, asdu: &AsduView<'_>) -> Result<(
 {
     put_text(out, b"(id=", asdu.sv_id)?;
     put_optional(out, b" set=", asdu.dat_set)?;
-    put_number(out, b" cnt=", asdu.smp_cnt as u32)?;
-    put_number(out, b" rev=", asdu.conf_rev)?;
-    put_time_if(out, b" t=", asdu.refr_tm)?;
-    put_number(out, b" synch=", asdu.smp_synch as u32)?;
-    put_number_if(out, b" rate=", asdu.smp_rate)?;
+    put_counts(out, asdu)?;
     put_octets(out, b" sample=", asdu.sample)?;
-    put_octets_if(out, b" mod=", asdu.smp_mod)?;
-    put_octets_if(out, b" f89=", asdu.field_89)?;
-    out.extend_from_slice(b")")?;
-    Ok(())
+    put_end(out, asdu)
 }
 
 // Appends the texts of ASDUs, divided by one space.

@@ -8,7 +8,7 @@ ghost use Rattle.text_core.specs.ValueText.{time_text, value_text, members_text}
 
 use crate::fields::{put_octets, put_time};
 use crate::pieces::{
-    boolean_name, put_bits, put_decimal, put_quoted, put_short_hexadecimal, put_signed,
+    put_bits, put_boolean, put_decimal, put_quoted, put_short_hexadecimal, put_signed,
 };
 use mms_data::{BitView, Members, UtcTime, View};
 use std::alloc::{AllocError, Allocator};
@@ -35,7 +35,7 @@ pub fn put_view<A: Allocator>(out: &mut Vec<u8, A>, view: &View<'_>) -> Result<(
     ensures { AppendsText result out.old.items out.new.items (value_text (meaning view.now)) }
 {
     match view {
-        View::Boolean(is_true) => out.extend_from_slice(boolean_name(*is_true)),
+        View::Boolean(is_true) => put_boolean(out, *is_true),
         View::Bits(bits) => {
             out.extend_from_slice(b"bits:")?;
             put_bit_view(out, *bits)

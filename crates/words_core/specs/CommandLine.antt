@@ -96,6 +96,7 @@ replay_of texts = option_map_or Err (first_bad texts) (Ok (replay (blocks_in tex
 abbrev pub block_rule : Rule
 block_rule = record (new_rule (codes "BLOCK")) { required = true; range = Some (record { start_inclusive = 1; end_inclusive = usize_max }) }
 
+-- the words of `replay`: its name, and the argument BLOCK
 abbrev pub replay_shape : Shape
 replay_shape = (with_rule (new_app (codes "replay")) block_rule).top
 
@@ -116,6 +117,7 @@ period_rule = record (new_rule (codes "period")) {
 abbrev pub id_rule : Rule
 id_rule = record (new_rule (codes "id")) { long = Some (codes "id"); value_names = 1; required = true }
 
+-- the words of `watch`: its name, and its two options
 abbrev pub watch_shape : Shape
 watch_shape = (with_rule (with_rule (new_app (codes "watch")) period_rule) id_rule).top
 
@@ -237,6 +239,7 @@ IsBlockError i (refused.Words error) = ⊥
 IsBlockError i (refused.Block j) = j ≡ i
 IsBlockError i refused.Memory = Unit {0}
 
+-- no task is answered: the words are refused by the text of a control block at this position, refused memory aside
 abbrev pub AnswersBadBlock : ℕ → Result Task WordsError → Type 0
 AnswersBadBlock i answer = MatchResult answer (λ t. ⊥) (IsBlockError i)
 

@@ -63,7 +63,7 @@ pub enum WordsError {
     #[error(transparent)]
     Words(clap::Error),
     /// The text of a control block says none: the position, from 0, of the first such text.
-    #[error("block {0} says no control block")]
+    #[error("block {0} cannot be read")]
     Block(usize),
     /// Memory was refused.
     #[error("out of memory")]

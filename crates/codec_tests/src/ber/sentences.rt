@@ -22,7 +22,7 @@ fn each_cause_has_its_sentence(rt: HostRuntime) -> Result<(), Fail> {
         ),
         (
             Cause::UnexpectedTag,
-            b"an identifier that may not stand here",
+            b"an identifier that is not allowed here",
         ),
         (Cause::BooleanLength, b"a boolean that has not one octet"),
         (Cause::IntegerRange, b"an integer out of its range"),
@@ -37,7 +37,7 @@ fn each_cause_has_its_sentence(rt: HostRuntime) -> Result<(), Fail> {
             Cause::ElementMissing,
             b"a field that is always there is missing",
         ),
-        (Cause::ExtraOctets, b"octets behind the last field"),
+        (Cause::ExtraOctets, b"octets after the last field"),
         (
             Cause::EntryCount,
             b"numDatSetEntries is not the count of members",
@@ -62,14 +62,14 @@ fn each_cause_has_its_sentence(rt: HostRuntime) -> Result<(), Fail> {
 #[test]
 fn each_refusal_has_its_sentence(rt: HostRuntime) -> Result<(), Fail> {
     let fault = Cause::ExtraOctets.at(67);
-    let wanted = "octets behind the last field, at octet 67";
+    let wanted = "octets after the last field, at octet 67";
     assert!(rt; fault.to_string(rt.alloc())?.as_str() == wanted);
     assert!(rt; ReadFault::Fault(fault).to_string(rt.alloc())?.as_str() == wanted);
     let refused = ReadFault::Memory(AllocError);
-    assert!(rt; refused.to_string(rt.alloc())?.as_str() == "memory was refused");
+    assert!(rt; refused.to_string(rt.alloc())?.as_str() == "out of memory");
     let wanted = "no room is left for the octets";
     assert!(rt; Full.to_string(rt.alloc())?.as_str() == wanted);
-    assert!(rt; PutFault::NotSpellable.to_string(rt.alloc())?.as_str() == "not spellable");
+    assert!(rt; PutFault::NotSpellable.to_string(rt.alloc())?.as_str() == "it has no encoding");
     assert!(rt; PutFault::Full.to_string(rt.alloc())?.as_str() == "no room is left");
     Ok(())
 }

@@ -144,7 +144,7 @@ fn octets_of_each_count_are_answered(rt: HostRuntime) -> Result<(), Fail> {
 #[test]
 fn members_of_each_count_are_answered(rt: HostRuntime) -> Result<(), Fail> {
     let ample = RefusingAlloc::new(rt.alloc(), usize::MAX);
-    for step in 0..=310 {
+    for step in 0..=314 {
         let octets = empty_values(count_at(step))?;
         are_answered(&rt, &ample, octets.as_slice());
         for identifier in [0xa1, 0xa2] {
@@ -164,19 +164,24 @@ const NESTED: [u8; 19] = [
 ];
 
 // Whether the call gives the nested value as soon as so many growths are granted; and where one of them is refused, it
-// says so, and gives that value once memory is granted.
+// says so, keeps nothing, and gives that value once memory is granted.
 fn takes<H: Abort>(rt: &H, memory: Memory<'_>, call: Call, growths: usize) -> Result<(), Fail> {
     for first_refused in 0..growths {
         memory.refuse_from(first_refused);
         assert!(rt;
-            gives(call, memory, &NESTED).is_err() && memory.has_refused(),
+            gives(call, memory, &NESTED).is_err()
+                && memory.has_refused()
+                && memory.blocks_out() == 0,
             "{call:?}"
         );
         memory.allow();
         assert!(rt; gives(call, memory, &NESTED)?, "{call:?}");
     }
     memory.refuse_from(growths);
-    assert!(rt; gives(call, memory, &NESTED)?, "{call:?}");
+    assert!(rt;
+        gives(call, memory, &NESTED)? && memory.blocks_out() == 0,
+        "{call:?}"
+    );
     Ok(())
 }
 

@@ -77,7 +77,7 @@ fn texts_and_members_of_each_count_are_answered(rt: HostRuntime) -> Result<(), F
         is_answered(
             &rt,
             &ample,
-            goose(b"", b"D", Some(b""), count / 2)?.as_slice(),
+            goose(b"", b"D", Some(b""), count.min(1000))?.as_slice(),
         );
     }
     Ok(())
@@ -90,21 +90,23 @@ fn members_of_each_kind_are_owned(rt: HostRuntime) -> Result<(), Fail> {
 }
 
 // Whether the APDU is owned as soon as so many growths are granted; and where one of them is refused, the call says so,
-// and gives the APDU once memory is granted.
+// keeps nothing, and gives the APDU once memory is granted.
 #[test]
 fn each_growth_is_refused(rt: HostRuntime) -> Result<(), Fail> {
     let memory = RefusingAlloc::new(rt.alloc(), 0);
     for first_refused in 0..7 {
         memory.refuse_from(first_refused);
         assert!(rt; is_read(&memory, &NESTED).is_err() && memory.has_refused());
+        assert!(rt; memory.blocks_out() == 0, "read");
         memory.refuse_from(first_refused);
         assert!(rt; is_made(&memory, &NESTED).is_err() && memory.has_refused());
+        assert!(rt; memory.blocks_out() == 0, "made");
         memory.allow();
         is_owned(&rt, &memory, &NESTED)?;
     }
     memory.refuse_from(7);
     assert!(rt; is_read(&memory, &NESTED)?);
     memory.refuse_from(7);
-    assert!(rt; is_made(&memory, &NESTED)?);
+    assert!(rt; is_made(&memory, &NESTED)? && memory.blocks_out() == 0);
     Ok(())
 }

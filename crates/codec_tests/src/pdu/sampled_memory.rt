@@ -98,6 +98,25 @@ fn asdus_of_each_count_are_answered(rt: HostRuntime) -> Result<(), Fail> {
     Ok(())
 }
 
+// The list takes memory once, whatever its count, and each ASDU for its text alone, since its sample is empty.
+#[test]
+fn a_list_of_asdus_grows_once(rt: HostRuntime) -> Result<(), Fail> {
+    let mut asdus = ArrayVec::<u8, 20_100>::new();
+    for count in 1..=8usize {
+        asdus.try_extend_from_slice(&SMALL)?;
+        let octets = sampled(count, asdus.as_slice())?;
+        for call in [Call::ReadSv, Call::ToPdu] {
+            let memory = RefusingAlloc::new(rt.alloc(), usize::MAX);
+            assert!(rt; gives(call, &memory, octets.as_slice()).is_ok(), "{call:?}");
+            assert!(rt;
+                memory.growths() == count.saturating_add(1),
+                "{call:?} of {count}"
+            );
+        }
+    }
+    Ok(())
+}
+
 // The fields of an ASDU that has all of them, each beside the bit that tells that it is absent, if it may be.
 const FIELDS: [(u8, &[u8]); 10] = [
     (0, &[0x80, 0x01, 0x53]),
@@ -171,11 +190,15 @@ fn each_of_six_growths_is_refused(rt: HostRuntime) -> Result<(), Fail> {
                 gives(call, &memory, &FULL).is_err() && memory.has_refused(),
                 "{call:?}"
             );
+            assert!(rt; memory.blocks_out() == 0, "{call:?}");
             memory.allow();
             assert!(rt; gives(call, &memory, &FULL)?, "{call:?}");
         }
         memory.refuse_from(6);
-        assert!(rt; gives(call, &memory, &FULL)?, "{call:?}");
+        assert!(rt;
+            gives(call, &memory, &FULL)? && memory.blocks_out() == 0,
+            "{call:?}"
+        );
     }
     Ok(())
 }

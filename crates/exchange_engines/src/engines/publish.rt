@@ -1,5 +1,5 @@
 //! `publish`: the list of what a publisher sends that a script sets up and calls.
-ghost use Rattle.std.specs.Prelude.{◌≡◌, [], ℕ, List, IfErr, IfOk, OnOk, Some, false};
+ghost use Rattle.std.specs.Prelude.{◌≡◌, [], ℕ, List, IfErr, IfOk, OnErr, OnOk, Some, false, length, take};
 ghost use Rattle.list_core.specs.declared.device.InputEnd.{InputEnd};
 ghost use Rattle.list_core.specs.Device.{GivesOctets};
 ghost use Rattle.publish_core.specs.Frames.{Setup, change, setup};
@@ -10,7 +10,7 @@ ghost use Rattle.script_core.specs.declared.script.ScriptItem.{ScriptItem as Spe
 ghost use Rattle.script_core.specs.declared.script.ScriptLines.TheVariants.{First};
 ghost use Rattle.engine_core.specs.EngineText.{Text, Writes, is_write_fault};
 ghost use Rattle.exchange_engines.specs.PublishText.{IsPublishText, IsScriptSound, script_cause};
-ghost use Rattle.exchange_engines.specs.PublishStep.{Holds, Progress, Runs, TakesCall, TakesItem, progress_after, publish_text, setup_cause};
+ghost use Rattle.exchange_engines.specs.computed.PublishStep.{Holds, Progress, Runs, TakesCall, TakesItem, progress_after, publish_text, setup_cause};
 ghost use Rattle.script_core.specs.Script.{script_rules};
 
 use crate::texts::script::put_script_line;
@@ -88,8 +88,9 @@ fn put_change<A: Allocator>(
     t: UtcTime,
     values: ValueList<A>,
 ) -> Result<(), LineError<ScriptCause>>
-    ensures { (p : Setup A) (calls : List Call) → IsScriptSound p → PublisherStandsAfter p calls publisher.old →
+    ensures call { (p : Setup A) (calls : List Call) → IsScriptSound p → PublisherStandsAfter p calls publisher.old →
         TakesCall p calls (call moment (Changed (change t values))) result line.old.items line.new.items publisher.new }
+    ensures front { OnErr result (take (length line.old.items) line.new.items ≡ line.old.items) }
 {
     let first = match publisher.change(moment, t, values) {
         Ok(first) => first,
@@ -107,8 +108,9 @@ fn put_poll<A: Allocator>(
     line: &mut Vec<u8, A>,
     moment: u64,
 ) -> Result<(), LineError<ScriptCause>>
-    ensures { (p : Setup A) (calls : List Call) → IsScriptSound p → PublisherStandsAfter p calls publisher.old →
+    ensures call { (p : Setup A) (calls : List Call) → IsScriptSound p → PublisherStandsAfter p calls publisher.old →
         TakesCall p calls (call moment Polled) result line.old.items line.new.items publisher.new }
+    ensures front { OnErr result (take (length line.old.items) line.new.items ≡ line.old.items) }
 {
     let Some(next) = publisher.poll(moment) else {
         return Ok(());
@@ -154,7 +156,8 @@ fn take_change<A: Allocator>(
     t: UtcTime,
     values: ValueList<A>,
 ) -> Result<Stage<A>, LineError<ScriptCause>>
-    ensures { (g : Progress A) → Holds stage g → TakesItem g (SpecItem.Change moment t values) result line.old.items line.new.items }
+    ensures item { (g : Progress A) → Holds stage g → TakesItem g (SpecItem.Change moment t values) result line.old.items line.new.items }
+    ensures front { OnErr result (take (length line.old.items) line.new.items ≡ line.old.items) }
 {
     match running(stage) {
         Ok(mut publisher) => match put_change(&mut publisher, line, moment, t, values) {
@@ -171,7 +174,8 @@ fn take_poll<A: Allocator>(
     line: &mut Vec<u8, A>,
     moment: u64,
 ) -> Result<Stage<A>, LineError<ScriptCause>>
-    ensures { (g : Progress A) → Holds stage g → TakesItem g (SpecItem.Poll moment) result line.old.items line.new.items }
+    ensures item { (g : Progress A) → Holds stage g → TakesItem g (SpecItem.Poll moment) result line.old.items line.new.items }
+    ensures front { OnErr result (take (length line.old.items) line.new.items ≡ line.old.items) }
 {
     match running(stage) {
         Ok(mut publisher) => match put_poll(&mut publisher, line, moment) {
@@ -188,7 +192,8 @@ fn take_item<A: Allocator>(
     line: &mut Vec<u8, A>,
     item: ScriptItem<A>,
 ) -> Result<Stage<A>, LineError<ScriptCause>>
-    ensures { (g : Progress A) → Holds stage g → TakesItem g item result line.old.items line.new.items }
+    ensures item { (g : Progress A) → Holds stage g → TakesItem g item result line.old.items line.new.items }
+    ensures front { OnErr result (take (length line.old.items) line.new.items ≡ line.old.items) }
 {
     match item {
         ScriptItem::Control(control, first) => take_control(stage, control, first),

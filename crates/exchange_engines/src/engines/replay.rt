@@ -1,11 +1,12 @@
 //! `replay`: the entries of a subscriber, one line an entry.
-ghost use Rattle.std.specs.Prelude.{◌≡◌, ◌++◌, ℕ, List, false, OnOk, codes};
+ghost use Rattle.std.specs.Prelude.{◌≡◌, ◌++◌, ℕ, List, false, codes};
 ghost use Rattle.std.specs.Fmt.{decimal};
 ghost use Rattle.list_core.specs.declared.device.InputEnd.{InputEnd};
 ghost use Rattle.list_core.specs.Device.{GivesOctets};
 ghost use Rattle.engine_core.specs.EngineText.{is_write_fault};
+ghost use Rattle.text_core.specs.Pieces.{AppendsText};
 ghost use Rattle.exchange_engines.specs.ReplayText.{ReplayWrites};
-ghost use Rattle.exchange_engines.specs.ReplayStep.{kept_after, replay_text};
+ghost use Rattle.exchange_engines.specs.computed.ReplayStep.{kept_after, replay_text};
 
 use crate::texts::entry::put_entries;
 use engine_core::{Ending, Engine, refuse, run};
@@ -61,7 +62,7 @@ fn put_position<A: Allocator>(
     word: &[u8],
     position: usize,
 ) -> Result<(), AllocError>
-    ensures { OnOk result (line.new.items ≡ line.old.items ++ (word.now ++ decimal position ++ codes "\n")) }
+    ensures { AppendsText result line.old.items line.new.items (word.now ++ decimal position ++ codes "\n") }
 {
     line.extend_from_slice(word)?;
     put_decimal(line, position as u64)?;

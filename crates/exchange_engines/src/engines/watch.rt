@@ -1,5 +1,5 @@
 //! `watch`: what the counter of a stream of samples does.
-ghost use Rattle.std.specs.Prelude.{◌≡◌, ◌++◌, [], ℕ, List, None, false, IsOk, MatchResult};
+ghost use Rattle.std.specs.Prelude.{◌≡◌, ◌++◌, [], ℕ, List, None, false, length, take, IsOk, MatchResult};
 ghost use Rattle.list_core.specs.declared.device.InputEnd.{InputEnd};
 ghost use Rattle.list_core.specs.declared.event.Event.{Event as SpecEvent};
 ghost use Rattle.list_core.specs.declared.event_lines.EventLines.TheVariants.{First};
@@ -8,10 +8,10 @@ ghost use Rattle.list_core.specs.Device.{GivesOctets};
 ghost use Rattle.list_core.specs.EventLine.{event_rules};
 ghost use Rattle.pdu_core.specs.SampledViews.{asdu_of, asdus_left};
 ghost use Rattle.block_core.specs.Period.{IsPeriod};
-ghost use Rattle.subscribe_core.specs.Watch.{seen_all};
+ghost use Rattle.subscribe_core.specs.computed.WatchAnswers.{seen_all};
 ghost use Rattle.engine_core.specs.EngineText.{Text, Writes, is_write_fault};
 ghost use Rattle.exchange_engines.specs.WatchText.{IsWatchText, counts, counts_of, is_unexpected as unexpected, sample_at, samples_from, samples_of, watched};
-ghost use Rattle.exchange_engines.specs.WatchStep.{SamplesSaid, last_of, watch_text};
+ghost use Rattle.exchange_engines.specs.computed.WatchStep.{SamplesSaid, last_of, watch_text};
 
 use crate::texts::watched::put_sample;
 use engine_core::{Ending, Engine, run};
@@ -45,7 +45,7 @@ fn put_asdu<A: Allocator>(
 ) -> Result<bool, AllocError>
     ensures said { MatchResult result
         (λ found. SamplesSaid watch.old.period number watch.old.last (sample_at position id.now (asdu_of {A = Unit {0}} asdu.now)) line.old.items line.new.items found watch.new.last)
-        (λ _. Unit {0}) }
+        (λ _. take (length line.old.items) line.new.items ≡ line.old.items) }
     ensures quiet { sample_at position id.now (asdu_of {A = Unit {0}} asdu.now) ≡ [] → IsOk result }
     ensures period { watch.new.period ≡ watch.old.period }
 {
@@ -67,7 +67,7 @@ fn put_asdus<A: Allocator>(
 ) -> Result<bool, AllocError>
     ensures said { MatchResult result
         (λ found. SamplesSaid watch.old.period number watch.old.last (samples_from 0 id.now (asdus_left {A = Unit {0}} sampled.now.asdus)) line.old.items line.new.items found watch.new.last)
-        (λ _. Unit {0}) }
+        (λ _. take (length line.old.items) line.new.items ≡ line.old.items) }
     ensures quiet { samples_from 0 id.now (asdus_left {A = Unit {0}} sampled.now.asdus) ≡ [] → IsOk result }
     ensures period { watch.new.period ≡ watch.old.period }
 {
@@ -93,7 +93,7 @@ fn put_event<A: Allocator>(
         (λ found. (line.new.items ≡ line.old.items ++ (watched number id.now kind.now (seen_all watch.old.period watch.old.last (counts (samples_of id.now kind.now)))).0)
         × (found ≡ (watched number id.now kind.now (seen_all watch.old.period watch.old.last (counts (samples_of id.now kind.now)))).1)
         × (watch.new.last ≡ last_of watch.old.period watch.old.last (counts (samples_of id.now kind.now))))
-        (λ _. Unit {0}) }
+        (λ _. take (length line.old.items) line.new.items ≡ line.old.items) }
     ensures quiet { (watched number id.now kind.now (seen_all watch.old.period watch.old.last (counts (samples_of id.now kind.now)))).0 ≡ [] → IsOk result }
     ensures period { watch.new.period ≡ watch.old.period }
 {

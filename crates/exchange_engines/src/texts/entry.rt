@@ -1,7 +1,8 @@
 //! The lines of a subscriber's entries.
-ghost use Rattle.std.specs.Prelude.{◌≡◌, ◌++◌, [], IsOk, OnOk, codes};
+ghost use Rattle.std.specs.Prelude.{◌≡◌, ◌≤◌, ◌++◌, [], length, IsOk, codes};
 ghost use Rattle.subscribe_core.specs.declared.entry.Entry.TheVariants.{Refused};
 ghost use Rattle.exchange_engines.specs.EntryText.{entry_head, entry_line, entry_lines, pair_line, pair_text};
+ghost use Rattle.text_core.specs.Pieces.{AppendsText};
 ghost use Rattle.text_core.specs.ValueText.{members_text, time_text};
 
 use crate::texts::names::reason_name;
@@ -12,6 +13,7 @@ use text_core::fields::put_number;
 use text_core::line::put_fault_line;
 use text_core::owned::put_values;
 use text_core::pieces::put_decimal;
+use text_core::short::ShortText;
 use text_core::value::put_utc;
 
 // Appends the number of a line, a word, and the position of a block.
@@ -21,7 +23,7 @@ fn put_head<A: Allocator>(
     word: &[u8],
     block: usize,
 ) -> Result<(), AllocError>
-    ensures { OnOk result (out.new.items ≡ out.old.items ++ entry_head number word.now block) }
+    ensures { AppendsText result out.old.items out.new.items (entry_head number word.now block) }
 {
     put_decimal(out, number)?;
     out.extend_from_slice(word)?;
@@ -35,7 +37,7 @@ fn put_word<A: Allocator>(
     word: &[u8],
     block: usize,
 ) -> Result<(), AllocError>
-    ensures { OnOk result (out.new.items ≡ out.old.items ++ (entry_head number word.now block ++ codes "\n")) }
+    ensures { AppendsText result out.old.items out.new.items (entry_head number word.now block ++ codes "\n") }
 {
     put_head(out, number, word, block)?;
     out.extend_from_slice(b"\n")
@@ -43,7 +45,7 @@ fn put_word<A: Allocator>(
 
 // Appends a frame's stNum and sqNum.
 fn put_pair<A: Allocator>(out: &mut Vec<u8, A>, state: u32, sequence: u32) -> Result<(), AllocError>
-    ensures { OnOk result (out.new.items ≡ out.old.items ++ pair_text state sequence) }
+    ensures { AppendsText result out.old.items out.new.items (pair_text state sequence) }
 {
     put_number(out, b" st=", state)?;
     put_number(out, b" sq=", sequence)
@@ -58,11 +60,19 @@ fn put_pair_line<A: Allocator>(
     state: u32,
     sequence: u32,
 ) -> Result<(), AllocError>
-    ensures { OnOk result (out.new.items ≡ out.old.items ++ pair_line number word.now block state sequence) }
+    requires { length word.now ≤ 20 }
+    ensures { AppendsText result out.old.items out.new.items (pair_line number word.now block state sequence) }
 {
-    put_head(out, number, word, block)?;
-    put_pair(out, state, sequence)?;
-    out.extend_from_slice(b"\n")
+    let mut text = ShortText::new();
+    text.put(b"\n");
+    text.put_decimal(sequence as u64);
+    text.put(b" sq=");
+    text.put_decimal(state as u64);
+    text.put(b" st=");
+    text.put_decimal(block as u64);
+    text.put(word);
+    text.put_decimal(number);
+    text.append_to(out)
 }
 
 // Appends what was published with a state: its time and its members.
@@ -71,7 +81,7 @@ fn put_data<A: Allocator>(
     t: UtcTime,
     members: &ValueList<A>,
 ) -> Result<(), AllocError>
-    ensures { OnOk result (out.new.items ≡ out.old.items ++ ((codes " t=" ++ time_text t) ++ (codes " " ++ members_text members.now) ++ codes "\n")) }
+    ensures { AppendsText result out.old.items out.new.items ((codes " t=" ++ time_text t) ++ (codes " " ++ members_text members.now) ++ codes "\n") }
 {
     out.extend_from_slice(b" t=")?;
     put_utc(out, t)?;
@@ -87,7 +97,7 @@ fn put_refused<A: Allocator>(
     block: usize,
     reason: Reason,
 ) -> Result<(), AllocError>
-    ensures { OnOk result (out.new.items ≡ out.old.items ++ entry_line {A = Unit {0}} number (Refused block reason)) }
+    ensures { AppendsText result out.old.items out.new.items (entry_line {A = Unit {0}} number (Refused block reason)) }
 {
     put_head(out, number, b" refused ", block)?;
     out.extend_from_slice(b" ")?;
@@ -101,7 +111,7 @@ fn put_entry<A: Allocator>(
     number: u64,
     entry: &Entry<A>,
 ) -> Result<(), AllocError>
-    ensures { OnOk result (out.new.items ≡ out.old.items ++ entry_line number entry.now) }
+    ensures { AppendsText result out.old.items out.new.items (entry_line number entry.now) }
 {
     match entry {
         Entry::Expired { block } => put_word(out, number, b" expired ", *block),
@@ -151,7 +161,7 @@ pub fn put_entries<A: Allocator>(
     number: u64,
     entries: &[Entry<A>],
 ) -> Result<(), AllocError>
-    ensures text { OnOk result (out.new.items ≡ out.old.items ++ entry_lines number entries.now) }
+    ensures text { AppendsText result out.old.items out.new.items (entry_lines number entries.now) }
     ensures quiet { entries.now ≡ [] → IsOk result }
 {
     for entry in entries {

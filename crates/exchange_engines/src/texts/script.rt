@@ -1,6 +1,7 @@
 //! The last line of a publisher's list, where its script has a fault.
-ghost use Rattle.std.specs.Prelude.{◌≡◌, ◌++◌, OnOk, codes};
+ghost use Rattle.std.specs.Prelude.{◌++◌, codes};
 ghost use Rattle.std.specs.Fmt.{decimal};
+ghost use Rattle.text_core.specs.Pieces.{AppendsText};
 ghost use Rattle.exchange_engines.specs.ScriptLine.{cause_detail, script_line};
 
 use crate::texts::names::script_cause_name;
@@ -12,7 +13,7 @@ use text_core::pieces::put_decimal;
 
 // Appends the place and cause of a fault in the members.
 fn put_detail<A: Allocator>(out: &mut Vec<u8, A>, cause: ScriptCause) -> Result<(), AllocError>
-    ensures { OnOk result (out.new.items ≡ out.old.items ++ cause_detail cause) }
+    ensures { AppendsText result out.old.items out.new.items (cause_detail cause) }
 {
     match cause {
         ScriptCause::Members(fault) => {
@@ -27,7 +28,7 @@ fn put_detail<A: Allocator>(out: &mut Vec<u8, A>, cause: ScriptCause) -> Result<
 
 // Appends how the line begins: that it is a comment, and the number of the bad line.
 fn put_start<A: Allocator>(out: &mut Vec<u8, A>, number: u64) -> Result<(), AllocError>
-    ensures { OnOk result (out.new.items ≡ out.old.items ++ (codes "# " ++ decimal number ++ codes " script ")) }
+    ensures { AppendsText result out.old.items out.new.items (codes "# " ++ decimal number ++ codes " script ") }
 {
     out.extend_from_slice(b"# ")?;
     put_decimal(out, number)?;
@@ -39,7 +40,7 @@ pub fn put_script_line<A: Allocator>(
     out: &mut Vec<u8, A>,
     fault: &ItemFault<ScriptCause>,
 ) -> Result<(), AllocError>
-    ensures { OnOk result (out.new.items ≡ out.old.items ++ script_line fault.now) }
+    ensures { AppendsText result out.old.items out.new.items (script_line fault.now) }
 {
     match fault {
         ItemFault::Lines(fault) => {

@@ -1,5 +1,5 @@
 //! The lines of the samples of a stream.
-ghost use Rattle.std.specs.Prelude.{◌≡◌, ◌++◌, OnOk};
+ghost use Rattle.text_core.specs.Pieces.{AppendsText};
 ghost use Rattle.exchange_engines.specs.SampleLine.{sample_line, seen_word};
 
 use std::alloc::{AllocError, Allocator};
@@ -8,7 +8,7 @@ use text_core::pieces::put_decimal;
 
 // Appends what a count is after those before it.
 fn put_seen<A: Allocator>(out: &mut Vec<u8, A>, seen: Seen) -> Result<(), AllocError>
-    ensures { OnOk result (out.new.items ≡ out.old.items ++ seen_word seen) }
+    ensures { AppendsText result out.old.items out.new.items (seen_word seen) }
 {
     match seen {
         Seen::First => out.extend_from_slice(b" first"),
@@ -32,7 +32,7 @@ pub fn put_sample<A: Allocator>(
     count: u16,
     seen: Seen,
 ) -> Result<(), AllocError>
-    ensures { OnOk result (out.new.items ≡ out.old.items ++ sample_line number (position, count) seen) }
+    ensures { AppendsText result out.old.items out.new.items (sample_line number (position, count) seen) }
 {
     put_decimal(out, number)?;
     out.extend_from_slice(b" ")?;

@@ -1,11 +1,13 @@
 //! `check`: a line for each note on a frame.
-ghost use Rattle.std.specs.Prelude.{◌≡◌, ◌++◌, [], ℕ, List, true, false, ⊤, IsOk, OnOk, MatchResult, Ok};
+ghost use Rattle.std.specs.Prelude.{◌≡◌, ◌++◌, [], ℕ, List, true, false, length, take, ⊤, IsOk, MatchResult, Ok};
 ghost use Rattle.list_core.specs.declared.device.InputEnd.{InputEnd};
 ghost use Rattle.list_core.specs.declared.event_lines.EventLines.TheVariants.{First};
 ghost use Rattle.list_core.specs.Device.{GivesOctets};
 ghost use Rattle.list_core.specs.EventLine.{event_rules};
-ghost use Rattle.frame_core.specs.FrameViews.{frame_of};
-ghost use Rattle.frame_core.specs.Written.{ApduIsSpellable};
+ghost use Rattle.frame_core.specs.FrameViews.{frame_of, is_written};
+ghost use Rattle.frame_core.specs.Written.{ApduIsSpellable, written_frame};
+ghost use Rattle.frame_core.specs.computed.WrittenTest.{fits};
+ghost use Rattle.text_core.specs.Pieces.{AppendsText};
 ghost use Rattle.frame_engines.specs.CheckText.{check_text, goes_where_recommended, has_text, is_form, note_unless, notes, octets_notes};
 ghost use Rattle.engine_core.specs.EngineText.{Writes, is_write_fault};
 ghost use Rattle.frame_engines.specs.WrittenForm.{fitting_form};
@@ -39,6 +41,18 @@ fn is_in_written_form(view: &FrameView<'_>, octets: &[u8]) -> bool
     }
 }
 
+// The same, where the form is not made of a frame that is known to stand in it.
+fn stands_in_written_form(view: &FrameView<'_>, octets: &[u8]) -> bool
+    requires spellable { ApduIsSpellable (frame_of {A = Unit {0}} view.now).apdu }
+    requires known { is_written view.now.apdu ≡ true → (octets.now ≡ written_frame (frame_of {A = Unit {0}} view.now)) × (fits (frame_of {A = Unit {0}} view.now) ≡ true) }
+    ensures { result ≡ is_form (fitting_form (Ok (frame_of {A = Unit {0}} view.now))) octets.now }
+{
+    if view.apdu.is_written() {
+        return true;
+    }
+    is_in_written_form(view, octets)
+}
+
 // Whether a frame is sent to a destination that is recommended for what it carries.
 fn has_recommended_destination(view: &FrameView<'_>) -> bool
     ensures { result ≡ goes_where_recommended (frame_of {A = Unit {0}} view.now) }
@@ -58,7 +72,7 @@ fn put_note<A: Allocator>(
     number: u64,
     word: &[u8],
 ) -> Result<(), AllocError>
-    ensures text { OnOk result (line.new.items ≡ line.old.items ++ note_unless holds number word.now) }
+    ensures text { AppendsText result line.old.items line.new.items (note_unless holds number word.now) }
     ensures quiet { holds ≡ true → IsOk result }
 {
     if holds {
@@ -74,7 +88,7 @@ fn put_notes<A: Allocator>(
     number: u64,
     octets: &[u8],
 ) -> Result<(), AllocError>
-    ensures text { OnOk result (line.new.items ≡ line.old.items ++ octets_notes number octets.now) }
+    ensures text { AppendsText result line.old.items line.new.items (octets_notes number octets.now) }
     ensures quiet { octets_notes number octets.now ≡ [] → IsOk result }
 {
     match view_frame(octets) {
@@ -82,7 +96,7 @@ fn put_notes<A: Allocator>(
         Ok(view) => {
             put_note(
                 line,
-                is_in_written_form(&view, octets),
+                stands_in_written_form(&view, octets),
                 number,
                 b" not-written\n",
             )?;
@@ -104,7 +118,7 @@ fn put_event_notes<A: Allocator>(
 ) -> Result<bool, AllocError>
     ensures noted { MatchResult result
         (λ found. (line.new.items ≡ line.old.items ++ notes number kind.now) × (found ≡ has_text (notes number kind.now)))
-        (λ _. Unit {0}) }
+        (λ _. take (length line.old.items) line.new.items ≡ line.old.items) }
     ensures quiet { notes number kind.now ≡ [] → IsOk result }
 {
     let EventKind::Frame(octets) = kind else {

@@ -1,5 +1,5 @@
 //! `rewrite`: the list again, each grammatical frame in its written form.
-ghost use Rattle.std.specs.Prelude.{◌≡◌, ◌++◌, ℕ, List, true, false, not, is_some, Some, None, ⊤, OnOk, IfOk, MatchResult, codes, if◌then◌else◌};
+ghost use Rattle.std.specs.Prelude.{◌≡◌, ◌++◌, ℕ, List, true, false, not, is_some, length, take, Some, None, ⊤, IfOk, MatchResult, codes, if◌then◌else◌};
 ghost use Rattle.std.specs.Fmt.{decimal};
 ghost use Rattle.hex.specs.Hex.{encode_lower};
 ghost use Rattle.list_core.specs.declared.device.InputEnd.{InputEnd};
@@ -7,6 +7,7 @@ ghost use Rattle.list_core.specs.Device.{GivesOctets};
 ghost use Rattle.list_core.specs.EventLine.{event_rules, kind_text, mode_text};
 ghost use Rattle.list_core.specs.declared.event_lines.EventLines.TheVariants.{First};
 ghost use Rattle.engine_core.specs.EngineText.{Writes, is_write_fault};
+ghost use Rattle.text_core.specs.Pieces.{AppendsText};
 ghost use Rattle.frame_engines.specs.RewriteText.{form_or, is_kept, rewritten, rewrite_text};
 ghost use Rattle.frame_engines.specs.WrittenForm.{written_form};
 
@@ -21,44 +22,53 @@ use text_core::event::put_frame_event;
 use text_core::line::{put_list_line, put_mode_word};
 use text_core::pieces::put_decimal;
 
-// Puts the written form of the frame that octets spell into `form`, where there is one and it fits, and answers whether.
-fn put_form(form: &mut ArrayVec<u8, 1600>, octets: &[u8]) -> bool
-    ensures { written_form octets.now ≡ (if result then Some form.new.items else None) }
-{
-    match view_frame(octets) {
-        Ok(view) => encode_view(&view, form).is_ok(),
-        Err(_) => false,
-    }
-}
-
 // Appends the line of a clock moment in a list.
 fn put_clock<A: Allocator>(line: &mut Vec<u8, A>, moment: u64) -> Result<(), AllocError>
-    ensures { OnOk result (line.new.items ≡ line.old.items ++ (codes "C " ++ decimal moment ++ codes "\n")) }
+    ensures { AppendsText result line.old.items line.new.items (codes "C " ++ decimal moment ++ codes "\n") }
 {
     line.extend_from_slice(b"C ")?;
     put_decimal(line, moment)?;
     line.extend_from_slice(b"\n")
 }
 
+// Appends the line of a frame with its own octets, and answers what is handed in.
+fn put_own<A: Allocator>(
+    line: &mut Vec<u8, A>,
+    moment: u64,
+    octets: &[u8],
+    kept: bool,
+) -> Result<bool, AllocError>
+    ensures text { AppendsText result line.old.items line.new.items
+        (codes "F " ++ decimal moment ++ codes " " ++ encode_lower octets.now ++ codes "\n") }
+    ensures kept { IfOk result (λ answer. answer ≡ kept) }
+{
+    put_frame_event(line, moment, octets)?;
+    Ok(kept)
+}
+
 // Appends the line of a frame in its written form, or else of its own octets, and answers whether
-// it keeps these.
+// it keeps these. A frame that stands in its written form is not written anew.
 fn put_rewritten<A: Allocator>(
     line: &mut Vec<u8, A>,
     moment: u64,
     octets: &[u8],
 ) -> Result<bool, AllocError>
-    ensures text { OnOk result (line.new.items ≡ line.old.items
-        ++ (codes "F " ++ decimal moment ++ codes " " ++ encode_lower (form_or (written_form octets.now) octets.now) ++ codes "\n")) }
+    ensures text { AppendsText result line.old.items line.new.items
+        (codes "F " ++ decimal moment ++ codes " " ++ encode_lower (form_or (written_form octets.now) octets.now) ++ codes "\n") }
     ensures kept { IfOk result (λ kept. kept ≡ not (is_some (written_form octets.now))) }
 {
-    let mut form = ArrayVec::new();
-    if put_form(&mut form, octets) {
-        put_frame_event(line, moment, form.as_slice())?;
-        Ok(false)
-    } else {
-        put_frame_event(line, moment, octets)?;
-        Ok(true)
+    let Ok(view) = view_frame(octets) else {
+        return put_own(line, moment, octets, true);
+    };
+    if view.apdu.is_written() {
+        return put_own(line, moment, octets, false);
     }
+    let mut form = ArrayVec::new();
+    if encode_view(&view, &mut form).is_err() {
+        return put_own(line, moment, octets, true);
+    }
+    put_frame_event(line, moment, form.as_slice())?;
+    Ok(false)
 }
 
 // Appends the line of a mode in a list.
@@ -67,7 +77,7 @@ fn put_mode_event<A: Allocator>(
     moment: u64,
     on: bool,
 ) -> Result<(), AllocError>
-    ensures { OnOk result (line.new.items ≡ line.old.items ++ (codes "M " ++ decimal moment ++ codes " " ++ mode_text on ++ codes "\n")) }
+    ensures { AppendsText result line.old.items line.new.items (codes "M " ++ decimal moment ++ codes " " ++ mode_text on ++ codes "\n") }
 {
     line.extend_from_slice(b"M ")?;
     put_decimal(line, moment)?;
@@ -80,7 +90,7 @@ fn put_mode_event<A: Allocator>(
 fn put_event<A: Allocator>(line: &mut Vec<u8, A>, event: &Event<A>) -> Result<bool, AllocError>
     ensures { MatchResult result
         (λ found. (line.new.items ≡ line.old.items ++ kind_text (decimal event.now.moment) (rewritten event.now.kind)) × (found ≡ is_kept event.now.kind))
-        (λ _. Unit {0}) }
+        (λ _. take (length line.old.items) line.new.items ≡ line.old.items) }
 {
     match &event.kind {
         EventKind::Clock => {

@@ -1,11 +1,12 @@
 //! `show`: one line an event.
-ghost use Rattle.std.specs.Prelude.{◌≡◌, ◌++◌, ℕ, List, false, ⊤, OnOk, codes};
+ghost use Rattle.std.specs.Prelude.{◌≡◌, ◌++◌, ℕ, List, false, ⊤, codes};
 ghost use Rattle.std.specs.Fmt.{decimal};
 ghost use Rattle.list_core.specs.EventLine.{event_rules, mode_text};
 ghost use Rattle.list_core.specs.declared.event_lines.EventLines.TheVariants.{First};
 ghost use Rattle.list_core.specs.declared.device.InputEnd.{InputEnd};
 ghost use Rattle.list_core.specs.Device.{GivesOctets};
 ghost use Rattle.engine_core.specs.EngineText.{Writes, is_write_fault};
+ghost use Rattle.text_core.specs.Pieces.{AppendsText};
 ghost use Rattle.frame_engines.specs.ShowText.{octets_line, show_text};
 
 use crate::texts::frame::put_frame;
@@ -24,7 +25,7 @@ fn put_octets<A: Allocator>(
     number: u64,
     octets: &[u8],
 ) -> Result<(), AllocError>
-    ensures { OnOk result (line.new.items ≡ line.old.items ++ octets_line number octets.now) }
+    ensures { AppendsText result line.old.items line.new.items (octets_line number octets.now) }
 {
     match view_frame(octets) {
         Ok(frame) => put_frame(line, number, &frame),
@@ -39,8 +40,8 @@ fn put_mode<A: Allocator>(
     moment: u64,
     on: bool,
 ) -> Result<(), AllocError>
-    ensures { OnOk result (line.new.items ≡ line.old.items
-        ++ (decimal number ++ codes " mode " ++ decimal moment ++ codes " " ++ mode_text on ++ codes "\n")) }
+    ensures { AppendsText result line.old.items line.new.items
+        (decimal number ++ codes " mode " ++ decimal moment ++ codes " " ++ mode_text on ++ codes "\n") }
 {
     put_decimal(line, number)?;
     line.extend_from_slice(b" mode ")?;

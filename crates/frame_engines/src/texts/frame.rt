@@ -1,89 +1,139 @@
 //! The line of a frame, from the octets in which it stands.
-ghost use Rattle.std.specs.Prelude.{◌≡◌, ◌++◌, OnOk, codes};
+ghost use Rattle.std.specs.Prelude.{◌≡◌, ◌+◌, ◌≤◌, ◌∷◌, [], ◌++◌, length, codes};
+ghost use Rattle.std.specs.List.{concat};
+ghost use Rattle.std.specs.Fmt.{decimal};
 ghost use Rattle.pdu_core.specs.Views.{pdu_of};
 ghost use Rattle.frame_core.specs.FrameViews.{apdu_of, frame_of};
+ghost use Rattle.text_core.specs.Pieces.{AppendsText, boolean_text};
+ghost use Rattle.text_core.specs.ValueText.{time_text};
 ghost use Rattle.frame_engines.specs.FrameText.{tag_text, trailer_text, envelope_text, goose_text, apdu_word, apdu_text, frame_line};
 
 use frame_core::{ApduView, FrameView, VlanTag};
 use pdu_core::GooseView;
 use std::alloc::{AllocError, Allocator};
-use text_core::fields::{put_boolean, put_digits, put_number, put_optional, put_text};
-use text_core::pieces::{put_decimal, put_hexadecimal};
+use text_core::fields::{put_number, put_octets, put_optional, put_text};
 use text_core::sampled::put_sampled;
-use text_core::value::{put_members_text, put_utc};
+use text_core::short::ShortText;
+use text_core::value::put_members_text;
 
-// Appends a tag that may be absent.
-fn put_tag<A: Allocator>(out: &mut Vec<u8, A>, tag: Option<VlanTag>) -> Result<(), AllocError>
-    ensures { OnOk result (out.new.items ≡ out.old.items ++ (codes " tag=" ++ tag_text tag)) }
+// Puts the control of a tag in front, or a dash.
+#[inline(always)]
+fn put_tag(text: &mut ShortText, tag: Option<VlanTag>)
+    requires { length text.old + 4 ≤ 160 }
+    ensures text { text.new ≡ tag_text tag ++ text.old }
+    ensures size { length text.new ≤ length text.old + 4 }
 {
     match tag {
-        Some(tag) => put_digits(out, b" tag=", tag.control),
-        None => out.extend_from_slice(b" tag=-"),
+        Some(tag) => text.put_four_digits(tag.control),
+        None => text.put(b"-"),
     }
 }
 
-// Appends the octets behind the APDU.
-fn put_trailer<A: Allocator>(out: &mut Vec<u8, A>, trailer: &[u8]) -> Result<(), AllocError>
-    ensures { OnOk result (out.new.items ≡ out.old.items ++ (codes " trailer=" ++ trailer_text trailer.now)) }
+// Puts the word for the kind of APDU in front.
+#[inline(always)]
+fn put_kind(text: &mut ShortText, apdu: &ApduView<'_>)
+    requires { length text.old + 7 ≤ 160 }
+    ensures text { text.new ≡ apdu_word (apdu_of {A = Unit {0}} apdu.now) ++ text.old }
+    ensures size { length text.new ≤ length text.old + 7 }
 {
-    out.extend_from_slice(b" trailer=")?;
-    match trailer {
-        [] => out.extend_from_slice(b"-"),
-        octets => put_hexadecimal(out, octets),
+    match apdu {
+        ApduView::Goose(_) => text.put(b" goose "),
+        ApduView::Sampled(_) => text.put(b" sv "),
     }
 }
 
-// Appends what stands before the APDU.
-fn put_envelope<A: Allocator>(out: &mut Vec<u8, A>, frame: &FrameView<'_>) -> Result<(), AllocError>
-    ensures { OnOk result (out.new.items ≡ out.old.items ++ envelope_text (frame_of {A = Unit {0}} frame.now)) }
+// The envelope.
+#[inline(always)]
+fn envelope(frame: &FrameView<'_>) -> ShortText
+    ensures text { result ≡ envelope_text (frame_of {A = Unit {0}} frame.now) }
+    ensures size { length result ≤ 100 }
 {
-    put_hexadecimal(out, &frame.destination)?;
-    out.extend_from_slice(b" ")?;
-    put_hexadecimal(out, &frame.source)?;
-    put_tag(out, frame.tag)?;
-    put_digits(out, b" appid=", frame.app_id)?;
-    put_digits(out, b" r1=", frame.reserved1)?;
-    put_digits(out, b" r2=", frame.reserved2)?;
-    Ok(())
+    let mut text = ShortText::new();
+    text.put_four_digits(frame.reserved2);
+    text.put(b" r2=");
+    text.put_four_digits(frame.reserved1);
+    text.put(b" r1=");
+    text.put_four_digits(frame.app_id);
+    text.put(b" appid=");
+    put_tag(&mut text, frame.tag);
+    text.put(b" tag=");
+    text.put_hexadecimal(&frame.source);
+    text.put(b" ");
+    text.put_hexadecimal(&frame.destination);
+    text
+}
+
+// Appends what stands before the APDU: the number of the line, the kind of APDU, and the envelope.
+fn put_head<A: Allocator>(
+    out: &mut Vec<u8, A>,
+    number: u64,
+    frame: &FrameView<'_>,
+) -> Result<(), AllocError>
+    ensures { AppendsText result out.old.items out.new.items
+        (decimal number ++ (apdu_word (apdu_of {A = Unit {0}} frame.now.apdu) ++ envelope_text (frame_of {A = Unit {0}} frame.now))) }
+{
+    let mut text = envelope(frame);
+    put_kind(&mut text, &frame.apdu);
+    text.put_decimal(number);
+    text.append_to(out)
+}
+
+// Appends the fields of a GOOSE APDU from its time up to ndsCom.
+fn put_state<A: Allocator>(out: &mut Vec<u8, A>, goose: &GooseView<'_>) -> Result<(), AllocError>
+    ensures { AppendsText result out.old.items out.new.items (concat (codes " t=" ∷ time_text goose.now.t
+        ∷ (codes " st=" ++ decimal goose.now.st_num) ∷ (codes " sq=" ++ decimal goose.now.sq_num)
+        ∷ (codes " sim=" ++ boolean_text goose.now.simulation) ∷ (codes " rev=" ++ decimal goose.now.conf_rev)
+        ∷ (codes " com=" ++ boolean_text goose.now.nds_com) ∷ [])) }
+{
+    let mut text = ShortText::new();
+    text.put_boolean(goose.nds_com);
+    text.put(b" com=");
+    text.put_decimal(goose.conf_rev as u64);
+    text.put(b" rev=");
+    text.put_boolean(goose.simulation);
+    text.put(b" sim=");
+    text.put_decimal(goose.sq_num as u64);
+    text.put(b" sq=");
+    text.put_decimal(goose.st_num as u64);
+    text.put(b" st=");
+    text.put_time(goose.t);
+    text.put(b" t=");
+    text.append_to(out)
 }
 
 // Appends the fields of a GOOSE APDU.
 fn put_goose<A: Allocator>(out: &mut Vec<u8, A>, goose: &GooseView<'_>) -> Result<(), AllocError>
-    ensures { OnOk result (out.new.items ≡ out.old.items ++ goose_text (pdu_of {A = Unit {0}} goose.now)) }
+    ensures { AppendsText result out.old.items out.new.items (goose_text (pdu_of {A = Unit {0}} goose.now)) }
 {
     put_text(out, b" ref=", goose.gocb_ref)?;
     put_number(out, b" live=", goose.live)?;
     put_text(out, b" set=", goose.dat_set)?;
     put_optional(out, b" id=", goose.go_id)?;
-    out.extend_from_slice(b" t=")?;
-    put_utc(out, goose.t)?;
-    put_number(out, b" st=", goose.st_num)?;
-    put_number(out, b" sq=", goose.sq_num)?;
-    put_boolean(out, b" sim=", goose.simulation)?;
-    put_number(out, b" rev=", goose.conf_rev)?;
-    put_boolean(out, b" com=", goose.nds_com)?;
+    put_state(out, goose)?;
     out.extend_from_slice(b" ")?;
-    put_members_text(out, goose.members)?;
-    Ok(())
-}
-
-// The word for the kind of APDU.
-fn kind_word(apdu: &ApduView<'_>) -> &'static [u8]
-    ensures { result.now ≡ apdu_word (apdu_of {A = Unit {0}} apdu.now) }
-{
-    match apdu {
-        ApduView::Goose(_) => b" goose ",
-        ApduView::Sampled(_) => b" sv ",
-    }
+    put_members_text(out, goose.members)
 }
 
 // Appends the APDU.
 fn put_apdu<A: Allocator>(out: &mut Vec<u8, A>, apdu: &ApduView<'_>) -> Result<(), AllocError>
-    ensures { OnOk result (out.new.items ≡ out.old.items ++ apdu_text (apdu_of {A = Unit {0}} apdu.now)) }
+    ensures { AppendsText result out.old.items out.new.items (apdu_text (apdu_of {A = Unit {0}} apdu.now)) }
 {
     match apdu {
         ApduView::Goose(goose) => put_goose(out, goose),
         ApduView::Sampled(sampled) => put_sampled(out, sampled),
+    }
+}
+
+// Appends the octets behind the APDU, and the end of the line.
+fn put_end<A: Allocator>(out: &mut Vec<u8, A>, trailer: &[u8]) -> Result<(), AllocError>
+    ensures { AppendsText result out.old.items out.new.items (codes " trailer=" ++ trailer_text trailer.now ++ codes "\n") }
+{
+    match trailer {
+        [] => out.extend_from_slice(b" trailer=-\n"),
+        octets => {
+            put_octets(out, b" trailer=", octets)?;
+            out.extend_from_slice(b"\n")
+        }
     }
 }
 
@@ -93,13 +143,9 @@ pub fn put_frame<A: Allocator>(
     number: u64,
     frame: &FrameView<'_>,
 ) -> Result<(), AllocError>
-    ensures { OnOk result (out.new.items ≡ out.old.items ++ frame_line number (frame_of {A = Unit {0}} frame.now)) }
+    ensures { AppendsText result out.old.items out.new.items (frame_line number (frame_of {A = Unit {0}} frame.now)) }
 {
-    put_decimal(out, number)?;
-    out.extend_from_slice(kind_word(&frame.apdu))?;
-    put_envelope(out, frame)?;
+    put_head(out, number, frame)?;
     put_apdu(out, &frame.apdu)?;
-    put_trailer(out, frame.trailer)?;
-    out.extend_from_slice(b"\n")?;
-    Ok(())
+    put_end(out, frame.trailer)
 }

@@ -111,7 +111,7 @@ fn a_first_line_may_say_the_unit(rt: HostRuntime) {
 #[test]
 fn each_line_fault_has_its_cause(rt: HostRuntime) {
     let form = "line 2: the line is neither an event, nor a comment, nor empty";
-    let moment = "line 2: the moment is not 1 to 15 decimal digits (1 to 18 after a first line V2)";
+    let moment = "line 2: the time is not 1 to 15 decimal digits (1 to 18 after a first line V2)";
     let octets = "line 2: the octets are not an even count of 2 to 4000 hexadecimal digits";
     for (text, fault) in [
         (b"\nX".as_slice(), form),

@@ -26,7 +26,7 @@ fn faults_of_lists_name_the_line_and_the_cause(rt: HostRuntime) {
         ),
         (
             ListCause::Moment,
-            "line 7: the moment is not 1 to 15 decimal digits (1 to 18 after a first line V2)",
+            "line 7: the time is not 1 to 15 decimal digits (1 to 18 after a first line V2)",
         ),
         (
             ListCause::Hex,
@@ -52,9 +52,12 @@ fn want_of_memory_is_no_fault_of_the_list(rt: HostRuntime) {
 
 #[test]
 fn faults_of_writing_say_what_is_wrong(rt: HostRuntime) {
-    assert!(rt; says(rt.alloc(), DeviceFault, "the device failed"));
+    assert!(rt; says(rt.alloc(), DeviceFault, "reading or writing failed"));
     for (fault, sentence) in [
-        (WriteFault::NotListable, "the event can't stand in a list"),
+        (
+            WriteFault::NotListable,
+            "no line of a list can hold the event",
+        ),
         (WriteFault::WriteFailed, "writing failed"),
     ] {
         assert!(rt; says(rt.alloc(), fault, sentence), "{sentence}");
@@ -62,7 +65,7 @@ fn faults_of_writing_say_what_is_wrong(rt: HostRuntime) {
     for (fault, sentence) in [
         (
             EncodeFault::NotSpellable,
-            "a field of the frame has no spelling",
+            "a field of the frame has no encoding",
         ),
         (EncodeFault::TooLong, "the frame would be too long"),
     ] {

@@ -1,11 +1,12 @@
 // ASDUs of Sampled Values, judged and seen where they stand.
 
-ghost use Rattle.std.specs.Prelude.{◌≡◌, ◌<◌, ◌≤◌, List, length, Ok, Err, IfOk, IfErr};
-ghost use Rattle.ber_core.specs.Reading.{Gives};
+ghost use Rattle.std.specs.Prelude.{◌≡◌, ◌<◌, ◌≤◌, List, length, slice_range, true, Ok, Err, IfOk, IfErr};
+ghost use Rattle.ber_core.specs.computed.Reading.{Gives};
 ghost use Rattle.pdu_core.specs.Asdu.{asdu_items};
 ghost use Rattle.pdu_core.specs.Sampled.{items_of_each};
-ghost use Rattle.pdu_core.specs.SampledReading.{asdu_at, asdus_at};
+ghost use Rattle.pdu_core.specs.computed.SampledReading.{asdu_at, asdus_at};
 ghost use Rattle.pdu_core.specs.SampledViews.{asdu_of, AsduIsPart};
+ghost use Rattle.pdu_core.specs.SampledWritten.{written_asdu, written_asdus};
 ghost use Rattle.pdu_core.specs.declared.sampled.asdu.Asdu.{Asdu};
 
 use crate::fields::{text_field, text_if_there};
@@ -16,28 +17,36 @@ use crate::sampled::fields::{
 use crate::sampled::view::AsduView;
 use ber_core::Fault;
 use ber_core::fields::{check_end, required};
+use mms_data::standing::has_short_length;
 
-/// The ASDU that stands at `at`, in a region that ends at `end`, and the place behind it.
-#[tactic(auto, unfolding(crate::specs::SampledReading::asdu_at))]
-pub fn asdu<'a>(octets: &'a [u8], at: usize, end: usize) -> Result<(AsduView<'a>, usize), Fault>
+/// The ASDU that stands at `at`, in a region that ends at `end`, the place behind it, and whether it is known to stand in its
+/// written form.
+#[tactic(auto, unfolding(crate::specs::computed::SampledReading::asdu_at))]
+pub fn asdu<'a>(
+    octets: &'a [u8],
+    at: usize,
+    end: usize,
+) -> Result<(AsduView<'a>, usize, bool), Fault>
     requires ordered { at ≤ end }
     requires inside { end ≤ length octets.now }
     ensures exact { Gives (λ x. (asdu_items (asdu_of {A = Unit {0}} x.0), x.1)) result (asdu_at octets.now at end) }
     ensures next { IfOk result (λ x. (at < x.1) × (x.1 ≤ end)) }
     ensures parts { IfOk result (λ x. AsduIsPart x.0 octets.entry) }
+    ensures written { IfOk result (λ x. x.2 ≡ true → slice_range octets.now at x.1 ≡ written_asdu (asdu_of {A = Unit {0}} x.0)) }
 {
     let header = required(octets, at, end, 0x30)?;
     let to = header.contents_to;
-    let (sv_id, place) = text_field(octets, header.contents_from, to, 0x80)?;
-    let (dat_set, place) = text_if_there(octets, place, to, 0x81)?;
-    let (smp_cnt, place) = two_octets_field(octets, place, to, 0x82)?;
-    let (conf_rev, place) = four_octets_field(octets, place, to, 0x83)?;
-    let (refr_tm, place) = time_if_there(octets, place, to, 0x84)?;
-    let (smp_synch, place) = one_octet_field(octets, place, to, 0x85)?;
-    let (smp_rate, place) = two_octets_if_there(octets, place, to, 0x86)?;
-    let (sample, place) = raw_field(octets, place, to, 0x87)?;
-    let (smp_mod, place) = few_if_there(octets, place, to, 0x88)?;
-    let (field_89, place) = few_if_there(octets, place, to, 0x89)?;
+    let written = has_short_length(&header);
+    let (sv_id, place, written) = text_field(octets, header.contents_from, to, 0x80, written)?;
+    let (dat_set, place, written) = text_if_there(octets, place, to, 0x81, written)?;
+    let (smp_cnt, place, written) = two_octets_field(octets, place, to, 0x82, written)?;
+    let (conf_rev, place, written) = four_octets_field(octets, place, to, 0x83, written)?;
+    let (refr_tm, place, written) = time_if_there(octets, place, to, 0x84, written)?;
+    let (smp_synch, place, written) = one_octet_field(octets, place, to, 0x85, written)?;
+    let (smp_rate, place, written) = two_octets_if_there(octets, place, to, 0x86, written)?;
+    let (sample, place, written) = raw_field(octets, place, to, 0x87, written)?;
+    let (smp_mod, place, written) = few_if_there(octets, place, to, 0x88, written)?;
+    let (field_89, place, written) = few_if_there(octets, place, to, 0x89, written)?;
     check_end(place, to)?;
     let view = AsduView {
         sv_id,
@@ -51,22 +60,24 @@ pub fn asdu<'a>(octets: &'a [u8], at: usize, end: usize) -> Result<(AsduView<'a>
         smp_mod,
         field_89,
     };
-    Ok((view, to))
+    Ok((view, to, written))
 }
 
-/// How many ASDUs fill the octets from `at` to `end`.
-pub fn check_asdus(octets: &[u8], at: usize, end: usize) -> Result<usize, Fault>
+/// How many ASDUs fill the octets from `at` to `end`, and whether they are known to stand in their written form.
+pub fn check_asdus(octets: &[u8], at: usize, end: usize) -> Result<(usize, bool), Fault>
     requires ordered { at ≤ end }
     requires inside { end ≤ length octets.now }
-    ensures found { IfOk result (λ n. (xs : List (Asdu (Unit {0}))) × (asdus_at octets.now at end ≡ Ok (items_of_each xs)) × (length xs ≡ n)) }
+    ensures found { IfOk result (λ n. (xs : List (Asdu (Unit {0}))) × (asdus_at octets.now at end ≡ Ok (items_of_each xs)) × (length xs ≡ n.0) × (n.1 ≡ true → slice_range octets.now at end ≡ written_asdus xs)) }
     ensures fault { IfErr result (λ f. asdus_at octets.now at end ≡ Err f) }
 {
     let mut count = 0;
+    let mut written = true;
     let mut place = at;
     'asdus: while place < end {
-        let (_, next) = asdu(octets, place, end)?;
+        let (_, next, stands) = asdu(octets, place, end)?;
         place = next;
+        written &= stands;
         count += 1;
     }
-    Ok(count)
+    Ok((count, written))
 }

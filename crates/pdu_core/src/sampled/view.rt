@@ -1,7 +1,7 @@
 // The APDU of Sampled Values where it stands.
 
 ghost use Rattle.std.specs.Prelude.{◌≡◌, ◌≤◌, length};
-ghost use Rattle.pdu_core.specs.SampledValue.{asdus_in, AreAsdus};
+ghost use Rattle.pdu_core.specs.computed.SampledValue.{asdus_in, AreAsdus};
 
 use crate::sampled::asdus::asdu;
 use mms_data::UtcTime;
@@ -51,12 +51,14 @@ pub struct SvView<'a> {
     pub count: u16,
     /// The ASDUs.
     pub asdus: Asdus<'a>,
+    /// Whether the octets that were read are known to be the written form of the APDU; false says nothing.
+    pub written: bool,
     pub ghost counted: { count ≡ length (asdus_in {A = Unit {0}} asdus.octets.now asdus.at asdus.end) },
 }
 
 impl<'a> Asdus<'a> {
     ghost use Rattle.std.specs.Prelude.{◌≡◌, ◌<◌, ◌∷◌};
-    ghost use Rattle.pdu_core.specs.SampledValue.{asdus_in};
+    ghost use Rattle.pdu_core.specs.computed.SampledValue.{asdus_in};
     ghost use Rattle.pdu_core.specs.SampledViews.{asdu_of, asdus_left, asdus_source, AsduIsPart};
 
     // The ASDUs that fill the octets from `at` to `end`.
@@ -78,7 +80,7 @@ impl<'a> Asdus<'a> {
         ensures source { asdus_source result.1 ≡ asdus_source self.entry }
     {
         let (octets, end) = (self.octets, self.end);
-        let Ok((view, at)) = asdu(octets, self.at, end) else {
+        let Ok((view, at, _)) = asdu(octets, self.at, end) else {
             unreachable!()
         };
         (view, Asdus { octets, at, end })

@@ -1,6 +1,7 @@
 use Rattle.std.proofs.Common.{◌≡◌, ◌+◌, ◌-◌, true, length, take, ap, ap₂, sym, ◌∙◌, arith}
 use Rattle.std.specs.List.{list_all}
-use Rattle.ber_core.specs.ContentsReading.{all_visible_at, is_visible}
+use Rattle.ber_core.specs.computed.ContentsReading.{all_visible_at}
+use Rattle.ber_core.specs.Contents.{is_visible}
 use Rattle.ber_core.proofs.Visible.{visible_past}
 use Rattle.ber_core.proofs.contents.behind_eights.Goals as goal
 

@@ -1,5 +1,5 @@
 use Rattle.std.proofs.Common.{◌≡◌, ◌+◌, ◌-◌, ◌≤◌, ℕ, length}
-use Rattle.ber_core.specs.ContentsReading.{all_visible_at}
+use Rattle.ber_core.specs.computed.ContentsReading.{all_visible_at}
 use Rattle.ber_core.proofs.contents.behind_eights.Given as goal
 
 abbrev pub invariant-eights : goal.invariant-eights

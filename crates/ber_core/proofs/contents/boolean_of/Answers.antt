@@ -1,6 +1,6 @@
 use Rattle.std.proofs.Common.{◌∙◌}
 use Rattle.ber_core.specs.Contents.{SpellsBoolean, BooleanFault}
-use Rattle.ber_core.specs.ContentsReading.{boolean_at}
+use Rattle.ber_core.specs.computed.ContentsReading.{boolean_at}
 use Rattle.ber_core.proofs.Exact.{gives_same, answer_found, answer_fault}
 use Rattle.ber_core.proofs.ContentsLaws.{boolean_found, boolean_again, boolean_wrong, boolean_wrong_again}
 use Rattle.ber_core.proofs.contents.boolean_of.Goals as goal

@@ -1,6 +1,6 @@
 use Rattle.std.proofs.Common.{◌∙◌}
 use Rattle.ber_core.specs.Contents.{AreVisible, VisibleFault}
-use Rattle.ber_core.specs.ContentsReading.{all_visible_at}
+use Rattle.ber_core.specs.computed.ContentsReading.{all_visible_at}
 use Rattle.ber_core.proofs.Exact.{gives_same, answer_found, answer_fault}
 use Rattle.ber_core.proofs.ContentsLaws.{all_visible_found, all_visible_again, all_visible_wrong, all_visible_wrong_again}
 use Rattle.ber_core.proofs.contents.check_visible.Goals as goal

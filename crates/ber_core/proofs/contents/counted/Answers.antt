@@ -1,6 +1,6 @@
 use Rattle.ber_core.specs.Element.{contents_of}
 use Rattle.ber_core.specs.Contents.{SpellsCounted, CountedFault}
-use Rattle.ber_core.specs.ContentsReading.{counted_at}
+use Rattle.ber_core.specs.computed.ContentsReading.{counted_at}
 use Rattle.ber_core.proofs.Exact.{answer_found, answer_ok, answer_fault, answer_fault_only}
 use Rattle.ber_core.proofs.ContentsLaws.{counted_found, counted_again, counted_wrong, counted_wrong_again}
 use Rattle.ber_core.proofs.contents.counted.Goals as goal

@@ -1,6 +1,6 @@
 use Rattle.std.proofs.Common.{◌≡◌, ◌+◌, ◌-◌, suc, length, drop, Err, sym, ap, ap₂, ◌∙◌, arith}
 use Rattle.ber_core.specs.declared.fault.Fault.{Fault}
-use Rattle.ber_core.specs.ContentsReading.{all_visible_at}
+use Rattle.ber_core.specs.computed.ContentsReading.{all_visible_at}
 use Rattle.ber_core.proofs.Visible.{visible_on, visible_stop, visible_end}
 use Rattle.ber_core.proofs.contents.each_visible.Goals as goal
 

@@ -1,5 +1,5 @@
 use Rattle.std.proofs.Common.{◌≡◌, ◌+◌, drop}
-use Rattle.ber_core.specs.ContentsReading.{all_visible_at}
+use Rattle.ber_core.specs.computed.ContentsReading.{all_visible_at}
 use Rattle.ber_core.proofs.contents.each_visible.Given as goal
 
 abbrev pub invariant-loop-i : goal.invariant-loop-i

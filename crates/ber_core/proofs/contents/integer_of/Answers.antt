@@ -1,6 +1,6 @@
 use Rattle.std.proofs.Common.{◌≡◌, rules, ◌∙◌}
 use Rattle.ber_core.specs.Contents.{SpellsInteger, IntegerFault}
-use Rattle.ber_core.specs.ContentsReading.{integer_at}
+use Rattle.ber_core.specs.computed.ContentsReading.{integer_at}
 use Rattle.ber_core.proofs.Exact.{gives_same, answer_found, answer_fault}
 use Rattle.ber_core.proofs.ContentsLaws.{integer_found, integer_again, integer_wrong, integer_wrong_again}
 use Rattle.ber_core.proofs.contents.integer_of.Goals as goal

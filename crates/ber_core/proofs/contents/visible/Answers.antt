@@ -1,6 +1,6 @@
 use Rattle.ber_core.specs.Element.{contents_of}
 use Rattle.ber_core.specs.Contents.{SpellsVisible, VisibleFault}
-use Rattle.ber_core.specs.ContentsReading.{visible_at}
+use Rattle.ber_core.specs.computed.ContentsReading.{visible_at}
 use Rattle.ber_core.proofs.Exact.{answer_found, answer_ok, answer_fault, answer_fault_only}
 use Rattle.ber_core.proofs.ContentsLaws.{visible_found, visible_again, visible_wrong, visible_wrong_again}
 use Rattle.ber_core.proofs.contents.visible.Goals as goal

@@ -2,7 +2,7 @@ use Rattle.std.proofs.Common.{◌≡◌, ◌+◌, ◌<◌, length, refl, rules, 
 use Rattle.std.specs.Prelude.{◌⊎◌}
 use Rattle.ber_core.specs.Element.{contents_of}
 use Rattle.ber_core.specs.Integer.{Int}
-use Rattle.ber_core.specs.ContentsReading.{any_integer_at}
+use Rattle.ber_core.specs.computed.ContentsReading.{any_integer_at}
 use Rattle.ber_core.specs.Faults.{fault_of}
 use Rattle.ber_core.specs.declared.fault.Cause.TheVariants as causes
 use Rattle.ber_core.proofs.Exact.{gives_same, answer_found, answer_fault}

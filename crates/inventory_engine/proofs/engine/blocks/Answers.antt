@@ -1,4 +1,4 @@
-use Rattle.inventory_engine.specs.BlocksStep.{blocks_text}
+use Rattle.inventory_engine.specs.computed.BlocksStep.{blocks_text}
 use Rattle.inventory_engine.proofs.Newest.{blocks_is}
 use Rattle.inventory_engine.proofs.engine.blocks.Goals as goal
 

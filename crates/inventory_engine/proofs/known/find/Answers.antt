@@ -1,6 +1,6 @@
 use Rattle.std.proofs.Common.{rules}
 use Rattle.std.proofs.lemmas.Fn.{always_returns_same}
-use Rattle.inventory_engine.specs.KnownTexts.{key_cmp, known_key}
+use Rattle.inventory_engine.specs.computed.KnownTexts.{key_cmp, known_key}
 use Rattle.inventory_engine.proofs.KnownLemmas.{searched}
 use Rattle.inventory_engine.proofs.known.find.Goals as goal
 

@@ -1,7 +1,7 @@
 use Rattle.std.proofs.Common.{◌≡◌, ◌++◌, ◌∙◌, List, ap, take}
 use Rattle.std.specs.List.{flat_map}
 use Rattle.std.proofs.lemmas.List.{take_all}
-use Rattle.inventory_engine.specs.PieceText.{piece_text}
+use Rattle.inventory_engine.specs.computed.PieceText.{piece_text}
 use Rattle.inventory_engine.specs.declared.pieces.Piece.{Piece}
 use Rattle.inventory_engine.proofs.Fronts.{is_other, is_whole, stops_at}
 use Rattle.inventory_engine.proofs.pieces.is_text.Goals as goal

@@ -1,7 +1,7 @@
 use Rattle.std.proofs.Common.{[], ◌∷◌, List, ℕ, Some, ap}
 use Rattle.std.specs.List.{concat, flat_map}
 use Rattle.pdu_core.specs.Views.{pdu_of}
-use Rattle.inventory_engine.specs.PieceText.{piece_text}
+use Rattle.inventory_engine.specs.computed.PieceText.{piece_text}
 use Rattle.inventory_engine.specs.Sightings.{Sighting, block_parts, block_seen, has_fields, named_parts}
 use Rattle.inventory_engine.proofs.Saying.{by_test, by_test_not, said_as}
 use Rattle.inventory_engine.proofs.sighting.put_block.Goals as goal

@@ -1,7 +1,7 @@
 use Rattle.std.proofs.Common.{◌≡◌, ◌∙◌, [], ◌∷◌, List, ℕ, ap, sym}
 use Rattle.pdu_core.specs.Views.{pdu_of}
 use Rattle.pdu_core.specs.SampledViews.{asdus_left}
-use Rattle.frame_core.specs.FrameReading.{frame_at}
+use Rattle.frame_core.specs.computed.FrameReading.{frame_at}
 use Rattle.frame_core.specs.FrameViews.{apdu_of}
 use Rattle.frame_core.specs.declared.frame_view.ApduView.{ApduView}
 use Rattle.inventory_engine.specs.Sightings.{block_seen, sightings_of, sightings_read, sightings_with, streams_seen}

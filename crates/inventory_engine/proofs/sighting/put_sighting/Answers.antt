@@ -1,10 +1,10 @@
 use Rattle.std.proofs.Common.{◌∙◌, ◌++◌, [], ◌∷◌, ℕ, List, true, false, subst, ap, sym}
 use Rattle.std.specs.List.{flat_map}
 use Rattle.inventory_engine.specs.declared.known.Known.{Known}
-use Rattle.inventory_engine.specs.KnownTexts.{InOrder, IsAt, IsGap, known_key}
-use Rattle.inventory_engine.specs.PieceText.{piece_text}
+use Rattle.inventory_engine.specs.computed.KnownTexts.{InOrder, IsAt, IsGap, known_key}
+use Rattle.inventory_engine.specs.computed.PieceText.{piece_text}
 use Rattle.inventory_engine.specs.Sightings.{Sighting, key_of}
-use Rattle.inventory_engine.specs.BlocksStep.{Said}
+use Rattle.inventory_engine.specs.computed.BlocksStep.{Said}
 use Rattle.inventory_engine.specs.BlocksText.{sighting_line}
 use Rattle.inventory_engine.proofs.Saying.{compared, on_error, said_changed, said_first, said_same, wanted_changed, wanted_first}
 use Rattle.inventory_engine.proofs.sighting.put_sighting.Goals as goal

@@ -3,7 +3,8 @@ use Rattle.std.proofs.lemmas.List.{append-nil}
 use Rattle.pdu_core.specs.SampledViews.{asdu_of, asdus_left}
 use Rattle.pdu_core.specs.declared.sampled.asdu.Asdu.{Asdu}
 use Rattle.inventory_engine.specs.Sightings.{streams_seen}
-use Rattle.inventory_engine.specs.BlocksStep.{Said}
+use Rattle.inventory_engine.specs.computed.BlocksStep.{Said}
+use Rattle.text_core.proofs.Fronts.{front_twice}
 use Rattle.inventory_engine.proofs.Saying.{on_error, stream_more, streams_wanted}
 use Rattle.inventory_engine.proofs.sighting.put_streams.Goals as goal
 
@@ -13,7 +14,7 @@ loop-asdu-preserved g c =
     let more = stream_more c.args.number c.loop-asdu.yielded c.in-Some.asdu (asdus_left c.args.sampled.now.asdus) (asdus_left c.loop-asdu.asdu-iterator) (asdus_left c.next.new.self)
     c.args.known.now.items c.loop-asdu.known.items c.put_stream.new.known.items c.args.line.now.items c.loop-asdu.line.items c.put_stream.new.line.items
     i.2 c.in-Some.ensures.steps.0 i.3 c.in_ok-put_stream.ensures.said in
-    (tt, tt, more.0, more.1)
+    (tt, tt, more.0, more.1, front_twice c.args.line.now.items c.loop-asdu.line.items c.put_stream.new.line.items i.4 c.put_stream.ensures.front)
 
 pub returns-in_err-put_stream-clause-wants : goal.returns-in_err-put_stream-clause-wants
 returns-in_err-put_stream-clause-wants g c =

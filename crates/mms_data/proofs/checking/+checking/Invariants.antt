@@ -12,7 +12,7 @@ abbrev pub decreases-check_contents : goal.decreases-check_contents
 decreases-check_contents l = 3 * l.depth + 3
 
 abbrev pub invariant-count_members-members : goal.invariant-count_members-members
-invariant-count_members-members l = Counts l.depth l.at l.octets l.end l.place l.count
+invariant-count_members-members l = Counts l.depth l.at l.octets l.end l.place l.count l.written
 
 abbrev pub decreases-count_members-members : goal.decreases-count_members-members
 decreases-count_members-members l = l.end - l.place

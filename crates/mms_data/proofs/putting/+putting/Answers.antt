@@ -1,6 +1,6 @@
 use Rattle.std.proofs.Common.{◌≡◌, ◌+◌, ◌<◌, ◌≤◌, ◌^◌, ◌++◌, length, drop, suc, ap, sym, ◌∙◌, arith, rules}
 use Rattle.mms_data.specs.Value.{data_of, datas}
-use Rattle.mms_data.specs.Weight.{weight, weight_of_all}
+use Rattle.mms_data.specs.computed.Weight.{weight, weight_of_all}
 use Rattle.mms_data.specs.Written.{written, written_all, written_contents}
 use Rattle.mms_data.proofs.Weights.{weight_at}
 use Rattle.mms_data.proofs.Appends.{part_fits, part_within}

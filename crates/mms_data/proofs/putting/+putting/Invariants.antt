@@ -1,6 +1,6 @@
 use Rattle.std.proofs.Common.{◌≡◌, ◌+◌, ◌*◌, ◌≤◌, ◌++◌, length, drop}
 use Rattle.mms_data.specs.Value.{data_of, datas}
-use Rattle.mms_data.specs.Weight.{weight, weight_of_all}
+use Rattle.mms_data.specs.computed.Weight.{weight, weight_of_all}
 use Rattle.mms_data.specs.Written.{written_all}
 use Rattle.mms_data.proofs.putting.+putting.Given as goal
 

@@ -1,7 +1,7 @@
 use Rattle.std.proofs.Common.{◌≡◌, ◌+◌, ◌*◌, drop}
 use Rattle.mms_data.specs.Value.{data_of, datas}
-use Rattle.mms_data.specs.Weight.{weight, weight_of_all}
-use Rattle.mms_data.specs.SpellableTest.{all_are_spellable}
+use Rattle.mms_data.specs.computed.Weight.{weight, weight_of_all}
+use Rattle.mms_data.specs.computed.SpellableTest.{all_are_spellable}
 use Rattle.mms_data.proofs.spellable.+testing.Given as goal
 
 abbrev pub decreases-test_value : goal.decreases-test_value

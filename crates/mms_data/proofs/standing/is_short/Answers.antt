@@ -1,15 +1,15 @@
-use Rattle.std.proofs.Common.{◌≡◌, sym, rules, ◌∙◌}
+use Rattle.std.proofs.Common.{not, sym, ap, rules, ◌∙◌, arith}
+use Rattle.std.proofs.lemmas.Bool.{eq-eqb, false≢true}
 use Rattle.ber_core.specs.Length.{AreOctets}
-use Rattle.ber_core.specs.Written.{integer_size}
-use Rattle.mms_data.proofs.AsWritten.{short_iff, not_refused}
+use Rattle.mms_data.proofs.ShortIntegers.{short_is}
 use Rattle.mms_data.proofs.standing.is_short.Goals as goal
 
-pub returns-in-Ok : goal.returns-in-Ok
-returns-in-Ok c = λ n h.
+pub returns-in_default : goal.returns-in_default
+returns-in_default c = λ t n h.
     let small : AreOctets c.args.contents.now = λ i. search rules in
-    let size : c.signed_count.result ≡ integer_size c.in-Ok.number = search rules in
-    let iff = short_iff c.args.contents.now small n c.in-Ok.number h (sym c.integer_of.ensures.exact ∙ c.in-Ok.is) in
-    rw size iff
+    short_is c.args.contents.now small (λ some. absurd (omega (arith, some, c.in_default.len_below))) n h
 
-pub returns-in-Err : goal.returns-in-Err
-returns-in-Err c = λ n h. absurd (not_refused c.args.contents.now n c.in-Err.field-0 h (sym c.integer_of.ensures.exact ∙ c.in-Err.is))
+pub returns-in-len2-up : goal.returns-in-len2-up
+returns-in-len2-up c = λ t n h.
+    let small : AreOctets c.args.contents.now = λ i. search rules in
+    short_is c.args.contents.now small (λ some e. false≢true (sym (ap not (eq-eqb _ _ (e ∙ sym c.sign.ensures))) ∙ t)) n h

@@ -3,7 +3,7 @@ use Rattle.ber_core.specs.Contents.{CountedFault}
 use Rattle.ber_core.specs.Element.{contents_of}
 use Rattle.ber_core.proofs.Exact.{gives_same, answer_found, answer_fault}
 use Rattle.mms_data.specs.Utc.{SpellsUtc}
-use Rattle.mms_data.specs.UtcReading.{utc_at}
+use Rattle.mms_data.specs.computed.UtcReading.{utc_at}
 use Rattle.mms_data.proofs.UtcLaws.{utc_found, utc_again, utc_wrong, utc_wrong_again}
 use Rattle.mms_data.proofs.utc.utc_time.Goals as goal
 

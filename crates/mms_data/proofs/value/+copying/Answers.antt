@@ -1,6 +1,6 @@
 use Rattle.std.proofs.Common.{◌≡◌, ◌+◌, ◌≤◌, ap, arith}
 use Rattle.mms_data.specs.Value.{data_of, datas}
-use Rattle.mms_data.specs.Weight.{weight, weight_of_all}
+use Rattle.mms_data.specs.computed.Weight.{weight, weight_of_all}
 use Rattle.mms_data.proofs.NoMemory.{no_items_of}
 use Rattle.mms_data.proofs.Weights.{weight_at}
 use Rattle.mms_data.proofs.value.+copying.Goals as goal

@@ -1,6 +1,6 @@
 use Rattle.std.proofs.Common.{◌≡◌, ◌+◌, ◌*◌, take}
 use Rattle.mms_data.specs.Value.{data_of}
-use Rattle.mms_data.specs.Weight.{weight, weight_of_all}
+use Rattle.mms_data.specs.computed.Weight.{weight, weight_of_all}
 use Rattle.mms_data.proofs.value.+copying.Given as goal
 
 abbrev pub decreases-ValueList::try_copy : goal.decreases-ValueList::try_copy

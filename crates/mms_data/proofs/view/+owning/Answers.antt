@@ -1,5 +1,5 @@
 use Rattle.std.proofs.Common.{◌≤◌, length, inl, arith}
-use Rattle.mms_data.specs.Left.{data_in}
+use Rattle.mms_data.specs.computed.Left.{data_in}
 use Rattle.mms_data.specs.Value.{datas}
 use Rattle.mms_data.specs.Meaning.{left, meaning}
 use Rattle.mms_data.proofs.Few.{few_members}

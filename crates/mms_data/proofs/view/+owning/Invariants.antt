@@ -1,6 +1,6 @@
 use Rattle.std.proofs.Common.{◌≡◌, ◌+◌, ◌*◌, ◌++◌}
 use Rattle.mms_data.specs.Value.{datas}
-use Rattle.mms_data.specs.Weight.{weight, weight_of_all}
+use Rattle.mms_data.specs.computed.Weight.{weight, weight_of_all}
 use Rattle.mms_data.specs.Meaning.{left, meaning}
 use Rattle.mms_data.proofs.view.+owning.Given as goal
 

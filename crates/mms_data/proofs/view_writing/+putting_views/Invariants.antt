@@ -1,7 +1,7 @@
 use Rattle.std.proofs.Common.{◌≡◌, ◌≤◌, ◌+◌, ◌*◌, ◌++◌, length}
 use Rattle.mms_data.specs.Meaning.{left, meaning}
 use Rattle.mms_data.specs.Written.{written_all}
-use Rattle.mms_data.specs.Weight.{weight, weight_of_all}
+use Rattle.mms_data.specs.computed.Weight.{weight, weight_of_all}
 use Rattle.mms_data.proofs.view_writing.+putting_views.Given as goal
 
 abbrev pub decreases-put_view : goal.decreases-put_view

@@ -1,7 +1,7 @@
 use Rattle.std.proofs.Common.{◌≡◌, ℕ, ◌+◌, ◌==◌, if◌then◌else◌, refl, ap, ◌∙◌, arith, subst}
 use Rattle.frame_core.specs.Written.{IsTooLong}
 use Rattle.publish_core.specs.Frames.{change, frame_with}
-use Rattle.publish_core.specs.Step.{judged_number}
+use Rattle.publish_core.specs.computed.Step.{judged_number}
 use Rattle.publish_core.specs.Table.{step_at}
 use Rattle.publish_core.specs.declared.table.Step.{Step}
 use Rattle.publish_core.proofs.Fits.{every_frame, some_frame}

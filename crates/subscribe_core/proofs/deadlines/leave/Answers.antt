@@ -2,7 +2,7 @@ use Rattle.std.proofs.Common.{Option, ap, ◌∙◌, refl}
 use Rattle.std.proofs.lemmas.Bool.{eq-eqb}
 use Rattle.std.specs.BTreeSet.{contains}
 use Rattle.subscribe_core.specs.declared.registers.Held.{Held}
-use Rattle.subscribe_core.specs.Deadlines.{pair_cmp, has_deadline}
+use Rattle.subscribe_core.specs.computed.Deadlines.{pair_cmp, has_deadline}
 use Rattle.subscribe_core.proofs.Pairs.{timed_take}
 use Rattle.subscribe_core.proofs.deadlines.leave.Goals as goal
 

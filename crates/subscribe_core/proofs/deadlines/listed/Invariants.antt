@@ -1,5 +1,5 @@
 use Rattle.std.proofs.Common.{◌≡◌, ◌++◌, map}
-use Rattle.subscribe_core.specs.Deadlines.{due_pairs}
+use Rattle.subscribe_core.specs.computed.Deadlines.{due_pairs}
 use Rattle.subscribe_core.proofs.deadlines.listed.Given as goal
 
 -- what is listed so far and what is left give the whole

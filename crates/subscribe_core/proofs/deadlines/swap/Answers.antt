@@ -1,7 +1,7 @@
 use Rattle.std.proofs.Common.{ℕ, Some, None, subst, sym, ◌∙◌, refl, true}
 use Rattle.std.proofs.lemmas.Bool.{ne_eqb}
 use Rattle.std.specs.BTreeSet.{contains}
-use Rattle.subscribe_core.specs.Deadlines.{pair_cmp}
+use Rattle.subscribe_core.specs.computed.Deadlines.{pair_cmp}
 use Rattle.subscribe_core.proofs.Pairs.{Puts, timed_put, timed_swap}
 use Rattle.subscribe_core.proofs.deadlines.swap.Goals as goal
 

@@ -1,7 +1,7 @@
 use Rattle.std.proofs.Common.{arith, sym, ◌∙◌}
 use Rattle.std.proofs.lemmas.Bool.{false≢true}
 use Rattle.std.specs.BTreeSet.{contains}
-use Rattle.subscribe_core.specs.Deadlines.{pair_cmp}
+use Rattle.subscribe_core.specs.computed.Deadlines.{pair_cmp}
 use Rattle.subscribe_core.proofs.Pairs.{none_due, first_le, empty_has, empty_from}
 use Rattle.subscribe_core.proofs.deadlines.take_due.Goals as goal
 

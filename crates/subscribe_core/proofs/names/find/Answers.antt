@@ -2,7 +2,7 @@ use Rattle.std.proofs.Common.{ℕ, List, sym, ap, ◌∙◌, rules}
 use Rattle.std.proofs.lemmas.Fn.{always_returns_same}
 use Rattle.std.proofs.lemmas.List.Sorted.{searchable_from_sorted}
 use Rattle.subscribe_core.specs.declared.names.Name.{Name}
-use Rattle.subscribe_core.specs.Names.{key_cmp, key_of}
+use Rattle.subscribe_core.specs.computed.Names.{key_cmp, key_of}
 use Rattle.subscribe_core.proofs.NameLemmas.{key_total, key_exact, not_found}
 use Rattle.subscribe_core.proofs.names.find.Goals as goal
 

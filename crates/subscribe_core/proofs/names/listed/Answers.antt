@@ -1,6 +1,6 @@
 use Rattle.std.proofs.Common.{ℕ, List, take, sym, ap, ◌∙◌, arith}
 use Rattle.std.proofs.lemmas.List.{take_more, length-take-le}
-use Rattle.subscribe_core.specs.Names.{block_key}
+use Rattle.subscribe_core.specs.computed.Names.{block_key}
 use Rattle.subscribe_core.proofs.NameLemmas.{names_push}
 use Rattle.subscribe_core.proofs.names.listed.Goals as goal
 

@@ -1,5 +1,5 @@
 use Rattle.std.proofs.Common.{take}
-use Rattle.subscribe_core.specs.Names.{AreNamesOf}
+use Rattle.subscribe_core.specs.computed.Names.{AreNamesOf}
 use Rattle.subscribe_core.proofs.names.listed.Given as goal
 
 -- the names of those gone through

@@ -1,7 +1,7 @@
 use Rattle.std.proofs.Common.{rules}
 use Rattle.std.proofs.lemmas.List.Sorted.{answers_always, ranks_by}
 use Rattle.std.specs.Ordering.{is_lt}
-use Rattle.subscribe_core.specs.Names.{key_cmp, key_of}
+use Rattle.subscribe_core.specs.computed.Names.{key_cmp, key_of}
 use Rattle.subscribe_core.proofs.NameLemmas.{key_total, names_permuted}
 use Rattle.subscribe_core.proofs.names.sorted.Goals as goal
 

@@ -1,7 +1,7 @@
 use Rattle.std.proofs.Common.{◌+◌, ◌≤◌, arith, ap, sym, ◌∙◌, List}
 use Rattle.mms_data.specs.declared.value.Value.{Value}
 use Rattle.mms_data.specs.Value.{data_of, datas}
-use Rattle.mms_data.specs.Weight.{weight, weight_of_all}
+use Rattle.mms_data.specs.computed.Weight.{weight, weight_of_all}
 use Rattle.mms_data.proofs.Weights.{weight_at}
 use Rattle.text_core.specs.ValueText.{value_text}
 use Rattle.std.proofs.lemmas.Result.{err_from_is_err_and}

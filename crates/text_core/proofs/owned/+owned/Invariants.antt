@@ -1,7 +1,7 @@
 use Rattle.std.proofs.Common.{◌≡◌, ◌+◌, ◌*◌, ◌++◌, ◌≤◌, length, take}
 use Rattle.std.specs.List.{flat_map}
 use Rattle.mms_data.specs.Value.{data_of, datas}
-use Rattle.mms_data.specs.Weight.{weight, weight_of_all}
+use Rattle.mms_data.specs.computed.Weight.{weight, weight_of_all}
 use Rattle.text_core.specs.Pieces.{after_space}
 use Rattle.text_core.specs.ValueText.{value_text}
 use Rattle.text_core.proofs.owned.+owned.Given as goal

@@ -11,7 +11,7 @@ blocks-2-preserved g c =
     let start = c.args.out.now.items in
     record {
       kept = subst (λ items. take (length start) items ≡ start) (sym put) (front_grows start c.blocks-2.out.items c.block_digits.result c.blocks-2.invariant.kept);
-      so_far = digits_written 16 c.blocks-2.out.items c.extend_from_slice.new.self.items c.blocks-2.others.now c.in-Some.block.now c.in-Some.rest.now c.block_digits.result
+      so_far = digits_written 32 c.blocks-2.out.items c.extend_from_slice.new.self.items c.blocks-2.others.now c.in-Some.block.now c.in-Some.rest.now c.block_digits.result
           put c.block_digits.ensures cut.0 cut.1
           ∙ c.blocks-2.invariant.so_far;
     }

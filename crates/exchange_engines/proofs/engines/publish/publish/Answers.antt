@@ -1,4 +1,4 @@
-use Rattle.exchange_engines.specs.PublishStep.{publish_text}
+use Rattle.exchange_engines.specs.computed.PublishStep.{publish_text}
 use Rattle.exchange_engines.proofs.PublishLemmas.{publish_is}
 use Rattle.exchange_engines.proofs.engines.publish.publish.Goals as goal
 

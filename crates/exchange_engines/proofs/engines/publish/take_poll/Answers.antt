@@ -2,7 +2,7 @@ use Rattle.publish_core.specs.Run.{Polled, call}
 use Rattle.exchange_engines.proofs.PublishLemmas.{poll_fails}
 use Rattle.exchange_engines.proofs.engines.publish.take_poll.Goals as goal
 
-pub returns-in-Err-put_poll : goal.returns-in-Err-put_poll
-returns-in-Err-put_poll g c = λ progress holds.
+pub returns-in-Err-put_poll-clause-item : goal.returns-in-Err-put_poll-clause-item
+returns-in-Err-put_poll-clause-item g c = λ progress holds.
     let r = c.in-Ok.ensures progress holds in
-    poll_fails progress r.0 r.1 c.args.moment _ _ _ _ (r.4 (call c.args.moment Polled)).0 (c.in-Err-put_poll.ensures r.0 r.1 r.2 r.3)
+    poll_fails progress r.0 r.1 c.args.moment _ _ _ _ (r.4 (call c.args.moment Polled)).0 (c.in-Err-put_poll.ensures.call r.0 r.1 r.2 r.3)

@@ -6,7 +6,7 @@ use Rattle.block_core.specs.declared.block.Block.{Block}
 use Rattle.subscribe_core.specs.Standing.{State}
 use Rattle.engine_core.specs.EngineText.{LeavesRefused, Writes}
 use Rattle.exchange_engines.specs.ReplayText.{twice_line}
-use Rattle.exchange_engines.specs.ReplayStep.{replay_text}
+use Rattle.exchange_engines.specs.computed.ReplayStep.{replay_text}
 use Rattle.exchange_engines.proofs.ReplayLemmas.{replay_is}
 use Rattle.exchange_engines.proofs.engines.replay.replay.Goals as goal
 

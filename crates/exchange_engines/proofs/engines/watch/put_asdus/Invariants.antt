@@ -1,7 +1,7 @@
 use Rattle.std.proofs.Common.{◌≡◌, ◌++◌, length, map}
 use Rattle.pdu_core.specs.SampledViews.{asdu_of, asdus_left}
 use Rattle.exchange_engines.specs.WatchText.{samples_from}
-use Rattle.exchange_engines.specs.WatchStep.{SamplesSaid}
+use Rattle.exchange_engines.specs.computed.WatchStep.{SamplesSaid}
 use Rattle.exchange_engines.proofs.engines.watch.put_asdus.Given as goal
 
 abbrev pub invariant-loop-asdu : goal.invariant-loop-asdu

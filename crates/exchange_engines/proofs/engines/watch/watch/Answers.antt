@@ -2,7 +2,7 @@ use Rattle.std.proofs.Common.{ℕ, subst}
 use Rattle.list_core.specs.EventLine.{event_rules}
 use Rattle.list_core.specs.declared.event_lines.EventLines.TheVariants.{First}
 use Rattle.engine_core.specs.EngineText.{Writes}
-use Rattle.exchange_engines.specs.WatchStep.{watch_text}
+use Rattle.exchange_engines.specs.computed.WatchStep.{watch_text}
 use Rattle.exchange_engines.proofs.WatchLemmas.{watch_is}
 use Rattle.exchange_engines.proofs.engines.watch.watch.Goals as goal
 

@@ -1,8 +1,9 @@
 use Rattle.std.proofs.Common.{◌≡◌, ◌∷◌, ◌∙◌, length, ap, sym, refl}
 use Rattle.std.specs.Prelude.{slice_range}
-use Rattle.mms_data.specs.Left.{data_in}
+use Rattle.mms_data.specs.computed.Left.{data_in}
 use Rattle.mms_data.specs.Meaning.{meaning}
 use Rattle.mms_data.proofs.Parts.{view_of_part}
+use Rattle.std.proofs.lemmas.Bool.{false≢true}
 use Rattle.mms_data.proofs.Front.{front, front_some, front_known, front_reads}
 use Rattle.mms_data.proofs.view.Members.split.Goals as goal
 
@@ -18,8 +19,8 @@ overflow_sub-depth c = let s = c.args.self in front_some s.depth s.octets.now s.
 pub view-view-requires-clause-good : goal.view-view-requires-clause-good
 view-view-requires-clause-good c = let s = c.args.self in let f = front s.depth s.octets.now s.bounded c.requires s.spelled c.in-Ok-member_kind.kind c.in-Ok.header c.in-Ok-member_kind.ensures c.in-Ok.ensures.exact in (f.value, f.contents)
 
-pub invariant_of-result : goal.invariant_of-result
-invariant_of-result c = let s = c.args.self in let f = front s.depth s.octets.now s.bounded c.requires s.spelled c.in-Ok-member_kind.kind c.in-Ok.header c.in-Ok-member_kind.ensures c.in-Ok.ensures.exact in record { bounded = s.bounded; spelled = f.others }
+pub invariant_of-rest : goal.invariant_of-rest
+invariant_of-rest c = let s = c.args.self in let f = front s.depth s.octets.now s.bounded c.requires s.spelled c.in-Ok-member_kind.kind c.in-Ok.header c.in-Ok-member_kind.ensures c.in-Ok.ensures.exact in record { bounded = s.bounded; spelled = f.others; stands = λ t. absurd (false≢true t) }
 
 pub returns-clause-first : goal.returns-clause-first
 returns-clause-first c = let s = c.args.self in let f = front s.depth s.octets.now s.bounded c.requires s.spelled c.in-Ok-member_kind.kind c.in-Ok.header c.in-Ok-member_kind.ensures c.in-Ok.ensures.exact in

@@ -1,6 +1,6 @@
 use Rattle.std.proofs.Common.{ℕ, ◌+◌, ◌-◌, min, Option, ap, ◌∙◌, subst}
 use Rattle.publish_core.specs.declared.publisher.Last.{Last}
-use Rattle.publish_core.specs.Step.{IsStandingSound}
+use Rattle.publish_core.specs.computed.Step.{IsStandingSound}
 use Rattle.publish_core.proofs.Sound.{next_held}
 use Rattle.publish_core.proofs.publisher.Publisher.take_poll.Goals.{in-None, in-Some+then-wait_is_over, in-Some+else-wait_is_over}
 use Rattle.publish_core.proofs.publisher.Publisher.take_poll.Goals as goal

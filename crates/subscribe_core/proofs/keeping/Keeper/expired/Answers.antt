@@ -2,7 +2,7 @@ use Rattle.std.proofs.Common.{◌≡◌, ◌<◌, ◌^◌, map, length, subst, s
 use Rattle.std.proofs.lemmas.Bool.{false≢true}
 use Rattle.std.proofs.lemmas.List.{take_all, map_more, length-map}
 use Rattle.subscribe_core.specs.declared.registers.Register.{Register}
-use Rattle.subscribe_core.specs.Deadlines.{AreDeadlinesOf, helds}
+use Rattle.subscribe_core.specs.computed.Deadlines.{AreDeadlinesOf, helds}
 use Rattle.subscribe_core.specs.Standing.{Counted}
 use Rattle.subscribe_core.proofs.Due.{due_is, due_none, entries_are, expired_at, positions_none}
 use Rattle.subscribe_core.proofs.keeping.Keeper.expired.Goals as goal

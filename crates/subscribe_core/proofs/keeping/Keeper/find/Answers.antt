@@ -1,6 +1,6 @@
 use Rattle.std.proofs.Common.{ap, ◌∙◌, subst, position}
 use Rattle.subscribe_core.specs.Matching.{is_of}
-use Rattle.subscribe_core.specs.Received.{received_frame}
+use Rattle.subscribe_core.specs.computed.Received.{received_frame}
 use Rattle.subscribe_core.specs.Standing.{AreApart, Counted}
 use Rattle.subscribe_core.proofs.NameLemmas.{find_is}
 use Rattle.subscribe_core.proofs.keeping.Keeper.find.Goals as goal

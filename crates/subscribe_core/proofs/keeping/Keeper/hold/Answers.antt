@@ -2,7 +2,7 @@ use Rattle.std.proofs.Common.{◌≡◌, Some, ap, sym, ◌∙◌, subst, arith,
 use Rattle.std.proofs.lemmas.List.{length-map}
 use Rattle.std.proofs.lemmas.Option.{slice_get_within}
 use Rattle.subscribe_core.specs.declared.registers.Register.{Register}
-use Rattle.subscribe_core.specs.Deadlines.{helds}
+use Rattle.subscribe_core.specs.computed.Deadlines.{helds}
 use Rattle.subscribe_core.specs.Standing.{Counted}
 use Rattle.subscribe_core.proofs.Clearing.{held_of, indexed_keys, indexed_write}
 use Rattle.subscribe_core.proofs.keeping.Keeper.hold.Goals as goal

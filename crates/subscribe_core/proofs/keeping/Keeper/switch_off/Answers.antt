@@ -1,7 +1,7 @@
 use Rattle.std.proofs.Common.{ℕ, ◌≤◌, false, None, List, set, slice_get, length, ap, ap₂, sym, ◌∙◌, arith}
 use Rattle.subscribe_core.specs.declared.registers.Register.{Register}
-use Rattle.subscribe_core.specs.Deadlines.{helds}
-use Rattle.subscribe_core.specs.Indexed.{switched_off}
+use Rattle.subscribe_core.specs.computed.Deadlines.{helds}
+use Rattle.subscribe_core.specs.computed.Indexed.{switched_off}
 use Rattle.subscribe_core.specs.Standing.{Counted}
 use Rattle.subscribe_core.proofs.Clearing.{held_of, indexed_write}
 use Rattle.subscribe_core.proofs.Switching.{off_all, off_more, off_same}

@@ -1,11 +1,11 @@
 use Rattle.std.proofs.Common.{◌≡◌, ◌≤◌, ◌++◌, List, max, inl, inr, ap, ◌∙◌, subst, arith}
 use Rattle.std.proofs.lemmas.Bool.{false≢true}
 use Rattle.subscribe_core.specs.declared.entry.Entry.{Entry}
-use Rattle.subscribe_core.specs.Deadlines.{due_count, helds}
+use Rattle.subscribe_core.specs.computed.Deadlines.{due_count, helds}
 use Rattle.subscribe_core.specs.Entries.{expired_count}
 use Rattle.subscribe_core.specs.Standing.{AreApart, Counted}
-use Rattle.subscribe_core.specs.Steps.{expired_entries, said_of, switched_entries}
-use Rattle.subscribe_core.specs.Content.{content_of}
+use Rattle.subscribe_core.specs.computed.Steps.{expired_entries, said_of, switched_entries}
+use Rattle.subscribe_core.specs.computed.Content.{content_of}
 use Rattle.subscribe_core.proofs.Due.{expired_counted}
 use Rattle.list_core.proofs.Emptiness.{back_nil, front_nil}
 use Rattle.subscribe_core.proofs.keeping.Keeper.take_counted.Goals as goal

@@ -3,9 +3,9 @@ use Rattle.std.proofs.lemmas.Result.{on_ok_weaker}
 use Rattle.std.specs.Prelude.{Result, Ok, Err, OnOk}
 use Rattle.subscribe_core.specs.declared.entry.Entry.{Entry}
 use Rattle.subscribe_core.specs.declared.registers.Register.{Register}
-use Rattle.subscribe_core.specs.Deadlines.{due_count, helds}
-use Rattle.subscribe_core.specs.Indexed.{registers_after_clock}
-use Rattle.subscribe_core.specs.Received.{received_frame}
+use Rattle.subscribe_core.specs.computed.Deadlines.{due_count, helds}
+use Rattle.subscribe_core.specs.computed.Indexed.{registers_after_clock}
+use Rattle.subscribe_core.specs.computed.Received.{received_frame}
 use Rattle.subscribe_core.specs.Standing.{State}
 use Rattle.subscribe_core.proofs.Frames.{answer_good, answer_none, answer_refused, new_lives, reason_told, registers_good, registers_kept, registers_refused, written_fewer, written_new, written_none}
 use Rattle.subscribe_core.proofs.keeping.Keeper.take_goose.Goals.{then-old, else-old}

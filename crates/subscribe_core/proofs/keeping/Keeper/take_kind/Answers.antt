@@ -1,8 +1,8 @@
 use Rattle.std.proofs.Common.{◌++◌, List, ap, sym, ◌∙◌, append-nil}
 use Rattle.list_core.specs.declared.event.EventKind.{EventKind}
 use Rattle.subscribe_core.specs.declared.entry.Entry.{Entry}
-use Rattle.subscribe_core.specs.Content.{content_of}
-use Rattle.subscribe_core.specs.Steps.{registers_by, said_of, switched_entries}
+use Rattle.subscribe_core.specs.computed.Content.{content_of}
+use Rattle.subscribe_core.specs.computed.Steps.{registers_by, said_of, switched_entries}
 use Rattle.subscribe_core.proofs.Switching.{registers_clock, switched_clock}
 use Rattle.subscribe_core.proofs.keeping.Keeper.take_kind.Goals as goal
 

@@ -2,10 +2,10 @@ use Rattle.std.proofs.Common.{◌++◌, ◌∷◌, [], List, inl, inr, length, a
 use Rattle.std.proofs.lemmas.Result.{on_ok_weaker}
 use Rattle.std.specs.Prelude.{IfOk, Result, Ok, Err}
 use Rattle.subscribe_core.specs.declared.entry.Entry.{Entry}
-use Rattle.subscribe_core.specs.Content.{reading_of}
+use Rattle.subscribe_core.specs.computed.Content.{reading_of}
 use Rattle.subscribe_core.specs.Entries.{AreEntriesAt}
 use Rattle.subscribe_core.specs.Standing.{AreApart, Standing, State, StandsAfter}
-use Rattle.subscribe_core.specs.Steps.{step_entries}
+use Rattle.subscribe_core.specs.computed.Steps.{step_entries}
 use Rattle.subscribe_core.proofs.Quiet.{no_frame, quiet_step}
 use Rattle.subscribe_core.proofs.Readings.{is_read}
 use Rattle.subscribe_core.proofs.Runs.{entries_step, stands_step}

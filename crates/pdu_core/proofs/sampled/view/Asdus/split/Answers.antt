@@ -1,5 +1,5 @@
 use Rattle.std.proofs.Common.{◌∷◌, ap, ◌∙◌}
-use Rattle.pdu_core.specs.SampledValue.{asdus_in}
+use Rattle.pdu_core.specs.computed.SampledValue.{asdus_in}
 use Rattle.pdu_core.specs.SampledViews.{asdu_of}
 use Rattle.pdu_core.proofs.AsdusRead.{first_reads, first_and_rest}
 use Rattle.pdu_core.proofs.SvValues.{asdu_back}

@@ -1,0 +1,142 @@
+-- The text of `publish` as it is computed: by how far a script has come, and what its publisher holds.
+use Rattle.std.specs.Prelude.{◌≡◌, ℕ, ◌==◌, ◌&&◌, nat_lt, nat_le, Bool, false, List, [], ◌∷◌, ◌++◌, length, Option, Some, None, Result, Ok, Err, if◌then◌else◌, ⊤, codes}
+use Rattle.std.specs.List.{list_all}
+use Rattle.list_core.specs.declared.line_rules.LineError.{LineError}
+use Rattle.list_core.specs.declared.line_rules.LineError.TheVariants as line
+use Rattle.publish_core.specs.declared.fault.PublishFault.{PublishFault}
+use Rattle.publish_core.specs.declared.table.Step.{Step}
+use Rattle.publish_core.specs.Frames.{Setup, change, setup}
+use Rattle.publish_core.specs.computed.Judgement.{refusal}
+use Rattle.publish_core.specs.Refusal.{next_state}
+use Rattle.publish_core.specs.Run.{Request, Call, Changed, Polled, call, greatest_call_moment}
+use Rattle.publish_core.specs.Standing.{PublisherStanding, PublisherStandsAfter}
+use Rattle.publish_core.specs.computed.Step.{request_frame, request_state, fresh_publisher}
+use Rattle.exchange_engines.specs.declared.engines.publish.Stage.{Stage}
+use Rattle.exchange_engines.specs.declared.engines.publish.Stage.TheVariants as stage
+use Rattle.script_core.specs.declared.script.ScriptCause.{ScriptCause}
+use Rattle.script_core.specs.declared.script.ScriptCause.TheVariants as cause
+use Rattle.script_core.specs.declared.script.ScriptItem.{ScriptItem}
+use Rattle.script_core.specs.declared.script.ScriptItem.TheVariants as item
+use Rattle.engine_core.specs.EngineText.{Text, step_text}
+use Rattle.exchange_engines.specs.PublishText.{IsScriptSound, answer_text, items_of_lines, script_cause}
+use Rattle.exchange_engines.specs.ScriptLine.{script_line}
+
+-- how far a script has come: nothing was said, a control line and some steps, or some calls too
+pub data Progress (A : Type 0) : Type 0 where
+  nothing : Progress A
+  setting_up : Setup A → Progress A
+  calling : Setup A → List Call → Progress A
+
+-- a setup with a step more
+abbrev pub with_step : {A : Type 0} → Setup A → Step → Setup A
+with_step p s = setup p.control (p.table ++ s ∷ []) p.first
+
+-- after one call more
+abbrev pub called : {A : Type 0} → Progress A → Call → Progress A
+called nothing c = nothing
+called (setting_up p) c = calling p (c ∷ [])
+called (calling p calls) c = calling p (calls ++ c ∷ [])
+
+-- after one item more
+abbrev pub next_progress : {A : Type 0} → ScriptItem A → Progress A → Progress A
+next_progress (item.Control control first) nothing = setting_up (setup control [] first)
+next_progress (item.Control control first) (setting_up p) = setting_up p
+next_progress (item.Control control first) (calling p calls) = calling p calls
+next_progress (item.Step s) nothing = nothing
+next_progress (item.Step s) (setting_up p) = setting_up (with_step p s)
+next_progress (item.Step s) (calling p calls) = calling p calls
+next_progress (item.Change moment t values) g = called g (call moment (Changed (change t values)))
+next_progress (item.Poll moment) g = called g (call moment Polled)
+
+-- after these items
+abbrev pub progress_from : {A : Type 0} → Progress A → List (ScriptItem A) → Progress A
+progress_from g [] = g
+progress_from g (i ∷ items) = progress_from (next_progress i g) items
+
+abbrev pub progress_after : {A : Type 0} → List (ℕ × ScriptItem A) → Progress A
+progress_after items = progress_from nothing (items_of_lines items)
+
+-- what a publisher holds after these calls
+abbrev pub standing_from : {A : Type 0} → PublisherStanding A → List Call → PublisherStanding A
+standing_from s [] = s
+standing_from s (c ∷ calls) = standing_from (request_state s c.request c.moment) calls
+
+-- why a call is refused, if it is
+abbrev pub call_refusal : {A : Type 0} → Setup A → List Call → Request → Option PublishFault
+call_refusal p calls (Changed change) = refusal p.control p.table (next_state p calls) change
+call_refusal p calls Polled = None
+
+-- the text of a call that is not refused
+abbrev pub text_unless_refused : Option PublishFault → List ℕ → Result (List ℕ × Bool) ScriptCause
+text_unless_refused None text = Ok (text, false)
+text_unless_refused (Some why) text = Err (script_cause why)
+
+-- the text of a call behind others
+abbrev pub call_step : {A : Type 0} → Setup A → List Call → Call → Result (List ℕ × Bool) ScriptCause
+call_step p calls c = text_unless_refused (call_refusal p calls c.request) (answer_text (greatest_call_moment (calls ++ c ∷ [])) (request_frame (standing_from (fresh_publisher p) calls) c.request c.moment))
+
+-- the step waits, and its frame lives longer than that
+abbrev pub is_good : Step → Bool
+is_good s = nat_lt 0 s.wait_ms && nat_lt s.wait_ms s.live_ms
+
+-- why no publisher can be set up so, if none can
+abbrev pub setup_cause : {A : Type 0} → Setup A → Option ScriptCause
+setup_cause p =
+    if nat_lt 0 (length p.table) && nat_le (length p.table) 16
+    then (if list_all is_good p.table then (if p.first == 0 then Some cause.FirstState else None) else Some cause.StepTimes)
+    else Some cause.StepCount
+
+-- what a call writes, where the publisher can be set up
+abbrev pub unless_unsound : Option ScriptCause → Result (List ℕ × Bool) ScriptCause → Result (List ℕ × Bool) ScriptCause
+unless_unsound None said = said
+unless_unsound (Some why) said = Err why
+
+abbrev pub call_at : {A : Type 0} → Progress A → Call → Result (List ℕ × Bool) ScriptCause
+call_at nothing c = Err cause.ScriptForm
+call_at (setting_up p) c = unless_unsound (setup_cause p) (call_step p [] c)
+call_at (calling p calls) c = call_step p calls c
+
+-- what an item writes
+abbrev pub item_step : {A : Type 0} → ScriptItem A → Progress A → Result (List ℕ × Bool) ScriptCause
+item_step (item.Control control first) nothing = Ok ([], false)
+item_step (item.Control control first) (setting_up p) = Err cause.ScriptForm
+item_step (item.Control control first) (calling p calls) = Err cause.ScriptForm
+item_step (item.Step s) nothing = Err cause.ScriptForm
+item_step (item.Step s) (setting_up p) = if nat_lt (length p.table) 16 then Ok ([], false) else Err cause.StepCount
+item_step (item.Step s) (calling p calls) = Err cause.ScriptForm
+item_step (item.Change moment t values) g = call_at g (call moment (Changed (change t values)))
+item_step (item.Poll moment) g = call_at g (call moment Polled)
+
+abbrev pub publish_text : {A : Type 0} → Text (ScriptItem A) ScriptCause
+publish_text = record {
+  first = codes "V2\n";
+  step = λ before e. item_step e.1 (progress_after before);
+  last = script_line;
+}
+
+-- ---- what the engine holds
+
+-- it holds how far a script has come
+abbrev pub Holds : {A : Type 0} → Stage A → Progress A → Type 0
+Holds stage.Start nothing = ⊤
+Holds (stage.Setup control first steps) (setting_up p) = setup control steps.items first ≡ p
+Holds (stage.Running publisher) (calling p calls) = IsScriptSound p × PublisherStandsAfter p calls publisher
+Holds _ _ = ⊥
+
+-- an item was taken after this, or refused
+abbrev pub TakesItem : {A : Type 0} → Progress A → ScriptItem A → Result (Stage A) (LineError ScriptCause) → List ℕ → List ℕ → Type 0
+TakesItem g i (Ok s) old new = (text : List ℕ) × (item_step i g ≡ Ok (text, false)) × (new ≡ old ++ text) × Holds s (next_progress i g)
+TakesItem g i (Err (line.Cause why)) old new = item_step i g ≡ Err why
+TakesItem {A} g i (Err (line.Memory e)) old new = (n : ℕ) → step_text (publish_text {A = A}) n (item_step i g) ≡ [] → ⊥
+
+-- a call was taken after these, or refused
+abbrev pub TakesCall : {A : Type 0} → Setup A → List Call → Call → Result (Unit {0}) (LineError ScriptCause) → List ℕ → List ℕ → PublisherStanding A → Type 0
+TakesCall p calls c (Ok u) old new s = (text : List ℕ) × (call_step p calls c ≡ Ok (text, false)) × (new ≡ old ++ text) × PublisherStandsAfter p (calls ++ c ∷ []) s
+TakesCall p calls c (Err (line.Cause why)) old new s = call_step p calls c ≡ Err why
+TakesCall {A} p calls c (Err (line.Memory e)) old new s = (n : ℕ) → step_text (publish_text {A = A}) n (call_step p calls c) ≡ [] → ⊥
+
+-- the publisher that runs after this, or why none does
+abbrev pub Runs : {A : Type 0} → Progress A → Result (PublisherStanding A) ScriptCause → Type 0
+Runs {A} g (Ok s) = (p : Setup A) × (calls : List Call) × IsScriptSound p × PublisherStandsAfter p calls s
+    × ((c : Call) → (call_at g c ≡ call_step p calls c) × (called g c ≡ calling p (calls ++ c ∷ [])))
+Runs g (Err why) = (c : Call) → call_at g c ≡ Err why

@@ -1,0 +1,29 @@
+-- The text of `replay` as it is computed: by what a subscriber keeps after the events before.
+use Rattle.std.specs.Prelude.{ℕ, List, [], ◌∷◌, false, Ok}
+use Rattle.list_core.specs.declared.event.Event.{Event}
+use Rattle.list_core.specs.declared.list_fault.ListCause.{ListCause}
+use Rattle.list_core.specs.ListReader.{list_fault_of}
+use Rattle.block_core.specs.declared.block.Block.{Block}
+use Rattle.subscribe_core.specs.computed.Content.{reading_of}
+use Rattle.subscribe_core.specs.Standing.{State, fresh_state}
+use Rattle.subscribe_core.specs.computed.Steps.{step_entries, step_state}
+use Rattle.engine_core.specs.EngineText.{Text}
+use Rattle.exchange_engines.specs.EntryText.{entry_lines}
+use Rattle.text_core.specs.LineText.{list_line}
+use Rattle.exchange_engines.specs.ReplayText.{events_of}
+
+-- what is kept after these events
+abbrev pub state_after_list : {A : Type 0} → State A → List (Event A) → State A
+state_after_list s [] = s
+state_after_list s (e ∷ es) = state_after_list (step_state s (reading_of e)) es
+
+-- what a subscriber of these blocks keeps after these items
+abbrev pub kept_after : {A : Type 0} → List (Block A) → List (ℕ × Event A) → State A
+kept_after blocks items = state_after_list (fresh_state blocks) (events_of items)
+
+abbrev pub replay_text : {A : Type 0} → List (Block A) → Text (Event A) ListCause
+replay_text blocks = record {
+  first = [];
+  step = λ before e. Ok (entry_lines e.0 (step_entries (kept_after blocks before) (reading_of e.1)), false);
+  last = λ f. list_line (list_fault_of f);
+}

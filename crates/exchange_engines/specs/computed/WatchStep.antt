@@ -1,0 +1,30 @@
+-- The text of `watch` as it is computed: by the last count before.
+use Rattle.std.specs.Prelude.{◌≡◌, ℕ, List, [], ◌∷◌, ◌++◌, Bool, Option, None, Ok}
+use Rattle.std.specs.List.{list_any}
+use Rattle.list_core.specs.declared.event.Event.{Event}
+use Rattle.list_core.specs.declared.list_fault.ListCause.{ListCause}
+use Rattle.list_core.specs.ListReader.{list_fault_of}
+use Rattle.subscribe_core.specs.Watch.{seen_after}
+use Rattle.subscribe_core.specs.computed.WatchAnswers.{last_by, seen_all}
+use Rattle.engine_core.specs.EngineText.{Text}
+use Rattle.text_core.specs.LineText.{list_line}
+use Rattle.exchange_engines.specs.WatchText.{counts, counts_of, is_unexpected, sample_lines, samples_of, watched}
+
+-- the last count after these
+abbrev pub last_of : ℕ → Option ℕ → List ℕ → Option ℕ
+last_of period last [] = last
+last_of period last (c ∷ cs) = last_of period (last_by last c (seen_after period last c)) cs
+
+abbrev pub watch_text : {A : Type 0} → ℕ → List ℕ → Text (Event A) ListCause
+watch_text period id = record {
+  first = [];
+  step = λ before e. Ok (watched e.0 id e.1.kind (seen_all period (last_of period None (counts_of id before)) (counts (samples_of id e.1.kind))));
+  last = λ f. list_line (list_fault_of f);
+}
+
+-- the lines of samples were appended, it is known whether one is unexpected, and the last count is kept
+abbrev pub SamplesSaid : ℕ → ℕ → Option ℕ → List (ℕ × ℕ) → List ℕ → List ℕ → Bool → Option ℕ → Type 0
+SamplesSaid period n last samples old new found after =
+    (new ≡ old ++ sample_lines n samples (seen_all period last (counts samples)))
+    × (found ≡ list_any is_unexpected (seen_all period last (counts samples)))
+    × (after ≡ last_of period last (counts samples))

@@ -1,0 +1,38 @@
+-- What holds of what `publish` writes of a script, and of the replay of that.
+use Rattle.std.specs.Prelude.{◌≡◌, ◌⊎◌, ℕ, List, [], ◌∷◌, ◌++◌, Option}
+use Rattle.list_core.specs.declared.device.InputEnd.{InputEnd}
+use Rattle.list_core.specs.declared.event.Event.{Event}
+use Rattle.frame_core.specs.declared.frame.Frame.{Frame}
+use Rattle.list_core.specs.declared.list_fault.ListCause.{ListCause}
+use Rattle.publish_core.specs.Frames.{Setup}
+use Rattle.publish_core.specs.Run.{AreAnswers, Call}
+use Rattle.block_core.specs.declared.block.Block.{Block}
+use Rattle.exchange_laws.specs.PublishedList.{one_entry_each, published_events, sent_from}
+use Rattle.script_core.specs.declared.script.ScriptCause.{ScriptCause}
+use Rattle.script_core.specs.declared.script.ScriptItem.{ScriptItem}
+use Rattle.engine_core.specs.EngineText.{Text, last_text, told, whole_text}
+use Rattle.goose_cmd.specs.ListText.{ReplayGives, list_text}
+use Rattle.exchange_engines.specs.PublishText.{IsPublishText, items_of_lines}
+use Rattle.exchange_engines.specs.ReplayText.{IsReplayText}
+use Rattle.goose_cmd.specs.PublishedReplay.{script_of_text, SaysRun, TellsStop, CanBeFollowed}
+
+-- Of the text of a script, which says a run, `publish` writes the list of the frames that its calls give, and how it stops.
+abbrev pub ScriptsGiveLists : Type 0 → Type 0 → Type 0
+ScriptsGiveLists A B =
+    (p : Setup A) (calls : List Call) (answers : List (Option (Frame A))) (z : InputEnd) (text : List ℕ) (t : Text (ScriptItem A) ScriptCause) →
+    AreAnswers p calls answers → (says : SaysRun p calls (script_of_text z text)) → IsPublishText t →
+    (whole_text t (script_of_text z text) ≡ list_text (published_events {B = B} (sent_from 0 calls answers)) ++ last_text t (told t (script_of_text z text)).stop)
+    × TellsStop p calls says.left (script_of_text z text) (told t (script_of_text z text)).stop
+
+-- the text of a script says nothing of a publisher, or a run of one
+abbrev pub ScriptsSayRuns : Type 0 → Type 0
+ScriptsSayRuns A =
+    (z : InputEnd) (text : List ℕ) → (items_of_lines (script_of_text {A = A} z text).items ≡ []) ⊎ ((p : Setup A) × (calls : List Call) × SaysRun p calls (script_of_text z text))
+
+-- What `publish` writes of the text of a script is replayed with the publisher's own block by one line for each frame: an
+-- action for a change's, a renewal for a poll's, and nothing else.
+abbrev pub PublishedTextsReplay : Type 0 → Type 0 → Type 0
+PublishedTextsReplay A B =
+    (p : Setup A) (block : Block B) (calls : List Call) (answers : List (Option (Frame A))) (z : InputEnd) (text : List ℕ) (t : Text (ScriptItem A) ScriptCause) (r : Text (Event B) ListCause) →
+    CanBeFollowed p block calls answers → SaysRun p calls (script_of_text z text) → IsPublishText t → IsReplayText (block ∷ []) r →
+    ReplayGives r (whole_text t (script_of_text z text)) (one_entry_each (sent_from 0 calls answers))

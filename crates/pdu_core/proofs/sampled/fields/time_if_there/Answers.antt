@@ -1,0 +1,20 @@
+use Rattle.std.proofs.Common.{rules, sym}
+use Rattle.ber_core.specs.Element.{contents_of}
+use Rattle.ber_core.specs.Fields.{IsField}
+use Rattle.ber_core.specs.Length.{AreOctets}
+use Rattle.ber_core.specs.computed.Reading.{IsWithin}
+use Rattle.mms_data.proofs.AsWritten.{slice_octets, time_one}
+use Rattle.mms_data.specs.Written.{written_time}
+use Rattle.pdu_core.proofs.Standing.{field_stands}
+use Rattle.pdu_core.proofs.sampled.fields.time_if_there.Goals as goal
+
+pub returns-in_ok-value-in-Some-clause-stands : goal.returns-in_ok-value-in-Some-clause-stands
+returns-in_ok-value-in-Some-clause-stands c =
+    let o = c.args.octets.now in
+    let small : AreOctets o = λ i. search rules in
+    let h = c.in-Some.header in
+    let p : IsWithin c.args.at c.args.end h = rw c.in-Some.is at c.in_ok-header.ensures.places in
+    let f : IsField c.args.identifier o c.args.at c.args.end h = rw c.in-Some.is at c.in_ok-header.ensures.found in
+    let v = c.in_ok-value-in-Some.value in
+    let same = sym (time_one v (contents_of o h) (slice_octets o h.contents_from h.contents_to small) c.in_ok-value-in-Some.ensures.found) in
+    field_stands o c.args.at c.args.end c.args.identifier h (written_time v) small c.requires.inside f p c.args.written c.has_short_length.result c.has_short_length.ensures same

@@ -1,0 +1,88 @@
+"""A slow subscriber, written from docs/FORMATS.md alone: it scans every block at every event."""
+from oracles import reference
+
+
+class Block:
+    """A control block that is subscribed to, and what is kept of it."""
+
+    def __init__(self, word):
+        app_id, self.gocb_ref, self.dat_set, self.go_id, conf_rev, entries = word.split(",")
+        self.app_id, self.conf_rev, self.entries = int(app_id, 16), int(conf_rev), int(entries)
+        self.best, self.deadline, self.takes_simulated = None, None, False
+
+    def switch(self, takes_simulated):
+        self.best, self.takes_simulated = None, takes_simulated
+
+    def has(self, frame):
+        return (frame["app_id"], frame["apdu"]["gocb_ref"]) == (self.app_id, self.gocb_ref.encode())
+
+    def reasons(self, pdu, mode):
+        """All that holds against a frame of the block."""
+        told = {
+            "DatSet": pdu["dat_set"] != self.dat_set.encode(),
+            "GoId": bool(self.go_id) and pdu["go_id"] != self.go_id.encode(),
+            "ConfRev": pdu["conf_rev"] != self.conf_rev,
+            "Commissioning": bool(pdu["nds_com"]),
+            "Simulated": not mode if pdu["simulation"] else self.takes_simulated,
+            "Entries": len(pdu["members"]) != self.entries,
+            "StateZero": pdu["st_num"] == 0,
+            "LiveZero": pdu["live"] == 0,
+        }
+        return [reason for reason, holds in told.items() if holds]
+
+
+def entries_of_frame(blocks, mode, now, octets):
+    """The switches and the entry of a frame."""
+    try:
+        it = reference.frame(octets)
+    except reference.Fault as fault:
+        return [f"fault {fault.place} {fault.cause}"]
+    if it["name"] == "sv":
+        return ["sampled"]
+    place = next((place for place, block in enumerate(blocks) if block.has(it)), None)
+    if place is None:
+        return ["not-subscribed"]
+    block, pdu, said = blocks[place], it["apdu"], []
+    if mode and pdu["simulation"] and not block.takes_simulated and not block.reasons(pdu, mode):
+        block.switch(True)
+        said.append(f"switched {place}")
+    why = block.reasons(pdu, mode)
+    if why:
+        return [*said, f"refused {place} {why[0]}"]
+    pair, best = (pdu["st_num"], pdu["sq_num"]), block.best
+    verdict = "act" if best is None or pair[0] > best[0] else "refreshed" if pair > best else "repeated" if pair == best else "old"
+    if verdict in ("act", "refreshed"):
+        block.best, block.deadline = pair, now + 1000 * pdu["live"]
+    line = f"{verdict} {place} st={pair[0]} sq={pair[1]}"
+    if verdict == "act":
+        members = " ".join(reference.value_text(*member) for member in pdu["members"])
+        line += f" t={pdu['t'].hex()} {{{members}}}"
+    return [*said, line]
+
+
+def replay(octets, words):
+    """The text of `replay` of these blocks, and the exit status."""
+    blocks, lines, now, mode = [Block(word) for word in words], [], 0, False
+    names = [(block.app_id, block.gocb_ref) for block in blocks]
+    for place, name in enumerate(names):
+        if name in names[:place]:
+            return [f"blocks SameBlockTwice {place}"], 3
+    try:
+        for number, (sort, moment, held) in reference.events(octets, False):
+            now, said = max(now, moment), []
+            for place, block in enumerate(blocks):
+                if block.best is not None and block.deadline <= now:
+                    block.best = None
+                    said.append(f"expired {place}")
+            if sort == "mode":
+                mode = held
+                for place, block in enumerate(blocks):
+                    if not mode and block.takes_simulated:
+                        block.switch(False)
+                        said.append(f"switched {place}")
+            if sort == "frame":
+                said += entries_of_frame(blocks, mode, now, held)
+            lines += [f"{number} {line}" for line in said]
+    except reference.ListFault as fault:
+        return [*lines, f"{fault.line} list {fault.cause}"], fault.status()
+    return lines, 0

@@ -1,0 +1,42 @@
+"""A slow watch over a sample counter, written from docs/FORMATS.md alone: it looks for the last count anew at each one."""
+from oracles import reference
+
+# The answers that move the last count.
+MOVES = ("first", "next", "skipped")
+
+
+def answer(earlier, period, count):
+    """What a count is after the earlier ones, each with its answer."""
+    if count >= period:
+        return "out-of-range"
+    last = next((it for it, said in reversed(earlier) if said.split()[0] in MOVES), None)
+    if last is None:
+        return "first"
+    way = (count - last) % period
+    if way < 2:
+        return ("same", "next")[way]
+    return f"skipped {way - 1}" if 2 * way < period else "late"
+
+
+def watch(octets, period, sv_id):
+    """The text of `watch` and the exit status."""
+    lines, earlier, finds = [], [], False
+    try:
+        for number, (sort, _, held) in reference.events(octets, False):
+            try:
+                it = reference.frame(held) if sort == "frame" else None
+            except reference.Fault as fault:
+                lines.append(f"{number} fault {fault.place} {fault.cause}")
+                finds = True
+                continue
+            asdus = it["apdu"]["asdus"] if it and it["name"] == "sv" else []
+            for position, asdu in enumerate(asdus):
+                if asdu["sv_id"] != sv_id.encode():
+                    continue
+                count = int.from_bytes(asdu["smp_cnt"], "big")
+                earlier.append((count, answer(earlier, period, count)))
+                lines.append(f"{number} {position} {count} {earlier[-1][1]}")
+                finds = finds or earlier[-1][1] not in ("first", "next")
+    except reference.ListFault as fault:
+        return [*lines, f"{fault.line} list {fault.cause}"], fault.status()
+    return lines, 1 if finds else 0
