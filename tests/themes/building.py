@@ -144,7 +144,7 @@ def second_line(said):
 def missing(tree):
     """A program that is missing is built, by one run on the stored input."""
     yield "output", (tree.program(), tree.begun(), 0), tree.build()
-    yield "the run", f"{tree.top / 'crates' / 'goose'} run -- show given\n", tree.runs.read_text()
+    yield "the run", f"{tree.top / 'crates' / 'goose'} run --jobs {jobs_beside(0)} -- show given\n", tree.runs.read_text()
     yield "the log", "a line of the log\n", (tree.top / "out" / "build.log").read_text()
     yield "files left behind", ["build.lock", "build.log"], tree.left()
 
@@ -242,12 +242,12 @@ def sorted_in(names, runs):
 
 
 def lowest_first(tree):
-    """The crates that the program stands on are proved before it, each after those that it stands on. Each of those with the
-    longest chain of others behind them has the processors that the others leave."""
+    """The crates that the program stands on are proved before it, each after those that it stands on. Each of those with a
+    long chain of others behind it has the processors that the others leave."""
     yield "output", (tree.program(), tree.begun(), 0), with_crates(tree).build()
     alone, beside = jobs_beside(0), jobs_beside(1)
     wanted = [f"low lib --jobs {alone} ", f"beside lib --jobs {beside} ", f"other lib --jobs {beside} ",
-              f"high lib --jobs {alone} ", "goose run -- show given"]
+              f"high lib --jobs {alone} ", f"goose run --jobs {jobs_beside(0)} -- show given"]
     yield "the runs", wanted, sorted_in(("other", "beside"), tree.ran())
     made = {name: (tree.top / "crates" / name / "out" / "rlib" / "stamp") for name in BELOW}
     yield "the libraries", {name: f"{name}\n" for name in BELOW}, {name: file.read_text() for name, file in made.items()}
@@ -257,7 +257,7 @@ def lowest_first(tree):
 
 
 def jobs_beside(others):
-    """The jobs of a check that decides how long the build takes, beside some others: two at least, where there are two."""
+    """The jobs of a check with a long chain behind it, beside some others: two at least, where there are two processors."""
     processors = len(os.sched_getaffinity(0))
     return min(4, processors, max(2, processors - others))
 
@@ -305,7 +305,7 @@ def only_what_changed(tree):
         yield f"output after {name} changed", (tree.program(), tree.begun(), 0), tree.build()
         lib = sorted(it.split(" ")[0] for it in tree.ran() if " lib " in it)
         yield f"crates proved after {name} changed", wanted, lib
-        yield f"the program after {name} changed", "goose run -- show given", tree.ran()[-1]
+        yield f"the program after {name} changed", f"goose run --jobs {jobs_beside(0)} -- show given", tree.ran()[-1]
     tree.runs.unlink()
     (tree.top / "crates" / "other" / "out" / "rlib" / "sources").unlink()
     edit(tree, "goose")

@@ -5,20 +5,24 @@
 
 mod input;
 mod output;
+mod performing;
 
 ghost use Rattle.std.specs.Prelude.{IfOk};
 ghost use Rattle.words_core.specs.CommandLine.{HasPeriod, said};
 
 use crate::input::{BLOCK, Input, Recent};
 use crate::output::Output;
+use crate::performing::perform;
 use clap::error::ErrorKind as WordsErrorKind;
+use engine_core::{Ending, status};
+use list_core::{FromRead, ToWrite};
 use message_core::{Seen, advice, block_fault, stop_in};
 use std::alloc::AllocError;
 use std::cell::RefCell;
 use std::io::{BufReader, ErrorKind, IsTerminal};
 use std::process::ExitCode;
 use std::{env, io};
-use task_core::{Ending, FromRead, Task, ToWrite, WordsError, perform, read_words, status};
+use words_core::{Task, WordsError, read_words};
 
 // What is not inlined here needs much of the stack, which is free again when a task runs.
 

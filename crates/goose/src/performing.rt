@@ -4,7 +4,7 @@ ghost use Rattle.list_core.specs.declared.device.InputEnd.{InputEnd};
 ghost use Rattle.list_core.specs.Device.{GivesOctets};
 ghost use Rattle.engine_core.specs.EngineText.{is_write_fault};
 ghost use Rattle.words_core.specs.CommandLine.{HasPeriod, said};
-ghost use Rattle.task_core.specs.TaskText.{TaskWrites};
+ghost use Rattle.goose.specs.TaskText.{TaskWrites};
 
 use engine_core::Ending;
 use exchange_engines::{publish, replay, watch};
