@@ -25,6 +25,7 @@ const MICROSECONDS: u64 = 1000;
 const MOST_HEX_DIGITS: usize = 4000;
 
 /// The event that a line says, if it is neither empty nor a comment.
+#[inline(always)]
 pub(crate) fn event_in<A: Allocator + Copy>(
     alloc: A,
     unit: MomentUnit,
@@ -39,6 +40,7 @@ pub(crate) fn event_in<A: Allocator + Copy>(
 }
 
 /// The event that the fields of a line say.
+#[inline(always)]
 fn event_in_fields<A: Allocator + Copy>(
     alloc: A,
     unit: MomentUnit,
@@ -82,6 +84,7 @@ fn clock_in<A: Allocator>(
 }
 
 /// The frame event whose moment and octets are the two fields here.
+#[inline(always)]
 fn frame_in<A: Allocator + Copy>(
     alloc: A,
     unit: MomentUnit,
@@ -115,6 +118,7 @@ fn write_octets(digits: &[u8]) -> bool
 }
 
 /// The frame event of these two fields.
+#[inline(always)]
 fn frame_event<A: Allocator + Copy>(
     alloc: A,
     unit: MomentUnit,

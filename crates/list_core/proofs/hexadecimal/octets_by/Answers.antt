@@ -1,7 +1,8 @@
-use Rattle.std.proofs.Common.{arith, true, Ok, ◌∷◌, [], ◌≡◌, ap, subst, sym, ◌∙◌, List, ℕ}
+use Rattle.std.proofs.Common.{arith, true, Ok, ◌≡◌, ◌∙◌, ◌-◌, ◌++◌, ap, length, replicate, subst, sym, List, ℕ}
 use Rattle.std.specs.List.{list_all}
-use Rattle.hex.specs.Hex.{is_hex_digit}
-use Rattle.list_core.proofs.Pairs.{ReadTo, front_good, read_more, digits_done}
+use Rattle.hex.specs.Hex.{decode_of, is_hex_digit}
+use Rattle.list_core.proofs.Pairs.{ReadTo, filled_good, front_good, last_read, read_more}
+use Rattle.std.proofs.lemmas.List.{length-replicate}
 use Rattle.list_core.proofs.hexadecimal.octets_by.Goals as goal
 
 pub block_octets-requires : goal.block_octets-requires
@@ -14,13 +15,15 @@ blocks-2-preserved g c =
     (read_more 32 c.blocks-2.octets.items c.blocks-2.others.now c.args.digits.now c.in-Some.block.now c.in-Some.rest.now c.block_octets.result
     c.blocks-2.invariant c.in-Some.ensures.cases (omega arith) c.block_octets.ensures)
 
-pub pairs-preserved : goal.pairs-preserved
-pairs-preserved g c =
-    subst (λ items. ReadTo items c.in-Some-split_first_chunk.rest.now c.args.digits.now) (sym c.in_ok-push.ensures.items)
-    (read_more 2 c.pairs.octets.items c.pairs.others.now c.args.digits.now c.in-Some-split_first_chunk.pair.now c.in-Some-split_first_chunk.rest.now (c.pair_octet.result ∷ [])
-    c.pairs.invariant c.in-Some-split_first_chunk.ensures.cases (omega arith) c.pair_octet.ensures)
+pub block_octets-last-requires : goal.block_octets-last-requires
+block_octets-last-requires g c =
+    let others = c.blocks-2.others.now in
+    ap (list_all is_hex_digit) c.filled.ensures ∙ filled_good (32 - length others) others ∙ c.blocks-2.invariant.good
 
 pub returns : goal.returns
 returns g c =
-    digits_done c.pairs.octets.items c.pairs.others.now c.args.digits.now c.in_default-split_first_chunk.ensures.cases c.pairs.invariant c.requires.even
-    ∙ ap (λ (l : List ℕ). Ok l) (sym c.from.ensures)
+    let others = c.blocks-2.others.now in
+    let behind = length-replicate {A = ℕ} (32 - length others) 48 in
+    last_read c.blocks-2.octets.items others c.args.digits.now (replicate (32 - length others) 48) c.block_octets-last.result c.blocks-2.invariant c.requires.even
+    (omega (arith, behind, c.blocks-2.invariant.even, c.in_default.ensures.cases)) (ap decode_of (sym c.filled.ensures) ∙ c.block_octets-last.ensures)
+    ∙ ap (λ (l : List ℕ). Ok l) (sym (c.from.ensures ∙ c.in_ok-extend_from_slice-2.ensures.items))

@@ -7,9 +7,3 @@ invariant-blocks-2 g l = ReadTo l.octets.items l.others l.digits
 
 abbrev pub decreases-blocks-2 : goal.decreases-blocks-2
 decreases-blocks-2 g l = length l.others
-
-abbrev pub invariant-pairs : goal.invariant-pairs
-invariant-pairs g l = ReadTo l.octets.items l.others l.digits
-
-abbrev pub decreases-pairs : goal.decreases-pairs
-decreases-pairs g l = length l.others
