@@ -4,7 +4,7 @@ use Rattle.std.specs.List.{onto_first}
 use Rattle.std.specs.Prelude.{slice_range}
 use Rattle.std.proofs.lemmas.Bool.{ne_eqb}
 use Rattle.std.proofs.lemmas.Bool.Decides.{nat_tests}
-use Rattle.std.proofs.lemmas.List.{append-nil, get_or-drop, get_or-take, length-drop, length-take, take-append-drop, take-take, drop_more}
+use Rattle.std.proofs.lemmas.List.{append-nil, get_or-drop, length-drop, take-append-drop, drop_more}
 use Rattle.list_core.specs.Cuts.{cut_at, HasNo, IsFirst}
 use Rattle.list_core.proofs.Devices.{take-add}
 
@@ -65,13 +65,6 @@ first-past c xs n None l a b =
     let h = HasNo-append c (take n xs) (drop n xs) a b in rw take-append-drop at h
 first-past c xs n (Some i) l a b =
     (let h = simp length-drop at b.0 in omega (arith, h), sym (get_or-drop n xs i 0) ∙ b.1, rw take-add (HasNo-append c (take n xs) (take i (drop n xs)) a b.2))
-
--- the first c, in a front that has one
-pub first-in_front : (c : ℕ) (xs front : List ℕ) (n i : ℕ) → front ≡ take n xs → i < n → IsFirst c front (Some i) → IsFirst c xs (Some i)
-first-in_front c xs front n i is less first =
-    let there = rw is at first in
-    let size = length-take n xs in
-    (omega (arith, there.0, size), sym (get_or-take n xs i 0 less) ∙ there.1, subst (HasNo c) (take-take i n xs (omega arith)) there.2)
 
 -- octets, cut at the place of a c
 pub split_at : (c : ℕ) (xs : List ℕ) (n : ℕ) → n < length xs → get_or xs n 0 ≡ c → xs ≡ take n xs ++ c ∷ drop (n + 1) xs

@@ -1,5 +1,5 @@
 //! The octet that divides lines or fields.
-ghost use Rattle.std.specs.Prelude.{◌≡◌, ◌≤◌, ◌<◌, ◌∷◌, length, take, true, IfSome, Some};
+ghost use Rattle.std.specs.Prelude.{◌≡◌, ◌≤◌, ◌<◌, ◌∷◌, length, take, true, IfSome};
 ghost use Rattle.list_core.specs.Cuts.{HasNo, IsFirst, cut_at, parts_after};
 
 /// How many octets are passed over at once where none of them is the wanted one.
@@ -8,47 +8,20 @@ const PIECE: usize = 64;
 /// The same where fewer are left.
 const SHORT_PIECE: usize = 16;
 
+/// The same where fewer still are left.
+const FEW: usize = 4;
+
 /// The place of the first such octet.
 pub(crate) fn find(octets: &[u8], wanted: u8) -> Option<usize>
     ensures { IsFirst wanted octets.now result }
 {
     let start = pass_pieces(octets, 0, PIECE, wanted);
     let start = pass_pieces(octets, start, SHORT_PIECE, wanted);
-    match find_behind(&octets[start..], wanted) {
+    let start = pass_pieces(octets, start, FEW, wanted);
+    match find_each(&octets[start..], wanted) {
         Some(at) => Some(start + at),
         None => None,
     }
-}
-
-/// The place of the first such octet, of a short piece in front where there is one.
-#[inline(always)]
-fn find_behind(octets: &[u8], wanted: u8) -> Option<usize>
-    ensures { IsFirst wanted octets.now result }
-{
-    if let Some(piece) = octets.first_chunk::<SHORT_PIECE>() {
-        let at = find_in_piece(piece, wanted);
-        if at < SHORT_PIECE {
-            return Some(at);
-        }
-    }
-    find_each(octets, wanted)
-}
-
-/// The place of the first such octet, or the count of octets. It looks at each, which the compiler does for all at once.
-#[inline(always)]
-fn find_in_piece(piece: &[u8; SHORT_PIECE], wanted: u8) -> usize
-    ensures { result < 16 → IsFirst wanted piece.now (Some result) }
-{
-    let mut first = SHORT_PIECE as u8;
-    for at in 0..SHORT_PIECE {
-        let place = if piece[at] == wanted {
-            at as u8
-        } else {
-            SHORT_PIECE as u8
-        };
-        first = first.min(place);
-    }
-    first as usize
 }
 
 /// The part in front of the first divider, and what follows that; or all, where there is none.

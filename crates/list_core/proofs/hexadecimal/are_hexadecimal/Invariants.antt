@@ -1,10 +1,7 @@
-use Rattle.std.proofs.Common.{◌≡◌, ◌&&◌, length}
+use Rattle.std.proofs.Common.{◌≡◌, take}
 use Rattle.std.specs.List.{list_all}
 use Rattle.hex.specs.Hex.{is_hex_digit}
 use Rattle.list_core.proofs.hexadecimal.are_hexadecimal.Given as goal
 
-abbrev pub invariant-blocks-2 : goal.invariant-blocks-2
-invariant-blocks-2 l = (l.all && list_all is_hex_digit l.others) ≡ list_all is_hex_digit l.octets
-
-abbrev pub decreases-blocks-2 : goal.decreases-blocks-2
-decreases-blocks-2 l = length l.others
+abbrev pub invariant-loop-octet : goal.invariant-loop-octet
+invariant-loop-octet l = l.all ≡ list_all is_hex_digit (take l.octet-index l.octets)
