@@ -91,18 +91,19 @@ fn put_notes<A: Allocator>(
     ensures text { AppendsText result line.old.items line.new.items (octets_notes number octets.now) }
     ensures quiet { octets_notes number octets.now ≡ [] → IsOk result }
 {
-    match view_frame(octets) {
-        Err(fault) => put_fault_line(line, number, fault),
+    let viewed = view_frame(octets);
+    match &viewed {
+        Err(fault) => put_fault_line(line, number, *fault),
         Ok(view) => {
             put_note(
                 line,
-                stands_in_written_form(&view, octets),
+                stands_in_written_form(view, octets),
                 number,
                 b" not-written\n",
             )?;
             put_note(
                 line,
-                has_recommended_destination(&view),
+                has_recommended_destination(view),
                 number,
                 b" destination\n",
             )

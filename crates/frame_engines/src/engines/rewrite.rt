@@ -57,14 +57,15 @@ fn put_rewritten<A: Allocator>(
         (codes "F " ++ decimal moment ++ codes " " ++ encode_lower (form_or (written_form octets.now) octets.now) ++ codes "\n") }
     ensures kept { IfOk result (λ kept. kept ≡ not (is_some (written_form octets.now))) }
 {
-    let Ok(view) = view_frame(octets) else {
+    let viewed = view_frame(octets);
+    let Ok(view) = &viewed else {
         return put_own(line, moment, octets, true);
     };
     if view.apdu.is_written() {
         return put_own(line, moment, octets, false);
     }
     let mut form = ArrayVec::new();
-    if encode_view(&view, &mut form).is_err() {
+    if encode_view(view, &mut form).is_err() {
         return put_own(line, moment, octets, true);
     }
     put_frame_event(line, moment, form.as_slice())?;

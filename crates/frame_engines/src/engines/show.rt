@@ -27,9 +27,10 @@ fn put_octets<A: Allocator>(
 ) -> Result<(), AllocError>
     ensures { AppendsText result line.old.items line.new.items (octets_line number octets.now) }
 {
-    match view_frame(octets) {
-        Ok(frame) => put_frame(line, number, &frame),
-        Err(fault) => put_fault_line(line, number, fault),
+    let viewed = view_frame(octets);
+    match &viewed {
+        Ok(frame) => put_frame(line, number, frame),
+        Err(fault) => put_fault_line(line, number, *fault),
     }
 }
 
