@@ -17,7 +17,7 @@ use byteorder::{BigEndian, ByteOrder};
 use engine_core::{Ending, Engine, run};
 use frame_core::{
     ApduView, Event, EventKind, EventLines, FrameView, ItemFault, LineError, ListCause, Sink,
-    Source, encode_view, fault_of_list, view_frame,
+    Source, encode_view, fault_of_list, see_frame,
 };
 use std::alloc::{AllocError, Allocator};
 use text_core::line::{put_fault_line, put_list_line};
@@ -30,6 +30,7 @@ const GOOSE_DESTINATIONS: (u64, u64) = (0x010C_CD01_0000, 0x010C_CD01_01FF);
 const SAMPLED_DESTINATIONS: (u64, u64) = (0x010C_CD04_0000, 0x010C_CD04_01FF);
 
 // Whether octets are those of the written form of the frame that they spell, and this form fits.
+#[inline(never)]
 fn is_in_written_form(view: &FrameView<'_>, octets: &[u8]) -> bool
     requires { ApduIsSpellable (frame_of {A = Unit {0}} view.now).apdu }
     ensures { result ≡ is_form (fitting_form (Ok (frame_of {A = Unit {0}} view.now))) octets.now }
@@ -91,7 +92,7 @@ fn put_notes<A: Allocator>(
     ensures text { AppendsText result line.old.items line.new.items (octets_notes number octets.now) }
     ensures quiet { octets_notes number octets.now ≡ [] → IsOk result }
 {
-    match view_frame(octets) {
+    match see_frame(octets, true) {
         Err(fault) => put_fault_line(line, number, fault),
         Ok(view) => {
             put_note(

@@ -15,7 +15,7 @@ use arrayvec::ArrayVec;
 use engine_core::{Ending, Engine, run};
 use frame_core::{
     Event, EventKind, EventLines, ItemFault, LineError, ListCause, Sink, Source, encode_view,
-    fault_of_list, view_frame,
+    fault_of_list, see_frame,
 };
 use std::alloc::{AllocError, Allocator};
 use text_core::event::put_frame_event;
@@ -57,7 +57,7 @@ fn put_rewritten<A: Allocator>(
         (codes "F " ++ decimal moment ++ codes " " ++ encode_lower (form_or (written_form octets.now) octets.now) ++ codes "\n") }
     ensures kept { IfOk result (λ kept. kept ≡ not (is_some (written_form octets.now))) }
 {
-    let Ok(view) = view_frame(octets) else {
+    let Ok(view) = see_frame(octets, true) else {
         return put_own(line, moment, octets, true);
     };
     if view.apdu.is_written() {
