@@ -120,7 +120,8 @@ answered p calls c sound = (request_ok p calls (standing_from (fresh_publisher p
 
 -- the text of a call is what the whole list of calls says
 request_is : {A : Type 0} (p : Setup A) (calls : List Call) (m : ℕ) (a : Request) → IsScriptSound p → IsCallText p calls (call m a) (call_step p calls (call m a))
-request_is p calls m Polled sound = inl (tt, (request_frame (standing_from (fresh_publisher p) calls) Polled m, answered p calls (call m Polled) sound, refl))
+request_is p calls m Polled sound =
+    inl (record { taken = tt; answer = request_frame (standing_from (fresh_publisher p) calls) Polled m; is_answer = answered p calls (call m Polled) sound; line = refl })
 request_is {A} p calls m (Changed change) sound = in_case (refusal p.control p.table (next_state p calls) change) (judged p.control p.table (next_state p calls) change sound.steps)
   where
     given : Option (SentFrame A)
@@ -128,8 +129,8 @@ request_is {A} p calls m (Changed change) sound = in_case (refusal p.control p.t
 
     in_case : (answer : Option PublishFault) → IsJudged p.control p.table (next_state p calls) change answer →
         IsCallText p calls (call m (Changed change)) (text_unless_refused answer (answer_text (greatest_call_moment (calls ++ call m (Changed change) ∷ [])) (request_frame (standing_from (fresh_publisher p) calls) (Changed change) m)))
-    in_case None accepted = inl (accepted, (request_frame (standing_from (fresh_publisher p) calls) (Changed change) m, answered p calls (call m (Changed change)) sound, refl))
-    in_case (Some why) refused = inr (why, refused, refl)
+    in_case None accepted = inl (record { taken = accepted; answer = given; is_answer = answered p calls (call m (Changed change)) sound; line = refl })
+    in_case (Some why) refused = inr (record { why = why; refused = refused; ends = refl })
 
 -- a call behind a script
 call_behind : {A : Type 0} (p : Setup A) (calls : List Call) (c : Call) → IsScriptSound p → call_at (progress_from (setting_up p) (map item_of_call calls)) c ≡ call_step p calls c

@@ -25,7 +25,7 @@ use Rattle.subscribe_core.specs.Reading.{Content, EventRead, FrameRead, OfClock,
 use Rattle.subscribe_core.specs.Simulation.{is_against, is_switched, mode_at, takes_simulated}
 use Rattle.subscribe_core.specs.Standing.{AreApart}
 use Rattle.subscribe_core.proofs.Readings.{reads_one}
-use Rattle.engine_core.specs.EngineText.{whole_text}
+use Rattle.engine_core.specs.computed.WholeText.{whole_text}
 use Rattle.exchange_engines.specs.ReplayText.{events_of}
 use Rattle.inventory_engine.specs.Sightings.{text_or_none}
 use Rattle.inventory_engine.specs.computed.BlocksStep.{blocks_text}
@@ -135,9 +135,9 @@ module _ {A : Type 0} where
         (as_append (switched_at readings i 0 blocks) is.said (switched_as readings i 0 blocks) (said_as readings i is.event.content is.said c is.are_said)))
 
 pub listed_blocks_fit : {A : Type 0} → ListedBlocksFit A
-listed_blocks_fit {A} z list blocks entries t apart is listed are i es at =
+listed_blocks_fit {A} z list blocks entries t is i es at =
     let l : Listing (Event A) ListCause = listing event_rules First z 0 list in
-    let same = (blocks_texts_are_one t blocks_text l is blocks_is).0 in
-    let there : AreThere blocks l.items = events_there blocks (whole_text t l) listed l.stop [] l.items [] (list_kept A z list) (λ i s app_id at own. absurd (none-some s at)) (inl refl) same in
-    let w = are.each i es at in
-    entries_as blocks apart l.items w.0 i es there (reads_one (events_of l.items) w.0 w.1) w.2
+    let same = (blocks_texts_are_one t blocks_text l is.is_text blocks_is).same_text in
+    let there : AreThere blocks l.items = events_there blocks (whole_text t l) is.are_listed l.stop [] l.items [] (list_kept A z list) (λ i s app_id at own. absurd (none-some s at)) (inl refl) same in
+    let w = is.are_entries.each i es at in
+    entries_as blocks is.are_apart l.items w.0 i es there (reads_one (events_of l.items) w.0 w.1) w.2

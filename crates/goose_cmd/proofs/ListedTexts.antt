@@ -38,7 +38,7 @@ use Rattle.block_core.specs.declared.block.Block.{Block}
 use Rattle.block_core.specs.BlockText.{block_in}
 use Rattle.subscribe_core.specs.computed.Content.{content_by, content_of, content_with}
 use Rattle.subscribe_core.specs.Reading.{Content, OfClock, OfFault, OfGoose, OfMode, OfSampled}
-use Rattle.engine_core.specs.EngineText.{told_after}
+use Rattle.engine_core.specs.computed.WholeText.{told_after}
 use Rattle.inventory_engine.specs.Sightings.{Key, Sighting, block_seen, block_text, key_of, sightings_in, sightings_of, sightings_read, sightings_with, stream_seen, streams_seen}
 use Rattle.inventory_engine.specs.BlocksText.{IsNewest, changed_word, first_word, line_after, sighting_line}
 use Rattle.inventory_engine.specs.computed.BlocksStep.{blocks_text, newest, said}
@@ -158,8 +158,8 @@ module _ {A : Type 0} (blocks : List (Block A)) (text : List ℕ) (listed : AreL
 
       seen_before : (last : List ℕ) → IsNewest earlier (key_of seen_now) (Some last) → last ≡ block_text app_id p → Listed blocks seen_now
       seen_before last is same =
-          let w = all is.0 is.1 app_id is.2 (ap (λ (k : Key). k.0) is.3) in
-          (w.0, w.1, w.2, ap (λ (t : List ℕ). block_in {A = A} t) (sym same ∙ sym is.4) ∙ w.3)
+          let w = all is.position is.is.sighting app_id is.is.there (ap (λ (k : Key). k.0) is.is.has_key) in
+          (w.0, w.1, w.2, ap (λ (t : List ℕ). block_in {A = A} t) (sym same ∙ sym is.has_text) ∙ w.3)
 
       by_newest : (o : Option (List ℕ)) → IsNewest earlier (key_of seen_now) o → text ≡ front ++ ((line_after n seen_now o ++ []) ++ rest) → Listed blocks seen_now
       by_newest None is stands =
@@ -269,15 +269,15 @@ says_at A (x ∷ seen) zero s h at = subst (SaysKey A) (same_Some x s at) h.0
 says_at A (x ∷ seen) (suc i) s h at = says_at A seen i s h.1 at
 
 pub listed_blocks_are_apart : {A : Type 0} → ListedBlocksAreApart A
-listed_blocks_are_apart {A} z list i j x y a b first other says_a says_b name =
+listed_blocks_are_apart {A} z list i j a b one_line other_line name =
     let items = (listing (event_rules {A = A}) First z 0 list).items in
     let seen = sightings_in items in
     let all = items_say A items (list_kept A z list) in
-    let key_a = says_at A seen i first.sighting all first.there a says_a in
-    let key_b = says_at A seen j other.sighting all other.there b says_b in
+    let first = one_line.first.is in
+    let other = other_line.first.is in
+    let key_a = says_at A seen i first.sighting all first.there a one_line.says in
+    let key_b = says_at A seen j other.sighting all other.there b other_line.says in
     let keys : named a.app_id a.gocb_ref ≡ named b.app_id b.gocb_ref = ap₂ named name.0 name.1 in
-    let same : y ≡ x = sym other.has ∙ (key_b ∙ (sym keys ∙ (sym key_a ∙ first.has))) in
-    let one = one_first seen i first.sighting first.there in
-    let here = one.3 i (subst (λ (k : Key). IsFirst seen k i) (sym first.has) first) in
-    let there = one.3 j (subst (λ (k : Key). IsFirst seen k j) (same ∙ sym first.has) other) in
-    here ∙ sym there
+    let same : other_line.key ≡ one_line.key = sym other.has_key ∙ (key_b ∙ (sym keys ∙ (sym key_a ∙ first.has_key))) in
+    let one = one_first seen one_line.key i first in
+    one.only i one_line.first ∙ sym (one.only j (subst (λ (k : Key). IsFirst seen k j) same other_line.first))

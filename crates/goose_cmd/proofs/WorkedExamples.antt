@@ -18,7 +18,7 @@ use Rattle.subscribe_core.specs.declared.entry.Entry.{Entry}
 use Rattle.subscribe_core.specs.declared.entry.Entry.TheVariants.{Expired, NotSubscribed}
 use Rattle.script_core.specs.declared.script.ScriptCause.{ScriptCause}
 use Rattle.script_core.specs.declared.script.ScriptItem.{ScriptItem}
-use Rattle.engine_core.specs.EngineText.{told, told_after, whole_text}
+use Rattle.engine_core.specs.computed.WholeText.{told, told_after, whole_text}
 use Rattle.exchange_engines.specs.computed.PublishStep.{publish_text}
 use Rattle.goose_cmd.specs.ListText.{lines_from, list_of_text, list_text}
 use Rattle.publish_core.specs.Frames.{Change, Setup, change, setup}
@@ -119,7 +119,7 @@ is_polled_once = record {
     accepted = λ i handed_in at. absurd (polled_alone i handed_in at);
     stops = (publish.EntriesDiffer, λ same. absurd (none_is_one same));
   };
-  ends = (5, publish.EntriesDiffer, refl, λ same. absurd (none_is_one same), refl);
+  ends = record { line = 5; why = publish.EntriesDiffer; there = refl; refused = λ same. absurd (none_is_one same); stops = refl };
 }
   where
     none_is_one : length no_value.values ≡ one_boolean.control.entries → ⊥

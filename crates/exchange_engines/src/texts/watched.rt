@@ -32,7 +32,7 @@ pub fn put_sample<A: Allocator>(
     count: u16,
     seen: Seen,
 ) -> Result<(), AllocError>
-    ensures { AppendsText result out.old.items out.new.items (sample_line number (position, count) seen) }
+    ensures { AppendsText result out.old.items out.new.items (sample_line number (record { position = position; count = count }) seen) }
 {
     put_decimal(out, number)?;
     out.extend_from_slice(b" ")?;

@@ -9,7 +9,8 @@ ghost use Rattle.frame_core.specs.Written.{ApduIsSpellable, written_frame};
 ghost use Rattle.frame_core.specs.computed.WrittenTest.{fits};
 ghost use Rattle.text_core.specs.Pieces.{AppendsText};
 ghost use Rattle.frame_engines.specs.CheckText.{check_text, goes_where_recommended, has_text, is_form, note_unless, notes, octets_notes};
-ghost use Rattle.engine_core.specs.EngineText.{Writes, is_write_fault};
+ghost use Rattle.engine_core.specs.Ending.{is_write_fault};
+ghost use Rattle.engine_core.specs.Run.{Writes};
 ghost use Rattle.frame_engines.specs.WrittenForm.{fitting_form};
 
 use arrayvec::ArrayVec;
