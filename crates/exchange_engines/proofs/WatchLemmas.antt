@@ -20,7 +20,7 @@ use Rattle.subscribe_core.proofs.Counts.{none_last, none_seen, seen_from}
 use Rattle.engine_core.specs.computed.EngineStep.{Takes}
 use Rattle.exchange_engines.specs.SampleLine.{Sample, sample_line}
 use Rattle.exchange_engines.specs.WatchText.{IsWatchText, counts, counts_of, frame_watched, is_unexpected, sample_at, sample_lines, samples_from, samples_in, samples_of, samples_read, watched}
-use Rattle.exchange_engines.specs.computed.WatchStep.{SamplesSaid, last_of, watch_text}
+use Rattle.exchange_engines.specs.computed.WatchStep.{SamplesAppended, last_of, watch_text}
 use Rattle.text_core.proofs.NonEmpty.{fault_there}
 use Rattle.exchange_engines.proofs.NonEmpty.{no_sample}
 
@@ -67,8 +67,8 @@ lines-append n (x ∷ xs) ys (a ∷ answers) others e =
     ∙ sym (append_assoc (sample_line n x a) (sample_lines n xs answers) (sample_lines n ys others))
 
 -- samples behind others
-pub said_after : (p n : ℕ) (last mid after : Option ℕ) (xs ys : List Sample) (a b c : List ℕ) (f g : Bool) → SamplesSaid p n last xs a b f mid → SamplesSaid p n mid ys b c g after
-    → SamplesSaid p n last (xs ++ ys) a c (f || g) after
+pub said_after : (p n : ℕ) (last mid after : Option ℕ) (xs ys : List Sample) (a b c : List ℕ) (f g : Bool) → SamplesAppended p n last xs a b f mid → SamplesAppended p n mid ys b c g after
+    → SamplesAppended p n last (xs ++ ys) a c (f || g) after
 said_after p n last mid after xs ys a b c f g u v =
     let first = seen_all p last (counts xs) in
     let second = seen_all p mid (counts ys) in
@@ -146,10 +146,10 @@ map-length f (x ∷ xs) = ap suc (map-length f xs)
 -- one ASDU more
 pub asdu_more : (p q n : ℕ) (id : List ℕ) (v : SvView) (yielded : List AsduView) (asdu : AsduView) (rest others : List (Asdu (Unit {0}))) (last mid after : Option ℕ) (a b c : List ℕ) (f g : Bool) (position next : ℕ)
     → map (asdu_of {A = Unit {0}}) yielded ++ rest ≡ asdus_left v.asdus → rest ≡ asdu_of asdu ∷ others
-    → SamplesSaid p n last (samples_from 0 id (map (asdu_of {A = Unit {0}}) yielded)) a b f mid → q ≡ p → position ≡ length yielded
-    → SamplesSaid q n mid (sample_at position id (asdu_of {A = Unit {0}} asdu)) b c g after → next ≡ min v.count (position + 1)
+    → SamplesAppended p n last (samples_from 0 id (map (asdu_of {A = Unit {0}}) yielded)) a b f mid → q ≡ p → position ≡ length yielded
+    → SamplesAppended q n mid (sample_at position id (asdu_of {A = Unit {0}} asdu)) b c g after → next ≡ min v.count (position + 1)
     → (map (asdu_of {A = Unit {0}}) (yielded ++ asdu ∷ []) ++ others ≡ asdus_left v.asdus)
-    × SamplesSaid p n last (samples_from 0 id (map (asdu_of {A = Unit {0}}) (yielded ++ asdu ∷ []))) a c (f || g) after
+    × SamplesAppended p n last (samples_from 0 id (map (asdu_of {A = Unit {0}}) (yielded ++ asdu ∷ []))) a c (f || g) after
     × (next ≡ length (yielded ++ asdu ∷ []))
 asdu_more p q n id v yielded asdu rest others last mid after a b c f g position next parts first said same at more goes =
     let one = asdu_of {A = Unit {0}} asdu in
@@ -157,8 +157,8 @@ asdu_more p q n id v yielded asdu rest others last mid after a b c f g position 
     let pushed : map (asdu_of {A = Unit {0}}) (yielded ++ asdu ∷ []) ≡ seen ++ one ∷ [] = map-push asdu_of yielded asdu in
     let whole : seen ++ one ∷ others ≡ asdus_left v.asdus = ap (λ (l : List (Asdu (Unit {0}))). seen ++ l) (sym first) ∙ parts in
     let here : position ≡ length seen = at ∙ sym (map-length (asdu_of {A = Unit {0}}) yielded) in
-    let mine : SamplesSaid p n mid (sample_at (length seen) id one) b c g after =
-    subst (λ (k : ℕ). SamplesSaid p n mid (sample_at k id one) b c g after) here (subst (λ (k : ℕ). SamplesSaid k n mid (sample_at position id one) b c g after) same more) in
+    let mine : SamplesAppended p n mid (sample_at (length seen) id one) b c g after =
+    subst (λ (k : ℕ). SamplesAppended p n mid (sample_at k id one) b c g after) here (subst (λ (k : ℕ). SamplesAppended k n mid (sample_at position id one) b c g after) same more) in
     let both = said_after p n last mid after (samples_from 0 id seen) (sample_at (length seen) id one) a b c f g said mine in
     let samples : samples_from 0 id seen ++ sample_at (length seen) id one ≡ samples_from 0 id (map (asdu_of {A = Unit {0}}) (yielded ++ asdu ∷ [])) =
     sym (samples-push id seen one) ∙ ap (samples_from 0 id) (sym pushed) in
@@ -167,6 +167,6 @@ asdu_more p q n id v yielded asdu rest others last mid after a b c f g position 
     let size : length (yielded ++ asdu ∷ []) ≡ length yielded + 1 = length_push yielded asdu in
     let room : position + 1 ≤ v.count = omega (arith, count, sizes, here) in (
       ap (λ (l : List (Asdu (Unit {0}))). l ++ others) pushed ∙ append_assoc seen (one ∷ []) others ∙ whole,
-      subst (λ (l : List Sample). SamplesSaid p n last l a c (f || g) after) samples both,
+      subst (λ (l : List Sample). SamplesAppended p n last l a c (f || g) after) samples both,
       omega (arith, goes, room, at, size),
     )

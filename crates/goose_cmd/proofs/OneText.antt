@@ -153,10 +153,10 @@ module _ {A : Type 0} (p : Setup A) (calls : List Call) (steps : AreSteps p.tabl
 module _ {A : Type 0} (t u : Text (ScriptItem A) ScriptCause) (is : IsPublishText t) (other : IsPublishText u) where
   -- where an item stands as in a script, the texts agree on it
   item_same : (before : List (ℕ × ScriptItem A)) (n : ℕ) (i : ScriptItem A) → StandsBefore (items_of_lines before) i → t.step before (n, i) ≡ u.step before (n, i)
-  item_same [] n (item.Control control first) none = is.control n first control ∙ sym (other.control n first control)
+  item_same [] n (item.Control control first) none = is.control_line n first control ∙ sym (other.control_line n first control)
   item_same (x ∷ before) n (item.Control control first) none = absurd (cc)
   item_same before n (item.Step s) stands =
-      is.step stands.setup before stands.is_script stands.has_room n s ∙ sym (other.step stands.setup before stands.is_script stands.has_room n s)
+      is.table_step stands.setup before stands.is_script stands.has_room n s ∙ sym (other.table_step stands.setup before stands.is_script stands.has_room n s)
   item_same before n (item.Change moment time values) stands =
       let c = call moment (Changed (change time values)) in
       call_same stands.setup stands.calls stands.is_sound.steps c _ _ (is.call stands.setup stands.calls before stands.is_script stands.is_sound n c) (other.call stands.setup stands.calls before stands.is_script stands.is_sound n c)

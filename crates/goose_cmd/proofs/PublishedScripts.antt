@@ -99,7 +99,7 @@ module _ {A : Type 0} (B : Type 0) (p : Setup A) (t : Text (ScriptItem A) Script
       room = let all : length (done ++ s ∷ todo) ≡ length p.table = ap length table in omega (arith, all, few, length-append done (s ∷ todo))
 
       step : t.step before e ≡ Ok ([], false)
-      step = ap (λ (x : ScriptItem A). t.step before (e.0, x)) here ∙ is.step (setup p.control done p.first) before stands room e.0 s
+      step = ap (λ (x : ScriptItem A). t.step before (e.0, x)) here ∙ is.table_step (setup p.control done p.first) before stands room e.0 s
 
       next : items_of_lines (before ++ e ∷ []) ≡ script_of (setup p.control (done ++ s ∷ []) p.first) []
       next =
@@ -124,7 +124,7 @@ module _ {A : Type 0} (B : Type 0) (p : Setup A) (t : Text (ScriptItem A) Script
       others = cc
 
       step : t.step [] e ≡ Ok ([], false)
-      step = ap (λ (x : ScriptItem A). t.step [] (e.0, x)) here ∙ is.control e.0 p.first p.control
+      step = ap (λ (x : ScriptItem A). t.step [] (e.0, x)) here ∙ is.control_line e.0 p.first p.control
 
   -- the first call that is left is refused, or none is
   stops_told : (done left : List Call) (before es : List (ℕ × ScriptItem A)) (script : Listing (ScriptItem A) ScriptCause) → IsScriptSound p → before ++ es ≡ script.items → items_of_lines before ≡ script_of p done → items_of_lines es ≡ map item_of_call left → StopsBehind p done left → Stops done left before es script []
@@ -234,30 +234,30 @@ no_back (x ∷ xs) ys e = absurd cc
 pub scripts_give_lists : {A : Type 0} (B : Type 0) → ScriptsGiveLists A B
 scripts_give_lists {A} B p calls answers z text t are says is = record {
   writes = ap₂ (λ (a : List ℕ) (o : Account ScriptCause). a ++ o.text) is.first told_is ∙ ap (λ (stop : Stop (ItemFault ScriptCause)). list_text (published_events {B = B} (sent_from 0 calls answers)) ++ last_text t stop) (sym stop_is);
-  stops = subst (TellsStop p calls says.left script) (sym stop_is) ends.2;
+  stops = subst (TellsStop p calls says.calls_left script) (sym stop_is) ends.2;
 }
   where
     script : Listing (ScriptItem A) ScriptCause
     script = script_of_text z text
 
-    set_up : IsSetUp p (calls ++ says.left)
-    set_up = script_set_up p (calls ++ says.left) z text says.items
+    set_up : IsSetUp p (calls ++ says.calls_left)
+    set_up = script_set_up p (calls ++ says.calls_left) z text says.items
 
-    left : CallsLeft p t (calls ++ says.left) script (told t script)
-    left = script_left B p t is (calls ++ says.left) script.items script set_up.few refl says.items
+    left : CallsLeft p t (calls ++ says.calls_left) script (told t script)
+    left = script_left B p t is (calls ++ says.calls_left) script.items script set_up.few refl says.items
 
-    by_setup : (calls ++ says.left ≡ []) ⊎ IsScriptSound p → Stops B p t is calls says.left left.0 left.1 script (sent_from 0 calls answers)
+    by_setup : (calls ++ says.calls_left ≡ []) ⊎ IsScriptSound p → Stops B p t is calls says.calls_left left.0 left.1 script (sent_from 0 calls answers)
     by_setup (inl none) = (
       script.stop,
-      none_told t left.0 left.1 script.stop (left.4 ∙ ap (map item_of_call) none) ∙ ap (λ (cs : List Call). sent_told B t (sent_from 0 cs answers) script.stop) (sym (no_front calls says.left none)),
-      subst (λ (more : List Call). TellsStop p calls more script script.stop) (sym (no_back calls says.left none)) refl,
+      none_told t left.0 left.1 script.stop (left.4 ∙ ap (map item_of_call) none) ∙ ap (λ (cs : List Call). sent_told B t (sent_from 0 cs answers) script.stop) (sym (no_front calls says.calls_left none)),
+      subst (λ (more : List Call). TellsStop p calls more script script.stop) (sym (no_back calls says.calls_left none)) refl,
     )
     by_setup (inr sound) =
-        calls_told B p t is calls [] says.left answers left.0 left.1 script sound left.2 left.3 left.4 are.0 says.accepted (λ i a at.
+        calls_told B p t is calls [] says.calls_left answers left.0 left.1 script sound left.2 left.3 left.4 are.0 says.accepted (λ i a at.
         let none : i ≡ 0 + i = omega arith in
         subst (λ (j : ℕ). IsAnswer p (trace_of_calls calls) j a) none (are.1 i a at)) says.stops
 
-    ends : Stops B p t is calls says.left left.0 left.1 script (sent_from 0 calls answers)
+    ends : Stops B p t is calls says.calls_left left.0 left.1 script (sent_from 0 calls answers)
     ends = by_setup set_up.sound
 
     told_is : told t script ≡ sent_told B t (sent_from 0 calls answers) ends.0

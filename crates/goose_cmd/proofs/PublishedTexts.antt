@@ -88,14 +88,14 @@ nothing_replays {B} block end r replay ends =
 pub published_texts_replay : {A B : Type 0} → PublishedTextsReplay A B
 published_texts_replay {A} {B} p block calls answers z text t r run says is replay =
     subst (λ (written : List ℕ). ReplayGives r written (one_entry_each (sent_from 0 calls answers))) (sym (scripts_give_lists B p calls answers z text t run.are_answers says is).writes)
-    (by_setup (script_set_up p (calls ++ says.left) z text says.items).sound)
+    (by_setup (script_set_up p (calls ++ says.calls_left) z text says.items).sound)
   where
     stop : Stop (ItemFault ScriptCause)
     stop = (told t (script_of_text z text)).stop
 
-    by_setup : (calls ++ says.left ≡ []) ⊎ IsScriptSound p → ReplayGives r (list_text (published_events {B = B} (sent_from 0 calls answers)) ++ last_text t stop) (one_entry_each (sent_from 0 calls answers))
+    by_setup : (calls ++ says.calls_left ≡ []) ⊎ IsScriptSound p → ReplayGives r (list_text (published_events {B = B} (sent_from 0 calls answers)) ++ last_text t stop) (one_entry_each (sent_from 0 calls answers))
     by_setup (inl none) =
-        subst (λ (cs : List Call). ReplayGives r (list_text (published_events {B = B} (sent_from 0 cs answers)) ++ last_text t stop) (one_entry_each (sent_from 0 cs answers))) (sym (no_front calls says.left none))
+        subst (λ (cs : List Call). ReplayGives r (list_text (published_events {B = B} (sent_from 0 cs answers)) ++ last_text t stop) (one_entry_each (sent_from 0 cs answers))) (sym (no_front calls says.calls_left none))
         (nothing_replays block (last_text t stop) r replay (how_it_ends t 1 stop is (omega arith)))
     by_setup (inr sound) =
         let some : 1 ≤ length p.table = sound.steps.some in

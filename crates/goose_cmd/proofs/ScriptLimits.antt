@@ -221,10 +221,10 @@ reading_few z text = let w = pieces_few z 0 (pieces text) (omega arith) in omega
 pub script_room : {A : Type 0} (p : Setup A) (calls : List Call) (z : InputEnd) (text : List ℕ) → SaysRun p calls (script_of_text z text) → 1 + length p.table + length calls ≤ 1000000
 script_room {A} p calls z text says =
     let most : length (script_of_text {A = A} z text).items ≤ 1000000 = let a = lines_count A First 0 (reading z 0 text).lines (reading z 0 text).stop in let b = reading_few z text in omega (arith, a, b) in
-    let same : length (items_of_lines (script_of_text {A = A} z text).items) ≡ length (script_of p (calls ++ says.left)) = ap length says.items in
+    let same : length (items_of_lines (script_of_text {A = A} z text).items) ≡ length (script_of p (calls ++ says.calls_left)) = ap length says.items in
     let step : Step → ScriptItem A = λ s. item.Step s in
     let steps : List (ScriptItem A) = map step p.table in
-    omega (arith, most, same, length-map (script_of_text {A = A} z text).items (λ (e : ℕ × ScriptItem A). e.1), length-append steps (map item_of_call (calls ++ says.left)), length-map p.table step, length-map (calls ++ says.left) (item_of_call {A = A}), length-append calls says.left)
+    omega (arith, most, same, length-map (script_of_text {A = A} z text).items (λ (e : ℕ × ScriptItem A). e.1), length-append steps (map item_of_call (calls ++ says.calls_left)), length-map p.table step, length-map (calls ++ says.calls_left) (item_of_call {A = A}), length-append calls says.calls_left)
 
 at_steps : {A : Type 0} (steps : List Step) (items : List (ScriptItem A)) → AllKeep (map item.Step steps ++ items) → LiveBelow steps
 at_steps [] items w = tt
@@ -260,7 +260,7 @@ first_keep A (s ∷ steps) calls left w = (w.0, first_keep A steps calls left w.
 says_limits : {A : Type 0} (p : Setup A) (calls : List Call) (z : InputEnd) (text : List ℕ) → SaysRun p calls (script_of_text z text) → AllKeep (script_of p calls)
 says_limits {A} p calls z text says =
     let w = subst AllKeep says.items (lines_short A First 0 (reading z 0 text).lines (reading z 0 text).stop) in
-    (w.0, first_keep A p.table calls says.left w.1)
+    (w.0, first_keep A p.table calls says.calls_left w.1)
 
 -- its moments have at most 18 digits
 pub script_moments : {A : Type 0} (p : Setup A) (calls : List Call) (z : InputEnd) (text : List ℕ) → SaysRun p calls (script_of_text z text) → MomentsAreShort calls

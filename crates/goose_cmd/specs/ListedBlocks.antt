@@ -43,19 +43,28 @@ ReplaysWriteEntries A =
 
 -- a line of a text: it begins where the text or a line of it begins, and ends before the next LF
 pub record HasLine (text line : List ℕ) : Type 0 where
-  pub front : List ℕ
-  pub back : List ℕ
-  pub parts : text ≡ front ++ (line ++ 10 ∷ back)
-  pub starts : (front ≡ []) ⊎ ((earlier : List ℕ) × (front ≡ earlier ++ 10 ∷ []))
-  pub unbroken : HasNo 10 line
+  pub before : List ℕ
+  pub after : List ℕ
+  pub whole : text ≡ before ++ (line ++ 10 ∷ after)
+  pub starts_line : (before ≡ []) ⊎ ((earlier : List ℕ) × (before ≡ earlier ++ 10 ∷ []))
+  pub has_no_lf : HasNo 10 line
 
 -- a line of the text tells this: the number of a line of a list, the word, and what is told
-abbrev pub Tells : List ℕ → List ℕ → List ℕ → Type 0
-Tells text word what = (n : ℕ) × (n ≤ 1000000) × HasLine text (decimal n ++ word ++ what)
+pub record Tells (text word what : List ℕ) : Type 0 where
+  pub number : ℕ
+  pub at_most : number ≤ 1000000
+  pub has_line : HasLine text (decimal number ++ word ++ what)
+
+-- this is the BLOCK of one of the blocks
+pub record IsBlockOf {A : Type 0} (blocks : List (Block A)) (what : List ℕ) : Type 0 where
+  pub position : ℕ
+  pub block : Block A
+  pub there : slice_get blocks position ≡ Some block
+  pub says : block_in what ≡ Some block
 
 -- What each line `block` tells is the BLOCK of one of these blocks, and no line `block-changed` stands.
 pub record AreListed {A : Type 0} (text : List ℕ) (blocks : List (Block A)) : Type 0 where
-  pub each : (what : List ℕ) → Tells text (codes " block ") what → (k : ℕ) × (block : Block A) × (slice_get blocks k ≡ Some block) × (block_in what ≡ Some block)
+  pub each : (what : List ℕ) → Tells text (codes " block ") what → IsBlockOf blocks what
   pub none_changes : (what : List ℕ) → ¬ Tells text (codes " block-changed ") what
 
 -- the frame is configured otherwise than its block

@@ -28,12 +28,18 @@ abbrev pub ScriptsGiveLists : Type 0 → Type 0 → Type 0
 ScriptsGiveLists A B =
     (p : Setup A) (calls : List Call) (answers : List (Option (Frame A))) (z : InputEnd) (text : List ℕ) (t : Text (ScriptItem A) ScriptCause) →
     AreAnswers p calls answers → (says : SaysRun p calls (script_of_text z text)) → IsPublishText t →
-    GivesList B p calls says.left answers (script_of_text z text) t
+    GivesList B p calls says.calls_left answers (script_of_text z text) t
+
+-- a script says the run of some publisher
+pub record SaysSomeRun {A : Type 0} (script : Listing (ScriptItem A) ScriptCause) : Type 0 where
+  pub publisher : Setup A
+  pub calls : List Call
+  pub run : SaysRun publisher calls script
 
 -- the text of a script says nothing of a publisher, or a run of one
 abbrev pub ScriptsSayRuns : Type 0 → Type 0
 ScriptsSayRuns A =
-    (z : InputEnd) (text : List ℕ) → (items_of_lines (script_of_text {A = A} z text).items ≡ []) ⊎ ((p : Setup A) × (calls : List Call) × SaysRun p calls (script_of_text z text))
+    (z : InputEnd) (text : List ℕ) → (items_of_lines (script_of_text {A = A} z text).items ≡ []) ⊎ SaysSomeRun (script_of_text {A = A} z text)
 
 -- What `publish` writes of the text of a script is replayed with the publisher's own block by one line for each frame: an
 -- action for a change's, a renewal for a poll's, and nothing else.

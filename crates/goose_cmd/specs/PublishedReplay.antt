@@ -29,10 +29,10 @@ StopsBehind p calls (c ∷ more) = (why : PublishFault) × IsRefused p calls c.r
 
 -- A script says these calls of a publisher up to its end, to a fault, or to the first change that is refused.
 pub record SaysRun {A : Type 0} (p : Setup A) (calls : List Call) (script : Listing (ScriptItem A) ScriptCause) : Type 0 where
-  pub left : List Call
-  pub items : items_of_lines script.items ≡ script_of p (calls ++ left)
+  pub calls_left : List Call
+  pub items : items_of_lines script.items ≡ script_of p (calls ++ calls_left)
   pub accepted : AreAccepted p calls
-  pub stops : StopsBehind p calls left
+  pub stops : StopsBehind p calls calls_left
 
 -- the text of a script stops at the line of this call, which is refused behind these
 pub record StopsAtCall {A : Type 0} (p : Setup A) (calls : List Call) (c : Call) (script : Listing (ScriptItem A) ScriptCause) (stop : Stop (ItemFault ScriptCause)) : Type 0 where

@@ -10,7 +10,7 @@ ghost use Rattle.subscribe_core.specs.computed.WatchAnswers.{seen_all};
 ghost use Rattle.engine_core.specs.Ending.{is_write_fault};
 ghost use Rattle.engine_core.specs.Run.{WritesSome};
 ghost use Rattle.exchange_engines.specs.WatchText.{IsWatchText, counts, counts_of, is_unexpected as unexpected, sample_at, samples_from, samples_of, watched};
-ghost use Rattle.exchange_engines.specs.computed.WatchStep.{SamplesSaid, last_of, watch_text};
+ghost use Rattle.exchange_engines.specs.computed.WatchStep.{SamplesAppended, last_of, watch_text};
 
 use crate::texts::watched::put_sample;
 use engine_core::{Ending, Engine, run};
@@ -42,8 +42,8 @@ fn put_asdu<A: Allocator>(
     position: u64,
     asdu: &AsduView<'_>,
 ) -> Result<bool, AllocError>
-    ensures said { MatchResult result
-        (λ found. SamplesSaid watch.old.period number watch.old.last (sample_at position id.now (asdu_of {A = Unit {0}} asdu.now)) line.old.items line.new.items found watch.new.last)
+    ensures written { MatchResult result
+        (λ found. SamplesAppended watch.old.period number watch.old.last (sample_at position id.now (asdu_of {A = Unit {0}} asdu.now)) line.old.items line.new.items found watch.new.last)
         (λ _. take (length line.old.items) line.new.items ≡ line.old.items) }
     ensures quiet { sample_at position id.now (asdu_of {A = Unit {0}} asdu.now) ≡ [] → IsOk result }
     ensures period { watch.new.period ≡ watch.old.period }
@@ -64,8 +64,8 @@ fn put_asdus<A: Allocator>(
     number: u64,
     sampled: &SvView<'_>,
 ) -> Result<bool, AllocError>
-    ensures said { MatchResult result
-        (λ found. SamplesSaid watch.old.period number watch.old.last (samples_from 0 id.now (asdus_left {A = Unit {0}} sampled.now.asdus)) line.old.items line.new.items found watch.new.last)
+    ensures written { MatchResult result
+        (λ found. SamplesAppended watch.old.period number watch.old.last (samples_from 0 id.now (asdus_left {A = Unit {0}} sampled.now.asdus)) line.old.items line.new.items found watch.new.last)
         (λ _. take (length line.old.items) line.new.items ≡ line.old.items) }
     ensures quiet { samples_from 0 id.now (asdus_left {A = Unit {0}} sampled.now.asdus) ≡ [] → IsOk result }
     ensures period { watch.new.period ≡ watch.old.period }
@@ -88,7 +88,7 @@ fn put_event<A: Allocator>(
     number: u64,
     kind: &EventKind<A>,
 ) -> Result<bool, AllocError>
-    ensures said { MatchResult result
+    ensures written { MatchResult result
         (λ found. (line.new.items ≡ line.old.items ++ (watched number id.now kind.now (seen_all watch.old.period watch.old.last (counts (samples_of id.now kind.now)))).0)
         × (found ≡ (watched number id.now kind.now (seen_all watch.old.period watch.old.last (counts (samples_of id.now kind.now)))).1)
         × (watch.new.last ≡ last_of watch.old.period watch.old.last (counts (samples_of id.now kind.now))))

@@ -17,7 +17,7 @@ use Rattle.text_core.proofs.NonEmpty.{ends}
 use Rattle.inventory_engine.specs.declared.known.Known.{Known}
 use Rattle.inventory_engine.specs.Sightings.{Sighting, key_of, sightings_in, sightings_of, stream_seen, streams_seen}
 use Rattle.inventory_engine.specs.BlocksText.{changed_word, first_word, line_after, sighting_line}
-use Rattle.inventory_engine.specs.computed.BlocksStep.{Keeps, Said, Wanted, blocks_text, lines_by, newest, said}
+use Rattle.inventory_engine.specs.computed.BlocksStep.{Keeps, AppendsLines, HasLines, blocks_text, lines_by, newest, written_of}
 use Rattle.inventory_engine.specs.computed.KnownTexts.{InOrder, IsAt, IsGap, known_key, known_text, same_key}
 use Rattle.inventory_engine.proofs.KnownLemmas.{Updates, absent, none_at_gap, none_before, order_insert, order_set, present, updates_insert, updates_same, updates_set}
 use Rattle.inventory_engine.proofs.Newest.{newest-push}
@@ -32,28 +32,28 @@ lines-append n e (x ∷ xs) ys =
     ap (λ (l : List (List ℕ)). line_after n x (newest e (key_of x)) ∷ l)
     (lines-append n (e ++ x ∷ []) xs ys ∙ ap (λ (l : List Sighting). lines_by n (e ++ x ∷ []) xs ++ lines_by n l ys) (append_assoc e (x ∷ []) xs))
 
-said-append : (n : ℕ) (e xs ys : List Sighting) → said n e (xs ++ ys) ≡ said n e xs ++ said n (e ++ xs) ys
-said-append n e xs ys = ap concat (lines-append n e xs ys) ∙ concat-append (lines_by n e xs) (lines_by n (e ++ xs) ys)
+written_of-append : (n : ℕ) (e xs ys : List Sighting) → written_of n e (xs ++ ys) ≡ written_of n e xs ++ written_of n (e ++ xs) ys
+written_of-append n e xs ys = ap concat (lines-append n e xs ys) ∙ concat-append (lines_by n e xs) (lines_by n (e ++ xs) ys)
 
 -- nothing was seen
-pub said_none : {A : Type 0} (n : ℕ) (known : List (Known A)) (text : List ℕ) → Said n [] known known text text
-said_none n known text = λ e k. (sym (append-nil text), subst (λ (l : List Sighting). Keeps known l) (sym (append-nil e)) k)
+pub appends_none : {A : Type 0} (n : ℕ) (known : List (Known A)) (text : List ℕ) → AppendsLines n [] known known text text
+appends_none n known text = λ e k. (sym (append-nil text), subst (λ (l : List Sighting). Keeps known l) (sym (append-nil e)) k)
 
 -- sightings, and others behind them
-pub said_then : {A : Type 0} (n : ℕ) (xs ys : List Sighting) (a b c : List (Known A)) (o m t : List ℕ) → Said n xs a b o m → Said n ys b c m t → Said n (xs ++ ys) a c o t
-said_then n xs ys a b c o m t f g = λ e k.
+pub appends_then : {A : Type 0} (n : ℕ) (xs ys : List Sighting) (a b c : List (Known A)) (o m t : List ℕ) → AppendsLines n xs a b o m → AppendsLines n ys b c m t → AppendsLines n (xs ++ ys) a c o t
+appends_then n xs ys a b c o m t f g = λ e k.
     let p = f e k in
     let q = g (e ++ xs) p.1 in (
-      q.0 ∙ ap (λ (l : List ℕ). l ++ said n (e ++ xs) ys) p.0 ∙ append_assoc o (said n e xs) (said n (e ++ xs) ys) ∙ ap (λ (l : List ℕ). o ++ l) (sym (said-append n e xs ys)),
+      q.0 ∙ ap (λ (l : List ℕ). l ++ written_of n (e ++ xs) ys) p.0 ∙ append_assoc o (written_of n e xs) (written_of n (e ++ xs) ys) ∙ ap (λ (l : List ℕ). o ++ l) (sym (written_of-append n e xs ys)),
       subst (λ (l : List Sighting). Keeps c l) (append_assoc e xs ys) q.1,
     )
 
 -- something is to be written of some, behind others and before further ones
-pub wanted_then : {A : Type 0} (n : ℕ) (xs ys zs : List Sighting) (a b : List (Known A)) (o m : List ℕ) → Said n xs a b o m → Wanted n ys b → Wanted n (xs ++ (ys ++ zs)) a
+pub wanted_then : {A : Type 0} (n : ℕ) (xs ys zs : List Sighting) (a b : List (Known A)) (o m : List ℕ) → AppendsLines n xs a b o m → HasLines n ys b → HasLines n (xs ++ (ys ++ zs)) a
 wanted_then n xs ys zs a b o m f g = λ e k none.
-    let rest = said n (e ++ xs) (ys ++ zs) in
-    let behind : rest ≡ [] = back_nil (said n e xs) rest (sym (said-append n e xs (ys ++ zs)) ∙ none) in
-    g (e ++ xs) (f e k).1 (front_nil (said n (e ++ xs) ys) (said n (e ++ xs ++ ys) zs) (sym (said-append n (e ++ xs) ys zs) ∙ behind))
+    let rest = written_of n (e ++ xs) (ys ++ zs) in
+    let behind : rest ≡ [] = back_nil (written_of n e xs) rest (sym (written_of-append n e xs (ys ++ zs)) ∙ none) in
+    g (e ++ xs) (f e k).1 (front_nil (written_of n (e ++ xs) ys) (written_of n (e ++ xs ++ ys) zs) (sym (written_of-append n (e ++ xs) ys zs) ∙ behind))
 
 -- what holds anyway holds of an error
 pub on_error : {T E : Type 0} (r : Result T E) (P : Type 0) → P → OnErr r P
@@ -61,11 +61,11 @@ on_error (Ok t) P p = tt
 on_error (Err e) P p = p
 
 -- the same of sightings that are these by an equation
-pub said_as : {A T E : Type 0} (r : Result T E) (n : ℕ) (xs ys : List Sighting) (a b : List (Known A)) (o m : List ℕ) → xs ≡ ys → OnOk r (Said n xs a b o m) → OnOk r (Said n ys a b o m)
-said_as r n xs ys a b o m e h = subst (λ (l : List Sighting). OnOk r (Said n l a b o m)) e h
+pub appends_as : {A T E : Type 0} (r : Result T E) (n : ℕ) (xs ys : List Sighting) (a b : List (Known A)) (o m : List ℕ) → xs ≡ ys → OnOk r (AppendsLines n xs a b o m) → OnOk r (AppendsLines n ys a b o m)
+appends_as r n xs ys a b o m e h = subst (λ (l : List Sighting). OnOk r (AppendsLines n l a b o m)) e h
 
-pub wanted_as : {A T E : Type 0} (r : Result T E) (n : ℕ) (xs ys : List Sighting) (a : List (Known A)) → xs ≡ ys → OnErr r (Wanted n xs a) → OnErr r (Wanted n ys a)
-wanted_as r n xs ys a e h = subst (λ (l : List Sighting). OnErr r (Wanted n l a)) e h
+pub wanted_as : {A T E : Type 0} (r : Result T E) (n : ℕ) (xs ys : List Sighting) (a : List (Known A)) → xs ≡ ys → OnErr r (HasLines n xs a) → OnErr r (HasLines n ys a)
+wanted_as r n xs ys a e h = subst (λ (l : List Sighting). OnErr r (HasLines n l a)) e h
 
 -- the text that is held at a place was compared with another
 pub compared : {A : Type 0} (known : List (Known A)) (at : ℕ) (d : Known A) (t held : List ℕ) (a b : Bool) → d ≡ get_or known at d → held ≡ known_text d → a ≡ bytes_eq held t → a ≡ b → bytes_eq (known_text (get_or known at d)) t ≡ b
@@ -73,8 +73,8 @@ compared known at d t held a b place same asked told =
     ap (λ (k : Known _). bytes_eq (known_text k) t) (sym place) ∙ ap (λ (o : List ℕ). bytes_eq o t) (sym same) ∙ sym asked ∙ told
 
 module _ {A : Type 0} (n : ℕ) (s : Sighting) (known : List (Known A)) where
-  said_one : (e : List Sighting) → said n e (s ∷ []) ≡ line_after n s (newest e (key_of s))
-  said_one e = append-nil (line_after n s (newest e (key_of s)))
+  written_of_one : (e : List Sighting) → written_of n e (s ∷ []) ≡ line_after n s (newest e (key_of s))
+  written_of_one e = append-nil (line_after n s (newest e (key_of s)))
 
   newest_at : (e : List Sighting) (at : ℕ) (d : Known A) → Keeps known e → IsAt known (key_of s) at → newest e (key_of s) ≡ Some (known_text (get_or known at d))
   newest_at e at d k is =
@@ -94,11 +94,11 @@ module _ {A : Type 0} (n : ℕ) (s : Sighting) (known : List (Known A)) where
   line_same t it_is = rw it_is refl
 
   pub said_same : (at : ℕ) (d : Known A) (old : List ℕ) → IsAt known (key_of s) at → bytes_eq (known_text (get_or known at d)) s.text ≡ true
-      → Said n (s ∷ []) known known old old
+      → AppendsLines n (s ∷ []) known known old old
   said_same at d old is it_is = λ e k.
       let same : known_text (get_or known at d) ≡ s.text = (bytes_eq-Decides (known_text (get_or known at d)) s.text).0 it_is in
       let there = newest_at e at d k is in
-      let none : said n e (s ∷ []) ≡ [] = said_one e ∙ ap (line_after n s) there ∙ line_same _ it_is in (
+      let none : written_of n e (s ∷ []) ≡ [] = written_of_one e ∙ ap (line_after n s) there ∙ line_same _ it_is in (
         sym (append-nil old) ∙ ap (λ (l : List ℕ). old ++ l) (sym none),
         keeps_on e known k k.order (updates_same known_key known_text known (key_of s) s.text (k.same (key_of s) ∙ there ∙ ap Some same)),
       )
@@ -108,10 +108,10 @@ module _ {A : Type 0} (n : ℕ) (s : Sighting) (known : List (Known A)) where
 
   -- it is known with another text
   pub said_changed : (at : ℕ) (d y : Known A) (old new : List ℕ) → IsAt known (key_of s) at → bytes_eq (known_text (get_or known at d)) s.text ≡ false
-      → known_key y ≡ key_of s → known_text y ≡ s.text → new ≡ old ++ sighting_line n (changed_word s.app_id) s.text → Said n (s ∷ []) known (set known at y) old new
+      → known_key y ≡ key_of s → known_text y ≡ s.text → new ≡ old ++ sighting_line n (changed_word s.app_id) s.text → AppendsLines n (s ∷ []) known (set known at y) old new
   said_changed at d y old new is differs same text wrote = λ e k.
       let there = newest_at e at d k is in
-      let one : said n e (s ∷ []) ≡ sighting_line n (changed_word s.app_id) s.text = said_one e ∙ ap (line_after n s) there ∙ line_other _ differs in (
+      let one : written_of n e (s ∷ []) ≡ sighting_line n (changed_word s.app_id) s.text = written_of_one e ∙ ap (line_after n s) there ∙ line_other _ differs in (
         wrote ∙ ap (λ (l : List ℕ). old ++ l) (sym one),
         keeps_on e (set known at y) k (order_set known k.order (key_of s) at is y same)
             (subst (λ (t : List ℕ). Updates known_key known_text known (set known at y) (key_of s) t) text
@@ -120,10 +120,10 @@ module _ {A : Type 0} (n : ℕ) (s : Sighting) (known : List (Known A)) where
 
   -- it is not known
   pub said_first : (at : ℕ) (y : Known A) (old new : List ℕ) → (InOrder known → IsGap known (key_of s) at)
-      → known_key y ≡ key_of s → known_text y ≡ s.text → new ≡ old ++ sighting_line n (first_word s.app_id) s.text → Said n (s ∷ []) known (insert known at y) old new
+      → known_key y ≡ key_of s → known_text y ≡ s.text → new ≡ old ++ sighting_line n (first_word s.app_id) s.text → AppendsLines n (s ∷ []) known (insert known at y) old new
   said_first at y old new gap same text wrote = λ e k.
       let g = gap k.order in
-      let one : said n e (s ∷ []) ≡ sighting_line n (first_word s.app_id) s.text = said_one e ∙ ap (line_after n s) (newest_gap e at k g) in (
+      let one : written_of n e (s ∷ []) ≡ sighting_line n (first_word s.app_id) s.text = written_of_one e ∙ ap (line_after n s) (newest_gap e at k g) in (
         wrote ∙ ap (λ (l : List ℕ). old ++ l) (sym one),
         keeps_on e (insert known at y) k (order_insert known k.order (key_of s) at g y same)
             (subst (λ (t : List ℕ). Updates known_key known_text known (insert known at y) (key_of s) t) text
@@ -134,35 +134,35 @@ module _ {A : Type 0} (n : ℕ) (s : Sighting) (known : List (Known A)) where
       within j lt le = omega arith
 
   -- there is something to write
-  pub wanted_changed : (at : ℕ) (d : Known A) → IsAt known (key_of s) at → bytes_eq (known_text (get_or known at d)) s.text ≡ false → Wanted n (s ∷ []) known
-  wanted_changed at d is differs = λ e k none. ends _ (sym (said_one e ∙ ap (line_after n s) (newest_at e at d k is) ∙ line_other _ differs) ∙ none)
+  pub wanted_changed : (at : ℕ) (d : Known A) → IsAt known (key_of s) at → bytes_eq (known_text (get_or known at d)) s.text ≡ false → HasLines n (s ∷ []) known
+  wanted_changed at d is differs = λ e k none. ends _ (sym (written_of_one e ∙ ap (line_after n s) (newest_at e at d k is) ∙ line_other _ differs) ∙ none)
 
-  pub wanted_first : (at : ℕ) → (InOrder known → IsGap known (key_of s) at) → Wanted n (s ∷ []) known
-  wanted_first at gap = λ e k none. ends _ (sym (said_one e ∙ ap (line_after n s) (newest_gap e at k (gap k.order))) ∙ none)
+  pub wanted_first : (at : ℕ) → (InOrder known → IsGap known (key_of s) at) → HasLines n (s ∷ []) known
+  wanted_first at gap = λ e k none. ends _ (sym (written_of_one e ∙ ap (line_after n s) (newest_gap e at k (gap k.order))) ∙ none)
 
 map-push : {X Y : Type 0} (f : X → Y) (xs : List X) (x : X) → map f (xs ++ x ∷ []) ≡ map f xs ++ f x ∷ []
 map-push f xs x = map-append f xs (x ∷ [])
 
 -- one ASDU more
 pub stream_more : {A : Type 0} (n : ℕ) (yielded : List AsduView) (asdu : AsduView) (all rest others : List (Asdu (Unit {0}))) (a b c : List (Known A)) (o m t : List ℕ) → map (asdu_of {A = Unit {0}}) yielded ++ rest ≡ all → rest ≡ asdu_of asdu ∷ others
-    → Said n (streams_seen (map (asdu_of {A = Unit {0}}) yielded)) a b o m → Said n (stream_seen (asdu_of {A = Unit {0}} asdu) ∷ []) b c m t
-    → (map (asdu_of {A = Unit {0}}) (yielded ++ asdu ∷ []) ++ others ≡ all) × Said n (streams_seen (map (asdu_of {A = Unit {0}}) (yielded ++ asdu ∷ []))) a c o t
+    → AppendsLines n (streams_seen (map (asdu_of {A = Unit {0}}) yielded)) a b o m → AppendsLines n (stream_seen (asdu_of {A = Unit {0}} asdu) ∷ []) b c m t
+    → (map (asdu_of {A = Unit {0}}) (yielded ++ asdu ∷ []) ++ others ≡ all) × AppendsLines n (streams_seen (map (asdu_of {A = Unit {0}}) (yielded ++ asdu ∷ []))) a c o t
 stream_more n yielded asdu all rest others a b c o m t parts first f g =
     let one = asdu_of {A = Unit {0}} asdu in
     let seen = map (asdu_of {A = Unit {0}}) yielded in
     let pushed : map (asdu_of {A = Unit {0}}) (yielded ++ asdu ∷ []) ≡ seen ++ one ∷ [] = map-push asdu_of yielded asdu in (
       ap (λ (l : List (Asdu (Unit {0}))). l ++ others) pushed ∙ append_assoc seen (one ∷ []) others ∙ ap (λ (l : List (Asdu (Unit {0}))). seen ++ l) (sym first) ∙ parts,
-      subst (λ (l : List Sighting). Said n l a c o t) (sym (map-push stream_seen seen one) ∙ ap streams_seen (sym pushed))
-          (said_then n (streams_seen seen) (stream_seen one ∷ []) a b c o m t f g),
+      subst (λ (l : List Sighting). AppendsLines n l a c o t) (sym (map-push stream_seen seen one) ∙ ap streams_seen (sym pushed))
+          (appends_then n (streams_seen seen) (stream_seen one ∷ []) a b c o m t f g),
     )
 
 -- something is to be written of an ASDU among others
 pub streams_wanted : {A : Type 0} (n : ℕ) (yielded : List AsduView) (asdu : AsduView) (all rest others : List (Asdu (Unit {0}))) (a b : List (Known A)) (o m : List ℕ) → map (asdu_of {A = Unit {0}}) yielded ++ rest ≡ all → rest ≡ asdu_of asdu ∷ others
-    → Said n (streams_seen (map (asdu_of {A = Unit {0}}) yielded)) a b o m → Wanted n (stream_seen (asdu_of {A = Unit {0}} asdu) ∷ []) b → Wanted n (streams_seen all) a
+    → AppendsLines n (streams_seen (map (asdu_of {A = Unit {0}}) yielded)) a b o m → HasLines n (stream_seen (asdu_of {A = Unit {0}} asdu) ∷ []) b → HasLines n (streams_seen all) a
 streams_wanted n yielded asdu all rest others a b o m parts first f g =
     let one = asdu_of {A = Unit {0}} asdu in
     let seen = map (asdu_of {A = Unit {0}}) yielded in
-    subst (λ (l : List Sighting). Wanted n l a)
+    subst (λ (l : List Sighting). HasLines n l a)
     (sym (map-append stream_seen seen (one ∷ others)) ∙ ap streams_seen (ap (λ (l : List (Asdu (Unit {0}))). seen ++ l) (sym first) ∙ parts))
     (wanted_then n (streams_seen seen) (stream_seen one ∷ []) (streams_seen others) a b o m f g)
 
@@ -178,11 +178,11 @@ sightings-push before e =
     flat_map-append (λ x. sightings_of x.1.kind) before (e ∷ []) ∙ ap (λ (l : List Sighting). sightings_in before ++ l) (append-nil (sightings_of e.1.kind))
 
 -- an event was written
-pub takes_event : {A : Type 0} (n : ℕ) (before : List (ℕ × Event A)) (event : Event A) (known after : List (Known A)) (old new : List ℕ) → Said n (sightings_of event.kind) known after old new → Keeps known (sightings_in before)
+pub takes_event : {A : Type 0} (n : ℕ) (before : List (ℕ × Event A)) (event : Event A) (known after : List (Known A)) (old new : List ℕ) → AppendsLines n (sightings_of event.kind) known after old new → Keeps known (sightings_in before)
     → Takes (blocks_text {A = A}) (λ (items : List (ℕ × Event A)). Keeps after (sightings_in items)) before (n, event) (Ok false) old new
 takes_event n before event known after old new wrote k =
     let p = wrote (sightings_in before) k in
-    (said n (sightings_in before) (sightings_of event.kind), refl, p.0, subst (λ (l : List Sighting). Keeps after l) (sym (sightings-push before (n, event))) p.1)
+    (written_of n (sightings_in before) (sightings_of event.kind), refl, p.0, subst (λ (l : List Sighting). Keeps after l) (sym (sightings-push before (n, event))) p.1)
 
 -- nothing is held at first
 pub keeps_none : {A : Type 0} → Keeps {A = A} [] []
