@@ -1,4 +1,6 @@
 //! The lines of the samples of a stream.
+ghost use Rattle.std.specs.Fmt.{decimal};
+ghost use Rattle.std.specs.Prelude.{◌++◌, codes};
 ghost use Rattle.text_core.specs.Pieces.{AppendsText};
 ghost use Rattle.exchange_engines.specs.SampleLine.{sample_line, seen_word};
 
@@ -23,6 +25,15 @@ fn put_seen<A: Allocator>(out: &mut Vec<u8, A>, seen: Seen) -> Result<(), AllocE
     }
 }
 
+// Appends a space and a number.
+fn put_spaced<A: Allocator>(out: &mut Vec<u8, A>, number: u64) -> Result<(), AllocError>
+    ensures { AppendsText result out.old.items out.new.items (codes " " ++ decimal number) }
+{
+    out.extend_from_slice(b" ")?;
+    put_decimal(out, number)?;
+    Ok(())
+}
+
 /// Appends the line of a sample: the number of the event's line, the position of the ASDU from 0, its
 /// count, and what that is.
 pub fn put_sample<A: Allocator>(
@@ -35,10 +46,8 @@ pub fn put_sample<A: Allocator>(
     ensures { AppendsText result out.old.items out.new.items (sample_line number (record { position = position; count = count }) seen) }
 {
     put_decimal(out, number)?;
-    out.extend_from_slice(b" ")?;
-    put_decimal(out, position)?;
-    out.extend_from_slice(b" ")?;
-    put_decimal(out, count as u64)?;
+    put_spaced(out, position)?;
+    put_spaced(out, count as u64)?;
     put_seen(out, seen)?;
     out.extend_from_slice(b"\n")
 }
