@@ -17,9 +17,8 @@ use Rattle.engine_core.specs.EngineText.{Text, ItemText, AreItemTexts, has_findi
 
 -- ---- where a run ended
 
--- A line of the octets that were read by rules of which s was settled at first, and the items of the lines before it.
--- From its start on at most 8,192 octets were read, and no whole line where the source has ended or failed: what was read
--- was read for this line alone.
+-- A line of what was read. The lines before it say these items; before the first of them s was settled. From its start on at
+-- most 8,192 octets were read, and no whole line where the source has ended or failed: they were read for this line alone.
 pub record AtLine {S X C : Type 0} (r : Rules S X C) (s : S) (z : InputEnd) (read : List ℕ) (items : List (ℕ × X)) : Type 0 where
   -- how many lines are before it, and what is settled then
   pub lines_before : ℕ
