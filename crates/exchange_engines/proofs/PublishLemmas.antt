@@ -16,7 +16,7 @@ use Rattle.publish_core.specs.Frames.{Change, Setup, setup}
 use Rattle.publish_core.specs.computed.Judgement.{IsJudged, refusal}
 use Rattle.publish_core.specs.Refusal.{Accepts, Refuses, next_state}
 use Rattle.publish_core.specs.Run.{Request, Call, Changed, Polled, IsAnswer, PublishesNone, PublishesOctets, call, greatest_call_moment, trace_of_calls}
-use Rattle.publish_core.specs.Standing.{PublisherStanding, PublisherStandsAfter}
+use Rattle.publish_core.specs.State.{PublisherState, PublisherStandsAfter}
 use Rattle.publish_core.specs.computed.Step.{request_frame, request_state, fresh_publisher}
 use Rattle.publish_core.specs.Table.{AreSteps, IsGood, step_at}
 use Rattle.publish_core.proofs.Judged.{judged, judged_only}
@@ -105,7 +105,7 @@ first_cause p steps none = rw (counted p steps, all_good p.table steps.good, eq-
 
 -- ---- calls
 
-standing_behind : {A : Type 0} (p : Setup A) (before calls : List Call) (s : PublisherStanding A) → PublisherStandsAfter p before s → PublisherStandsAfter p (before ++ calls) (standing_from s calls)
+standing_behind : {A : Type 0} (p : Setup A) (before calls : List Call) (s : PublisherState A) → PublisherStandsAfter p before s → PublisherStandsAfter p (before ++ calls) (standing_from s calls)
 standing_behind p before [] s w = subst (λ (l : List Call). PublisherStandsAfter p l s) (sym (append-nil before)) w
 standing_behind p before (c ∷ calls) s w =
     subst (λ (l : List Call). PublisherStandsAfter p l (standing_from s (c ∷ calls))) (append_assoc before (c ∷ []) calls)
@@ -160,7 +160,7 @@ publish_is {A} = record {
 -- ---- what the engine does
 
 -- a publisher is set up from what was said, or none can be
-pub runs_first : {A : Type 0} (g : Progress A) (control : Control A) (first : ℕ) (steps : ArrayVec Step) (items : List Step) (r : Result (PublisherStanding A) ScriptCause) → Holds (stage.Setup control first steps) g →
+pub runs_first : {A : Type 0} (g : Progress A) (control : Control A) (first : ℕ) (steps : ArrayVec Step) (items : List Step) (r : Result (PublisherState A) ScriptCause) → Holds (stage.Setup control first steps) g →
     items ≡ steps.items → IfOk r (λ s. PublisherStandsAfter (setup control items first) [] s) → OnOk r (IsScriptSound (setup control items first)) → IfErr r (λ why. setup_cause (setup control items first) ≡ Some why) → Runs g r
 runs_first nothing control first steps items r h e stands sound fails = absurd h
 runs_first {A} (setting_up p) control first steps items (Ok s) h e stands sound fails =
@@ -193,7 +193,7 @@ refused p calls m change why sound refuses =
     ap (λ (o : Option PublishFault). text_unless_refused o (answer_text (greatest_call_moment (calls ++ c ∷ [])) (request_frame (standing_from (fresh_publisher p) calls) (Changed change) m)))
     (sym (judged_only p.control p.table (next_state p calls) change sound.steps (Some why) refuses))
 
-module _ {A : Type 0} (p : Setup A) (calls : List Call) (sound : IsScriptSound p) (old new : List ℕ) (s : PublisherStanding A) where
+module _ {A : Type 0} (p : Setup A) (calls : List Call) (sound : IsScriptSound p) (old new : List ℕ) (s : PublisherState A) where
   -- a change was accepted, and the frame that it gives was appended
   pub changed : (m : ℕ) (change : Change) (moment : ℕ) (octets : List ℕ) → Accepts p calls change → PublishesOctets p (calls ++ call m (Changed change) ∷ []) (length calls) octets →
       PublisherStandsAfter p (calls ++ call m (Changed change) ∷ []) s → moment ≡ greatest_call_moment (calls ++ call m (Changed change) ∷ []) →
@@ -249,7 +249,7 @@ polled_there {A} p calls m octets sound published n none =
     let h = ap (answer_text {A = A} (greatest_call_moment (calls ++ c ∷ []))) same ∙ none in cc
 
 -- a poll that is not taken leaves the item so
-pub poll_fails : {A : Type 0} (g : Progress A) (p : Setup A) (calls : List Call) (m : ℕ) (e : LineError ScriptCause) (old new : List ℕ) (s : PublisherStanding A) →
+pub poll_fails : {A : Type 0} (g : Progress A) (p : Setup A) (calls : List Call) (m : ℕ) (e : LineError ScriptCause) (old new : List ℕ) (s : PublisherState A) →
     call_at g (call m Polled) ≡ call_step p calls (call m Polled) → TakesCall p calls (call m Polled) (Err e) old new s → TakesItem g (item.Poll m) (Err e) old new
 poll_fails g p calls m (line.Cause why) old new s same t = same ∙ t
 poll_fails {A} g p calls m (line.Memory x) old new s same t = λ n none. t n (ap (step_text (publish_text {A = A}) n) (sym same) ∙ none)

@@ -12,7 +12,7 @@ use Rattle.list_core.specs.ListReader.{list_fault_of}
 use Rattle.block_core.specs.declared.block.Block.{Block}
 use Rattle.subscribe_core.specs.declared.entry.Entry.{Entry}
 use Rattle.subscribe_core.specs.Entries.{AreEntriesAt}
-use Rattle.subscribe_core.specs.Standing.{AreApart, IsFirstTwice}
+use Rattle.subscribe_core.specs.Apart.{AreApart, IsFirstTwice}
 use Rattle.engine_core.specs.declared.ending.Ending.{Ending}
 use Rattle.engine_core.specs.declared.ending.Ending.TheVariants.{Memory}
 use Rattle.engine_core.specs.EngineText.{Text, IsUntouched, LeavesRefused, Writes}

@@ -18,7 +18,7 @@ use Rattle.publish_core.proofs.Runs.{answers_are_one, runs_are_whole as publishe
 use Rattle.subscribe_core.specs.computed.Content.{content_by, reading_of}
 use Rattle.subscribe_core.specs.Entries.{AreEntries}
 use Rattle.subscribe_core.specs.Reading.{Content, EventRead}
-use Rattle.subscribe_core.specs.Standing.{fresh_state}
+use Rattle.subscribe_core.specs.State.{fresh_state}
 use Rattle.subscribe_core.specs.computed.Steps.{run_events}
 use Rattle.subscribe_core.proofs.Runs.{runs_are_whole}
 use Rattle.exchange_laws.specs.Laws.{WholeRunsReplay}

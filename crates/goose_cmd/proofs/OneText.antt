@@ -20,7 +20,7 @@ use Rattle.publish_core.proofs.Runs.{answer_one}
 use Rattle.block_core.specs.declared.block.Block.{Block}
 use Rattle.subscribe_core.specs.declared.entry.Entry.{Entry}
 use Rattle.subscribe_core.specs.declared.watch.Seen.{Seen}
-use Rattle.subscribe_core.specs.Standing.{AreApart}
+use Rattle.subscribe_core.specs.Apart.{AreApart}
 use Rattle.subscribe_core.proofs.Counts.{answers_are_one}
 use Rattle.subscribe_core.proofs.Runs.{entries_are_one}
 use Rattle.script_core.specs.declared.script.ScriptCause.{ScriptCause}

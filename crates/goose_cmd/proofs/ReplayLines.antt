@@ -8,7 +8,7 @@ use Rattle.list_core.specs.Lines.{Stop}
 use Rattle.block_core.specs.declared.block.Block.{Block}
 use Rattle.subscribe_core.specs.declared.entry.Entry.{Entry}
 use Rattle.subscribe_core.specs.Entries.{AreEntriesAt}
-use Rattle.subscribe_core.specs.Standing.{AreApart}
+use Rattle.subscribe_core.specs.Apart.{AreApart}
 use Rattle.engine_core.specs.EngineText.{Account, Text, last_text, put_step, told_after}
 use Rattle.exchange_engines.specs.EntryText.{entry_lines}
 use Rattle.exchange_engines.specs.ReplayText.{IsReplayText, events_of}

@@ -8,7 +8,7 @@ use Rattle.publish_core.specs.Run.{Call}
 use Rattle.block_core.specs.declared.block.Block.{Block}
 use Rattle.subscribe_core.specs.declared.entry.Entry.{Entry}
 use Rattle.subscribe_core.specs.Entries.{AreEntries}
-use Rattle.subscribe_core.specs.Standing.{AreApart}
+use Rattle.subscribe_core.specs.Apart.{AreApart}
 use Rattle.exchange_laws.specs.PublishedList.{IsWholeRun, one_entry_each, published_events, sent_from}
 use Rattle.engine_core.specs.EngineText.{Text}
 use Rattle.exchange_engines.specs.ReplayText.{IsReplayText}

@@ -15,7 +15,7 @@ use Rattle.subscribe_core.specs.declared.entry.Entry.TheVariants as says
 use Rattle.subscribe_core.specs.declared.entry.Reason.{Reason}
 use Rattle.subscribe_core.specs.declared.entry.Reason.TheVariants.{DatSet, GoId, ConfRev, Commissioning, Simulated, Entries, StateZero, LiveZero}
 use Rattle.subscribe_core.specs.Entries.{AreEntries}
-use Rattle.subscribe_core.specs.Standing.{AreApart, HasNameOf}
+use Rattle.subscribe_core.specs.Apart.{AreApart, HasNameOf}
 use Rattle.engine_core.specs.EngineText.{Text, last_text, told, whole_text}
 use Rattle.exchange_engines.specs.EntryText.{entry_lines}
 use Rattle.exchange_engines.specs.ReplayText.{IsReplayText, events_of}

@@ -7,7 +7,7 @@ use Rattle.frame_core.specs.declared.frame.Frame.{Frame}
 use Rattle.publish_core.specs.Frames.{Setup, Change, frame}
 use Rattle.publish_core.specs.Run.{Request, Changed, Polled, Call, call, CallTrace, greatest_call_moment, trace_of_calls, IsAnswer, AreAnswers}
 use Rattle.publish_core.specs.Laws.{AnswersAreOne, AnswersAreThere, AnswersStay, PollsGive}
-use Rattle.publish_core.specs.Standing.{PublisherStanding, PublisherStandsAfter}
+use Rattle.publish_core.specs.State.{PublisherState, PublisherStandsAfter}
 use Rattle.publish_core.specs.computed.Step.{request_frame, request_state, run_calls, fresh_publisher}
 use Rattle.publish_core.proofs.NumberLaws.{state_number_first}
 use Rattle.publish_core.proofs.GivesOne.{gives_one}
@@ -59,15 +59,15 @@ answers_stay p calls later i a lt x = answer_same (trace_longer calls later) p i
 
 -- a run
 
-pub request_ok : {A : Type 0} (p : Setup A) (calls : List Call) (s : PublisherStanding A) (request : Request) (now : ℕ) → PublisherStandsAfter p calls s → IsAnswer p (trace_of_calls (calls ++ call now request ∷ [])) (length calls) (request_frame s request now) × PublisherStandsAfter p (calls ++ call now request ∷ []) (request_state s request now)
+pub request_ok : {A : Type 0} (p : Setup A) (calls : List Call) (s : PublisherState A) (request : Request) (now : ℕ) → PublisherStandsAfter p calls s → IsAnswer p (trace_of_calls (calls ++ call now request ∷ [])) (length calls) (request_frame s request now) × PublisherStandsAfter p (calls ++ call now request ∷ []) (request_state s request now)
 request_ok p calls s (Changed change) now w = change_ok p calls s change now w
 request_ok p calls s Polled now w = poll_ok p calls s now w
 
-run_length : {A : Type 0} (cs : List Call) (s : PublisherStanding A) → length (run_calls s cs) ≡ length cs
+run_length : {A : Type 0} (cs : List Call) (s : PublisherState A) → length (run_calls s cs) ≡ length cs
 run_length [] s = refl
 run_length (c ∷ cs) s = ap suc (run_length cs (request_state s c.request c.moment))
 
-run_from : {A : Type 0} (p : Setup A) (cs before : List Call) (s : PublisherStanding A) → PublisherStandsAfter p before s → (i : ℕ) (a : Option (Frame A)) → slice_get (run_calls s cs) i ≡ Some a → IsAnswer p (trace_of_calls (before ++ cs)) (length before + i) a
+run_from : {A : Type 0} (p : Setup A) (cs before : List Call) (s : PublisherState A) → PublisherStandsAfter p before s → (i : ℕ) (a : Option (Frame A)) → slice_get (run_calls s cs) i ≡ Some a → IsAnswer p (trace_of_calls (before ++ cs)) (length before + i) a
 run_from p [] before s w i a e = absurd (none-some a e)
 run_from {A} p (c ∷ cs) before s w zero a is =
     let step = request_ok p before s c.request c.moment w in

@@ -10,7 +10,8 @@ use Rattle.mms_data.specs.Data.{boolean, simple}
 use Rattle.mms_data.specs.computed.KindReading.{kind_at}
 use Rattle.mms_data.specs.computed.Reading.{member_at, member_with, members_at, members_with}
 use Rattle.list_core.specs.declared.event_lines.MomentUnit.TheVariants.{Milliseconds, Microseconds}
-use Rattle.script_core.specs.Script.{flag_in, line_said, script_said, tag_in}
+use Rattle.script_core.specs.ScriptFields.{flag_in, tag_in}
+use Rattle.script_core.specs.Script.{line_said, script_said}
 use Rattle.script_core.specs.declared.script.ScriptCause.TheVariants as cause
 use Rattle.script_core.specs.declared.script.ScriptItem.TheVariants as item
 use Rattle.script_core.specs.declared.script.ScriptLines.TheVariants.{First, After}

@@ -9,7 +9,7 @@ use Rattle.publish_core.specs.Frames.{Setup, change, setup}
 use Rattle.publish_core.specs.computed.Judgement.{refusal}
 use Rattle.publish_core.specs.Refusal.{next_state}
 use Rattle.publish_core.specs.Run.{Request, Call, Changed, Polled, call, greatest_call_moment}
-use Rattle.publish_core.specs.Standing.{PublisherStanding, PublisherStandsAfter}
+use Rattle.publish_core.specs.State.{PublisherState, PublisherStandsAfter}
 use Rattle.publish_core.specs.computed.Step.{request_frame, request_state, fresh_publisher}
 use Rattle.exchange_engines.specs.declared.engines.publish.Stage.{Stage}
 use Rattle.exchange_engines.specs.declared.engines.publish.Stage.TheVariants as stage
@@ -57,7 +57,7 @@ abbrev pub progress_after : {A : Type 0} → List (ℕ × ScriptItem A) → Prog
 progress_after items = progress_from nothing (items_of_lines items)
 
 -- what a publisher holds after these calls
-abbrev pub standing_from : {A : Type 0} → PublisherStanding A → List Call → PublisherStanding A
+abbrev pub standing_from : {A : Type 0} → PublisherState A → List Call → PublisherState A
 standing_from s [] = s
 standing_from s (c ∷ calls) = standing_from (request_state s c.request c.moment) calls
 
@@ -130,13 +130,13 @@ TakesItem g i (Err (line.Cause why)) old new = item_step i g ≡ Err why
 TakesItem {A} g i (Err (line.Memory e)) old new = (n : ℕ) → step_text (publish_text {A = A}) n (item_step i g) ≡ [] → ⊥
 
 -- a call was taken after these, or refused
-abbrev pub TakesCall : {A : Type 0} → Setup A → List Call → Call → Result (Unit {0}) (LineError ScriptCause) → List ℕ → List ℕ → PublisherStanding A → Type 0
+abbrev pub TakesCall : {A : Type 0} → Setup A → List Call → Call → Result (Unit {0}) (LineError ScriptCause) → List ℕ → List ℕ → PublisherState A → Type 0
 TakesCall p calls c (Ok u) old new s = (text : List ℕ) × (call_step p calls c ≡ Ok (text, false)) × (new ≡ old ++ text) × PublisherStandsAfter p (calls ++ c ∷ []) s
 TakesCall p calls c (Err (line.Cause why)) old new s = call_step p calls c ≡ Err why
 TakesCall {A} p calls c (Err (line.Memory e)) old new s = (n : ℕ) → step_text (publish_text {A = A}) n (call_step p calls c) ≡ [] → ⊥
 
 -- the publisher that runs after this, or why none does
-abbrev pub Runs : {A : Type 0} → Progress A → Result (PublisherStanding A) ScriptCause → Type 0
+abbrev pub Runs : {A : Type 0} → Progress A → Result (PublisherState A) ScriptCause → Type 0
 Runs {A} g (Ok s) = (p : Setup A) × (calls : List Call) × IsScriptSound p × PublisherStandsAfter p calls s
     × ((c : Call) → (call_at g c ≡ call_step p calls c) × (called g c ≡ calling p (calls ++ c ∷ [])))
 Runs g (Err why) = (c : Call) → call_at g c ≡ Err why

@@ -4,7 +4,7 @@ ghost use Rattle.list_core.specs.declared.device.InputEnd.{InputEnd};
 ghost use Rattle.list_core.specs.Device.{GivesOctets};
 ghost use Rattle.publish_core.specs.Frames.{Setup, change, setup};
 ghost use Rattle.publish_core.specs.Run.{Call, Changed, Polled, call};
-ghost use Rattle.publish_core.specs.Standing.{PublisherStandsAfter};
+ghost use Rattle.publish_core.specs.State.{PublisherStandsAfter};
 ghost use Rattle.script_core.specs.declared.script.ScriptCause.{ScriptCause as SpecCause};
 ghost use Rattle.script_core.specs.declared.script.ScriptItem.{ScriptItem as SpecItem};
 ghost use Rattle.script_core.specs.declared.script.ScriptLines.TheVariants.{First};

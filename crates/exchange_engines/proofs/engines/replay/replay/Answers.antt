@@ -3,7 +3,7 @@ use Rattle.list_core.specs.EventLine.{event_rules}
 use Rattle.list_core.specs.declared.event_lines.EventLines.TheVariants.{First}
 use Rattle.list_core.proofs.Devices.{Consumes-none, Gives-from_Consumes}
 use Rattle.block_core.specs.declared.block.Block.{Block}
-use Rattle.subscribe_core.specs.Standing.{State}
+use Rattle.subscribe_core.specs.State.{State}
 use Rattle.engine_core.specs.EngineText.{LeavesRefused, Writes}
 use Rattle.exchange_engines.specs.ReplayText.{twice_line}
 use Rattle.exchange_engines.specs.computed.ReplayStep.{replay_text}

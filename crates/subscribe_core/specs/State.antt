@@ -1,5 +1,5 @@
 -- What a subscriber keeps, and when it is what a whole list of events says.
-use Rattle.std.specs.Prelude.{◌≡◌, ℕ, ◌<◌, Bool, false, Some, None, List, length, replicate, slice_get}
+use Rattle.std.specs.Prelude.{◌≡◌, ℕ, Bool, false, Some, None, List, length, replicate, slice_get}
 use Rattle.block_core.specs.declared.block.Block.{Block}
 use Rattle.subscribe_core.specs.declared.registers.Register.{Register}
 use Rattle.list_core.specs.declared.event.Event.{Event}
@@ -16,13 +16,13 @@ pub record State (A : Type 0) : Type 0 where
   pub moment : ℕ
 
 -- what a subscriber keeps, and how often the last event reached a block or its register
-pub record Standing (A : Type 0) : Type 0 where
+pub record StateAndLooks (A : Type 0) : Type 0 where
   pub state : State A
   pub looks : ℕ
 
 -- what a subscriber keeps, how often the last event reached a block or its register, and how often one was reached in
 -- all, up to 2^64 - 1
-pub record Counted (A : Type 0) : Type 0 where
+pub record StateAndReaches (A : Type 0) : Type 0 where
   pub state : State A
   pub looks : ℕ
   pub reaches : ℕ
@@ -46,21 +46,3 @@ idle = record { held = None; simulated = false }
 -- what a subscriber keeps before any event
 abbrev pub fresh_state : {A : Type 0} → List (Block A) → State A
 fresh_state blocks = record { blocks = blocks; registers = replicate (length blocks) idle; mode = false; moment = 0 }
-
--- two blocks have one name
-abbrev pub HasNameOf : {A : Type 0} → Block A → Block A → Type 0
-HasNameOf a b = (a.app_id ≡ b.app_id) × (a.gocb_ref ≡ b.gocb_ref)
-
--- no two blocks have one name
-abbrev pub AreApart : {A : Type 0} → List (Block A) → Type 0
-AreApart {A} blocks =
-    (i j : ℕ) (a b : Block A) → slice_get blocks i ≡ Some a → slice_get blocks j ≡ Some b → HasNameOf a b → i ≡ j
-
--- the block at i has the name of an earlier one
-abbrev pub IsTwice : {A : Type 0} → List (Block A) → ℕ → Type 0
-IsTwice {A} blocks i =
-    (j : ℕ) × (a : Block A) × (b : Block A) × (j < i) × (slice_get blocks j ≡ Some a) × (slice_get blocks i ≡ Some b) × HasNameOf a b
-
--- it is the first such
-abbrev pub IsFirstTwice : {A : Type 0} → List (Block A) → ℕ → Type 0
-IsFirstTwice blocks i = IsTwice blocks i × ((j : ℕ) → j < i → ¬ IsTwice blocks j)

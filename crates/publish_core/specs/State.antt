@@ -11,7 +11,7 @@ use Rattle.publish_core.specs.Run.{CallTrace, Call, IsNewestFrame, changes, grea
 
 -- what a publisher holds: its control and table, the status number of the next state, its moment in microseconds, and
 -- what it gave last
-pub record PublisherStanding (A : Type 0) : Type 0 where
+pub record PublisherState (A : Type 0) : Type 0 where
   pub control : Control A
   pub table : List Step
   pub next : ℕ
@@ -39,7 +39,7 @@ PublisherHolds p t n None = changes t n ≡ 0
 PublisherHolds p t n (Some l) = HoldsNewest p t n l
 
 -- the publisher stands after these calls: it holds what the whole list of them says
-pub record PublisherStandsAfter {A : Type 0} (p : Setup A) (calls : List Call) (s : PublisherStanding A) : Type 0 where
+pub record PublisherStandsAfter {A : Type 0} (p : Setup A) (calls : List Call) (s : PublisherState A) : Type 0 where
   pub control : s.control ≡ p.control
   pub table : s.table ≡ p.table
   pub next : s.next ≡ next_state p calls

@@ -1,6 +1,6 @@
 use Rattle.std.proofs.Common.{sym, ◌∙◌}
 use Rattle.script_core.proofs.ScriptLemmas.{change_more}
-use Rattle.script_core.proofs.script_line.change_in.Goals as goal
+use Rattle.script_core.proofs.script_line.change_line.Goals as goal
 
 pub returns-then-is_some : goal.returns-then-is_some
 returns-then-is_some g c =
