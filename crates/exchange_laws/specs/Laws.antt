@@ -18,7 +18,7 @@ use Rattle.subscribe_core.specs.Reading.{AreRead, EventRead}
 use Rattle.subscribe_core.specs.Sight.{trace_of_block}
 use Rattle.subscribe_core.specs.Apart.{AreApart}
 use Rattle.exchange_laws.specs.PublishedList.{IsWholeRun, one_entry_each, published_events, sent_from}
-use Rattle.exchange_laws.specs.Stems.{AreAccepted, AreHeld, ChangeComesInTime, IsOfRun, IsPublishedUnder, StemsFromRun}
+use Rattle.exchange_laws.specs.Stems.{AreAccepted, HasSizes, ChangeComesInTime, IsOfRun, IsPublishedUnder, StemsFromRun}
 
 -- one thing is published under a status number
 abbrev pub PublishedIsOne : Type 0 → Type 0
@@ -79,14 +79,14 @@ ChangesActedOn A B = (e : EpochOfRun A B) → ActsInOrder e
 -- the octets that a publisher gives, whose changes were accepted, are of its run
 abbrev pub WhatIsPublishedIsOfTheRun : Type 0 → Type 0
 WhatIsPublishedIsOfTheRun A =
-    (p : Setup A) (calls : List Call) (i : ℕ) (octets : List ℕ) → AreHeld p → AreAccepted p calls → PublishesOctets p calls i octets → IsOfRun p calls octets
+    (p : Setup A) (calls : List Call) (i : ℕ) (octets : List ℕ) → HasSizes p → AreAccepted p calls → PublishesOctets p calls i octets → IsOfRun p calls octets
 
 -- So an epoch stems from the run where each of its good frames is octets that a call of the run publishes, whatever of them
 -- was lost, repeated or reordered.
 abbrev pub EpochsOfWhatIsPublishedStem : Type 0 → Type 0 → Type 0
 EpochsOfWhatIsPublishedStem A B =
     (block : Block B) (events : List (Event B)) (readings : List EventRead) (s : ℕ) (p : Setup A) (calls : List Call) →
-    1 ≤ p.first → NoWrap p calls → AreHeld p → AreAccepted p calls →
+    1 ≤ p.first → NoWrap p calls → HasSizes p → AreAccepted p calls →
     ((i : ℕ) (f : Facts) (e : Event B) (octets : List ℕ) → IsIn (trace_of_block block readings) s i f → slice_get events i ≡ Some e →
     e.kind ≡ kinds.Frame octets → (j : ℕ) × PublishesOctets p calls j octets) →
     StemsFromRun block events readings s p calls

@@ -57,7 +57,7 @@ abbrev pub AreAccepted : {A : Type 0} → Setup A → List Call → Type 0
 AreAccepted p calls = (i : ℕ) (handed_in : Change) → (published_trace calls).request i ≡ Some (Changed handed_in) → Accepts p (take i calls) handed_in
 
 -- the fields of the control and of the table's steps have the sizes that the types of the code give them
-pub record AreHeld {A : Type 0} (p : Setup A) : Type 0 where
+pub record HasSizes {A : Type 0} (p : Setup A) : Type 0 where
   pub to : length p.control.destination ≡ 6
   pub from : length p.control.source ≡ 6
   pub tag : TagIsHeld p.control.tag

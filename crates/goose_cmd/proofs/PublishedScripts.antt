@@ -252,9 +252,9 @@ scripts_give_lists {A} B p calls answers z text t are says is = (
       subst (λ (more : List Call). TellsStop p calls more script script.stop) (sym (no_back calls says.left none)) refl,
     )
     by_setup (inr sound) =
-        calls_told B p t is calls [] says.left answers left.0 left.1 script sound left.2 left.3 left.4 are.0 says.accepted (λ i a at.
+        calls_told B p t is calls [] says.left answers left.0 left.1 script sound left.2 left.3 left.4 are.sizes says.accepted (λ i a at.
         let none : i ≡ 0 + i = omega arith in
-        subst (λ (j : ℕ). IsAnswer p (trace_of_calls calls) j a) none (are.1 i a at)) says.stops
+        subst (λ (j : ℕ). IsAnswer p (trace_of_calls calls) j a) none (are.each i a at)) says.stops
 
     ends : Stops B p t is calls says.left left.0 left.1 script (sent_from 0 calls answers)
     ends = by_setup set_up.sound

@@ -94,7 +94,7 @@ published_texts_replay {A} {B} p block calls answers z text t r run says is repl
     by_setup (inr sound) =
         let some : 1 ≤ length p.table = sound.steps.some in
         let room : 1 + length (sent_from 0 calls answers) < 1000000 = omega (arith, some, sent_count 0 calls answers, script_room p calls z text says) in
-        let octets : SendsOctets (sent_from 0 calls answers) = all_octets_sent 0 calls answers (λ i f at. answer_octets p calls i f (script_octets p calls z text says) says.accepted (run.are_answers.1 i (Some f) at)) in
+        let octets : SendsOctets (sent_from 0 calls answers) = all_octets_sent 0 calls answers (λ i f at. answer_octets p calls i f (script_octets p calls z text says) says.accepted (run.are_answers.each i (Some f) at)) in
         let all : IsWholeRun p block calls answers = record {
           own = run.own;
           held = script_sizes p calls z text says;

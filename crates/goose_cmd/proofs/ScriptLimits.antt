@@ -28,7 +28,7 @@ use Rattle.list_core.proofs.MomentDigits.{digits_test}
 use Rattle.publish_core.specs.declared.table.Step.{Step}
 use Rattle.publish_core.specs.Frames.{Change, Setup}
 use Rattle.publish_core.specs.Run.{Request, Call, Changed, Polled, trace_of_calls}
-use Rattle.exchange_laws.specs.Stems.{AreHeld}
+use Rattle.exchange_laws.specs.Stems.{HasSizes}
 use Rattle.block_core.specs.Commas.{comma_fields}
 use Rattle.script_core.specs.declared.script.ScriptCause.{ScriptCause}
 use Rattle.script_core.specs.declared.script.ScriptItem.{ScriptItem}
@@ -271,7 +271,7 @@ pub script_moments : {A : Type 0} (p : Setup A) (calls : List Call) (z : InputEn
 script_moments {A} p calls z text says = calls_short A calls (behind_steps p.table (map item_of_call calls) (says_limits p calls z text says).1)
 
 -- its fields have their sizes
-pub script_sizes : {A : Type 0} (p : Setup A) (calls : List Call) (z : InputEnd) (text : List ℕ) → SaysRun p calls (script_of_text z text) → AreHeld p
+pub script_sizes : {A : Type 0} (p : Setup A) (calls : List Call) (z : InputEnd) (text : List ℕ) → SaysRun p calls (script_of_text z text) → HasSizes p
 script_sizes p calls z text says = let w = says_limits p calls z text says in setup_held p w.0 (at_steps p.table (map item_of_call calls) w.1)
 
 -- its addresses are octets, and the values of each change are written as octets

@@ -12,7 +12,7 @@ use Rattle.publish_core.specs.declared.control.Control.{Control}
 use Rattle.publish_core.specs.declared.table.Step.{Step}
 use Rattle.publish_core.specs.Frames.{Setup}
 use Rattle.publish_core.specs.Table.{step_at}
-use Rattle.exchange_laws.specs.Stems.{AreHeld}
+use Rattle.exchange_laws.specs.Stems.{HasSizes}
 use Rattle.script_core.specs.declared.script_control.ControlNumbers.{ControlNumbers}
 use Rattle.block_core.specs.Commas.{number_by, octets_in, text_in, word_in}
 use Rattle.script_core.specs.ControlLine.{ControlLine, control_of, control_with, numbers_with}
@@ -203,5 +203,5 @@ step_lives [] w i = omega arith
 step_lives (s ∷ steps) w zero = let low = w.0 in omega (arith, low)
 step_lives (s ∷ steps) w (suc i) = step_lives steps w.1 i
 
-pub setup_held : {A : Type 0} (p : Setup A) → ControlIsHeld p.control → LiveBelow p.table → AreHeld p
+pub setup_held : {A : Type 0} (p : Setup A) → ControlIsHeld p.control → LiveBelow p.table → HasSizes p
 setup_held p c w = record { to = c.to; from = c.from; tag = c.tag; app_id = c.app_id; conf_rev = c.conf_rev; entries = c.entries; lives = step_lives p.table w }

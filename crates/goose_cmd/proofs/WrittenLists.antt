@@ -25,7 +25,7 @@ use Rattle.subscribe_core.specs.Entries.{AreEntries, AreEntriesAt}
 use Rattle.subscribe_core.specs.Apart.{AreApart}
 use Rattle.subscribe_core.proofs.Runs.{entries_are_one, entries_stay}
 use Rattle.exchange_laws.specs.PublishedList.{IsWholeRun, Sent, one_entry_each, published_events, sent_from, with_frame}
-use Rattle.exchange_laws.specs.Stems.{AreAccepted, AreHeld}
+use Rattle.exchange_laws.specs.Stems.{AreAccepted, HasSizes}
 use Rattle.exchange_laws.proofs.OneFrame.{one_apart}
 use Rattle.exchange_laws.proofs.PublishedLists.{whole_runs_replay}
 use Rattle.exchange_laws.proofs.WrittenForms.{change_accepted}
@@ -135,7 +135,7 @@ behind_some : (d a b : List ℕ) → length d ≡ 6 → 0 < length ((d ++ a) ++ 
 behind_some [] a b e = absurd (omega arith)
 behind_some (x ∷ d) a b e = omega arith
 
-answer_size : {A : Type 0} (p : Setup A) (calls : List Call) (i : ℕ) (f : Frame A) → AreHeld p → AreAccepted p calls → IsAnswer p (trace_of_calls calls) i (Some f) → HasSize f
+answer_size : {A : Type 0} (p : Setup A) (calls : List Call) (i : ℕ) (f : Frame A) → HasSizes p → AreAccepted p calls → IsAnswer p (trace_of_calls calls) i (Some f) → HasSize f
 answer_size {A} p calls i f held accepted w =
     let at = carried w.3 in
     let fit = (change_accepted p calls at.0 w.0 w.2 accepted at.2).fit w.1 in
@@ -170,7 +170,7 @@ pub ended_runs_replay : {A B : Type 0} (p : Setup A) (block : Block B) (calls : 
     EndsList B (1 + length (sent_from 0 calls answers)) end → ReplayGives t (list_text (published_events {B = B} (sent_from 0 calls answers)) ++ end) (one_entry_each (sent_from 0 calls answers))
 ended_runs_replay {A} {B} p block calls answers end t run short octets room is ends =
     ended_lists_replay (block ∷ []) (published_events (sent_from 0 calls answers)) (one_entry_each (sent_from 0 calls answers)) end t (one_apart block)
-    (sent_can B 0 calls answers (omega arith) short (λ i f at. answer_size p calls i f run.held run.accepted (run.are_answers.1 i (Some f) at)) octets)
+    (sent_can B 0 calls answers (omega arith) short (λ i f at. answer_size p calls i f run.held run.accepted (run.are_answers.each i (Some f) at)) octets)
     (omega (arith, room, events_counted B (sent_from 0 calls answers))) (whole_runs_replay p block calls answers run (omega arith)) is
     (subst (λ (n : ℕ). EndsList B (1 + n) end) (sym (events_counted B (sent_from 0 calls answers))) ends)
 

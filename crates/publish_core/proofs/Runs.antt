@@ -39,7 +39,7 @@ list_same {X} (x ∷ xs) (y ∷ ys) e h =
 
 pub answers_are_one : {A : Type 0} → AnswersAreOne A
 answers_are_one p calls xs ys a b =
-    list_same xs ys (a.0 ∙ sym b.0) (λ i x y e f. answer_one p (trace_of_calls calls) i x y (a.1 i x e) (b.1 i y f))
+    list_same xs ys (a.sizes ∙ sym b.sizes) (λ i x y e f. answer_one p (trace_of_calls calls) i x y (a.each i x e) (b.each i y f))
 
 -- later calls change nothing
 
@@ -90,12 +90,12 @@ fresh_stands p some most =
     record { control = refl; table = refl; next = sym (state_number_first p.first some most); moment = refl; holds = refl }
 
 pub runs_are_whole : {A : Type 0} (p : Setup A) (calls : List Call) → 0 < p.first → p.first ≤ 4294967295 → AreAnswers p calls (run_calls (fresh_publisher p) calls)
-runs_are_whole p calls some most = (
-  run_length calls (fresh_publisher p),
-  λ i a is.
+runs_are_whole p calls some most = record {
+  sizes = run_length calls (fresh_publisher p);
+  each = λ i a is.
       let e : 0 + i ≡ i = omega arith in
-      subst (λ (n : ℕ). IsAnswer p (trace_of_calls calls) n a) e (run_from p calls [] (fresh_publisher p) (fresh_stands p some most) i a is),
-)
+      subst (λ (n : ℕ). IsAnswer p (trace_of_calls calls) n a) e (run_from p calls [] (fresh_publisher p) (fresh_stands p some most) i a is);
+}
 
 pub answers_are_there : {A : Type 0} → AnswersAreThere A
 answers_are_there p calls some most = (run_calls (fresh_publisher p) calls, runs_are_whole p calls some most)
@@ -117,7 +117,10 @@ request_less calls n h a is lt none = go (slice_get calls n) (slice_get calls h)
     go (Some c) (Some d) e f x y = none-some d.request (sym y)
 
 pub polls_give : PollsGive
-polls_give table calls n poll = (
-  poll_gives table (trace_of_calls calls) n (λ h lt. request_less calls n h Polled poll lt) poll,
-  λ zero_yet c k change. none_yet table (trace_of_calls calls) n zero_yet poll c k change,
-)
+polls_give table calls n poll =
+    let gives = poll_gives table (trace_of_calls calls) n (λ h lt. request_less calls n h Polled poll lt) poll in
+    record {
+      where_due = λ i c k change newest. (gives i c k change newest).0;
+      no_other = λ i c k change newest. (gives i c k change newest).1;
+      none_yet = λ zero_yet c k change. none_yet table (trace_of_calls calls) n zero_yet poll c k change;
+    }

@@ -1,5 +1,5 @@
 -- The actions of an event are those of the blocks that act on it.
-use Rattle.std.proofs.Common.{◌≡◌, ◌⊎◌, ℕ, zero, suc, ◌+◌, ◌<◌, true, false, inl, inr, Option, Some, None, List, [], ◌∷◌, ◌++◌, length, slice_get, get_or, Contains, sym, refl, ap, ◌∙◌, subst, arith}
+use Rattle.std.proofs.Common.{◌≡◌, ◌⊎◌, ℕ, zero, suc, ◌+◌, ◌<◌, true, inl, inr, Option, Some, None, List, [], ◌∷◌, ◌++◌, length, slice_get, get_or, Contains, sym, refl, ap, ◌∙◌, subst, arith}
 use Rattle.std.proofs.lemmas.Bool.{false≢true}
 use Rattle.std.proofs.lemmas.List.Elements.{Contains-append_cases, Contains-append_right}
 use Rattle.std.proofs.lemmas.Option.{same_Some}
@@ -61,12 +61,12 @@ record IsActionOf {A : Type 0} (blocks : List (Block A)) (events : List EventRea
 
 verdict_action : {A : Type 0} → (blocks : List (Block A)) (events : List EventRead) (i c : ℕ) (block : Block A) (f : FrameRead) (v : Verdict) (b st sq : ℕ) (t : UtcTime) (m : List Data) → slice_get blocks c ≡ Some block → IsVerdict (trace_of_block block events) i (facts_of_frame f) v → entry_of {A = A} c f v ≡ says.Act b st sq t m → IsActionOf blocks events i b f (says.Act b st sq t m)
 verdict_action {A} blocks events i c block f Act b st sq t m here w e =
-    let place : c ≡ b = cc in
+    let position : c ≡ b = cc in
     record {
       block = block;
-      at = ap (slice_get blocks) (sym place) ∙ here;
+      at = ap (slice_get blocks) (sym position) ∙ here;
       acts = w;
-      told = sym e ∙ ap (λ (n : ℕ). entry_of {A = A} n f Act) place;
+      told = sym e ∙ ap (λ (n : ℕ). entry_of {A = A} n f Act) position;
     }
 verdict_action blocks events i c block f Refreshed b st sq t m here w e = absurd cc
 verdict_action blocks events i c block f Repeated b st sq t m here w e = absurd cc
@@ -129,11 +129,11 @@ acted_block {A} events i c block f None x acts none a =
 acted_frame : {A : Type 0} → (blocks : List (Block A)) (events : List EventRead) (i b : ℕ) (block : Block A) (f : FrameRead) (x : Entry A) → AreApart blocks → slice_get blocks b ≡ Some block → is_of f block ≡ true → reason_at block events i f ≡ None → Acts (trace_of_block block events) i → IsFrameEntry blocks events i f x → x ≡ entry_of b f Act
 acted_frame blocks events i b block f x apart here yes_of clear acts (inl a) = absurd (false≢true (sym (a.0 b block here) ∙ yes_of))
 acted_frame {A} blocks events i b block f x apart here yes_of clear acts (inr a) =
-    let place : a.0 ≡ b = same_position blocks apart f a.0 b a.1 block a.2 here a.3 yes_of in
-    let same : a.1 ≡ block = same_block blocks a.0 b a.1 block a.2 here place in
+    let position : a.0 ≡ b = same_position blocks apart f a.0 b a.1 block a.2 here a.3 yes_of in
+    let same : a.1 ≡ block = same_block blocks a.0 b a.1 block a.2 here position in
     acted_block events i b block f (reason_at block events i f) x acts clear
     (subst (λ (z : Block A). IsBlockEntry events i b z f (reason_at z events i f) x) same
-    (subst (λ n. IsBlockEntry events i n a.1 f (reason_at a.1 events i f) x) place a.4))
+    (subst (λ n. IsBlockEntry events i n a.1 f (reason_at a.1 events i f) x) position a.4))
 
 acted_told : {A : Type 0} → (blocks : List (Block A)) (events : List EventRead) (i : ℕ) (es : List (Entry A)) (b : ℕ) (entry : Entry A) → AreApart blocks → AreReadEntriesAt blocks events i es → IsActOn blocks events i b entry → Contains es entry
 acted_told {A} blocks events i es b entry apart a w =

@@ -69,11 +69,11 @@ frame_unique {A} blocks apart events i f x y (inl a) (inl c) = a.1 ∙ sym c.1
 frame_unique {A} blocks apart events i f x y (inl a) (inr c) = absurd (false≢true (sym (a.0 c.0 c.1 c.2) ∙ c.3))
 frame_unique {A} blocks apart events i f x y (inr a) (inl c) = absurd (false≢true (sym (c.0 a.0 a.1 a.2) ∙ a.3))
 frame_unique {A} blocks apart events i f x y (inr a) (inr c) =
-    let place : c.0 ≡ a.0 = same_position blocks apart f c.0 a.0 c.1 a.1 c.2 a.2 c.3 a.3 in
-    let block : c.1 ≡ a.1 = same_block blocks c.0 a.0 c.1 a.1 c.2 a.2 place in
+    let position : c.0 ≡ a.0 = same_position blocks apart f c.0 a.0 c.1 a.1 c.2 a.2 c.3 a.3 in
+    let block : c.1 ≡ a.1 = same_block blocks c.0 a.0 c.1 a.1 c.2 a.2 position in
     block_unique events i a.0 a.1 f (reason_at a.1 events i f) x y a.4
     (subst (λ (z : Block A). IsBlockEntry events i a.0 z f (reason_at z events i f) y) block
-    (subst (λ b. IsBlockEntry events i b c.1 f (reason_at c.1 events i f) y) place c.4))
+    (subst (λ b. IsBlockEntry events i b c.1 f (reason_at c.1 events i f) y) position c.4))
 
 content_unique : {A : Type 0} → (blocks : List (Block A)) → AreApart blocks → (events : List EventRead) (i : ℕ) (k : Content) (es fs : List (Entry A)) → AreOfContent blocks events i k es → AreOfContent blocks events i k fs → es ≡ fs
 content_unique {A} blocks apart events i (OfGoose f) es fs a c =
@@ -181,7 +181,7 @@ own_block_same {A} events i b block f None x y a c =
     let v = verdict_unique (trace_of_block block events) i (facts_of_frame f) a.0 c.0 a.1 c.1 in
     ap (own_of b) a.2 ∙ (own_entry_is A b f a.0 ∙ (ap (λ (v : Verdict). entry_of 0 f v ∷ []) v ∙ sym (ap (own_of 0) c.2 ∙ own_entry_is A 0 f c.0)))
 
--- the one place of a list of one
+-- the one position of a list of one
 only : {A : Type 0} → (block x : Block A) (c : ℕ) → slice_get (block ∷ []) c ≡ Some x → (c ≡ 0) × (block ≡ x)
 only {A} block x zero e = (refl, same_Some block x e)
 only {A} block x (suc c) e = absurd (none-some x e)
@@ -199,11 +199,11 @@ own_frame {A} blocks apart events i b block f x y here (inr a) (inl c) =
 own_frame {A} blocks apart events i b block f x y here (inr a) (inr c) =
     let o = only block c.1 c.0 c.2 in
     let yes_of : is_of f block ≡ true = ap (is_of f) o.1 ∙ c.3 in
-    let place : a.0 ≡ b = same_position blocks apart f a.0 b a.1 block a.2 here a.3 yes_of in
-    let same : a.1 ≡ block = same_block blocks a.0 b a.1 block a.2 here place in
+    let position : a.0 ≡ b = same_position blocks apart f a.0 b a.1 block a.2 here a.3 yes_of in
+    let same : a.1 ≡ block = same_block blocks a.0 b a.1 block a.2 here position in
     own_block_same events i b block f (reason_at block events i f) x y
     (subst (λ (z : Block A). IsBlockEntry events i b z f (reason_at z events i f) x) same
-    (subst (λ k. IsBlockEntry events i k a.1 f (reason_at a.1 events i f) x) place a.4))
+    (subst (λ k. IsBlockEntry events i k a.1 f (reason_at a.1 events i f) x) position a.4))
     (subst (λ (z : Block A). IsBlockEntry events i 0 z f (reason_at z events i f) y) (sym o.1)
     (subst (λ k. IsBlockEntry events i k c.1 f (reason_at c.1 events i f) y) o.0 c.4))
 

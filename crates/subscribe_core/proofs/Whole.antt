@@ -16,7 +16,7 @@ use Rattle.subscribe_core.specs.declared.entry.Entry.TheVariants as says
 use Rattle.subscribe_core.specs.Epoch.{IsExpiry, BlockHolds}
 use Rattle.subscribe_core.specs.computed.Steps.{is_dead, after_clock, after_switch, verdict_on, held_after_frame, switch_by, flag_by, expired_entries, switched_entries, turned, block_entry, block_held, held_by, register_by, registers_by, found_entry, frame_entry, said_of, step_entries, step_state}
 use Rattle.subscribe_core.specs.Matching.{is_of, reason_of, facts_of_frame, facts_unless_refused}
-use Rattle.subscribe_core.specs.Simulation.{is_other_kind, mode_by, mode_at, takes_simulated, is_switched}
+use Rattle.subscribe_core.specs.Simulation.{is_other_kind, mode_by, mode_at, takes_simulated}
 use Rattle.subscribe_core.specs.Sight.{facts_of, greatest_event_moment, trace_of_block}
 use Rattle.subscribe_core.specs.State.{State, StandsAfterRead}
 use Rattle.subscribe_core.specs.Entries.{AreOfContent, AreOfEach, AreReadEntriesAt, ExpiresAt, SwitchesAt}
