@@ -103,13 +103,13 @@ module _ {A : Type 0} where
 
   module _ (blocks : List (Block A)) (apart : AreApart blocks) where
     frame_as : (events : List EventRead) (i : ℕ) (f : FrameRead) (entry : Entry A) (k : ℕ) → slice_get blocks k ≡ Some (own A f) → IsFrameEntry blocks events i f entry → IsAsConfigured entry
-    frame_as events i f entry k there (inl w) = absurd (false≢true (sym (w.0 k (own A f) there) ∙ is_own A f))
+    frame_as events i f entry k there (inl w) = absurd (false≢true (sym (w.foreign k (own A f) there) ∙ is_own A f))
     frame_as events i f entry k there (inr w) =
-        let parts = and_parts _ _ w.3 in
-        let same_place : w.0 ≡ k = apart w.0 k w.1 (own A f) w.2 there (eqb-true _ _ parts.0, (bytes_eq-Decides _ _).0 parts.1) in
-        let same : w.1 ≡ own A f = same_Some w.1 (own A f) (sym w.2 ∙ ap (slice_get blocks) same_place ∙ there) in
-        own_as events i w.0 f entry (reason_at (own A f) events i f) refl
-        (subst (λ (x : Block A). IsBlockEntry events i w.0 x f (reason_at x events i f) entry) same w.4)
+        let parts = and_parts _ _ w.own in
+        let same_place : w.position ≡ k = apart w.position k w.block (own A f) w.here there (eqb-true _ _ parts.0, (bytes_eq-Decides _ _).0 parts.1) in
+        let same : w.block ≡ own A f = same_Some w.block (own A f) (sym w.here ∙ ap (slice_get blocks) same_place ∙ there) in
+        own_as events i w.position f entry (reason_at (own A f) events i f) refl
+        (subst (λ (x : Block A). IsBlockEntry events i w.position x f (reason_at x events i f) entry) same w.told)
 
     said_as : (events : List EventRead) (i : ℕ) (c : Content) (entries : List (Entry A)) → IsThere blocks c → AreOfContent blocks events i c entries → AreAsConfigured entries
     said_as events i (OfGoose f) entries there is = subst AreAsConfigured (sym is.2) (frame_as events i f is.0 there.0 there.1 is.1, tt)

@@ -77,8 +77,8 @@ block_action blocks events i c block f (Some r) b st sq t m here a = absurd cc
 block_action blocks events i c block f None b st sq t m here a = verdict_action blocks events i c block f a.0 b st sq t m here a.1 (sym a.2)
 
 frame_action : {A : Type 0} → (blocks : List (Block A)) (events : List EventRead) (i : ℕ) (f : FrameRead) (b st sq : ℕ) (t : UtcTime) (m : List Data) → IsFrameEntry blocks events i f (says.Act b st sq t m) → IsActionOf blocks events i b f (says.Act b st sq t m)
-frame_action blocks events i f b st sq t m (inl a) = absurd (let e = a.1 in cc)
-frame_action blocks events i f b st sq t m (inr a) = block_action blocks events i a.0 a.1 f (reason_at a.1 events i f) b st sq t m a.2 a.4
+frame_action blocks events i f b st sq t m (inl a) = absurd (let e = a.told in cc)
+frame_action blocks events i f b st sq t m (inr a) = block_action blocks events i a.position a.block f (reason_at a.block events i f) b st sq t m a.here a.told
 
 content_action : {A : Type 0} → (blocks : List (Block A)) (events : List EventRead) (i : ℕ) (k : Content) (es : List (Entry A)) (b st sq : ℕ) (t : UtcTime) (m : List Data) → AreOfContent blocks events i k es → Contains es (says.Act b st sq t m) → (f : FrameRead) × (k ≡ OfGoose f) × IsActionOf blocks events i b f (says.Act b st sq t m)
 content_action {A} blocks events i (OfGoose f) es b st sq t m a w =
@@ -127,13 +127,13 @@ acted_block {A} events i c block f None x acts none a =
     a.2 ∙ ap (entry_of {A = A} c f) (verdict_unique (trace_of_block block events) i (facts_of_frame f) a.0 Act a.1 acts)
 
 acted_frame : {A : Type 0} → (blocks : List (Block A)) (events : List EventRead) (i b : ℕ) (block : Block A) (f : FrameRead) (x : Entry A) → AreApart blocks → slice_get blocks b ≡ Some block → is_of f block ≡ true → reason_at block events i f ≡ None → Acts (trace_of_block block events) i → IsFrameEntry blocks events i f x → x ≡ entry_of b f Act
-acted_frame blocks events i b block f x apart here yes_of clear acts (inl a) = absurd (false≢true (sym (a.0 b block here) ∙ yes_of))
+acted_frame blocks events i b block f x apart here yes_of clear acts (inl a) = absurd (false≢true (sym (a.foreign b block here) ∙ yes_of))
 acted_frame {A} blocks events i b block f x apart here yes_of clear acts (inr a) =
-    let position : a.0 ≡ b = same_position blocks apart f a.0 b a.1 block a.2 here a.3 yes_of in
-    let same : a.1 ≡ block = same_block blocks a.0 b a.1 block a.2 here position in
+    let position : a.position ≡ b = same_position blocks apart f a.position b a.block block a.here here a.own yes_of in
+    let same : a.block ≡ block = same_block blocks a.position b a.block block a.here here position in
     acted_block events i b block f (reason_at block events i f) x acts clear
     (subst (λ (z : Block A). IsBlockEntry events i b z f (reason_at z events i f) x) same
-    (subst (λ n. IsBlockEntry events i n a.1 f (reason_at a.1 events i f) x) position a.4))
+    (subst (λ n. IsBlockEntry events i n a.block f (reason_at a.block events i f) x) position a.told))
 
 acted_told : {A : Type 0} → (blocks : List (Block A)) (events : List EventRead) (i : ℕ) (es : List (Entry A)) (b : ℕ) (entry : Entry A) → AreApart blocks → AreReadEntriesAt blocks events i es → IsActOn blocks events i b entry → Contains es entry
 acted_told {A} blocks events i es b entry apart a w =

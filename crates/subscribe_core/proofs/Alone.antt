@@ -65,15 +65,15 @@ pub same_block : {A : Type 0} → (blocks : List (Block A)) (b c : ℕ) (x y : B
 same_block {A} blocks b c x y p q e = same_Some x y (sym p ∙ (ap (slice_get blocks) e ∙ q))
 
 frame_unique : {A : Type 0} → (blocks : List (Block A)) → AreApart blocks → (events : List EventRead) (i : ℕ) (f : FrameRead) (x y : Entry A) → IsFrameEntry blocks events i f x → IsFrameEntry blocks events i f y → x ≡ y
-frame_unique {A} blocks apart events i f x y (inl a) (inl c) = a.1 ∙ sym c.1
-frame_unique {A} blocks apart events i f x y (inl a) (inr c) = absurd (false≢true (sym (a.0 c.0 c.1 c.2) ∙ c.3))
-frame_unique {A} blocks apart events i f x y (inr a) (inl c) = absurd (false≢true (sym (c.0 a.0 a.1 a.2) ∙ a.3))
+frame_unique {A} blocks apart events i f x y (inl a) (inl c) = a.told ∙ sym c.told
+frame_unique {A} blocks apart events i f x y (inl a) (inr c) = absurd (false≢true (sym (a.foreign c.position c.block c.here) ∙ c.own))
+frame_unique {A} blocks apart events i f x y (inr a) (inl c) = absurd (false≢true (sym (c.foreign a.position a.block a.here) ∙ a.own))
 frame_unique {A} blocks apart events i f x y (inr a) (inr c) =
-    let position : c.0 ≡ a.0 = same_position blocks apart f c.0 a.0 c.1 a.1 c.2 a.2 c.3 a.3 in
-    let block : c.1 ≡ a.1 = same_block blocks c.0 a.0 c.1 a.1 c.2 a.2 position in
-    block_unique events i a.0 a.1 f (reason_at a.1 events i f) x y a.4
-    (subst (λ (z : Block A). IsBlockEntry events i a.0 z f (reason_at z events i f) y) block
-    (subst (λ b. IsBlockEntry events i b c.1 f (reason_at c.1 events i f) y) position c.4))
+    let position : c.position ≡ a.position = same_position blocks apart f c.position a.position c.block a.block c.here a.here c.own a.own in
+    let block : c.block ≡ a.block = same_block blocks c.position a.position c.block a.block c.here a.here position in
+    block_unique events i a.position a.block f (reason_at a.block events i f) x y a.told
+    (subst (λ (z : Block A). IsBlockEntry events i a.position z f (reason_at z events i f) y) block
+    (subst (λ b. IsBlockEntry events i b c.block f (reason_at c.block events i f) y) position c.told))
 
 content_unique : {A : Type 0} → (blocks : List (Block A)) → AreApart blocks → (events : List EventRead) (i : ℕ) (k : Content) (es fs : List (Entry A)) → AreOfContent blocks events i k es → AreOfContent blocks events i k fs → es ≡ fs
 content_unique {A} blocks apart events i (OfGoose f) es fs a c =
@@ -187,25 +187,25 @@ only {A} block x zero e = (refl, same_Some block x e)
 only {A} block x (suc c) e = absurd (none-some x e)
 
 own_frame : {A : Type 0} → (blocks : List (Block A)) → AreApart blocks → (events : List EventRead) (i b : ℕ) (block : Block A) (f : FrameRead) (x y : Entry A) → slice_get blocks b ≡ Some block → IsFrameEntry blocks events i f x → IsFrameEntry (block ∷ []) events i f y → own_of b x ≡ own_of 0 y
-own_frame {A} blocks apart events i b block f x y here (inl a) (inl c) = ap (own_of b) a.1 ∙ sym (ap (own_of 0) c.1)
+own_frame {A} blocks apart events i b block f x y here (inl a) (inl c) = ap (own_of b) a.told ∙ sym (ap (own_of 0) c.told)
 own_frame {A} blocks apart events i b block f x y here (inl a) (inr c) =
-    let o = only block c.1 c.0 c.2 in
-    absurd (false≢true (sym (a.0 b block here) ∙ (ap (is_of f) o.1 ∙ c.3)))
+    let o = only block c.block c.position c.here in
+    absurd (false≢true (sym (a.foreign b block here) ∙ (ap (is_of f) o.1 ∙ c.own)))
 own_frame {A} blocks apart events i b block f x y here (inr a) (inl c) =
-    let no_of : is_of f block ≡ false = c.0 0 block refl in
-    let ne : a.0 ≡ b → ⊥ =
-    λ e. false≢true (sym no_of ∙ (ap (is_of f) (sym (same_block blocks a.0 b a.1 block a.2 here e)) ∙ a.3)) in
-    own_block_not events i b a.0 a.1 f (reason_at a.1 events i f) x ne a.4 ∙ sym (ap (own_of 0) c.1)
+    let no_of : is_of f block ≡ false = c.foreign 0 block refl in
+    let ne : a.position ≡ b → ⊥ =
+    λ e. false≢true (sym no_of ∙ (ap (is_of f) (sym (same_block blocks a.position b a.block block a.here here e)) ∙ a.own)) in
+    own_block_not events i b a.position a.block f (reason_at a.block events i f) x ne a.told ∙ sym (ap (own_of 0) c.told)
 own_frame {A} blocks apart events i b block f x y here (inr a) (inr c) =
-    let o = only block c.1 c.0 c.2 in
-    let yes_of : is_of f block ≡ true = ap (is_of f) o.1 ∙ c.3 in
-    let position : a.0 ≡ b = same_position blocks apart f a.0 b a.1 block a.2 here a.3 yes_of in
-    let same : a.1 ≡ block = same_block blocks a.0 b a.1 block a.2 here position in
+    let o = only block c.block c.position c.here in
+    let yes_of : is_of f block ≡ true = ap (is_of f) o.1 ∙ c.own in
+    let position : a.position ≡ b = same_position blocks apart f a.position b a.block block a.here here a.own yes_of in
+    let same : a.block ≡ block = same_block blocks a.position b a.block block a.here here position in
     own_block_same events i b block f (reason_at block events i f) x y
     (subst (λ (z : Block A). IsBlockEntry events i b z f (reason_at z events i f) x) same
-    (subst (λ k. IsBlockEntry events i k a.1 f (reason_at a.1 events i f) x) position a.4))
+    (subst (λ k. IsBlockEntry events i k a.block f (reason_at a.block events i f) x) position a.told))
     (subst (λ (z : Block A). IsBlockEntry events i 0 z f (reason_at z events i f) y) (sym o.1)
-    (subst (λ k. IsBlockEntry events i k c.1 f (reason_at c.1 events i f) y) o.0 c.4))
+    (subst (λ k. IsBlockEntry events i k c.block f (reason_at c.block events i f) y) o.0 c.told))
 
 own_content : {A : Type 0} → (blocks : List (Block A)) → AreApart blocks → (events : List EventRead) (i b : ℕ) (block : Block A) (k : Content) (es fs : List (Entry A)) → slice_get blocks b ≡ Some block → AreOfContent blocks events i k es → AreOfContent (block ∷ []) events i k fs → own b es ≡ own 0 fs
 own_content {A} blocks apart events i b block (OfGoose f) es fs here a c =

@@ -31,7 +31,7 @@ reason_front x events later i f lt =
 frame_stay : {A : Type 0} → (blocks : List (Block A)) (events later : List EventRead) (i : ℕ) (f : FrameRead) (x : Entry A) → i < length events → IsFrameEntry blocks events i f x → IsFrameEntry blocks (events ++ later) i f x
 frame_stay blocks events later i f x lt (inl a) = inl a
 frame_stay blocks events later i f x lt (inr a) =
-    inr (a.0, a.1, a.2, a.3, subst (λ (r : Option Reason). IsBlockEntry (events ++ later) i a.0 a.1 f r x) (sym (reason_front a.1 events later i f lt)) (block_stay events later i a.0 a.1 f (reason_at a.1 events i f) x lt a.4))
+    inr (record { position = a.position; block = a.block; here = a.here; own = a.own; told = subst (λ (r : Option Reason). IsBlockEntry (events ++ later) i a.position a.block f r x) (sym (reason_front a.block events later i f lt)) (block_stay events later i a.position a.block f (reason_at a.block events i f) x lt a.told) })
 
 content_stay : {A : Type 0} → (blocks : List (Block A)) (events later : List EventRead) (i : ℕ) (k : Content) (es : List (Entry A)) → i < length events → AreOfContent blocks events i k es → AreOfContent blocks (events ++ later) i k es
 content_stay blocks events later i (OfGoose f) es lt a = (a.0, frame_stay blocks events later i f a.0 lt a.1, a.2)

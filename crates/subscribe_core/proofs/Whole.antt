@@ -145,7 +145,7 @@ no_register = record { held = None; simulated = false }
 
 frame_ok : {A : Type 0} → (events : List EventRead) (e : EventRead) (now : ℕ) (mode : Bool) (xs : List (Block A)) (rs : List Register) → length rs ≡ length xs → AllAgree events e now mode xs rs → (f : FrameRead) → e.content ≡ OfGoose f → (o : Option ℕ) → position (is_of f) xs ≡ o → IsFrameEntry xs (events ++ e ∷ []) (length events) f (frame_entry now mode xs rs f o)
 frame_ok events e now mode xs rs same all f is None o =
-    inl ((λ b x p. position_none (is_of f) xs o b x p), refl)
+    inl (record { foreign = λ b x p. position_none (is_of f) xs o b x p; told = refl })
 frame_ok {A} events e now mode xs rs same all f is (Some c) o =
     let found = position-Some (is_of f) xs c no_block o in
     at_block c (get_or xs c no_block) (get_or rs c no_register) (slice_get-get_or xs c no_block found.0) (slice_get-get_or rs c no_register (omega (arith, found.0))) found.1
@@ -157,7 +157,7 @@ frame_ok {A} events e now mode xs rs same all f is (Some c) o =
         subst (λ (k : Content). HoldsAt (trace_of_block x (events ++ e ∷ [])) (length events) (turned now mode k x r)) is a.held in
         let entry = (block_ok events e now mode x r c f a is yes_of (turned now mode (OfGoose f) x r) held (reason_of (is_other_kind f mode r.simulated) x f) refl).0 in
         let whole : IsFrameEntry xs (events ++ e ∷ []) (length events) f (found_entry now mode f c (Some x) (Some r)) =
-        inr (c, x, p, yes_of, subst (λ (y : Option Reason). IsBlockEntry (events ++ e ∷ []) (length events) c x f y (found_entry now mode f c (Some x) (Some r))) (sym (a.reason_is f)) entry) in
+        inr (record { position = c; block = x; here = p; own = yes_of; told = subst (λ (y : Option Reason). IsBlockEntry (events ++ e ∷ []) (length events) c x f y (found_entry now mode f c (Some x) (Some r))) (sym (a.reason_is f)) entry }) in
         subst (λ (y : Option Register). IsFrameEntry xs (events ++ e ∷ []) (length events) f (found_entry now mode f c (slice_get xs c) y)) (sym q)
         (subst (λ (y : Option (Block A)). IsFrameEntry xs (events ++ e ∷ []) (length events) f (found_entry now mode f c y (Some r))) (sym p) whole)
 

@@ -29,8 +29,19 @@ IsBlockEntry events i b block f (Some reason) entry = entry ≡ says.Refused b r
 IsBlockEntry events i b block f None entry =
     (v : Verdict) × IsVerdict (trace_of_block block events) i (facts_of_frame f) v × (entry ≡ entry_of b f v)
 
+-- the frame is none of the blocks', and the entry says so
+pub record IsForeignEntry {A : Type 0} (blocks : List (Block A)) (f : FrameRead) (entry : Entry A) : Type 0 where
+  pub foreign : (b : ℕ) (block : Block A) → slice_get blocks b ≡ Some block → is_of f block ≡ false
+  pub told : entry ≡ says.NotSubscribed
+
+-- the frame is one of the block at this position, and the entry is that of the block
+pub record IsOwnEntry {A : Type 0} (blocks : List (Block A)) (events : List EventRead) (i : ℕ) (f : FrameRead) (entry : Entry A) : Type 0 where
+  pub position : ℕ
+  pub block : Block A
+  pub here : slice_get blocks position ≡ Some block
+  pub own : is_of f block ≡ true
+  pub told : IsBlockEntry events i position block f (reason_at block events i f) entry
+
 -- the entry of a frame of GOOSE: it is no block's, or it is that of its block
 abbrev pub IsFrameEntry : {A : Type 0} → List (Block A) → List EventRead → ℕ → FrameRead → Entry A → Type 0
-IsFrameEntry {A} blocks events i f entry =
-    (((b : ℕ) (block : Block A) → slice_get blocks b ≡ Some block → is_of f block ≡ false) × (entry ≡ says.NotSubscribed)) ⊎
-    ((b : ℕ) × (block : Block A) × (slice_get blocks b ≡ Some block) × (is_of f block ≡ true) × IsBlockEntry events i b block f (reason_at block events i f) entry)
+IsFrameEntry blocks events i f entry = IsForeignEntry blocks f entry ⊎ IsOwnEntry blocks events i f entry
