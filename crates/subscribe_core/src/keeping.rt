@@ -204,6 +204,13 @@ impl<A: Allocator + Copy> Keeper<A> {
         self.alloc
     }
 
+    // There is a register for each block; nothing is computed.
+    fn know_sizes(&self)
+        ensures { length self.now.state.registers ≡ length self.now.state.blocks }
+    {
+        let _ = self.alloc();
+    }
+
     // Takes a frame of GOOSE: its entries, and what its block then holds.
     fn take_goose(
         &mut self,
@@ -258,7 +265,7 @@ impl<A: Allocator + Copy> Keeper<A> {
         ensures err { OnErr result (self.new.state ≡ self.old.state) }
         ensures err_looks { OnErr result (self.new.looks ≡ self.old.looks) }
     {
-        let _ = self.alloc();
+        self.know_sizes();
         match view_frame(octets) {
             Err(fault) => {
                 entries.push(Entry::Faulty(fault))?;
@@ -368,7 +375,7 @@ impl<A: Allocator + Copy> Keeper<A> {
         ensures err { OnErr result (self.new.state ≡ self.old.state) }
         ensures err_looks { OnErr result (self.new.looks ≡ self.old.looks) }
     {
-        let _ = self.alloc();
+        self.know_sizes();
         match kind {
             EventKind::Frame(octets) => self.take_octets(now, octets.as_slice(), entries),
             EventKind::Clock => Ok(()),
