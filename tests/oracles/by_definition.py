@@ -21,14 +21,14 @@ class Block:
         self.name = self.app_id, self.gocb_ref
 
 
-def reasons_of(block, pdu, is_against):
+def reasons_of(block, pdu, is_other_kind):
     """The reasons to refuse a frame of the block, in their order; whether `Simulated` holds is said by the last argument."""
     told = {
         "DatSet": pdu["dat_set"] != block.dat_set,
         "GoId": block.go_id not in (b"", pdu["go_id"]),
         "ConfRev": pdu["conf_rev"] != block.conf_rev,
         "Commissioning": pdu["nds_com"],
-        "Simulated": is_against,
+        "Simulated": is_other_kind,
         "Entries": len(pdu["members"]) != block.entries,
         "StateZero": pdu["st_num"] == 0,
         "LiveZero": pdu["live"] == 0,

@@ -18,6 +18,7 @@ use crate::reading::any_integer;
 /// # Errors
 ///
 /// `BooleanLength` at the identifier's place plus 1, where the contents are not one octet.
+#[inline(always)]
 pub fn boolean(octets: &[u8], header: &Header) -> Result<bool, Fault>
     requires behind { header.now.at < header.now.contents_from }
     requires ordered { header.now.contents_from ≤ header.now.contents_to }
@@ -36,6 +37,7 @@ pub fn boolean(octets: &[u8], header: &Header) -> Result<bool, Fault>
 /// # Errors
 ///
 /// `BooleanLength` at that place plus 1, where the contents are not one octet.
+#[inline(always)]
 pub fn boolean_of(contents: &[u8], at: usize) -> Result<bool, Fault>
     requires fits { at + 1 < 2 ^ 64 }
     ensures found { IfOk result (λ b. SpellsBoolean b contents.now) }
@@ -48,6 +50,7 @@ pub fn boolean_of(contents: &[u8], at: usize) -> Result<bool, Fault>
 }
 
 // The boolean, as reading gives it.
+#[inline(always)]
 #[tactic(auto, unfolding(crate::specs::computed::ContentsReading::boolean_at))]
 fn truth(contents: &[u8], at: usize) -> Result<bool, Fault>
     requires { at + 1 < 2 ^ 64 }
@@ -65,6 +68,7 @@ fn truth(contents: &[u8], at: usize) -> Result<bool, Fault>
 ///
 /// `IntegerLength` at the identifier's place plus 1, where the contents have no octet or over nine;
 /// `IntegerRange` at the first octet of the contents, where the integer lies outside the range.
+#[inline(always)]
 pub fn integer_in(octets: &[u8], header: &Header, low: i128, high: i128) -> Result<i128, Fault>
     requires behind { header.now.at < header.now.contents_from }
     requires ordered { header.now.contents_from ≤ header.now.contents_to }
@@ -86,6 +90,7 @@ pub fn integer_in(octets: &[u8], header: &Header, low: i128, high: i128) -> Resu
 ///
 /// `IntegerLength` at the identifier's place plus 1, where the contents have no octet or over nine;
 /// `IntegerRange` at the first octet of the contents, where the integer lies outside the range.
+#[inline(always)]
 pub fn integer_of(
     contents: &[u8],
     at: usize,
@@ -105,6 +110,7 @@ pub fn integer_of(
 }
 
 // The integer, as reading gives it.
+#[inline(always)]
 #[tactic(auto, unfolding(crate::specs::computed::ContentsReading::integer_at))]
 fn ranged(contents: &[u8], at: usize, from: usize, low: i128, high: i128) -> Result<i128, Fault>
     requires { at + 1 < 2 ^ 64 }
@@ -124,6 +130,7 @@ fn ranged(contents: &[u8], at: usize, from: usize, low: i128, high: i128) -> Res
 /// # Errors
 ///
 /// `NotVisible` at the first octet outside 20 to 7E.
+#[inline(always)]
 pub fn visible<'a>(octets: &'a [u8], header: &Header) -> Result<&'a [u8], Fault>
     requires ordered { header.now.contents_from ≤ header.now.contents_to }
     requires inside { header.now.contents_to ≤ length octets.now }
@@ -138,6 +145,7 @@ pub fn visible<'a>(octets: &'a [u8], header: &Header) -> Result<&'a [u8], Fault>
 }
 
 // The text, as reading gives it.
+#[inline(always)]
 fn visible_behind<'a>(octets: &'a [u8], header: &Header) -> Result<&'a [u8], Fault>
     requires ordered { header.now.contents_from ≤ header.now.contents_to }
     requires inside { header.now.contents_to ≤ length octets.now }
@@ -221,6 +229,7 @@ fn is_visible_octet(octet: u8) -> bool
 /// # Errors
 ///
 /// `FixedLength` at the identifier's place plus 1, where they are not.
+#[inline(always)]
 pub fn counted<'a>(octets: &'a [u8], header: &Header, count: usize) -> Result<&'a [u8], Fault>
     requires behind { header.now.at < header.now.contents_from }
     requires ordered { header.now.contents_from ≤ header.now.contents_to }
@@ -236,6 +245,7 @@ pub fn counted<'a>(octets: &'a [u8], header: &Header, count: usize) -> Result<&'
 }
 
 // The contents of a stated count, as reading gives them.
+#[inline(always)]
 #[tactic(auto, unfolding(crate::specs::computed::ContentsReading::counted_at))]
 fn counted_behind<'a>(octets: &'a [u8], header: &Header, count: usize) -> Result<&'a [u8], Fault>
     requires behind { header.now.at < header.now.contents_from }

@@ -126,6 +126,7 @@ fn read_required(octets: &[u8], at: usize, end: usize, identifier: u8) -> Result
 /// # Errors
 ///
 /// `ExtraOctets` at `place`, where octets follow.
+#[inline(always)]
 pub fn check_end(place: usize, end: usize) -> Result<(), Fault>
     ensures found { IfOk result (λ _. end ≤ place) }
     ensures only { end ≤ place → result ≡ Ok tt }

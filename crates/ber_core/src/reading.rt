@@ -107,6 +107,7 @@ fn with_counted_length(
 }
 
 // The same where `size` octets of contents stand at `contents_from`, the first of `octets`.
+#[inline(always)]
 fn with_size(
     at: usize,
     identifier: u8,
@@ -149,7 +150,9 @@ pub fn integer(octets: &[u8], header: &Header) -> Result<i128, Fault>
     any_integer(&octets[header.contents_from..header.contents_to], header.at)
 }
 
-// The number that contents spell whose identifier stands at the place `at`.
+// The number that contents spell whose identifier stands at the place `at`. Contents of the counts that are met most are
+// read without a call.
+#[inline(always)]
 #[tactic(auto, unfolding(crate::specs::computed::ContentsReading::any_integer_at))]
 pub(crate) fn any_integer(contents: &[u8], at: usize) -> Result<i128, Fault>
     requires { at + 1 < 2 ^ 64 }
@@ -157,7 +160,21 @@ pub(crate) fn any_integer(contents: &[u8], at: usize) -> Result<i128, Fault>
 {
     match contents.len() {
         1 => Ok(BigEndian::read_int(contents, 1) as i128),
-        count @ 2..=8 => Ok(BigEndian::read_int(contents, count) as i128),
+        2 => Ok(BigEndian::read_int(contents, 2) as i128),
+        4 => Ok(BigEndian::read_int(contents, 4) as i128),
+        _ => counted_integer(contents, at),
+    }
+}
+
+// The same of contents of any count.
+#[inline(never)]
+#[tactic(auto, unfolding(crate::specs::computed::ContentsReading::any_integer_at))]
+fn counted_integer(contents: &[u8], at: usize) -> Result<i128, Fault>
+    requires { at + 1 < 2 ^ 64 }
+    ensures { result ≡ any_integer_at at contents.now }
+{
+    match contents.len() {
+        count @ 1..=8 => Ok(BigEndian::read_int(contents, count) as i128),
         9 => Ok(BigEndian::read_int128(contents, 9)),
         _ => Err(Cause::IntegerLength.at(at + 1)),
     }

@@ -16,6 +16,7 @@ use byteorder::{BigEndian, ByteOrder};
 /// # Errors
 ///
 /// `Full` exactly where the octets do not fit; `out` is then unchanged.
+#[inline(always)]
 #[tactic(auto, unfolding(crate::specs::Written::short_length))]
 pub fn put_header<const N: usize>(
     out: &mut ArrayVec<u8, N>,
@@ -33,6 +34,24 @@ pub fn put_header<const N: usize>(
             .try_extend_from_slice(&[identifier, size as u8])
             .map_err(|_| Full);
     }
+    put_long_header(out, identifier, size)
+}
+
+// The same of a length that one octet does not hold. Never inlined, as few lengths are so long.
+#[inline(never)]
+#[tactic(auto, unfolding(crate::specs::Written::short_length))]
+fn put_long_header<const N: usize>(
+    out: &mut ArrayVec<u8, N>,
+    identifier: u8,
+    size: usize,
+) -> Result<(), Full>
+    requires identifier { IsIdentifier identifier }
+    requires long { 128 ≤ size }
+    requires size { size < 2 ^ 32 }
+    ensures fits { IsOk result ↔ (array_vec_len out.old + length (written_header identifier size) ≤ N) }
+    ensures written { OnOk result (out.new.items ≡ out.old.items ++ written_header identifier size) }
+    ensures unchanged { OnErr result (out.new ≡ out.old) }
+{
     let count = octet_count(size);
     if out.remaining_capacity() < 2 + count {
         return Err(Full);
@@ -65,6 +84,7 @@ pub fn octet_count(number: usize) -> usize
 /// # Errors
 ///
 /// `Full` exactly where the octets do not fit; `out` is then unchanged.
+#[inline(always)]
 pub fn put_integer<const N: usize>(
     out: &mut ArrayVec<u8, N>,
     identifier: u8,
@@ -85,6 +105,7 @@ pub fn put_integer<const N: usize>(
 }
 
 // The same for a number of one octet.
+#[inline(always)]
 fn put_one_octet<const N: usize>(
     out: &mut ArrayVec<u8, N>,
     identifier: u8,
@@ -100,6 +121,7 @@ fn put_one_octet<const N: usize>(
 }
 
 // The same for a number of two octets.
+#[inline(always)]
 fn put_two_octets<const N: usize>(
     out: &mut ArrayVec<u8, N>,
     identifier: u8,
@@ -116,6 +138,7 @@ fn put_two_octets<const N: usize>(
 }
 
 // The same for any number.
+#[inline(never)]
 fn put_any<const N: usize>(
     out: &mut ArrayVec<u8, N>,
     identifier: u8,

@@ -1,3 +1,5 @@
 pub mod Wanted
+pub mod ItemTexts
 pub mod EngineLemmas
 pub mod ReadFaults
+pub mod WholeTexts

@@ -1,3 +1,5 @@
 pub mod Ending
 pub mod EngineText
+pub mod Run
 pub mod computed
+pub mod Laws

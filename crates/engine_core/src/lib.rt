@@ -2,6 +2,7 @@
 #![tactic(auto)]
 
 mod ending;
+pub mod laws;
 mod running;
 
 pub use crate::ending::{Ending, status};

@@ -4,7 +4,9 @@ ghost use Rattle.std.specs.Prelude.{◌≡◌, ◌++◌, ℕ, List, [], Some, No
 ghost use Rattle.list_core.specs.declared.device.InputEnd.{InputEnd};
 ghost use Rattle.list_core.specs.Device.{GivesOctets};
 ghost use Rattle.list_core.specs.ItemReader.{Answer, AnswersItem, item_place};
-ghost use Rattle.engine_core.specs.EngineText.{LeavesRefused, Text, Writes, ending_of, ending_at, is_write_fault};
+ghost use Rattle.engine_core.specs.Ending.{ending_at, ending_of, is_write_fault};
+ghost use Rattle.engine_core.specs.EngineText.{Text};
+ghost use Rattle.engine_core.specs.Run.{LeavesRefused, Writes};
 ghost use Rattle.engine_core.specs.computed.EngineStep.{StepWrites, Stops, Takes, stops_by};
 
 use crate::ending::Ending;

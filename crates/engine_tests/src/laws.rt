@@ -5,6 +5,7 @@ use std::alloc::Global;
 
 #[test]
 fn laws_hold(_rt: HostRuntime) {
+    laws::runs_write_whole_texts::<u8, u8, u8>();
     laws::plain_texts_follow_one_another::<u8, u8>();
     laws::scripts_are_in_order::<Global>();
     laws::written_lists_replay::<Global>();

@@ -1,4 +1,3 @@
-pub mod EntryTexts
 pub mod ReplayLemmas
 pub mod WatchLemmas
 pub mod PublishLemmas

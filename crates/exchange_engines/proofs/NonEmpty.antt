@@ -10,7 +10,7 @@ use Rattle.subscribe_core.specs.declared.watch.Seen.{Seen}
 use Rattle.list_core.proofs.Emptiness.{back_nil, front_nil}
 use Rattle.exchange_engines.specs.EntryText.{entry_line, entry_lines}
 use Rattle.text_core.proofs.NonEmpty.{IsThere, ends, fault_there}
-use Rattle.exchange_engines.specs.SampleLine.{sample_line}
+use Rattle.exchange_engines.specs.SampleLine.{Sample, sample_line}
 use Rattle.exchange_engines.specs.WatchText.{sample_at, sample_lines, samples_from}
 
 entry_there : {A : Type 0} (n : ℕ) (x : Entry A) → IsThere (entry_line n x)
@@ -31,16 +31,16 @@ no_entry n [] e = refl
 no_entry n (x ∷ entries) e = absurd (entry_there n x (front_nil (entry_line n x) _ e))
 
 -- no line is written only where there is no sample
-pub no_sample : (n : ℕ) (samples : List (ℕ × ℕ)) (answers : List Seen) → length answers ≡ length samples → sample_lines n samples answers ≡ [] → samples ≡ []
+pub no_sample : (n : ℕ) (samples : List Sample) (answers : List Seen) → length answers ≡ length samples → sample_lines n samples answers ≡ [] → samples ≡ []
 no_sample n [] answers same e = refl
 no_sample n (s ∷ samples) [] same e = cc
 no_sample n (s ∷ samples) (a ∷ answers) same e = absurd (ends _ (front_nil (sample_line n s a) _ e))
 
-none_by : (is : Bool) (x y : ℕ × ℕ) → (if is then x ∷ [] else []) ≡ [] → (if is then y ∷ [] else []) ≡ []
+none_by : (is : Bool) (x y : Sample) → (if is then x ∷ [] else []) ≡ [] → (if is then y ∷ [] else []) ≡ []
 none_by true x y e = cc
 none_by false x y e = refl
 
 -- where none of several ASDUs is of the stream, this one is not
 pub none_among : {A : Type 0} (j k : ℕ) (id : List ℕ) (seen : List (Asdu A)) (a : Asdu A) (others : List (Asdu A)) → samples_from k id (seen ++ a ∷ others) ≡ [] → sample_at j id a ≡ []
-none_among j k id [] a others e = none_by (bytes_eq a.sv_id id) (k, a.smp_cnt) (j, a.smp_cnt) (front_nil (sample_at k id a) _ e)
+none_among j k id [] a others e = none_by (bytes_eq a.sv_id id) (record { position = k; count = a.smp_cnt }) (record { position = j; count = a.smp_cnt }) (front_nil (sample_at k id a) _ e)
 none_among j k id (x ∷ seen) a others e = none_among j (k + 1) id seen a others (back_nil (sample_at k id x) _ e)

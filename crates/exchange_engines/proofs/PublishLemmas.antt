@@ -16,7 +16,7 @@ use Rattle.publish_core.specs.Frames.{Change, Setup, setup}
 use Rattle.publish_core.specs.computed.Judgement.{IsJudged, refusal}
 use Rattle.publish_core.specs.Refusal.{Accepts, Refuses, next_state}
 use Rattle.publish_core.specs.Run.{Request, Call, Changed, Polled, IsAnswer, PublishesNone, PublishesOctets, call, greatest_call_moment, trace_of_calls}
-use Rattle.publish_core.specs.Standing.{PublisherStanding, PublisherStandsAfter}
+use Rattle.publish_core.specs.State.{PublisherState, PublisherStandsAfter}
 use Rattle.publish_core.specs.computed.Step.{request_frame, request_state, fresh_publisher}
 use Rattle.publish_core.specs.Table.{AreSteps, IsGood, step_at}
 use Rattle.publish_core.proofs.Judged.{judged, judged_only}
@@ -32,7 +32,7 @@ use Rattle.list_core.specs.declared.line_rules.LineError.TheVariants as line
 use Rattle.engine_core.specs.computed.EngineStep.{Takes}
 use Rattle.engine_core.specs.EngineText.{step_text}
 use Rattle.exchange_engines.specs.PublishText.{IsCallText, IsPublishText, IsScriptSound, answer_text, item_of_request, item_of_call, items_of_lines, script_cause, script_of}
-use Rattle.exchange_engines.specs.computed.PublishStep.{Progress, nothing, setting_up, calling, Holds, Runs, TakesCall, TakesItem, call_at, call_step, called, is_good, item_step, next_progress, progress_after, progress_from, publish_text, setup_cause, standing_from, text_unless_refused, unless_unsound, with_step}
+use Rattle.exchange_engines.specs.computed.PublishStep.{Progress, nothing, setting_up, calling, Holds, Runs, TakesCall, TakesItem, call_at, call_written, called, is_good, item_written, next_progress, progress_after, progress_from, publish_text, setup_cause, standing_from, text_unless_refused, unless_unsound, with_step}
 
 -- ---- how far a script has come
 
@@ -53,7 +53,7 @@ next_request : {A : Type 0} (g : Progress A) (m : ℕ) (a : Request) → next_pr
 next_request g m (Changed change) = refl
 next_request g m Polled = refl
 
-step_request : {A : Type 0} (g : Progress A) (m : ℕ) (a : Request) → item_step (item_of_request m a) g ≡ call_at g (call m a)
+step_request : {A : Type 0} (g : Progress A) (m : ℕ) (a : Request) → item_written (item_of_request m a) g ≡ call_at g (call m a)
 step_request g m (Changed change) = refl
 step_request g m Polled = refl
 
@@ -105,7 +105,7 @@ first_cause p steps none = rw (counted p steps, all_good p.table steps.good, eq-
 
 -- ---- calls
 
-standing_behind : {A : Type 0} (p : Setup A) (before calls : List Call) (s : PublisherStanding A) → PublisherStandsAfter p before s → PublisherStandsAfter p (before ++ calls) (standing_from s calls)
+standing_behind : {A : Type 0} (p : Setup A) (before calls : List Call) (s : PublisherState A) → PublisherStandsAfter p before s → PublisherStandsAfter p (before ++ calls) (standing_from s calls)
 standing_behind p before [] s w = subst (λ (l : List Call). PublisherStandsAfter p l s) (sym (append-nil before)) w
 standing_behind p before (c ∷ calls) s w =
     subst (λ (l : List Call). PublisherStandsAfter p l (standing_from s (c ∷ calls))) (append_assoc before (c ∷ []) calls)
@@ -119,8 +119,9 @@ answered : {A : Type 0} (p : Setup A) (calls : List Call) (c : Call) → IsScrip
 answered p calls c sound = (request_ok p calls (standing_from (fresh_publisher p) calls) c.request c.moment (standing_after p calls sound)).0
 
 -- the text of a call is what the whole list of calls says
-request_is : {A : Type 0} (p : Setup A) (calls : List Call) (m : ℕ) (a : Request) → IsScriptSound p → IsCallText p calls (call m a) (call_step p calls (call m a))
-request_is p calls m Polled sound = inl (tt, (request_frame (standing_from (fresh_publisher p) calls) Polled m, answered p calls (call m Polled) sound, refl))
+request_is : {A : Type 0} (p : Setup A) (calls : List Call) (m : ℕ) (a : Request) → IsScriptSound p → IsCallText p calls (call m a) (call_written p calls (call m a))
+request_is p calls m Polled sound =
+    inl (record { taken = tt; answer = request_frame (standing_from (fresh_publisher p) calls) Polled m; is_answer = answered p calls (call m Polled) sound; line = refl })
 request_is {A} p calls m (Changed change) sound = in_case (refusal p.control p.table (next_state p calls) change) (judged p.control p.table (next_state p calls) change sound.steps)
   where
     given : Option (SentFrame A)
@@ -128,12 +129,12 @@ request_is {A} p calls m (Changed change) sound = in_case (refusal p.control p.t
 
     in_case : (answer : Option PublishFault) → IsJudged p.control p.table (next_state p calls) change answer →
         IsCallText p calls (call m (Changed change)) (text_unless_refused answer (answer_text (greatest_call_moment (calls ++ call m (Changed change) ∷ [])) (request_frame (standing_from (fresh_publisher p) calls) (Changed change) m)))
-    in_case None accepted = inl (accepted, (request_frame (standing_from (fresh_publisher p) calls) (Changed change) m, answered p calls (call m (Changed change)) sound, refl))
-    in_case (Some why) refused = inr (why, refused, refl)
+    in_case None accepted = inl (record { taken = accepted; answer = given; is_answer = answered p calls (call m (Changed change)) sound; line = refl })
+    in_case (Some why) refused = inr (record { why = why; refused = refused; ends = refl })
 
 -- a call behind a script
-call_behind : {A : Type 0} (p : Setup A) (calls : List Call) (c : Call) → IsScriptSound p → call_at (progress_from (setting_up p) (map item_of_call calls)) c ≡ call_step p calls c
-call_behind p [] c sound = ap (λ (o : Option ScriptCause). unless_unsound o (call_step p [] c)) (sound_setup p sound)
+call_behind : {A : Type 0} (p : Setup A) (calls : List Call) (c : Call) → IsScriptSound p → call_at (progress_from (setting_up p) (map item_of_call calls)) c ≡ call_written p calls c
+call_behind p [] c sound = ap (λ (o : Option ScriptCause). unless_unsound o (call_written p [] c)) (sound_setup p sound)
 call_behind p (d ∷ calls) c sound =
     ap (λ (g : Progress _). call_at (progress_from g (map item_of_call calls)) c) (next_request (setting_up p) d.moment d.request)
     ∙ ap (λ (g : Progress _). call_at g c) (calls_progress p (d ∷ []) calls)
@@ -142,13 +143,13 @@ call_behind p (d ∷ calls) c sound =
 pub publish_is : {A : Type 0} → IsPublishText {A = A} publish_text
 publish_is {A} = record {
   first = refl;
-  control = λ n first control. refl;
-  step = λ p before is few n s.
-      ap (λ (l : List (ScriptItem A)). item_step (item.Step s) (progress_from nothing l)) is
-      ∙ ap (item_step (item.Step s)) (script_progress p [])
+  control_line = λ n first control. refl;
+  table_step = λ p before is few n s.
+      ap (λ (l : List (ScriptItem A)). item_written (item.Step s) (progress_from nothing l)) is
+      ∙ ap (item_written (item.Step s)) (script_progress p [])
       ∙ (rw (lt-ltb (length p.table) 16 few) refl);
   call = λ p calls before is sound n c.
-      let said : item_step (item_of_call c) (progress_after before) ≡ call_step p calls c =
+      let said : item_written (item_of_call c) (progress_after before) ≡ call_written p calls c =
       step_request (progress_after before) c.moment c.request
       ∙ ap (λ (l : List (ScriptItem A)). call_at (progress_from nothing l) c) is
       ∙ ap (λ (g : Progress A). call_at g c) (script_progress p calls)
@@ -160,7 +161,7 @@ publish_is {A} = record {
 -- ---- what the engine does
 
 -- a publisher is set up from what was said, or none can be
-pub runs_first : {A : Type 0} (g : Progress A) (control : Control A) (first : ℕ) (steps : ArrayVec Step) (items : List Step) (r : Result (PublisherStanding A) ScriptCause) → Holds (stage.Setup control first steps) g →
+pub runs_first : {A : Type 0} (g : Progress A) (control : Control A) (first : ℕ) (steps : ArrayVec Step) (items : List Step) (r : Result (PublisherState A) ScriptCause) → Holds (stage.Setup control first steps) g →
     items ≡ steps.items → IfOk r (λ s. PublisherStandsAfter (setup control items first) [] s) → OnOk r (IsScriptSound (setup control items first)) → IfErr r (λ why. setup_cause (setup control items first) ≡ Some why) → Runs g r
 runs_first nothing control first steps items r h e stands sound fails = absurd h
 runs_first {A} (setting_up p) control first steps items (Ok s) h e stands sound fails =
@@ -171,14 +172,14 @@ runs_first {A} (setting_up p) control first steps items (Ok s) h e stands sound 
       sound,
       stands,
       λ c. (
-        ap (λ (x : Setup A). call_at (setting_up x) c) (sym same) ∙ ap (λ (o : Option ScriptCause). unless_unsound o (call_step q [] c)) (sound_setup q sound),
+        ap (λ (x : Setup A). call_at (setting_up x) c) (sym same) ∙ ap (λ (o : Option ScriptCause). unless_unsound o (call_written q [] c)) (sound_setup q sound),
         ap (λ (x : Setup A). called (setting_up x) c) (sym same),
       ),
     )
 runs_first {A} (setting_up p) control first steps items (Err why) h e stands sound fails = λ c.
     let q : Setup A = setup control items first in
     let same : q ≡ p = ap (λ (l : List Step). setup control l first) e ∙ h in
-    ap (λ (x : Setup A). call_at (setting_up x) c) (sym same) ∙ ap (λ (o : Option ScriptCause). unless_unsound o (call_step q [] c)) fails
+    ap (λ (x : Setup A). call_at (setting_up x) c) (sym same) ∙ ap (λ (o : Option ScriptCause). unless_unsound o (call_written q [] c)) fails
 runs_first (calling p calls) control first steps items r h e stands sound fails = absurd h
 
 -- the line of a frame
@@ -187,13 +188,13 @@ published_line : {A : Type 0} (moment now : ℕ) (octets : List ℕ) (f : SentFr
 published_line moment now octets f e h = rw (e, h) refl
 
 -- a change was refused
-pub refused : {A : Type 0} (p : Setup A) (calls : List Call) (m : ℕ) (change : Change) (why : PublishFault) → IsScriptSound p → Refuses p calls change why → call_step p calls (call m (Changed change)) ≡ Err (script_cause why)
+pub refused : {A : Type 0} (p : Setup A) (calls : List Call) (m : ℕ) (change : Change) (why : PublishFault) → IsScriptSound p → Refuses p calls change why → call_written p calls (call m (Changed change)) ≡ Err (script_cause why)
 refused p calls m change why sound refuses =
     let c = call m (Changed change) in
     ap (λ (o : Option PublishFault). text_unless_refused o (answer_text (greatest_call_moment (calls ++ c ∷ [])) (request_frame (standing_from (fresh_publisher p) calls) (Changed change) m)))
     (sym (judged_only p.control p.table (next_state p calls) change sound.steps (Some why) refuses))
 
-module _ {A : Type 0} (p : Setup A) (calls : List Call) (sound : IsScriptSound p) (old new : List ℕ) (s : PublisherStanding A) where
+module _ {A : Type 0} (p : Setup A) (calls : List Call) (sound : IsScriptSound p) (old new : List ℕ) (s : PublisherState A) where
   -- a change was accepted, and the frame that it gives was appended
   pub changed : (m : ℕ) (change : Change) (moment : ℕ) (octets : List ℕ) → Accepts p calls change → PublishesOctets p (calls ++ call m (Changed change) ∷ []) (length calls) octets →
       PublisherStandsAfter p (calls ++ call m (Changed change) ∷ []) s → moment ≡ greatest_call_moment (calls ++ call m (Changed change) ∷ []) →
@@ -242,15 +243,15 @@ module _ {A : Type 0} (p : Setup A) (calls : List Call) (sound : IsScriptSound p
 
 -- a poll that gives a frame has a text
 pub polled_there : {A : Type 0} (p : Setup A) (calls : List Call) (m : ℕ) (octets : List ℕ) → IsScriptSound p → PublishesOctets p (calls ++ call m Polled ∷ []) (length calls) octets →
-    (n : ℕ) → step_text (publish_text {A = A}) n (call_step p calls (call m Polled)) ≡ [] → ⊥
+    (n : ℕ) → step_text (publish_text {A = A}) n (call_written p calls (call m Polled)) ≡ [] → ⊥
 polled_there {A} p calls m octets sound published n none =
     let c = call m Polled in
     let same = answer_one p (trace_of_calls (calls ++ c ∷ [])) (length calls) (Some published.0) _ published.1 (answered p calls c sound) in
     let h = ap (answer_text {A = A} (greatest_call_moment (calls ++ c ∷ []))) same ∙ none in cc
 
 -- a poll that is not taken leaves the item so
-pub poll_fails : {A : Type 0} (g : Progress A) (p : Setup A) (calls : List Call) (m : ℕ) (e : LineError ScriptCause) (old new : List ℕ) (s : PublisherStanding A) →
-    call_at g (call m Polled) ≡ call_step p calls (call m Polled) → TakesCall p calls (call m Polled) (Err e) old new s → TakesItem g (item.Poll m) (Err e) old new
+pub poll_fails : {A : Type 0} (g : Progress A) (p : Setup A) (calls : List Call) (m : ℕ) (e : LineError ScriptCause) (old new : List ℕ) (s : PublisherState A) →
+    call_at g (call m Polled) ≡ call_written p calls (call m Polled) → TakesCall p calls (call m Polled) (Err e) old new s → TakesItem g (item.Poll m) (Err e) old new
 poll_fails g p calls m (line.Cause why) old new s same t = same ∙ t
 poll_fails {A} g p calls m (line.Memory x) old new s same t = λ n none. t n (ap (step_text (publish_text {A = A}) n) (sym same) ∙ none)
 

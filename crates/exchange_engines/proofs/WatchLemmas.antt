@@ -18,9 +18,9 @@ use Rattle.subscribe_core.specs.Watch.{AreSeen, seen_after}
 use Rattle.subscribe_core.specs.computed.WatchAnswers.{last_by, seen_all}
 use Rattle.subscribe_core.proofs.Counts.{none_last, none_seen, seen_from}
 use Rattle.engine_core.specs.computed.EngineStep.{Takes}
-use Rattle.exchange_engines.specs.SampleLine.{sample_line}
+use Rattle.exchange_engines.specs.SampleLine.{Sample, sample_line}
 use Rattle.exchange_engines.specs.WatchText.{IsWatchText, counts, counts_of, frame_watched, is_unexpected, sample_at, sample_lines, samples_from, samples_in, samples_of, samples_read, watched}
-use Rattle.exchange_engines.specs.computed.WatchStep.{SamplesSaid, last_of, watch_text}
+use Rattle.exchange_engines.specs.computed.WatchStep.{SamplesAppended, last_of, watch_text}
 use Rattle.text_core.proofs.NonEmpty.{fault_there}
 use Rattle.exchange_engines.proofs.NonEmpty.{no_sample}
 
@@ -36,11 +36,11 @@ pub seen-length : (p : ℕ) (last : Option ℕ) (xs : List ℕ) → length (seen
 seen-length p last [] = refl
 seen-length p last (x ∷ xs) = ap suc (seen-length p (last_by last x (seen_after p last x)) xs)
 
-counts-append : (xs ys : List (ℕ × ℕ)) → counts (xs ++ ys) ≡ counts xs ++ counts ys
+counts-append : (xs ys : List Sample) → counts (xs ++ ys) ≡ counts xs ++ counts ys
 counts-append [] ys = refl
-counts-append (x ∷ xs) ys = ap (λ (l : List ℕ). x.1 ∷ l) (counts-append xs ys)
+counts-append (x ∷ xs) ys = ap (λ (l : List ℕ). x.count ∷ l) (counts-append xs ys)
 
-counts-length : (xs : List (ℕ × ℕ)) → length (counts xs) ≡ length xs
+counts-length : (xs : List Sample) → length (counts xs) ≡ length xs
 counts-length [] = refl
 counts-length (x ∷ xs) = ap suc (counts-length xs)
 
@@ -49,16 +49,16 @@ pub samples-append : {A : Type 0} (k : ℕ) (id : List ℕ) (xs ys : List (Asdu 
 samples-append k id [] ys = ap (λ (j : ℕ). samples_from j id ys) (sym (add-zero k))
 samples-append k id (x ∷ xs) ys =
     let place : k + 1 + length xs ≡ k + length (x ∷ xs) = omega arith in
-    ap (λ (l : List (ℕ × ℕ)). sample_at k id x ++ l) (samples-append (k + 1) id xs ys ∙ ap (λ (j : ℕ). samples_from (k + 1) id xs ++ samples_from j id ys) place)
+    ap (λ (l : List Sample). sample_at k id x ++ l) (samples-append (k + 1) id xs ys ∙ ap (λ (j : ℕ). samples_from (k + 1) id xs ++ samples_from j id ys) place)
     ∙ sym (append_assoc (sample_at k id x) (samples_from (k + 1) id xs) (samples_from (k + length (x ∷ xs)) id ys))
 
 -- one ASDU behind others
 pub samples-push : {A : Type 0} (id : List ℕ) (xs : List (Asdu A)) (a : Asdu A) → samples_from 0 id (xs ++ a ∷ []) ≡ samples_from 0 id xs ++ sample_at (length xs) id a
 samples-push id xs a =
     samples-append 0 id xs (a ∷ []) ∙ ap (λ (j : ℕ). samples_from 0 id xs ++ samples_from j id (a ∷ [])) (zero-add (length xs))
-    ∙ ap (λ (l : List (ℕ × ℕ)). samples_from 0 id xs ++ l) (append-nil (sample_at (length xs) id a))
+    ∙ ap (λ (l : List Sample). samples_from 0 id xs ++ l) (append-nil (sample_at (length xs) id a))
 
-lines-append : (n : ℕ) (xs ys : List (ℕ × ℕ)) (answers others : List Seen) → length answers ≡ length xs → sample_lines n (xs ++ ys) (answers ++ others) ≡ sample_lines n xs answers ++ sample_lines n ys others
+lines-append : (n : ℕ) (xs ys : List Sample) (answers others : List Seen) → length answers ≡ length xs → sample_lines n (xs ++ ys) (answers ++ others) ≡ sample_lines n xs answers ++ sample_lines n ys others
 lines-append n [] ys [] others e = refl
 lines-append n [] ys (a ∷ answers) others e = absurd (omega arith)
 lines-append n (x ∷ xs) ys [] others e = absurd (omega arith)
@@ -67,8 +67,8 @@ lines-append n (x ∷ xs) ys (a ∷ answers) others e =
     ∙ sym (append_assoc (sample_line n x a) (sample_lines n xs answers) (sample_lines n ys others))
 
 -- samples behind others
-pub said_after : (p n : ℕ) (last mid after : Option ℕ) (xs ys : List (ℕ × ℕ)) (a b c : List ℕ) (f g : Bool) → SamplesSaid p n last xs a b f mid → SamplesSaid p n mid ys b c g after
-    → SamplesSaid p n last (xs ++ ys) a c (f || g) after
+pub said_after : (p n : ℕ) (last mid after : Option ℕ) (xs ys : List Sample) (a b c : List ℕ) (f g : Bool) → SamplesAppended p n last xs a b f mid → SamplesAppended p n mid ys b c g after
+    → SamplesAppended p n last (xs ++ ys) a c (f || g) after
 said_after p n last mid after xs ys a b c f g u v =
     let first = seen_all p last (counts xs) in
     let second = seen_all p mid (counts ys) in
@@ -102,13 +102,13 @@ watch_is p id = record {
   first = refl;
   step = λ before e.
       let c = counts_of id before in
-      let d = counts (samples_of id e.1.kind) in (
-        seen_all p None c,
-        seen_all p (last_of p None c) d,
-        subst (λ (answers : List Seen). AreSeen p (c ++ d) answers) (seen-append p None c d) (seen_from p (c ++ d) [] [] None (none_seen p) none_last),
-        seen-length p (last_of p None c) d ∙ counts-length (samples_of id e.1.kind),
-        refl,
-      );
+      let d = counts (samples_of id e.1.kind) in record {
+        earlier = seen_all p None c;
+        answers = seen_all p (last_of p None c) d;
+        one_each = seen-length p (last_of p None c) d ∙ counts-length (samples_of id e.1.kind);
+        are_seen = subst (λ (answers : List Seen). AreSeen p (c ++ d) answers) (seen-append p None c d) (seen_from p (c ++ d) [] [] None (none_seen p) none_last);
+        lines = refl;
+      };
   last = λ f. refl;
 }
 
@@ -146,10 +146,10 @@ map-length f (x ∷ xs) = ap suc (map-length f xs)
 -- one ASDU more
 pub asdu_more : (p q n : ℕ) (id : List ℕ) (v : SvView) (yielded : List AsduView) (asdu : AsduView) (rest others : List (Asdu (Unit {0}))) (last mid after : Option ℕ) (a b c : List ℕ) (f g : Bool) (position next : ℕ)
     → map (asdu_of {A = Unit {0}}) yielded ++ rest ≡ asdus_left v.asdus → rest ≡ asdu_of asdu ∷ others
-    → SamplesSaid p n last (samples_from 0 id (map (asdu_of {A = Unit {0}}) yielded)) a b f mid → q ≡ p → position ≡ length yielded
-    → SamplesSaid q n mid (sample_at position id (asdu_of {A = Unit {0}} asdu)) b c g after → next ≡ min v.count (position + 1)
+    → SamplesAppended p n last (samples_from 0 id (map (asdu_of {A = Unit {0}}) yielded)) a b f mid → q ≡ p → position ≡ length yielded
+    → SamplesAppended q n mid (sample_at position id (asdu_of {A = Unit {0}} asdu)) b c g after → next ≡ min v.count (position + 1)
     → (map (asdu_of {A = Unit {0}}) (yielded ++ asdu ∷ []) ++ others ≡ asdus_left v.asdus)
-    × SamplesSaid p n last (samples_from 0 id (map (asdu_of {A = Unit {0}}) (yielded ++ asdu ∷ []))) a c (f || g) after
+    × SamplesAppended p n last (samples_from 0 id (map (asdu_of {A = Unit {0}}) (yielded ++ asdu ∷ []))) a c (f || g) after
     × (next ≡ length (yielded ++ asdu ∷ []))
 asdu_more p q n id v yielded asdu rest others last mid after a b c f g position next parts first said same at more goes =
     let one = asdu_of {A = Unit {0}} asdu in
@@ -157,8 +157,8 @@ asdu_more p q n id v yielded asdu rest others last mid after a b c f g position 
     let pushed : map (asdu_of {A = Unit {0}}) (yielded ++ asdu ∷ []) ≡ seen ++ one ∷ [] = map-push asdu_of yielded asdu in
     let whole : seen ++ one ∷ others ≡ asdus_left v.asdus = ap (λ (l : List (Asdu (Unit {0}))). seen ++ l) (sym first) ∙ parts in
     let here : position ≡ length seen = at ∙ sym (map-length (asdu_of {A = Unit {0}}) yielded) in
-    let mine : SamplesSaid p n mid (sample_at (length seen) id one) b c g after =
-    subst (λ (k : ℕ). SamplesSaid p n mid (sample_at k id one) b c g after) here (subst (λ (k : ℕ). SamplesSaid k n mid (sample_at position id one) b c g after) same more) in
+    let mine : SamplesAppended p n mid (sample_at (length seen) id one) b c g after =
+    subst (λ (k : ℕ). SamplesAppended p n mid (sample_at k id one) b c g after) here (subst (λ (k : ℕ). SamplesAppended k n mid (sample_at position id one) b c g after) same more) in
     let both = said_after p n last mid after (samples_from 0 id seen) (sample_at (length seen) id one) a b c f g said mine in
     let samples : samples_from 0 id seen ++ sample_at (length seen) id one ≡ samples_from 0 id (map (asdu_of {A = Unit {0}}) (yielded ++ asdu ∷ [])) =
     sym (samples-push id seen one) ∙ ap (samples_from 0 id) (sym pushed) in
@@ -167,6 +167,6 @@ asdu_more p q n id v yielded asdu rest others last mid after a b c f g position 
     let size : length (yielded ++ asdu ∷ []) ≡ length yielded + 1 = length_push yielded asdu in
     let room : position + 1 ≤ v.count = omega (arith, count, sizes, here) in (
       ap (λ (l : List (Asdu (Unit {0}))). l ++ others) pushed ∙ append_assoc seen (one ∷ []) others ∙ whole,
-      subst (λ (l : List (ℕ × ℕ)). SamplesSaid p n last l a c (f || g) after) samples both,
+      subst (λ (l : List Sample). SamplesAppended p n last l a c (f || g) after) samples both,
       omega (arith, goes, room, at, size),
     )

@@ -25,7 +25,8 @@ use Rattle.list_core.specs.declared.event_lines.EventLines.TheVariants.{First}
 use Rattle.list_core.specs.declared.list_fault.ListCause.{ListCause}
 use Rattle.block_core.specs.declared.block.Block.{Block}
 use Rattle.subscribe_core.specs.declared.watch.Seen.TheVariants as seen
-use Rattle.engine_core.specs.EngineText.{Text, told, told_after, whole_text}
+use Rattle.engine_core.specs.EngineText.{Text}
+use Rattle.engine_core.specs.computed.WholeText.{told, told_after, whole_text}
 use Rattle.exchange_engines.specs.PublishText.{answer_text}
 use Rattle.exchange_engines.specs.computed.ReplayStep.{replay_text}
 use Rattle.exchange_engines.specs.ReplayText.{twice_line}
@@ -74,7 +75,7 @@ are_sampled = record { watched = refl; finds = refl; other_stream = refl }
 -- ---- samples and single lines
 
 pub record AreLines : Type 0 where
-  pub watched : sample_lines 4 ((0, 7) ∷ (1, 10) ∷ []) (seen.First ∷ seen.Skipped 2 ∷ []) ≡ codes "4 0 7 first\n4 1 10 skipped 2\n"
+  pub watched : sample_lines 4 (record { position = 0; count = 7 } ∷ record { position = 1; count = 10 } ∷ []) (seen.First ∷ seen.Skipped 2 ∷ []) ≡ codes "4 0 7 first\n4 1 10 skipped 2\n"
   pub nothing_sent : answer_text {A = Unit {0}} 7 None ≡ []
   pub twice : twice_line 1 ≡ codes "blocks SameBlockTwice 1\n"
 

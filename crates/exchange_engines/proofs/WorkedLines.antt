@@ -31,8 +31,8 @@ unfolding digits encode_with
 entry_texts = record { act = refl; refreshed = refl; repeated = refl; older = refl; refused = refl; not_subscribed = refl; sampled = refl; faulty = refl; several = refl }
 
 pub record AreOtherLines : Type 0 where
-  pub skipped : sample_line 7 (0, 4) (seen.Skipped 2) ≡ codes "7 0 4 skipped 2\n"
-  pub next : sample_line 5 (1, 1) seen.Next ≡ codes "5 1 1 next\n"
+  pub skipped : sample_line 7 (record { position = 0; count = 4 }) (seen.Skipped 2) ≡ codes "7 0 4 skipped 2\n"
+  pub next : sample_line 5 (record { position = 1; count = 1 }) seen.Next ≡ codes "5 1 1 next\n"
   pub entries_differ : script_line (item_fault.Line 5 script.EntriesDiffer) ≡ codes "# 5 script EntriesDiffer\n"
   pub members : script_line (item_fault.Line 4 (script.Members (record { place = 1; cause = causes.LengthPastEnd }))) ≡ codes "# 4 script Members 1 LengthPastEnd\n"
   pub long_line : script_line (item_fault.Lines (record { line = 9; cause = list.LineTooLong })) ≡ codes "# 9 script LineTooLong\n"

@@ -70,21 +70,30 @@ script_cause publish.EntriesDiffer = cause.EntriesDiffer
 script_cause publish.NotSpellable = cause.NotSpellable
 script_cause publish.WouldNotFit = cause.WouldNotFit
 
--- Behind these calls one more is taken, and what it gives is written at the greatest moment so far; or it is refused, and ends the text.
+-- A call after these is taken: what it gives is written at the greatest moment so far. No line is a finding.
+pub record IsCallTaken {A : Type 0} (p : Setup A) (calls : List Call) (c : Call) (written : Result (List ℕ × Bool) ScriptCause) : Type 0 where
+  pub taken : IsTaken p calls c.request
+  pub answer : Option (SentFrame A)
+  pub is_answer : IsAnswer p (trace_of_calls (calls ++ c ∷ [])) (length calls) answer
+  pub line : written ≡ Ok (answer_text (greatest_call_moment (calls ++ c ∷ [])) answer, false)
+
+-- A call after these is refused, and ends the text.
+pub record IsCallRefused {A : Type 0} (p : Setup A) (calls : List Call) (c : Call) (written : Result (List ℕ × Bool) ScriptCause) : Type 0 where
+  pub why : PublishFault
+  pub refused : IsRefused p calls c.request why
+  pub ends : written ≡ Err (script_cause why)
+
+-- what is written of a call after these
 abbrev pub IsCallText : {A : Type 0} → Setup A → List Call → Call → Result (List ℕ × Bool) ScriptCause → Type 0
-IsCallText {A} p calls c said =
-    (IsTaken p calls c.request
-    × ((answer : Option (SentFrame A)) × IsAnswer p (trace_of_calls (calls ++ c ∷ [])) (length calls) answer
-    × (said ≡ Ok (answer_text (greatest_call_moment (calls ++ c ∷ [])) answer, false))))
-    ⊎ ((why : PublishFault) × IsRefused p calls c.request why × (said ≡ Err (script_cause why)))
+IsCallText p calls c written = IsCallTaken p calls c written ⊎ IsCallRefused p calls c written
 
 -- ---- the text
 
 -- What `publish` writes: a list of version 2. The control line and the steps write nothing; each call behind them writes what it gives. No line is a finding.
 pub record IsPublishText {A : Type 0} (t : Text (ScriptItem A) ScriptCause) : Type 0 where
   pub first : t.first ≡ codes "V2\n"
-  pub control : (n first : ℕ) (control : Control A) → t.step [] (n, item.Control control first) ≡ Ok ([], false)
-  pub step : (p : Setup A) (before : List (ℕ × ScriptItem A)) → items_of_lines before ≡ script_of p [] → length p.table < 16 →
+  pub control_line : (n first : ℕ) (control : Control A) → t.step [] (n, item.Control control first) ≡ Ok ([], false)
+  pub table_step : (p : Setup A) (before : List (ℕ × ScriptItem A)) → items_of_lines before ≡ script_of p [] → length p.table < 16 →
       (n : ℕ) (s : Step) → t.step before (n, item.Step s) ≡ Ok ([], false)
   pub call : (p : Setup A) (calls : List Call) (before : List (ℕ × ScriptItem A)) → items_of_lines before ≡ script_of p calls → IsScriptSound p →
       (n : ℕ) (c : Call) → IsCallText p calls c (t.step before (n, item_of_call c))

@@ -1,5 +1,5 @@
 -- The text of `replay`: the entries that a whole list of events has for some control blocks, event by event.
-use Rattle.std.specs.Prelude.{◌≡◌, ◌⊎◌, ℕ, List, [], ◌∷◌, ◌++◌, length, map, false, Option, Ok, codes}
+use Rattle.std.specs.Prelude.{◌≡◌, ◌⊎◌, ℕ, Bool, List, [], ◌∷◌, ◌++◌, length, map, false, Option, Result, Ok, codes}
 use Rattle.std.specs.Fmt.{decimal}
 use Rattle.list_core.specs.declared.device.InputEnd.{InputEnd}
 use Rattle.list_core.specs.declared.device.InputEnd.TheVariants.{Open}
@@ -12,10 +12,12 @@ use Rattle.list_core.specs.ListReader.{list_fault_of}
 use Rattle.block_core.specs.declared.block.Block.{Block}
 use Rattle.subscribe_core.specs.declared.entry.Entry.{Entry}
 use Rattle.subscribe_core.specs.Entries.{AreEntriesAt}
-use Rattle.subscribe_core.specs.Standing.{AreApart, IsFirstTwice}
+use Rattle.subscribe_core.specs.Apart.{AreApart, IsFirstTwice}
+use Rattle.subscribe_core.specs.State.{State, StandsAfter}
 use Rattle.engine_core.specs.declared.ending.Ending.{Ending}
 use Rattle.engine_core.specs.declared.ending.Ending.TheVariants.{Memory}
-use Rattle.engine_core.specs.EngineText.{Text, IsUntouched, LeavesRefused, Writes}
+use Rattle.engine_core.specs.EngineText.{Text}
+use Rattle.engine_core.specs.Run.{IsUntouched, LeavesRefused, WritesSome}
 use Rattle.exchange_engines.specs.EntryText.{entry_lines}
 use Rattle.text_core.specs.LineText.{list_line}
 
@@ -23,29 +25,52 @@ use Rattle.text_core.specs.LineText.{list_line}
 abbrev pub events_of : {A : Type 0} → List (ℕ × Event A) → List (Event A)
 events_of items = map (λ e. e.1) items
 
--- What `replay` writes for these blocks: the lines of the entries that the events up to this one have at it. No event is a finding.
+-- a subscriber of these blocks keeps this after these events
+pub record KeepsAfter {A : Type 0} (blocks : List (Block A)) (events : List (Event A)) (s : State A) : Type 0 where
+  pub of_blocks : s.blocks ≡ blocks
+  pub stands : StandsAfter events s
+
+-- What is written of an event after others. A subscriber that keeps one state before the event answers it by its entries, and
+-- keeps another state then; the lines of the entries are written. No event is a finding.
+pub record ReplaysEvent {A : Type 0} (blocks : List (Block A)) (before : List (ℕ × Event A)) (e : ℕ × Event A) (written : Result (List ℕ × Bool) ListCause) : Type 0 where
+  pub old : State A
+  pub kept : KeepsAfter blocks (events_of before) old
+  pub entries : List (Entry A)
+  pub are_entries : AreEntriesAt blocks (events_of before ++ e.1 ∷ []) (length (events_of before)) entries
+  pub new : State A
+  pub keeps : KeepsAfter blocks (events_of before ++ e.1 ∷ []) new
+  pub lines : written ≡ Ok (entry_lines e.0 entries, false)
+
+-- What `replay` writes for these blocks: of each event what a subscriber of them answers it after the events before.
 pub record IsReplayText {A : Type 0} (blocks : List (Block A)) (t : Text (Event A) ListCause) : Type 0 where
   pub first : t.first ≡ []
-  pub step : (before : List (ℕ × Event A)) (e : ℕ × Event A) → (entries : List (Entry A))
-      × AreEntriesAt blocks (events_of before ++ e.1 ∷ []) (length (events_of before)) entries × (t.step before e ≡ Ok (entry_lines e.0 entries, false))
+  pub step : (before : List (ℕ × Event A)) (e : ℕ × Event A) → ReplaysEvent blocks before e (t.step before e)
   pub last : (f : ItemFault ListCause) → t.last f ≡ list_line (list_fault_of f)
 
 -- the one line for a block given twice, at its position
 abbrev pub twice_line : ℕ → List ℕ
 twice_line i = codes "blocks SameBlockTwice " ++ decimal i ++ codes "\n"
 
--- a block is given twice: the reader is untouched, and its line is written, unless memory is refused for that
-abbrev pub ReplayRefuses : {A : Type 0} → List (Block A) → Ending → InputEnd → List ℕ → Option (List ℕ) → Option (List ℕ) → Type 0
-ReplayRefuses blocks ending z given old new =
-    (i : ℕ) × IsFirstTwice blocks i × IsUntouched Open z given × (LeavesRefused (twice_line i) ending old new ⊎ ((ending ≡ Memory) × (new ≡ old)))
+-- A block is given twice: the reader is untouched, and the line that says so is written, unless memory is refused for it.
+pub record RefusesTwice {A : Type 0} (blocks : List (Block A)) (ending : Ending) (z : InputEnd) (read : List ℕ) (old new : Option (List ℕ)) : Type 0 where
+  pub position : ℕ
+  pub is_twice : IsFirstTwice blocks position
+  pub untouched : IsUntouched Open z read
+  pub written : LeavesRefused (twice_line position) ending old new ⊎ ((ending ≡ Memory) × (new ≡ old))
 
--- the blocks are apart, but memory is refused for what a subscriber of them keeps: the reader is untouched, and nothing is written
-abbrev pub ReplayKeepsNone : {A : Type 0} → List (Block A) → Ending → InputEnd → List ℕ → Option (List ℕ) → Option (List ℕ) → Type 0
-ReplayKeepsNone blocks ending z given old new = (ending ≡ Memory) × AreApart blocks × (blocks ≡ [] → ⊥) × IsUntouched Open z given × (new ≡ old)
+-- The blocks are apart, but memory is refused for what a subscriber of them keeps: the reader is untouched, and nothing is written.
+pub record KeepsNone {A : Type 0} (blocks : List (Block A)) (ending : Ending) (z : InputEnd) (read : List ℕ) (old new : Option (List ℕ)) : Type 0 where
+  pub wants_memory : ending ≡ Memory
+  pub are_apart : AreApart blocks
+  pub are_some : blocks ≡ [] → ⊥
+  pub untouched : IsUntouched Open z read
+  pub none_written : new ≡ old
 
--- what a replay of these blocks leaves written of an input
+-- The blocks are apart, and the text of their replay is written.
+pub record RunsReplay {A : Type 0} (blocks : List (Block A)) (ending : Ending) (z : InputEnd) (read : List ℕ) (old new : Option (List ℕ)) : Type 0 where
+  pub are_apart : AreApart blocks
+  pub runs : WritesSome (IsReplayText blocks) event_rules First ending z read old new
+
+-- what a replay of these blocks leaves written of what was read
 abbrev pub ReplayWrites : {A : Type 0} → List (Block A) → Ending → InputEnd → List ℕ → Option (List ℕ) → Option (List ℕ) → Type 0
-ReplayWrites {A = A} blocks ending z given old new =
-    ReplayRefuses blocks ending z given old new
-    ⊎ ReplayKeepsNone blocks ending z given old new
-    ⊎ (AreApart blocks × ((t : Text (Event A) ListCause) × IsReplayText blocks t × Writes event_rules First t ending z given old new))
+ReplayWrites blocks ending z read old new = RefusesTwice blocks ending z read old new ⊎ KeepsNone blocks ending z read old new ⊎ RunsReplay blocks ending z read old new

@@ -12,12 +12,25 @@ use Rattle.script_core.specs.declared.script.ScriptLines.TheVariants.{First}
 use Rattle.script_core.specs.Script.{script_rules}
 use Rattle.exchange_engines.specs.PublishText.{items_of_lines, script_of, IsScriptSound}
 
--- what stands before an item of a script: nothing before the control line, fewer than 16 steps before a step, a whole table and other calls before a call
+-- before a step stands a control line with fewer than 16 steps
+pub record StandsBeforeStep {A : Type 0} (before : List (ScriptItem A)) : Type 0 where
+  pub setup : Setup A
+  pub is_script : before ≡ script_of setup []
+  pub has_room : length setup.table < 16
+
+-- before a call stands a control line with steps that set up a publisher, and other calls
+pub record StandsBeforeCall {A : Type 0} (before : List (ScriptItem A)) : Type 0 where
+  pub setup : Setup A
+  pub calls : List Call
+  pub is_script : before ≡ script_of setup calls
+  pub is_sound : IsScriptSound setup
+
+-- what stands before an item of a script; nothing does before the control line
 abbrev pub StandsBefore : {A : Type 0} → List (ScriptItem A) → ScriptItem A → Type 0
 StandsBefore before (item.Control control first) = before ≡ []
-StandsBefore {A} before (item.Step s) = (p : Setup A) × (before ≡ script_of p []) × (length p.table < 16)
-StandsBefore {A} before (item.Change moment t values) = (p : Setup A) × (calls : List Call) × (before ≡ script_of p calls) × IsScriptSound p
-StandsBefore {A} before (item.Poll moment) = (p : Setup A) × (calls : List Call) × (before ≡ script_of p calls) × IsScriptSound p
+StandsBefore before (item.Step s) = StandsBeforeStep before
+StandsBefore before (item.Change moment t values) = StandsBeforeCall before
+StandsBefore before (item.Poll moment) = StandsBeforeCall before
 
 -- before each item of a script stands what must
 abbrev pub ScriptsAreInOrder : Type 0 → Type 0

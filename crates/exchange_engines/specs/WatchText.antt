@@ -19,43 +19,43 @@ use Rattle.subscribe_core.specs.declared.watch.Seen.TheVariants as seen
 use Rattle.subscribe_core.specs.Watch.{AreSeen}
 use Rattle.engine_core.specs.EngineText.{Text}
 use Rattle.text_core.specs.LineText.{fault_line, list_line}
-use Rattle.exchange_engines.specs.SampleLine.{sample_line}
+use Rattle.exchange_engines.specs.SampleLine.{Sample, sample_line}
 
--- the position and smpCnt of an ASDU, if it is of the stream with this svID
-abbrev pub sample_at : {A : Type 0} → ℕ → List ℕ → Asdu A → List (ℕ × ℕ)
-sample_at k id a = if bytes_eq a.sv_id id then (k, a.smp_cnt) ∷ [] else []
+-- the sample of an ASDU, if it is of the stream with this svID
+abbrev pub sample_at : {A : Type 0} → ℕ → List ℕ → Asdu A → List Sample
+sample_at k id a = if bytes_eq a.sv_id id then record { position = k; count = a.smp_cnt } ∷ [] else []
 
--- the positions and smpCnt of those of several ASDUs that are of the stream; the first of them has this position
-abbrev pub samples_from : {A : Type 0} → ℕ → List ℕ → List (Asdu A) → List (ℕ × ℕ)
+-- the samples of several ASDUs that are of the stream; the first ASDU has this position
+abbrev pub samples_from : {A : Type 0} → ℕ → List ℕ → List (Asdu A) → List Sample
 samples_from k id [] = []
 samples_from k id (a ∷ others) = sample_at k id a ++ samples_from (k + 1) id others
 
 -- those of the ASDUs of an APDU; one of GOOSE has none
-abbrev pub samples_in : {A : Type 0} → List ℕ → Apdu A → List (ℕ × ℕ)
+abbrev pub samples_in : {A : Type 0} → List ℕ → Apdu A → List Sample
 samples_in id (apdus.Goose p) = []
 samples_in id (apdus.Sampled p) = samples_from 0 id p.asdus
 
 -- those of the frame that octets spell; octets with a fault have none
-abbrev pub samples_read : {A : Type 0} → List ℕ → Result (Frame A) Fault → List (ℕ × ℕ)
+abbrev pub samples_read : {A : Type 0} → List ℕ → Result (Frame A) Fault → List Sample
 samples_read id (Ok f) = samples_in id f.apdu
 samples_read id (Err f) = []
 
 -- those of an event; the clock and modes have none
-abbrev pub samples_of : {A : Type 0} → List ℕ → EventKind A → List (ℕ × ℕ)
+abbrev pub samples_of : {A : Type 0} → List ℕ → EventKind A → List Sample
 samples_of id (kinds.Frame octets) = samples_read {A = Unit {0}} id (frame_at octets)
 samples_of id kinds.Clock = []
 samples_of id (kinds.Mode on) = []
 
 -- the smpCnt of samples
-abbrev pub counts : List (ℕ × ℕ) → List ℕ
-counts samples = map (λ s. s.1) samples
+abbrev pub counts : List Sample → List ℕ
+counts samples = map (λ s. s.count) samples
 
 -- the counts of a stream over several events
 abbrev pub counts_of : {A : Type 0} → List ℕ → List (ℕ × Event A) → List ℕ
 counts_of id items = flat_map (λ e. counts (samples_of id e.1.kind)) items
 
 -- the lines of samples with these answers
-abbrev pub sample_lines : ℕ → List (ℕ × ℕ) → List Seen → List ℕ
+abbrev pub sample_lines : ℕ → List Sample → List Seen → List ℕ
 sample_lines n [] answers = []
 sample_lines n (s ∷ samples) [] = []
 sample_lines n (s ∷ samples) (answer ∷ answers) = sample_line n s answer ++ sample_lines n samples answers
@@ -80,10 +80,16 @@ watched n id (kinds.Frame octets) answers = frame_watched {A = Unit {0}} n id (f
 watched n id kinds.Clock answers = ([], false)
 watched n id (kinds.Mode on) answers = ([], false)
 
+-- What is written of an event after others. Each count of the stream in it is answered after all its counts before; the answers are written, and a finding is one that is unexpected.
+pub record WatchesEvent {A : Type 0} (period : ℕ) (id : List ℕ) (before : List (ℕ × Event A)) (e : ℕ × Event A) (written : Result (List ℕ × Bool) ListCause) : Type 0 where
+  pub earlier : List Seen
+  pub answers : List Seen
+  pub one_each : length answers ≡ length (samples_of id e.1.kind)
+  pub are_seen : AreSeen period (counts_of id before ++ counts (samples_of id e.1.kind)) (earlier ++ answers)
+  pub lines : written ≡ Ok (watched e.0 id e.1.kind answers)
+
 -- What `watch` writes of the stream with this svID: for each of its ASDUs what its count is, over all counts of the stream up to it.
 pub record IsWatchText {A : Type 0} (period : ℕ) (id : List ℕ) (t : Text (Event A) ListCause) : Type 0 where
   pub first : t.first ≡ []
-  pub step : (before : List (ℕ × Event A)) (e : ℕ × Event A) → (earlier : List Seen) × (answers : List Seen)
-      × AreSeen period (counts_of id before ++ counts (samples_of id e.1.kind)) (earlier ++ answers)
-      × (length answers ≡ length (samples_of id e.1.kind)) × (t.step before e ≡ Ok (watched e.0 id e.1.kind answers))
+  pub step : (before : List (ℕ × Event A)) (e : ℕ × Event A) → WatchesEvent period id before e (t.step before e)
   pub last : (f : ItemFault ListCause) → t.last f ≡ list_line (list_fault_of f)

@@ -11,11 +11,12 @@ use Rattle.subscribe_core.specs.declared.registers.Held.{Held}
 use Rattle.subscribe_core.specs.declared.registers.Register.{Register}
 use Rattle.subscribe_core.specs.declared.registers.Verdict.{Verdict}
 use Rattle.subscribe_core.specs.declared.registers.Verdict.TheVariants.{Act, Refreshed, Repeated, Older}
-use Rattle.subscribe_core.specs.Entries.{entry_of}
+use Rattle.subscribe_core.specs.FrameEntry.{entry_of}
 use Rattle.subscribe_core.specs.Matching.{facts_of_frame, first_of, is_of, reason_of}
 use Rattle.subscribe_core.specs.Reading.{FrameRead, OfGoose, EventRead}
-use Rattle.subscribe_core.specs.Simulation.{is_against}
-use Rattle.subscribe_core.specs.Standing.{AreApart, State}
+use Rattle.subscribe_core.specs.Simulation.{is_other_kind}
+use Rattle.subscribe_core.specs.Apart.{AreApart}
+use Rattle.subscribe_core.specs.State.{State}
 use Rattle.subscribe_core.specs.computed.Steps.{after_clock, after_switch, expired_entries, is_dead, registers_by, run_events, said_of, step_entries, step_state, switched_entries, held_after_frame, verdict_on}
 use Rattle.subscribe_core.proofs.Clearing.{not_due_stays}
 use Rattle.subscribe_core.proofs.Frames.{answer_good, registers_good}
@@ -52,7 +53,7 @@ module _ {B : Type 0} (block : Block B) (x : FrameRead) where
     pub clear : reason_of false block x ≡ None
     pub real : x.pdu.simulation ≡ false
 
-  clear_here : IsPlain → reason_of (is_against x false false) block x ≡ None
+  clear_here : IsPlain → reason_of (is_other_kind x false false) block x ≡ None
   clear_here good = ap (λ (s : Bool). reason_of (if s then not false else false) block x) good.real ∙ good.clear
 
   here : IsPlain → position (is_of x) (block ∷ []) ≡ Some 0

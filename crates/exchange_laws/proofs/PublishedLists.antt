@@ -18,12 +18,12 @@ use Rattle.publish_core.proofs.Runs.{answers_are_one, runs_are_whole as publishe
 use Rattle.subscribe_core.specs.computed.Content.{content_by, reading_of}
 use Rattle.subscribe_core.specs.Entries.{AreEntries}
 use Rattle.subscribe_core.specs.Reading.{Content, EventRead}
-use Rattle.subscribe_core.specs.Standing.{fresh_state}
+use Rattle.subscribe_core.specs.State.{fresh_state}
 use Rattle.subscribe_core.specs.computed.Steps.{run_events}
 use Rattle.subscribe_core.proofs.Runs.{runs_are_whole}
 use Rattle.exchange_laws.specs.Laws.{WholeRunsReplay}
 use Rattle.exchange_laws.specs.PublishedList.{InTime, Sent, one_entry_each, published_events, sent_from, with_frame}
-use Rattle.exchange_laws.specs.Stems.{AreAccepted, AreHeld}
+use Rattle.exchange_laws.specs.Stems.{AreAccepted, HasSizes}
 use Rattle.exchange_laws.proofs.Changes.{count, count_all}
 use Rattle.exchange_laws.proofs.Received.{plain_frame, plain_spelled, readings_of, received}
 use Rattle.exchange_laws.proofs.Replaying.{HasEntries, HaveEntries, begin_from}
@@ -54,7 +54,7 @@ list_read B (s ∷ rest) w =
 
 -- the frames of a run are such
 
-frame_spelled : {A : Type 0} (p : Setup A) (calls : List Call) (i : ℕ) (f : Frame A) → AreHeld p → AreAccepted p calls → IsAnswer p (trace_of_calls calls) i (Some f) → IsSpelled f
+frame_spelled : {A : Type 0} (p : Setup A) (calls : List Call) (i : ℕ) (f : Frame A) → HasSizes p → AreAccepted p calls → IsAnswer p (trace_of_calls calls) i (Some f) → IsSpelled f
 frame_spelled {A} p calls i f held accepted w =
     let c : ℕ = w.0 in
     let k : ℕ = w.1 in
@@ -106,7 +106,7 @@ whole_runs_replay {A} {B} p block calls answers w few =
     events = published_events (sent_from 0 calls by_steps)
 
     read : map reading_of events ≡ readings_of (sent_from 0 calls by_steps)
-    read = list_read B (sent_from 0 calls by_steps) (sent_spelled 0 calls by_steps (λ i f at. frame_spelled p calls i f w.held w.accepted (are_answers.1 i (Some f) at)))
+    read = list_read B (sent_from 0 calls by_steps) (sent_spelled 0 calls by_steps (λ i f at. frame_spelled p calls i f w.held w.accepted (are_answers.each i (Some f) at)))
 
     all : p.first + count calls ≤ 4294967296
     all = let bound : p.first + changes (trace_of_calls calls) (length calls) ≤ 4294967295 + 1 = w.no_wrap in omega (arith, bound, count_all calls)

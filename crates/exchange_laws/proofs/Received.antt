@@ -17,7 +17,7 @@ use Rattle.subscribe_core.specs.declared.registers.Facts.{Facts}
 use Rattle.subscribe_core.specs.Matching.{facts_of_frame, is_of, reason_of, facts_unless_refused}
 use Rattle.subscribe_core.specs.Reading.{AreRead, Content, FrameRead, IsContent, IsRead, OfClock, OfFault, OfGoose, OfMode, OfSampled, EventRead}
 use Rattle.subscribe_core.specs.Sight.{facts_at, facts_of, trace_of_block}
-use Rattle.subscribe_core.specs.Simulation.{is_against, mode_at, takes_simulated}
+use Rattle.subscribe_core.specs.Simulation.{is_other_kind, mode_at, takes_simulated}
 use Rattle.subscribe_core.proofs.Readings.{read_one}
 use Rattle.exchange_laws.specs.PublishedList.{Sent}
 
@@ -119,7 +119,7 @@ goose_octets (kinds.Mode on) x w = absurd w
 -- a good position is that of a frame of GOOSE, and has its facts
 
 frame_facts : {A : Type 0} (block : Block A) (mode taken : Bool) (x : FrameRead) (f : Facts) → facts_of block mode taken (OfGoose x) ≡ Some f → f ≡ facts_of_frame x
-frame_facts block mode taken x f e = go (is_of x block) (reason_of (is_against x mode taken) block x) e
+frame_facts block mode taken x f e = go (is_of x block) (reason_of (is_other_kind x mode taken) block x) e
   where
     go : (o : Bool) (r : Option Reason) → (if o then facts_unless_refused r (facts_of_frame x) else None) ≡ Some f → f ≡ facts_of_frame x
     go true None is = sym (same_Some (facts_of_frame x) f is)

@@ -7,7 +7,7 @@ use Rattle.publish_core.specs.declared.publisher.Last.{Last}
 use Rattle.publish_core.specs.Frames.{Change, Setup}
 use Rattle.publish_core.specs.Numbers.{number_behind}
 use Rattle.publish_core.specs.Run.{Request, Call, Changed, Polled, call, changes_of}
-use Rattle.publish_core.specs.Standing.{PublisherStanding, change_of}
+use Rattle.publish_core.specs.State.{PublisherState, change_of}
 use Rattle.publish_core.specs.computed.Step.{first_last, is_due as is_poll_due, last_frame, next_last, run_calls as run_publisher}
 use Rattle.publish_core.specs.Table.{AreSteps, step_at}
 use Rattle.block_core.specs.declared.block.Block.{Block}
@@ -55,7 +55,7 @@ after_plain : (n : ℕ) → n < 4294967295 → number_behind n ≡ n + 1
 after_plain n lt = ap (λ (b : Bool). if b then 1 else n + 1) (ne_eqb n 4294967295 (λ e. omega arith))
 
 module _ {A B : Type 0} (p : Setup A) (block : Block B) (own : IsOwnBlock p block) (steps : AreSteps p.table) where
-  abbrev standing : ℕ → ℕ → Option (Last A) → PublisherStanding A
+  abbrev standing : ℕ → ℕ → Option (Last A) → PublisherState A
   standing next m last = record { control = p.control; table = p.table; next = next; moment = m; last = last }
 
   abbrev live_at : Last A → ℕ

@@ -17,7 +17,7 @@ use Rattle.block_core.specs.declared.block.Block.{Block}
 use Rattle.subscribe_core.specs.declared.entry.Entry.TheVariants as says
 use Rattle.subscribe_core.specs.computed.Content.{content_by, reading_of}
 use Rattle.subscribe_core.specs.Reading.{Content}
-use Rattle.subscribe_core.specs.Standing.{fresh_state}
+use Rattle.subscribe_core.specs.State.{fresh_state}
 use Rattle.subscribe_core.specs.computed.Steps.{run_events}
 use Rattle.exchange_laws.specs.Stems.{IsOfRun, IsPublishedUnder, StemsFromRun}
 

@@ -12,7 +12,7 @@ use Rattle.publish_core.specs.Table.{step_of}
 use Rattle.publish_core.proofs.GivesOne.{carried}
 use Rattle.publish_core.proofs.NumberLaws.{sequence_number_most}
 use Rattle.exchange_laws.specs.Laws.{EpochsOfWhatIsPublishedStem, WhatIsPublishedIsOfTheRun}
-use Rattle.exchange_laws.specs.Stems.{AreAccepted, AreHeld}
+use Rattle.exchange_laws.specs.Stems.{AreAccepted, HasSizes}
 use Rattle.exchange_laws.proofs.Changes.{request_below, changes_cons}
 
 -- the changes before call j
@@ -33,7 +33,7 @@ word_small : (simulation : Bool) → simulation_word simulation < 65536
 word_small true = omega arith
 word_small false = omega arith
 
-frame_held : {A : Type 0} (p : Setup A) (state k : ℕ) (change : Change) → AreHeld p → IsHeld (frame p.control p.table state change k)
+frame_held : {A : Type 0} (p : Setup A) (state k : ℕ) (change : Change) → HasSizes p → IsHeld (frame p.control p.table state change k)
 frame_held p state k change held = record {
   to = held.to;
   from = held.from;
@@ -43,7 +43,7 @@ frame_held p state k change held = record {
   reserved2 = omega arith;
 }
 
-frame_spellable : {A : Type 0} (p : Setup A) (c k : ℕ) (change : Change) → AreHeld p → IsAccepted p.control p.table (state_number p.first c) change → ApduIsSpellable (frame p.control p.table (state_number p.first c) change k).apdu
+frame_spellable : {A : Type 0} (p : Setup A) (c k : ℕ) (change : Change) → HasSizes p → IsAccepted p.control p.table (state_number p.first c) change → ApduIsSpellable (frame p.control p.table (state_number p.first c) change k).apdu
 frame_spellable p c k change held accepted = record {
   gocb_ref = accepted.spelled.gocb_ref;
   live = held.lives (step_of p.table k);
@@ -58,7 +58,7 @@ frame_spellable p c k change held accepted = record {
 }
 
 -- each frame of an accepted change is spelled by its written form
-pub frame_is_spelled : {A : Type 0} (p : Setup A) (c k : ℕ) (change : Change) → AreHeld p → IsAccepted p.control p.table (state_number p.first c) change → SpellsFrame (frame p.control p.table (state_number p.first c) change k) (written_frame (frame p.control p.table (state_number p.first c) change k))
+pub frame_is_spelled : {A : Type 0} (p : Setup A) (c k : ℕ) (change : Change) → HasSizes p → IsAccepted p.control p.table (state_number p.first c) change → SpellsFrame (frame p.control p.table (state_number p.first c) change k) (written_frame (frame p.control p.table (state_number p.first c) change k))
 frame_is_spelled p c k change held accepted =
     frame_spelled (frame p.control p.table (state_number p.first c) change k) (frame_held p (state_number p.first c) k change held)
     (frame_spellable p c k change held accepted) (accepted.fit k)

@@ -1,5 +1,5 @@
 -- What the definitions of the publisher and of the subscriber say together.
-use Rattle.std.specs.Prelude.{◌≡◌, ℕ, ◌+◌, ◌<◌, ◌≤◌, ◌↔◌, Option, Some, List, [], ◌∷◌, length, slice_get, Contains}
+use Rattle.std.specs.Prelude.{◌≡◌, ℕ, ◌+◌, ◌≤◌, ◌↔◌, Option, Some, List, [], ◌∷◌, length, slice_get, Contains}
 use Rattle.list_core.specs.declared.event.Event.{Event}
 use Rattle.list_core.specs.declared.event.EventKind.TheVariants as kinds
 use Rattle.frame_core.specs.declared.frame.Frame.{Frame}
@@ -12,61 +12,81 @@ use Rattle.subscribe_core.specs.declared.entry.Entry.{Entry}
 use Rattle.subscribe_core.specs.declared.entry.Entry.TheVariants as says
 use Rattle.subscribe_core.specs.declared.registers.Facts.{Facts}
 use Rattle.subscribe_core.specs.Entries.{AreEntries, AreEntriesAt}
-use Rattle.subscribe_core.specs.Epoch.{IsLastStart}
+use Rattle.subscribe_core.specs.Epoch.{IsLastStart, Trace}
 use Rattle.subscribe_core.specs.Laws.{IsIn}
 use Rattle.subscribe_core.specs.Reading.{AreRead, EventRead}
 use Rattle.subscribe_core.specs.Sight.{trace_of_block}
-use Rattle.subscribe_core.specs.Standing.{AreApart}
+use Rattle.subscribe_core.specs.Apart.{AreApart}
 use Rattle.exchange_laws.specs.PublishedList.{IsWholeRun, one_entry_each, published_events, sent_from}
-use Rattle.exchange_laws.specs.Stems.{AreAccepted, AreHeld, ChangeComesInTime, IsOfRun, IsPublishedUnder, StemsFromRun}
+use Rattle.exchange_laws.specs.Stems.{AreAccepted, HasSizes, ChangeComesInTime, IsOfRun, IsPublishedUnder, StemsFromRun}
 
 -- one thing is published under a status number
 abbrev pub PublishedIsOne : Type 0 → Type 0
 PublishedIsOne A =
     (p : Setup A) (calls : List Call) (number : ℕ) (x y : Change) → IsPublishedUnder p calls number x → IsPublishedUnder p calls number y → x ≡ y
 
--- Where the good frames of the epoch of s stem from one publisher's run without a wrap, each action of that epoch carries
--- the moment of change and the members that were published under its status number.
+-- An epoch of a block among those that are subscribed to, whose good frames stem from one publisher's run without a wrap.
+pub record EpochOfRun (A B : Type 0) : Type 0 where
+  -- the blocks, no two of one name, and the one whose epoch it is
+  pub blocks : List (Block B)
+  pub apart : AreApart blocks
+  pub position : ℕ
+  pub block : Block B
+  pub here : slice_get blocks position ≡ Some block
+  -- the events, and what is read in them
+  pub events : List (Event B)
+  pub readings : List EventRead
+  pub are_read : AreRead events readings
+  -- the position at which the epoch starts, and the run
+  pub start : ℕ
+  pub publisher : Setup A
+  pub calls : List Call
+  pub stems : StemsFromRun block events readings start publisher calls
+
+-- what the block of the epoch sees of the events
+abbrev pub trace_of_epoch : {A B : Type 0} → EpochOfRun A B → Trace
+trace_of_epoch e = trace_of_block e.block e.readings
+
+-- each action of such an epoch carries the time of change and the members that were published under its status number
 abbrev pub ActionsCarryWhatWasPublished : Type 0 → Type 0 → Type 0
 ActionsCarryWhatWasPublished A B =
-    (blocks : List (Block B)) (events : List (Event B)) (readings : List EventRead) (b : ℕ) (block : Block B) (s : ℕ) (p : Setup A) (calls : List Call) →
-    AreApart blocks → slice_get blocks b ≡ Some block → AreRead events readings → StemsFromRun block events readings s p calls →
-    (i : ℕ) (entries : List (Entry B)) (number sequence : ℕ) (t : UtcTime) (members : List Data) →
-    IsLastStart (trace_of_block block readings) i s → AreEntriesAt blocks events i entries →
-    Contains entries (says.Act b number sequence t members) →
-    IsPublishedUnder p calls number (change t members)
+    (e : EpochOfRun A B) (i : ℕ) (entries : List (Entry B)) (number sequence : ℕ) (t : UtcTime) (members : List Data) →
+    IsLastStart (trace_of_epoch e) i e.start → AreEntriesAt e.blocks e.events i entries →
+    Contains entries (says.Act e.position number sequence t members) →
+    IsPublishedUnder e.publisher e.calls number (change t members)
 
--- at event i, in the epoch of s, the block at b acts on change c: an action of it has the status number first + c
-pub record ActsOnChange {B : Type 0} (blocks : List (Block B)) (events : List (Event B)) (readings : List EventRead) (b : ℕ) (block : Block B) (s first c i : ℕ) : Type 0 where
-  pub epoch : IsLastStart (trace_of_block block readings) i s
+-- at event i of the epoch its block acts on change c: an action of it has the status number first + c
+pub record ActsOnChange {A B : Type 0} (e : EpochOfRun A B) (c i : ℕ) : Type 0 where
+  pub epoch : IsLastStart (trace_of_epoch e) i e.start
   pub entries : List (Entry B)
-  pub are_entries : AreEntriesAt blocks events i entries
+  pub are_entries : AreEntriesAt e.blocks e.events i entries
   pub sequence : ℕ
   pub t : UtcTime
   pub members : List Data
-  pub has : Contains entries (says.Act b (first + c) sequence t members)
+  pub has : Contains entries (says.Act e.position (e.publisher.first + c) sequence t members)
 
--- In such an epoch the changes acted on are those of which a good frame comes before any of a later change. They are acted on
--- in their order, and each of them at one event.
+-- The changes acted on are those of which a good frame comes before any of a later change. They are acted on in their order,
+-- and each of them at one event.
+pub record ActsInOrder {A B : Type 0} (e : EpochOfRun A B) : Type 0 where
+  pub those : (c : ℕ) → ((i : ℕ) × ActsOnChange e c i) ↔ ChangeComesInTime (trace_of_epoch e) e.start e.publisher.first c
+  pub in_order : (c d i j : ℕ) → ActsOnChange e c i → ActsOnChange e d j → i ≤ j → c ≤ d
+  pub once : (c i j : ℕ) → ActsOnChange e c i → ActsOnChange e c j → i ≡ j
+
+-- so it is in every such epoch
 abbrev pub ChangesActedOn : Type 0 → Type 0 → Type 0
-ChangesActedOn A B =
-    (blocks : List (Block B)) (events : List (Event B)) (readings : List EventRead) (b : ℕ) (block : Block B) (s : ℕ) (p : Setup A) (calls : List Call) →
-    AreApart blocks → slice_get blocks b ≡ Some block → AreRead events readings → StemsFromRun block events readings s p calls →
-    ((c : ℕ) → ((i : ℕ) × ActsOnChange blocks events readings b block s p.first c i) ↔ ChangeComesInTime (trace_of_block block readings) s p.first c) ×
-    ((c d i j : ℕ) → ActsOnChange blocks events readings b block s p.first c i → ActsOnChange blocks events readings b block s p.first d j → i ≤ j → c ≤ d) ×
-    ((c i j : ℕ) → ActsOnChange blocks events readings b block s p.first c i → ActsOnChange blocks events readings b block s p.first c j → i ≡ j)
+ChangesActedOn A B = (e : EpochOfRun A B) → ActsInOrder e
 
 -- the octets that a publisher gives, whose changes were accepted, are of its run
 abbrev pub WhatIsPublishedIsOfTheRun : Type 0 → Type 0
 WhatIsPublishedIsOfTheRun A =
-    (p : Setup A) (calls : List Call) (i : ℕ) (octets : List ℕ) → AreHeld p → AreAccepted p calls → PublishesOctets p calls i octets → IsOfRun p calls octets
+    (p : Setup A) (calls : List Call) (i : ℕ) (octets : List ℕ) → HasSizes p → AreAccepted p calls → PublishesOctets p calls i octets → IsOfRun p calls octets
 
 -- So an epoch stems from the run where each of its good frames is octets that a call of the run publishes, whatever of them
 -- was lost, repeated or reordered.
 abbrev pub EpochsOfWhatIsPublishedStem : Type 0 → Type 0 → Type 0
 EpochsOfWhatIsPublishedStem A B =
     (block : Block B) (events : List (Event B)) (readings : List EventRead) (s : ℕ) (p : Setup A) (calls : List Call) →
-    1 ≤ p.first → NoWrap p calls → AreHeld p → AreAccepted p calls →
+    1 ≤ p.first → NoWrap p calls → HasSizes p → AreAccepted p calls →
     ((i : ℕ) (f : Facts) (e : Event B) (octets : List ℕ) → IsIn (trace_of_block block readings) s i f → slice_get events i ≡ Some e →
     e.kind ≡ kinds.Frame octets → (j : ℕ) × PublishesOctets p calls j octets) →
     StemsFromRun block events readings s p calls

@@ -12,7 +12,7 @@ use Rattle.publish_core.specs.Table.{AreSteps}
 use Rattle.block_core.specs.declared.block.Block.{Block}
 use Rattle.subscribe_core.specs.declared.entry.Entry.{Entry}
 use Rattle.subscribe_core.specs.declared.entry.Entry.TheVariants as says
-use Rattle.exchange_laws.specs.Stems.{AreAccepted, AreHeld}
+use Rattle.exchange_laws.specs.Stems.{AreAccepted, HasSizes}
 
 -- a frame that a call gives: the greatest moment of the calls up to there, what the call does, and the frame
 pub record Sent (A : Type 0) : Type 0 where
@@ -78,7 +78,7 @@ pub record IsOwnBlock {A B : Type 0} (p : Setup A) (block : Block B) : Type 0 wh
 -- and each frame comes in the lifetime of the one before.
 pub record IsWholeRun {A B : Type 0} (p : Setup A) (block : Block B) (calls : List Call) (answers : List (Option (Frame A))) : Type 0 where
   pub own : IsOwnBlock p block
-  pub held : AreHeld p
+  pub held : HasSizes p
   pub steps : AreSteps p.table
   pub some : 1 ≤ p.first
   pub most : p.first ≤ 4294967295

@@ -47,15 +47,17 @@ pub record ComesAt (t : Trace) (s first c i : ℕ) : Type 0 where
   pub numbered : facts.state ≡ first + c
 
 -- in the epoch of s a good frame of change c comes before any of a later change
-abbrev pub ChangeComesInTime : Trace → ℕ → ℕ → ℕ → Type 0
-ChangeComesInTime t s first c = (i : ℕ) × ComesAt t s first c i × ((j d : ℕ) → ComesAt t s first d j → j < i → d ≤ c)
+pub record ChangeComesInTime (t : Trace) (s first c : ℕ) : Type 0 where
+  pub position : ℕ
+  pub comes : ComesAt t s first c position
+  pub before : (j d : ℕ) → ComesAt t s first d j → j < position → d ≤ c
 
 -- each change of the run is accepted behind the calls before it
 abbrev pub AreAccepted : {A : Type 0} → Setup A → List Call → Type 0
 AreAccepted p calls = (i : ℕ) (handed_in : Change) → (published_trace calls).request i ≡ Some (Changed handed_in) → Accepts p (take i calls) handed_in
 
 -- the fields of the control and of the table's steps have the sizes that the types of the code give them
-pub record AreHeld {A : Type 0} (p : Setup A) : Type 0 where
+pub record HasSizes {A : Type 0} (p : Setup A) : Type 0 where
   pub to : length p.control.destination ≡ 6
   pub from : length p.control.source ≡ 6
   pub tag : TagIsHeld p.control.tag

@@ -19,7 +19,7 @@ pub use crate::frame::{Apdu, Frame};
 pub use crate::frame_view::{ApduView, FrameView};
 pub use crate::goose_encoding::{GooseFrame, encode_goose};
 pub use crate::view_encoding::encode_view;
-pub use crate::viewing::view_frame;
+pub use crate::viewing::{see_frame, view_frame};
 pub use crate::vlan_tag::VlanTag;
 pub use list_core::{
     DeviceFault, Event, EventKind, EventLines, FromRead, InputEnd, ItemError, ItemFault,

@@ -25,7 +25,8 @@ use Rattle.list_core.specs.declared.list_fault.ListCause.{ListCause}
 use Rattle.capture_core.specs.Capture.{Capture, fault_in}
 use Rattle.capture_core.specs.declared.capture_fault.CaptureCause.TheVariants.{CaptureHeader, CaptureShort}
 use Rattle.frame_engines.specs.CheckText.{check_text, octets_notes}
-use Rattle.engine_core.specs.EngineText.{Text, told, told_after, whole_text}
+use Rattle.engine_core.specs.EngineText.{Text}
+use Rattle.engine_core.specs.computed.WholeText.{told, told_after, whole_text}
 use Rattle.frame_engines.specs.ImportText.{import_text}
 use Rattle.frame_engines.specs.RewriteText.{rewrite_text}
 use Rattle.frame_engines.specs.ShowText.{show_text}

@@ -7,12 +7,11 @@ use Rattle.list_core.specs.declared.event.Event.{Event}
 use Rattle.list_core.specs.declared.event_lines.EventLines.TheVariants as events
 use Rattle.list_core.specs.declared.list_fault.ListCause.{ListCause}
 use Rattle.list_core.specs.EventLine.{event_rules}
-use Rattle.script_core.specs.declared.script.ScriptCause.{ScriptCause}
-use Rattle.script_core.specs.declared.script.ScriptItem.{ScriptItem}
 use Rattle.script_core.specs.declared.script.ScriptLines.TheVariants as scripts
 use Rattle.script_core.specs.Script.{script_rules}
 use Rattle.engine_core.specs.declared.ending.Ending.{Ending}
-use Rattle.engine_core.specs.EngineText.{Text, Writes}
+use Rattle.engine_core.specs.EngineText.{Text}
+use Rattle.engine_core.specs.Run.{Writes, WritesSome}
 use Rattle.frame_engines.specs.ShowText.{show_text}
 use Rattle.frame_engines.specs.CheckText.{check_text}
 use Rattle.frame_engines.specs.RewriteText.{rewrite_text}
@@ -32,9 +31,8 @@ abbrev pub TaskWrites : Asked → Ending → InputEnd → List ℕ → Option (L
 TaskWrites show ending z given old new = WritesOfEvents show_text ending z given old new
 TaskWrites check ending z given old new = WritesOfEvents check_text ending z given old new
 TaskWrites rewrite ending z given old new = WritesOfEvents rewrite_text ending z given old new
-TaskWrites list_blocks ending z given old new = (t : Text (Event Global) ListCause) × IsBlocksText t × WritesOfEvents t ending z given old new
+TaskWrites list_blocks ending z given old new = WritesSome (IsBlocksText {A = Global}) event_rules events.First ending z given old new
 TaskWrites (replay blocks) ending z given old new = ReplayWrites blocks ending z given old new
-TaskWrites publish ending z given old new =
-    (t : Text (ScriptItem Global) ScriptCause) × IsPublishText t × Writes script_rules scripts.First t ending z given old new
-TaskWrites (watch period id) ending z given old new = (t : Text (Event Global) ListCause) × IsWatchText period id t × WritesOfEvents t ending z given old new
+TaskWrites publish ending z given old new = WritesSome (IsPublishText {A = Global}) script_rules scripts.First ending z given old new
+TaskWrites (watch period id) ending z given old new = WritesSome (IsWatchText {A = Global} period id) event_rules events.First ending z given old new
 TaskWrites import ending z given old new = Imports Open ending z given old new

@@ -2,7 +2,7 @@
 ghost use Rattle.std.specs.Prelude.{◌≡◌, ℕ, List, false};
 ghost use Rattle.list_core.specs.declared.device.InputEnd.{InputEnd};
 ghost use Rattle.list_core.specs.Device.{GivesOctets};
-ghost use Rattle.engine_core.specs.EngineText.{is_write_fault};
+ghost use Rattle.engine_core.specs.Ending.{is_write_fault};
 ghost use Rattle.words_core.specs.CommandLine.{HasPeriod, said};
 ghost use Rattle.goose.specs.TaskText.{TaskWrites};
 

@@ -14,18 +14,20 @@ use Rattle.list_core.specs.Items.{Listing, listing}
 use Rattle.block_core.specs.declared.block.Block.{Block}
 use Rattle.block_core.specs.BlockText.{go_id_of}
 use Rattle.subscribe_core.specs.declared.entry.Entry.{Entry}
+use Rattle.subscribe_core.specs.declared.entry.Entry.TheVariants as says
 use Rattle.subscribe_core.specs.declared.entry.Reason.{Reason}
 use Rattle.subscribe_core.specs.declared.entry.Reason.TheVariants.{DatSet, GoId, ConfRev, Commissioning, Simulated, Entries, StateZero, LiveZero}
 use Rattle.subscribe_core.specs.declared.registers.Verdict.{Verdict}
 use Rattle.subscribe_core.specs.declared.registers.Verdict.TheVariants.{Act, Refreshed, Repeated, Older}
 use Rattle.subscribe_core.specs.computed.Content.{reading_of}
-use Rattle.subscribe_core.specs.Entries.{AreExpired, AreOfContent, AreReadEntriesAt, IsBlockEntry, IsFrameEntry, entry_of, reason_at, switched_at}
+use Rattle.subscribe_core.specs.Entries.{AreOfContent, AreOfEach, AreReadEntriesAt, ExpiresAt, SwitchesAt}
+use Rattle.subscribe_core.specs.FrameEntry.{IsBlockEntry, IsFrameEntry, entry_of, reason_at}
 use Rattle.subscribe_core.specs.Matching.{first_of, has_other_id, holds, is_of, reasons}
 use Rattle.subscribe_core.specs.Reading.{Content, EventRead, FrameRead, OfClock, OfFault, OfGoose, OfMode, OfSampled}
-use Rattle.subscribe_core.specs.Simulation.{is_against, is_switched, mode_at, takes_simulated}
-use Rattle.subscribe_core.specs.Standing.{AreApart}
+use Rattle.subscribe_core.specs.Simulation.{is_other_kind, mode_at, takes_simulated}
+use Rattle.subscribe_core.specs.Apart.{AreApart}
 use Rattle.subscribe_core.proofs.Readings.{reads_one}
-use Rattle.engine_core.specs.EngineText.{whole_text}
+use Rattle.engine_core.specs.computed.WholeText.{whole_text}
 use Rattle.exchange_engines.specs.ReplayText.{events_of}
 use Rattle.inventory_engine.specs.Sightings.{text_or_none}
 use Rattle.inventory_engine.specs.computed.BlocksStep.{blocks_text}
@@ -35,7 +37,6 @@ use Rattle.goose_cmd.specs.ListedBlocks.{AreAsConfigured, IsAsConfigured, IsOfCo
 use Rattle.goose_cmd.proofs.ListedItems.{list_kept}
 use Rattle.goose_cmd.proofs.ListedTexts.{AreThere, IsThere, events_there}
 use Rattle.goose_cmd.proofs.OneText.{blocks_texts_are_one}
-use Rattle.goose_cmd.proofs.ScriptOrder.{either}
 
 -- ---- the block of a frame has nothing against it in its configuration
 
@@ -89,31 +90,26 @@ module _ {A : Type 0} where
   as_append [] b h g = g
   as_append (x ∷ a) b h g = (h.0, as_append a b h.1 g)
 
-  expired_as : (events : List EventRead) (i b : ℕ) (blocks : List (Block A)) (entries : List (Entry A)) → AreExpired events i b blocks entries → AreAsConfigured entries
-  expired_as events i b [] entries is = subst AreAsConfigured (sym is) tt
-  expired_as events i b (block ∷ blocks) entries (inl w) = subst AreAsConfigured (sym w.1.1) (tt, expired_as events i (b + 1) blocks w.1.0 w.1.2)
-  expired_as events i b (block ∷ blocks) entries (inr w) = expired_as events i (b + 1) blocks entries w.1
-
-  switched_as : (events : List EventRead) (i b : ℕ) (blocks : List (Block A)) → AreAsConfigured (switched_at events i b blocks)
-  switched_as events i b [] = tt
-  switched_as events i b (block ∷ blocks) =
-      either (is_switched block events i) _ _ AreAsConfigured (λ on. (tt, switched_as events i (b + 1) blocks)) (λ off. switched_as events i (b + 1) blocks)
+  each_as : (so : Block A → Type 0) (entry : ℕ → Entry A) → ((b : ℕ) → IsAsConfigured (entry b)) → (b : ℕ) (blocks : List (Block A)) (entries : List (Entry A)) → AreOfEach so entry b blocks entries → AreAsConfigured entries
+  each_as so entry fit b [] entries is = subst AreAsConfigured (sym is) tt
+  each_as so entry fit b (block ∷ blocks) entries (inl w) = subst AreAsConfigured (sym w.1.1) (fit b, each_as so entry fit (b + 1) blocks w.1.0 w.1.2)
+  each_as so entry fit b (block ∷ blocks) entries (inr w) = each_as so entry fit (b + 1) blocks entries w.1
 
   -- the entry of a frame of its own block
   own_as : (events : List EventRead) (i b : ℕ) (f : FrameRead) (entry : Entry A) (o : Option Reason) → reason_at (own A f) events i f ≡ o → IsBlockEntry events i b (own A f) f o entry → IsAsConfigured entry
   own_as events i b f entry (Some reason) why is =
-      subst IsAsConfigured (sym is) (none_of A f (is_against f (mode_at events i) (takes_simulated (own A f) events i)) reason (first_holds (holds (is_against f (mode_at events i) (takes_simulated (own A f) events i)) (own A f) f) reasons reason why))
+      subst IsAsConfigured (sym is) (none_of A f (is_other_kind f (mode_at events i) (takes_simulated (own A f) events i)) reason (first_holds (holds (is_other_kind f (mode_at events i) (takes_simulated (own A f) events i)) (own A f) f) reasons reason why))
   own_as events i b f entry None why is = subst IsAsConfigured (sym is.2) (entry_as A b f is.0)
 
   module _ (blocks : List (Block A)) (apart : AreApart blocks) where
     frame_as : (events : List EventRead) (i : ℕ) (f : FrameRead) (entry : Entry A) (k : ℕ) → slice_get blocks k ≡ Some (own A f) → IsFrameEntry blocks events i f entry → IsAsConfigured entry
-    frame_as events i f entry k there (inl w) = absurd (false≢true (sym (w.0 k (own A f) there) ∙ is_own A f))
+    frame_as events i f entry k there (inl w) = absurd (false≢true (sym (w.foreign k (own A f) there) ∙ is_own A f))
     frame_as events i f entry k there (inr w) =
-        let parts = and_parts _ _ w.3 in
-        let same_place : w.0 ≡ k = apart w.0 k w.1 (own A f) w.2 there (eqb-true _ _ parts.0, (bytes_eq-Decides _ _).0 parts.1) in
-        let same : w.1 ≡ own A f = same_Some w.1 (own A f) (sym w.2 ∙ ap (slice_get blocks) same_place ∙ there) in
-        own_as events i w.0 f entry (reason_at (own A f) events i f) refl
-        (subst (λ (x : Block A). IsBlockEntry events i w.0 x f (reason_at x events i f) entry) same w.4)
+        let parts = and_parts _ _ w.own in
+        let same_place : w.position ≡ k = apart w.position k w.block (own A f) w.here there (eqb-true _ _ parts.0, (bytes_eq-Decides _ _).0 parts.1) in
+        let same : w.block ≡ own A f = same_Some w.block (own A f) (sym w.here ∙ ap (slice_get blocks) same_place ∙ there) in
+        own_as events i w.position f entry (reason_at (own A f) events i f) refl
+        (subst (λ (x : Block A). IsBlockEntry events i w.position x f (reason_at x events i f) entry) same w.told)
 
     said_as : (events : List EventRead) (i : ℕ) (c : Content) (entries : List (Entry A)) → IsThere blocks c → AreOfContent blocks events i c entries → AreAsConfigured entries
     said_as events i (OfGoose f) entries there is = subst AreAsConfigured (sym is.2) (frame_as events i f is.0 there.0 there.1 is.1, tt)
@@ -131,13 +127,13 @@ module _ {A : Type 0} where
     entries_as items readings i entries there same is =
         let c = read_there items i is.event there (ap (λ (l : List EventRead). slice_get l i) (sym same) ∙ is.at) in
         subst AreAsConfigured (sym is.whole)
-        (as_append is.expired (switched_at readings i 0 blocks ++ is.said) (expired_as readings i 0 blocks is.expired is.are_expired)
-        (as_append (switched_at readings i 0 blocks) is.said (switched_as readings i 0 blocks) (said_as readings i is.event.content is.said c is.are_said)))
+        (as_append is.expired (is.switched ++ is.said) (each_as (ExpiresAt readings i) says.Expired (λ b. tt) 0 blocks is.expired is.are_expired)
+        (as_append is.switched is.said (each_as (SwitchesAt readings i) says.Switched (λ b. tt) 0 blocks is.switched is.are_switched) (said_as readings i is.event.content is.said c is.are_said)))
 
 pub listed_blocks_fit : {A : Type 0} → ListedBlocksFit A
-listed_blocks_fit {A} z list blocks entries t apart is listed are i es at =
+listed_blocks_fit {A} z list blocks entries t is i es at =
     let l : Listing (Event A) ListCause = listing event_rules First z 0 list in
-    let same = (blocks_texts_are_one t blocks_text l is blocks_is).0 in
-    let there : AreThere blocks l.items = events_there blocks (whole_text t l) listed l.stop [] l.items [] (list_kept A z list) (λ i s app_id at own. absurd (none-some s at)) (inl refl) same in
-    let w = are.each i es at in
-    entries_as blocks apart l.items w.0 i es there (reads_one (events_of l.items) w.0 w.1) w.2
+    let same = (blocks_texts_are_one t blocks_text l is.is_text blocks_is).same_text in
+    let there : AreThere blocks l.items = events_there blocks (whole_text t l) is.are_listed l.stop [] l.items [] (list_kept A z list) (λ i s app_id at own. absurd (none-some s at)) (inl refl) same in
+    let w = is.are_entries.each i es at in
+    entries_as blocks is.are_apart l.items w.0 i es there (reads_one (events_of l.items) w.0 w.1) w.2

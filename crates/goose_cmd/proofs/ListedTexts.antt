@@ -38,14 +38,14 @@ use Rattle.block_core.specs.declared.block.Block.{Block}
 use Rattle.block_core.specs.BlockText.{block_in}
 use Rattle.subscribe_core.specs.computed.Content.{content_by, content_of, content_with}
 use Rattle.subscribe_core.specs.Reading.{Content, OfClock, OfFault, OfGoose, OfMode, OfSampled}
-use Rattle.engine_core.specs.EngineText.{told_after}
+use Rattle.engine_core.specs.computed.WholeText.{told_after}
 use Rattle.inventory_engine.specs.Sightings.{Key, Sighting, block_seen, block_text, key_of, sightings_in, sightings_of, sightings_read, sightings_with, stream_seen, streams_seen}
 use Rattle.inventory_engine.specs.BlocksText.{IsNewest, changed_word, first_word, line_after, sighting_line}
-use Rattle.inventory_engine.specs.computed.BlocksStep.{blocks_text, newest, said}
+use Rattle.inventory_engine.specs.computed.BlocksStep.{blocks_text, newest, written_of}
 use Rattle.inventory_engine.specs.Laws.{IsFirst, block_told}
 use Rattle.inventory_engine.proofs.FirstLines.{one_first}
 use Rattle.inventory_engine.proofs.Newest.{newest_is}
-use Rattle.goose_cmd.specs.ListedBlocks.{AreListed, ListedBlocksAreApart, Tells}
+use Rattle.goose_cmd.specs.ListedBlocks.{AreListed, IsBlockOf, ListedBlocksAreApart, Tells}
 use Rattle.goose_cmd.proofs.BlockTexts.{block_says, block_unbroken, chosen, decimal_unbroken, no_stream, otherwise, word_unbroken}
 use Rattle.goose_cmd.proofs.ListedItems.{AreKept, KeepsOctets, list_kept}
 
@@ -89,7 +89,7 @@ event_shows (kinds.Mode on) h = inr ([], refl)
 
 -- a sighting's text is the BLOCK of one of these blocks
 abbrev Listed : {A : Type 0} → List (Block A) → Sighting → Type 0
-Listed {A} blocks s = (k : ℕ) × (block : Block A) × (slice_get blocks k ≡ Some block) × (block_in s.text ≡ Some block)
+Listed blocks s = IsBlockOf blocks s.text
 
 -- so is that of each control block that is seen
 abbrev AllListed : {A : Type 0} → List (Block A) → List Sighting → Type 0
@@ -111,25 +111,25 @@ after_ends front n s (Some last) h = elim (cases_Bool (bytes_eq last s.text)) [
       subst (λ (l : List ℕ). Starts (front ++ l)) (sym (otherwise (bytes_eq last s.text) [] (sighting_line n (changed_word s.app_id) s.text) other)) (line_ends front n (changed_word s.app_id) s.text)
 ]
 
-said_ends : (front : List ℕ) (n : ℕ) (earlier seen : List Sighting) → Starts front → Starts (front ++ said n earlier seen)
-said_ends front n earlier [] h = subst Starts (sym (append-nil front)) h
-said_ends front n earlier (s ∷ seen) h =
+written_ends : (front : List ℕ) (n : ℕ) (earlier seen : List Sighting) → Starts front → Starts (front ++ written_of n earlier seen)
+written_ends front n earlier [] h = subst Starts (sym (append-nil front)) h
+written_ends front n earlier (s ∷ seen) h =
     let line = line_after n s (newest earlier (key_of s)) in
-    subst Starts (append_assoc front line (said n (earlier ++ s ∷ []) seen))
-    (said_ends (front ++ line) n (earlier ++ s ∷ []) seen (after_ends front n s (newest earlier (key_of s)) h))
+    subst Starts (append_assoc front line (written_of n (earlier ++ s ∷ []) seen))
+    (written_ends (front ++ line) n (earlier ++ s ∷ []) seen (after_ends front n s (newest earlier (key_of s)) h))
 
 line_there : (text front rest : List ℕ) (n : ℕ) (word told : List ℕ) → text ≡ front ++ ((sighting_line n word told ++ []) ++ rest) → Starts front → n ≤ 1000000 → HasNo 10 word → HasNo 10 told → Tells text word told
-line_there text front rest n word told is starts small plain unbroken = (
-  n,
-  small,
-  record {
-    front = front;
-    back = rest;
-    parts = is ∙ ap (λ (l : List ℕ). front ++ l) regrouped;
-    starts = starts;
-    unbroken = HasNo-append 10 (decimal n ++ word) told (HasNo-append 10 (decimal n) word (decimal_unbroken n (omega (arith, small))) plain) unbroken;
-  },
-)
+line_there text front rest n word told is starts small plain unbroken = record {
+  number = n;
+  at_most = small;
+  has_line = record {
+    before = front;
+    after = rest;
+    whole = is ∙ ap (λ (l : List ℕ). front ++ l) regrouped;
+    starts_line = starts;
+    has_no_lf = HasNo-append 10 (decimal n ++ word) told (HasNo-append 10 (decimal n) word (decimal_unbroken n (omega (arith, small))) plain) unbroken;
+  };
+}
   where
     regrouped : (sighting_line n word told ++ []) ++ rest ≡ (decimal n ++ word ++ told) ++ 10 ∷ rest
     regrouped = ap (λ (l : List ℕ). l ++ rest) (append-nil (sighting_line n word told)) ∙ append_assoc (decimal n ++ word ++ told) (10 ∷ []) rest
@@ -158,8 +158,8 @@ module _ {A : Type 0} (blocks : List (Block A)) (text : List ℕ) (listed : AreL
 
       seen_before : (last : List ℕ) → IsNewest earlier (key_of seen_now) (Some last) → last ≡ block_text app_id p → Listed blocks seen_now
       seen_before last is same =
-          let w = all is.0 is.1 app_id is.2 (ap (λ (k : Key). k.0) is.3) in
-          (w.0, w.1, w.2, ap (λ (t : List ℕ). block_in {A = A} t) (sym same ∙ sym is.4) ∙ w.3)
+          let w = all is.position is.is.sighting app_id is.is.there (ap (λ (k : Key). k.0) is.is.has_key) in
+          record { position = w.position; block = w.block; there = w.there; says = ap (λ (t : List ℕ). block_in {A = A} t) (sym same ∙ sym is.has_text) ∙ w.says }
 
       by_newest : (o : Option (List ℕ)) → IsNewest earlier (key_of seen_now) o → text ≡ front ++ ((line_after n seen_now o ++ []) ++ rest) → Listed blocks seen_now
       by_newest None is stands =
@@ -173,13 +173,13 @@ module _ {A : Type 0} (blocks : List (Block A)) (text : List ℕ) (listed : AreL
             (line_there text front rest n (codes " block-changed ") (block_text app_id p) (stands ∙ ap (λ (l : List ℕ). front ++ ((l ++ []) ++ rest)) line) starts small (word_unbroken (codes " block-changed ") refl) (block_unbroken app_id p low spelled)))
       ]
 
-      now_listed : text ≡ front ++ (said n earlier (seen_now ∷ []) ++ rest) → Listed blocks seen_now
+      now_listed : text ≡ front ++ (written_of n earlier (seen_now ∷ []) ++ rest) → Listed blocks seen_now
       now_listed stands = by_newest (newest earlier (key_of seen_now)) (newest_is earlier (key_of seen_now)) stands
 
     -- so are all control blocks of the event
-    shown_listed : (seen : List Sighting) → Shows seen → text ≡ front ++ (said n earlier seen ++ rest) → AllListed blocks seen
+    shown_listed : (seen : List Sighting) → Shows seen → text ≡ front ++ (written_of n earlier seen ++ rest) → AllListed blocks seen
     shown_listed seen (inl w) stands =
-        subst (AllListed blocks) (sym w.4) (λ i s app_id at own. only (block_seen w.0 w.1) (now_listed w.0 w.1 w.2 w.3 (stands ∙ ap (λ (l : List Sighting). front ++ (said n earlier l ++ rest)) w.4)) i s at)
+        subst (AllListed blocks) (sym w.4) (λ i s app_id at own. only (block_seen w.0 w.1) (now_listed w.0 w.1 w.2 w.3 (stands ∙ ap (λ (l : List Sighting). front ++ (written_of n earlier l ++ rest)) w.4)) i s at)
       where
         only : (x : Sighting) → Listed blocks x → (i : ℕ) (s : Sighting) → slice_get (x ∷ []) i ≡ Some s → Listed blocks s
         only x l zero s at = subst (Listed blocks) (same_Some x s at) l
@@ -194,7 +194,7 @@ module _ {A : Type 0} (blocks : List (Block A)) (text : List ℕ) (listed : AreL
   apdu_there : (app_id : ℕ) (a : Apdu (Unit {0})) → app_id < 65536 → ApduIsSpellable a → AllListed blocks (sightings_with app_id a) → IsThere blocks (content_with app_id a)
   apdu_there app_id (apdus.Goose p) small spelled all =
       let w = all 0 (block_seen app_id p) app_id refl refl in
-      (w.0, w.2 ∙ ap (λ (b : Block A). Some b) (block_says app_id p w.1 small spelled w.3))
+      (w.position, w.there ∙ ap (λ (b : Block A). Some b) (block_says app_id p w.block small spelled w.says))
   apdu_there app_id (apdus.Sampled p) small spelled all = tt
 
   octets_there : (o : List ℕ) (r : Result (Frame (Unit {0})) Fault) → AreOctets o → frame_at o ≡ r → AllListed blocks (sightings_read r) → IsThere blocks (content_by r)
@@ -225,12 +225,12 @@ module _ {A : Type 0} (blocks : List (Block A)) (text : List ℕ) (listed : AreL
   unfolding told_after
   events_there stop before [] front kept all starts stands = tt
   events_there stop before (e ∷ items) front kept all starts stands =
-      let now = said e.0 (sightings_in before) (sightings_of e.1.kind) in
+      let now = written_of e.0 (sightings_in before) (sightings_of e.1.kind) in
       let rest = (told_after blocks_text (before ++ e ∷ []) items stop).text in
       let shown = shown_listed (sightings_in before) all e.0 kept.0 front rest starts (sightings_of e.1.kind) (event_shows e.1.kind kept.1) stands in
       let next = subst (AllListed blocks) (sym (sightings_push before e)) (both_listed (sightings_in before) (sightings_of e.1.kind) all shown) in (
         event_there e.1.kind kept.1 shown,
-        events_there stop (before ++ e ∷ []) items (front ++ now) kept.2 next (said_ends front e.0 (sightings_in before) (sightings_of e.1.kind) starts) (stands ∙ sym (append_assoc front now rest)),
+        events_there stop (before ++ e ∷ []) items (front ++ now) kept.2 next (written_ends front e.0 (sightings_in before) (sightings_of e.1.kind) starts) (stands ∙ sym (append_assoc front now rest)),
       )
 
 -- ---- keys
@@ -269,15 +269,15 @@ says_at A (x ∷ seen) zero s h at = subst (SaysKey A) (same_Some x s at) h.0
 says_at A (x ∷ seen) (suc i) s h at = says_at A seen i s h.1 at
 
 pub listed_blocks_are_apart : {A : Type 0} → ListedBlocksAreApart A
-listed_blocks_are_apart {A} z list i j x y a b first other says_a says_b name =
+listed_blocks_are_apart {A} z list i j a b one_line other_line name =
     let items = (listing (event_rules {A = A}) First z 0 list).items in
     let seen = sightings_in items in
     let all = items_say A items (list_kept A z list) in
-    let key_a = says_at A seen i first.sighting all first.there a says_a in
-    let key_b = says_at A seen j other.sighting all other.there b says_b in
+    let first = one_line.first.is in
+    let other = other_line.first.is in
+    let key_a = says_at A seen i first.sighting all first.there a one_line.says in
+    let key_b = says_at A seen j other.sighting all other.there b other_line.says in
     let keys : named a.app_id a.gocb_ref ≡ named b.app_id b.gocb_ref = ap₂ named name.0 name.1 in
-    let same : y ≡ x = sym other.has ∙ (key_b ∙ (sym keys ∙ (sym key_a ∙ first.has))) in
-    let one = one_first seen i first.sighting first.there in
-    let here = one.3 i (subst (λ (k : Key). IsFirst seen k i) (sym first.has) first) in
-    let there = one.3 j (subst (λ (k : Key). IsFirst seen k j) (same ∙ sym first.has) other) in
-    here ∙ sym there
+    let same : other_line.key ≡ one_line.key = sym other.has_key ∙ (key_b ∙ (sym keys ∙ (sym key_a ∙ first.has_key))) in
+    let one = one_first seen one_line.key i first in
+    one.only i one_line.first ∙ sym (one.only j (subst (λ (k : Key). IsFirst seen k j) same other_line.first))

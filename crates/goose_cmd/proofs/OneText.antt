@@ -20,7 +20,7 @@ use Rattle.publish_core.proofs.Runs.{answer_one}
 use Rattle.block_core.specs.declared.block.Block.{Block}
 use Rattle.subscribe_core.specs.declared.entry.Entry.{Entry}
 use Rattle.subscribe_core.specs.declared.watch.Seen.{Seen}
-use Rattle.subscribe_core.specs.Standing.{AreApart}
+use Rattle.subscribe_core.specs.Apart.{AreApart}
 use Rattle.subscribe_core.proofs.Counts.{answers_are_one}
 use Rattle.subscribe_core.proofs.Runs.{entries_are_one}
 use Rattle.script_core.specs.declared.script.ScriptCause.{ScriptCause}
@@ -29,7 +29,8 @@ use Rattle.script_core.specs.declared.script.ScriptItem.TheVariants as item
 use Rattle.script_core.specs.declared.script.ScriptLines.TheVariants.{First}
 use Rattle.script_core.specs.Script.{script_rules}
 use Rattle.exchange_engines.specs.EntryText.{entry_lines}
-use Rattle.engine_core.specs.EngineText.{Account, Text, put_step, told_after, told_stop}
+use Rattle.engine_core.specs.EngineText.{Text}
+use Rattle.engine_core.specs.computed.WholeText.{Account, put_step, told_after, told_stop}
 use Rattle.exchange_engines.specs.PublishText.{IsCallText, IsPublishText, IsRefused, IsTaken, answer_text, items_of_lines, script_cause}
 use Rattle.exchange_engines.specs.ScriptLaws.{StandsBefore}
 use Rattle.exchange_engines.specs.ReplayText.{IsReplayText, events_of}
@@ -70,7 +71,7 @@ module _ {X C : Type 0} (t u : Text X C) (lasts : (f : ItemFault C) → t.last f
       put_same e.0 (u.step before e) (told_after t (before ++ e ∷ []) es stop) (told_after u (before ++ e ∷ []) es stop) (told_same (before ++ e ∷ []) es (agree_behind before es e agree) stop)
 
   say_same : t.first ≡ u.first → (l : Listing X C) → Agree [] l.items → SaySame t u l
-  say_same firsts l agree = (ap₂ (λ (a : List ℕ) (o : Account C). a ++ o.text) firsts same, same)
+  say_same firsts l agree = record { same_text = ap₂ (λ (a : List ℕ) (o : Account C). a ++ o.text) firsts same; same_account = same }
     where
       same : told_after t [] l.items l.stop ≡ told_after u [] l.items l.stop
       same = told_same [] l.items agree l.stop
@@ -82,7 +83,7 @@ entries_same : {A : Type 0} (blocks : List (Block A)) (t u : Text (Event A) List
 entries_same {A} blocks t u apart is other before e =
     let a = is.step before e in
     let b = other.step before e in
-    a.2 ∙ (ap (λ (es : List (Entry A)). Ok (entry_lines e.0 es, false)) (entries_are_one blocks (events_of before ++ e.1 ∷ []) (length (events_of before)) a.0 b.0 apart a.1 b.1) ∙ sym b.2)
+    a.lines ∙ (ap (λ (es : List (Entry A)). Ok (entry_lines e.0 es, false)) (entries_are_one blocks (events_of before ++ e.1 ∷ []) (length (events_of before)) a.entries b.entries apart a.are_entries b.are_entries) ∙ sym b.lines)
 
 pub replay_texts_are_one : {A : Type 0} → ReplayTextsAreOne A
 replay_texts_are_one {A} blocks t u l apart is other =
@@ -102,9 +103,10 @@ seen_same : {A : Type 0} (period : ℕ) (id : List ℕ) (t u : Text (Event A) Li
 seen_same {A} period id t u is other before e =
     let a = is.step before e in
     let b = other.step before e in
-    let all : a.0 ++ a.1 ≡ b.0 ++ b.1 = (answers_are_one period (counts_of id before ++ counts (samples_of id e.1.kind))).1 (a.0 ++ a.1) (b.0 ++ b.1) a.2 b.2 in
-    let same : a.1 ≡ b.1 = end_same a.0 a.1 b.0 b.1 (a.3 ∙ sym b.3) all in
-    a.4 ∙ (ap (λ (answers : List Seen). Ok (watched e.0 id e.1.kind answers)) same ∙ sym b.4)
+    let all : a.earlier ++ a.answers ≡ b.earlier ++ b.answers =
+    (answers_are_one period (counts_of id before ++ counts (samples_of id e.1.kind))).1 (a.earlier ++ a.answers) (b.earlier ++ b.answers) a.are_seen b.are_seen in
+    let same : a.answers ≡ b.answers = end_same a.earlier a.answers b.earlier b.answers (a.one_each ∙ sym b.one_each) all in
+    a.lines ∙ (ap (λ (answers : List Seen). Ok (watched e.0 id e.1.kind answers)) same ∙ sym b.lines)
 
 pub watch_texts_are_one : {A : Type 0} → WatchTextsAreOne A
 watch_texts_are_one period id t u l is other =
@@ -117,7 +119,7 @@ seen_alike : {A : Type 0} (t u : Text (Event A) ListCause) → IsBlocksText t �
 seen_alike t u is other before e =
     let a = is.step before e in
     let b = other.step before e in
-    a.2 ∙ (ap (λ (lines : List (List ℕ)). Ok (concat lines, false)) (lines_one e.0 (sightings_in before) (sightings_of e.1.kind) a.0 b.0 a.1 b.1) ∙ sym b.2)
+    a.text ∙ (ap (λ (lines : List (List ℕ)). Ok (concat lines, false)) (lines_one e.0 (sightings_in before) (sightings_of e.1.kind) a.lines b.lines a.are_lines b.are_lines) ∙ sym b.text)
 
 pub blocks_texts_are_one : {A : Type 0} → BlocksTextsAreOne A
 blocks_texts_are_one t u l is other =
@@ -142,27 +144,25 @@ module _ {A : Type 0} (p : Setup A) (calls : List Call) (steps : AreSteps p.tabl
 
   -- so what is said of it is one
   call_same : (c : Call) (said other : Result (List ℕ × Bool) ScriptCause) → IsCallText p calls c said → IsCallText p calls c other → said ≡ other
-  call_same c said other (inl x) (inl y) =
-      let a = x.1 in
-      let b = y.1 in
-      a.2 ∙ (ap (λ (answer : Option (Frame A)). Ok (answer_text (greatest_call_moment (calls ++ c ∷ [])) answer, false)) (answer_one p (trace_of_calls (calls ++ c ∷ [])) (length calls) a.0 b.0 a.1 b.1) ∙ sym b.2)
-  call_same c said other (inl x) (inr y) = absurd (not_both c.request y.0 x.0 y.1)
-  call_same c said other (inr x) (inl y) = absurd (not_both c.request x.0 y.0 x.1)
-  call_same c said other (inr x) (inr y) = x.2 ∙ (ap (λ (why : PublishFault). Err (script_cause why)) (reason_one c.request x.0 y.0 x.1 y.1) ∙ sym y.2)
+  call_same c said other (inl a) (inl b) =
+      a.line ∙ (ap (λ (answer : Option (Frame A)). Ok (answer_text (greatest_call_moment (calls ++ c ∷ [])) answer, false)) (answer_one p (trace_of_calls (calls ++ c ∷ [])) (length calls) a.answer b.answer a.is_answer b.is_answer) ∙ sym b.line)
+  call_same c said other (inl a) (inr b) = absurd (not_both c.request b.why a.taken b.refused)
+  call_same c said other (inr a) (inl b) = absurd (not_both c.request a.why b.taken a.refused)
+  call_same c said other (inr a) (inr b) = a.ends ∙ (ap (λ (why : PublishFault). Err (script_cause why)) (reason_one c.request a.why b.why a.refused b.refused) ∙ sym b.ends)
 
 module _ {A : Type 0} (t u : Text (ScriptItem A) ScriptCause) (is : IsPublishText t) (other : IsPublishText u) where
   -- where an item stands as in a script, the texts agree on it
   item_same : (before : List (ℕ × ScriptItem A)) (n : ℕ) (i : ScriptItem A) → StandsBefore (items_of_lines before) i → t.step before (n, i) ≡ u.step before (n, i)
-  item_same [] n (item.Control control first) none = is.control n first control ∙ sym (other.control n first control)
+  item_same [] n (item.Control control first) none = is.control_line n first control ∙ sym (other.control_line n first control)
   item_same (x ∷ before) n (item.Control control first) none = absurd (cc)
   item_same before n (item.Step s) stands =
-      is.step stands.0 before stands.1 stands.2 n s ∙ sym (other.step stands.0 before stands.1 stands.2 n s)
+      is.table_step stands.setup before stands.is_script stands.has_room n s ∙ sym (other.table_step stands.setup before stands.is_script stands.has_room n s)
   item_same before n (item.Change moment time values) stands =
       let c = call moment (Changed (change time values)) in
-      call_same stands.0 stands.1 stands.3.steps c _ _ (is.call stands.0 stands.1 before stands.2 stands.3 n c) (other.call stands.0 stands.1 before stands.2 stands.3 n c)
+      call_same stands.setup stands.calls stands.is_sound.steps c _ _ (is.call stands.setup stands.calls before stands.is_script stands.is_sound n c) (other.call stands.setup stands.calls before stands.is_script stands.is_sound n c)
   item_same before n (item.Poll moment) stands =
       let c = call moment Polled in
-      call_same stands.0 stands.1 stands.3.steps c _ _ (is.call stands.0 stands.1 before stands.2 stands.3 n c) (other.call stands.0 stands.1 before stands.2 stands.3 n c)
+      call_same stands.setup stands.calls stands.is_sound.steps c _ _ (is.call stands.setup stands.calls before stands.is_script stands.is_sound n c) (other.call stands.setup stands.calls before stands.is_script stands.is_sound n c)
 
 pub publish_texts_are_one : {A : Type 0} → PublishTextsAreOne A
 publish_texts_are_one t u z text is other =

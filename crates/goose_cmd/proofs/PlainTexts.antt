@@ -5,7 +5,8 @@ use Rattle.std.proofs.lemmas.List.{append_assoc}
 use Rattle.list_core.specs.declared.line_rules.ItemFault.{ItemFault}
 use Rattle.list_core.specs.Lines.{Stop}
 use Rattle.list_core.specs.Items.{Listing}
-use Rattle.engine_core.specs.EngineText.{Text, Account, IsPlain, told_after, put_step, last_text, whole_text, told}
+use Rattle.engine_core.specs.EngineText.{Text, IsPlain, last_text}
+use Rattle.engine_core.specs.computed.WholeText.{Account, told_after, put_step, whole_text, told}
 
 module _ {X C : Type 0} (t : Text X C) (line : ℕ × X → List ℕ) (finds : ℕ × X → Bool) (p : IsPlain t line finds) where
   plain : (before es : List (ℕ × X)) (stop : Stop (ItemFault C)) →

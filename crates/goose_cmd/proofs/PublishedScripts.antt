@@ -21,7 +21,8 @@ use Rattle.exchange_laws.specs.Stems.{AreAccepted}
 use Rattle.script_core.specs.declared.script.ScriptCause.{ScriptCause}
 use Rattle.script_core.specs.declared.script.ScriptItem.{ScriptItem}
 use Rattle.script_core.specs.declared.script.ScriptItem.TheVariants as item
-use Rattle.engine_core.specs.EngineText.{Account, Text, last_text, put_step, told, told_after, told_stop}
+use Rattle.engine_core.specs.EngineText.{Text, last_text}
+use Rattle.engine_core.specs.computed.WholeText.{Account, put_step, told, told_after, told_stop}
 use Rattle.goose_cmd.specs.PublishedReplay.{StopsBehind, TellsStop}
 use Rattle.goose_cmd.specs.PublishedLaws.{ScriptsGiveLists}
 use Rattle.exchange_engines.specs.PublishText.{IsCallText, IsPublishText, IsScriptSound, IsTaken, answer_text, item_of_call, items_of_lines, script_cause, script_of}
@@ -98,7 +99,7 @@ module _ {A : Type 0} (B : Type 0) (p : Setup A) (t : Text (ScriptItem A) Script
       room = let all : length (done ++ s ∷ todo) ≡ length p.table = ap length table in omega (arith, all, few, length-append done (s ∷ todo))
 
       step : t.step before e ≡ Ok ([], false)
-      step = ap (λ (x : ScriptItem A). t.step before (e.0, x)) here ∙ is.step (setup p.control done p.first) before stands room e.0 s
+      step = ap (λ (x : ScriptItem A). t.step before (e.0, x)) here ∙ is.table_step (setup p.control done p.first) before stands room e.0 s
 
       next : items_of_lines (before ++ e ∷ []) ≡ script_of (setup p.control (done ++ s ∷ []) p.first) []
       next =
@@ -123,7 +124,7 @@ module _ {A : Type 0} (B : Type 0) (p : Setup A) (t : Text (ScriptItem A) Script
       others = cc
 
       step : t.step [] e ≡ Ok ([], false)
-      step = ap (λ (x : ScriptItem A). t.step [] (e.0, x)) here ∙ is.control e.0 p.first p.control
+      step = ap (λ (x : ScriptItem A). t.step [] (e.0, x)) here ∙ is.control_line e.0 p.first p.control
 
   -- the first call that is left is refused, or none is
   stops_told : (done left : List Call) (before es : List (ℕ × ScriptItem A)) (script : Listing (ScriptItem A) ScriptCause) → IsScriptSound p → before ++ es ≡ script.items → items_of_lines before ≡ script_of p done → items_of_lines es ≡ map item_of_call left → StopsBehind p done left → Stops done left before es script []
@@ -144,11 +145,11 @@ module _ {A : Type 0} (B : Type 0) (p : Setup A) (t : Text (ScriptItem A) Script
 
       by_call : IsCallText p done c (t.step before (e.0, item_of_call c)) →
           (stop : Stop (ItemFault ScriptCause)) × (put_step t e.0 (t.step before e) (told_after t (before ++ e ∷ []) es script.stop) ≡ sent_told B t [] stop) × TellsStop p done (c ∷ more) script stop
-      by_call (inl w) = absurd (not_both p done sound.steps c.request stops.0 w.0 stops.1)
+      by_call (inl w) = absurd (not_both p done sound.steps c.request stops.0 w.taken stops.1)
       by_call (inr w) = (
-        faulty (fault.Line e.0 (script_cause w.0)),
-        ap (λ s. put_step t e.0 s (told_after t (before ++ e ∷ []) es script.stop)) (ap (λ (x : ScriptItem A). t.step before (e.0, x)) here ∙ w.2),
-        (e.0, w.0, line, w.1, refl),
+        faulty (fault.Line e.0 (script_cause w.why)),
+        ap (λ s. put_step t e.0 s (told_after t (before ++ e ∷ []) es script.stop)) (ap (λ (x : ScriptItem A). t.step before (e.0, x)) here ∙ w.ends),
+        record { line = e.0; why = w.why; there = line; refused = w.refused; stops = refl },
       )
 
   -- a call behind others writes what it gives
@@ -158,16 +159,16 @@ module _ {A : Type 0} (B : Type 0) (p : Setup A) (t : Text (ScriptItem A) Script
       go : IsCallText p done c (t.step before (n, item_of_call c)) → t.step before (n, item_of_call c) ≡ Ok (answer_text (max (greatest_call_moment done) c.moment) a, false)
       go (inl w) =
           let size : length (done ++ c ∷ []) ≡ length done + 1 = length_push done c in
-          let stay = answers_stay p (done ++ c ∷ []) more (length done) w.1.0 (omega arith) w.1.1 in
-          let same : w.1.0 ≡ a =
-          answer_one p (trace_of_calls (done ++ c ∷ more)) (length done) w.1.0 a
-          (subst (λ (l : List Call). IsAnswer p (trace_of_calls l) (length done) w.1.0) (append_assoc done (c ∷ []) more) stay) gives in
-          w.1.2 ∙ ap₂ (λ (m : ℕ) (o : Option (Frame A)). Ok (answer_text m o, false)) (greatest-push done c) same
+          let stay = answers_stay p (done ++ c ∷ []) more (length done) w.answer (omega arith) w.is_answer in
+          let same : w.answer ≡ a =
+          answer_one p (trace_of_calls (done ++ c ∷ more)) (length done) w.answer a
+          (subst (λ (l : List Call). IsAnswer p (trace_of_calls l) (length done) w.answer) (append_assoc done (c ∷ []) more) stay) gives in
+          w.line ∙ ap₂ (λ (m : ℕ) (o : Option (Frame A)). Ok (answer_text m o, false)) (greatest-push done c) same
       go (inr w) =
           let taken = request_taken p done c.request (λ change e.
           subst (λ (l : List Call). Accepts p l change) (take-append_seam done (c ∷ more))
           (accepted (length done) change (ap (option_map (λ (x : Call). x.request)) (get_middle done c more) ∙ ap (λ (x : Request). Some x) e))) in
-          absurd (not_both p done sound.steps c.request w.0 taken w.1)
+          absurd (not_both p done sound.steps c.request w.why taken w.refused)
 
   -- the calls that are left, up to where they stop
   calls_told : (cs done left : List Call) (answers : List (Option (Frame A))) (before es : List (ℕ × ScriptItem A)) (script : Listing (ScriptItem A) ScriptCause) → IsScriptSound p → before ++ es ≡ script.items → items_of_lines before ≡ script_of p done → items_of_lines es ≡ map item_of_call (cs ++ left) → length answers ≡ length cs → AreAccepted p (done ++ cs) → ((i : ℕ) (a : Option (Frame A)) → slice_get answers i ≡ Some a → IsAnswer p (trace_of_calls (done ++ cs)) (length done + i) a) → StopsBehind p (done ++ cs) left → Stops (done ++ cs) left before es script (sent_from (greatest_call_moment done) cs answers)
@@ -231,32 +232,32 @@ no_back [] ys e = e
 no_back (x ∷ xs) ys e = absurd cc
 
 pub scripts_give_lists : {A : Type 0} (B : Type 0) → ScriptsGiveLists A B
-scripts_give_lists {A} B p calls answers z text t are says is = (
-  ap₂ (λ (a : List ℕ) (o : Account ScriptCause). a ++ o.text) is.first told_is ∙ ap (λ (stop : Stop (ItemFault ScriptCause)). list_text (published_events {B = B} (sent_from 0 calls answers)) ++ last_text t stop) (sym stop_is),
-  subst (TellsStop p calls says.left script) (sym stop_is) ends.2,
-)
+scripts_give_lists {A} B p calls answers z text t are says is = record {
+  writes = ap₂ (λ (a : List ℕ) (o : Account ScriptCause). a ++ o.text) is.first told_is ∙ ap (λ (stop : Stop (ItemFault ScriptCause)). list_text (published_events {B = B} (sent_from 0 calls answers)) ++ last_text t stop) (sym stop_is);
+  stops = subst (TellsStop p calls says.calls_left script) (sym stop_is) ends.2;
+}
   where
     script : Listing (ScriptItem A) ScriptCause
     script = script_of_text z text
 
-    set_up : IsSetUp p (calls ++ says.left)
-    set_up = script_set_up p (calls ++ says.left) z text says.items
+    set_up : IsSetUp p (calls ++ says.calls_left)
+    set_up = script_set_up p (calls ++ says.calls_left) z text says.items
 
-    left : CallsLeft p t (calls ++ says.left) script (told t script)
-    left = script_left B p t is (calls ++ says.left) script.items script set_up.few refl says.items
+    left : CallsLeft p t (calls ++ says.calls_left) script (told t script)
+    left = script_left B p t is (calls ++ says.calls_left) script.items script set_up.few refl says.items
 
-    by_setup : (calls ++ says.left ≡ []) ⊎ IsScriptSound p → Stops B p t is calls says.left left.0 left.1 script (sent_from 0 calls answers)
+    by_setup : (calls ++ says.calls_left ≡ []) ⊎ IsScriptSound p → Stops B p t is calls says.calls_left left.0 left.1 script (sent_from 0 calls answers)
     by_setup (inl none) = (
       script.stop,
-      none_told t left.0 left.1 script.stop (left.4 ∙ ap (map item_of_call) none) ∙ ap (λ (cs : List Call). sent_told B t (sent_from 0 cs answers) script.stop) (sym (no_front calls says.left none)),
-      subst (λ (more : List Call). TellsStop p calls more script script.stop) (sym (no_back calls says.left none)) refl,
+      none_told t left.0 left.1 script.stop (left.4 ∙ ap (map item_of_call) none) ∙ ap (λ (cs : List Call). sent_told B t (sent_from 0 cs answers) script.stop) (sym (no_front calls says.calls_left none)),
+      subst (λ (more : List Call). TellsStop p calls more script script.stop) (sym (no_back calls says.calls_left none)) refl,
     )
     by_setup (inr sound) =
-        calls_told B p t is calls [] says.left answers left.0 left.1 script sound left.2 left.3 left.4 are.0 says.accepted (λ i a at.
+        calls_told B p t is calls [] says.calls_left answers left.0 left.1 script sound left.2 left.3 left.4 are.sizes says.accepted (λ i a at.
         let none : i ≡ 0 + i = omega arith in
-        subst (λ (j : ℕ). IsAnswer p (trace_of_calls calls) j a) none (are.1 i a at)) says.stops
+        subst (λ (j : ℕ). IsAnswer p (trace_of_calls calls) j a) none (are.each i a at)) says.stops
 
-    ends : Stops B p t is calls says.left left.0 left.1 script (sent_from 0 calls answers)
+    ends : Stops B p t is calls says.calls_left left.0 left.1 script (sent_from 0 calls answers)
     ends = by_setup set_up.sound
 
     told_is : told t script ≡ sent_told B t (sent_from 0 calls answers) ends.0

@@ -21,7 +21,8 @@ use Rattle.exchange_laws.proofs.OneFrame.{one_apart}
 use Rattle.exchange_laws.proofs.WrittenForms.{change_accepted}
 use Rattle.script_core.specs.declared.script.ScriptCause.{ScriptCause}
 use Rattle.script_core.specs.declared.script.ScriptItem.{ScriptItem}
-use Rattle.engine_core.specs.EngineText.{Text, last_text, told}
+use Rattle.engine_core.specs.EngineText.{Text, last_text}
+use Rattle.engine_core.specs.computed.WholeText.{told}
 use Rattle.exchange_engines.specs.ReplayText.{IsReplayText}
 use Rattle.exchange_engines.specs.ScriptLine.{script_line}
 use Rattle.goose_cmd.specs.PublishedReplay.{script_of_text}
@@ -73,7 +74,12 @@ how_it_ends {A} {B} t n (faulty f) is room = subst (EndsList B n) (sym (is.last 
 -- a list without events says nothing
 nothing_replays : {B : Type 0} (block : Block B) (end : List ℕ) (r : Text (Event B) ListCause) → IsReplayText (block ∷ []) r → EndsList B 1 end → ReplayGives r (list_text {A = B} [] ++ end) []
 nothing_replays {B} block end r replay ends =
-    ended_lists_replay (block ∷ []) [] [] end r (one_apart block) tt (omega arith) (record { sizes = refl; each = λ i es at. absurd (nothing_at i es at) }) replay ends
+    ended_lists_replay (block ∷ []) [] [] end r (record {
+      are_apart = one_apart block;
+      can_be_listed = tt;
+      at_most = omega arith;
+      are_entries = record { sizes = refl; each = λ i es at. absurd (nothing_at i es at) };
+    }) replay ends
   where
     nothing_at : (i : ℕ) (es : List (Entry B)) → slice_get [] i ≡ Some es → ⊥
     nothing_at zero es at = absurd cc
@@ -81,20 +87,20 @@ nothing_replays {B} block end r replay ends =
 
 pub published_texts_replay : {A B : Type 0} → PublishedTextsReplay A B
 published_texts_replay {A} {B} p block calls answers z text t r run says is replay =
-    subst (λ (written : List ℕ). ReplayGives r written (one_entry_each (sent_from 0 calls answers))) (sym (scripts_give_lists B p calls answers z text t run.are_answers says is).0)
-    (by_setup (script_set_up p (calls ++ says.left) z text says.items).sound)
+    subst (λ (written : List ℕ). ReplayGives r written (one_entry_each (sent_from 0 calls answers))) (sym (scripts_give_lists B p calls answers z text t run.are_answers says is).writes)
+    (by_setup (script_set_up p (calls ++ says.calls_left) z text says.items).sound)
   where
     stop : Stop (ItemFault ScriptCause)
     stop = (told t (script_of_text z text)).stop
 
-    by_setup : (calls ++ says.left ≡ []) ⊎ IsScriptSound p → ReplayGives r (list_text (published_events {B = B} (sent_from 0 calls answers)) ++ last_text t stop) (one_entry_each (sent_from 0 calls answers))
+    by_setup : (calls ++ says.calls_left ≡ []) ⊎ IsScriptSound p → ReplayGives r (list_text (published_events {B = B} (sent_from 0 calls answers)) ++ last_text t stop) (one_entry_each (sent_from 0 calls answers))
     by_setup (inl none) =
-        subst (λ (cs : List Call). ReplayGives r (list_text (published_events {B = B} (sent_from 0 cs answers)) ++ last_text t stop) (one_entry_each (sent_from 0 cs answers))) (sym (no_front calls says.left none))
+        subst (λ (cs : List Call). ReplayGives r (list_text (published_events {B = B} (sent_from 0 cs answers)) ++ last_text t stop) (one_entry_each (sent_from 0 cs answers))) (sym (no_front calls says.calls_left none))
         (nothing_replays block (last_text t stop) r replay (how_it_ends t 1 stop is (omega arith)))
     by_setup (inr sound) =
         let some : 1 ≤ length p.table = sound.steps.some in
         let room : 1 + length (sent_from 0 calls answers) < 1000000 = omega (arith, some, sent_count 0 calls answers, script_room p calls z text says) in
-        let octets : SendsOctets (sent_from 0 calls answers) = all_octets_sent 0 calls answers (λ i f at. answer_octets p calls i f (script_octets p calls z text says) says.accepted (run.are_answers.1 i (Some f) at)) in
+        let octets : SendsOctets (sent_from 0 calls answers) = all_octets_sent 0 calls answers (λ i f at. answer_octets p calls i f (script_octets p calls z text says) says.accepted (run.are_answers.each i (Some f) at)) in
         let all : IsWholeRun p block calls answers = record {
           own = run.own;
           held = script_sizes p calls z text says;
@@ -106,4 +112,4 @@ published_texts_replay {A} {B} p block calls answers z text t r run says is repl
           are_answers = run.are_answers;
           in_time = run.in_time;
         } in
-        ended_runs_replay p block calls answers (last_text t stop) r all (script_moments p calls z text says) octets (omega arith) replay (how_it_ends t (1 + length (sent_from 0 calls answers)) stop is room)
+        ended_runs_replay p block calls answers (last_text t stop) r (record { is_run = all; moments_are_short = script_moments p calls z text says; are_octets = octets; at_most = omega arith }) replay (how_it_ends t (1 + length (sent_from 0 calls answers)) stop is room)

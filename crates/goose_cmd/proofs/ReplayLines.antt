@@ -8,8 +8,9 @@ use Rattle.list_core.specs.Lines.{Stop}
 use Rattle.block_core.specs.declared.block.Block.{Block}
 use Rattle.subscribe_core.specs.declared.entry.Entry.{Entry}
 use Rattle.subscribe_core.specs.Entries.{AreEntriesAt}
-use Rattle.subscribe_core.specs.Standing.{AreApart}
-use Rattle.engine_core.specs.EngineText.{Account, Text, last_text, put_step, told_after}
+use Rattle.subscribe_core.specs.Apart.{AreApart}
+use Rattle.engine_core.specs.EngineText.{Text, last_text}
+use Rattle.engine_core.specs.computed.WholeText.{Account, put_step, told_after}
 use Rattle.exchange_engines.specs.EntryText.{entry_lines}
 use Rattle.exchange_engines.specs.ReplayText.{IsReplayText, events_of}
 use Rattle.exchange_engines.proofs.ReplayLemmas.{events_push}
@@ -50,10 +51,10 @@ entries_written {A} blocks t stop apart is before (e ∷ items) (x ∷ rest) siz
         (subst (λ (l : List (Event A)). AreEntriesAt blocks l (length (events_of before) + suc i) y) same (each (suc i) y at))
 
 pub replays_write_entries : {A : Type 0} → ReplaysWriteEntries A
-replays_write_entries {A} blocks entries t l apart are is = (
-  ap₂ (λ (a : List ℕ) (o : Account ListCause). a ++ o.text) is.first written,
-  ap (λ (o : Account ListCause). o.stop) written,
-)
+replays_write_entries {A} blocks entries t l apart are is = record {
+  writes = ap₂ (λ (a : List ℕ) (o : Account ListCause). a ++ o.text) is.first written;
+  stops = ap (λ (o : Account ListCause). o.stop) written;
+}
   where
     at : (i : ℕ) (x : List (Entry A)) → slice_get entries i ≡ Some x → AreEntriesAt blocks (events_of l.items) (0 + i) x
     at i x here = let none : i ≡ 0 + i = omega arith in subst (λ (j : ℕ). AreEntriesAt blocks (events_of l.items) j x) none (are.each i x here)

@@ -28,7 +28,7 @@ use Rattle.list_core.proofs.MomentDigits.{digits_test}
 use Rattle.publish_core.specs.declared.table.Step.{Step}
 use Rattle.publish_core.specs.Frames.{Change, Setup}
 use Rattle.publish_core.specs.Run.{Request, Call, Changed, Polled, trace_of_calls}
-use Rattle.exchange_laws.specs.Stems.{AreHeld}
+use Rattle.exchange_laws.specs.Stems.{HasSizes}
 use Rattle.block_core.specs.Commas.{comma_fields}
 use Rattle.script_core.specs.declared.script.ScriptCause.{ScriptCause}
 use Rattle.script_core.specs.declared.script.ScriptItem.{ScriptItem}
@@ -37,7 +37,11 @@ use Rattle.script_core.specs.declared.script.ScriptLines.{ScriptLines}
 use Rattle.script_core.specs.declared.script.ScriptLines.TheVariants.{First, After}
 use Rattle.script_core.specs.declared.script.ScriptPart.{ScriptPart}
 use Rattle.script_core.specs.declared.script.ScriptPart.TheVariants as part
-use Rattle.script_core.specs.Script.{ControlLine, all_octets_in, all_said, call_said, change_said, change_said_by, change_to, control_of, control_said, line_said, poll_of, poll_said, script_rules, script_said, settled, step_said, step_said_by, time_in, too_early}
+use Rattle.script_core.specs.ControlLine.{ControlLine, control_of, control_said}
+use Rattle.script_core.specs.ScriptFields.{all_octets_in, time_in}
+use Rattle.script_core.specs.Script.{all_said, line_said, script_rules, script_said, settled}
+use Rattle.script_core.specs.CallLine.{call_said, change_said, change_said_by, change_to, poll_of, poll_said, too_early}
+use Rattle.script_core.specs.StepLine.{step_said, step_said_by}
 use Rattle.exchange_engines.specs.PublishText.{item_of_request, item_of_call, items_of_lines, script_of}
 use Rattle.goose_cmd.specs.ListText.{MomentsAreShort}
 use Rattle.goose_cmd.specs.PublishedReplay.{SaysRun, script_of_text}
@@ -221,10 +225,10 @@ reading_few z text = let w = pieces_few z 0 (pieces text) (omega arith) in omega
 pub script_room : {A : Type 0} (p : Setup A) (calls : List Call) (z : InputEnd) (text : List ℕ) → SaysRun p calls (script_of_text z text) → 1 + length p.table + length calls ≤ 1000000
 script_room {A} p calls z text says =
     let most : length (script_of_text {A = A} z text).items ≤ 1000000 = let a = lines_count A First 0 (reading z 0 text).lines (reading z 0 text).stop in let b = reading_few z text in omega (arith, a, b) in
-    let same : length (items_of_lines (script_of_text {A = A} z text).items) ≡ length (script_of p (calls ++ says.left)) = ap length says.items in
+    let same : length (items_of_lines (script_of_text {A = A} z text).items) ≡ length (script_of p (calls ++ says.calls_left)) = ap length says.items in
     let step : Step → ScriptItem A = λ s. item.Step s in
     let steps : List (ScriptItem A) = map step p.table in
-    omega (arith, most, same, length-map (script_of_text {A = A} z text).items (λ (e : ℕ × ScriptItem A). e.1), length-append steps (map item_of_call (calls ++ says.left)), length-map p.table step, length-map (calls ++ says.left) (item_of_call {A = A}), length-append calls says.left)
+    omega (arith, most, same, length-map (script_of_text {A = A} z text).items (λ (e : ℕ × ScriptItem A). e.1), length-append steps (map item_of_call (calls ++ says.calls_left)), length-map p.table step, length-map (calls ++ says.calls_left) (item_of_call {A = A}), length-append calls says.calls_left)
 
 at_steps : {A : Type 0} (steps : List Step) (items : List (ScriptItem A)) → AllKeep (map item.Step steps ++ items) → LiveBelow steps
 at_steps [] items w = tt
@@ -260,14 +264,14 @@ first_keep A (s ∷ steps) calls left w = (w.0, first_keep A steps calls left w.
 says_limits : {A : Type 0} (p : Setup A) (calls : List Call) (z : InputEnd) (text : List ℕ) → SaysRun p calls (script_of_text z text) → AllKeep (script_of p calls)
 says_limits {A} p calls z text says =
     let w = subst AllKeep says.items (lines_short A First 0 (reading z 0 text).lines (reading z 0 text).stop) in
-    (w.0, first_keep A p.table calls says.left w.1)
+    (w.0, first_keep A p.table calls says.calls_left w.1)
 
 -- its moments have at most 18 digits
 pub script_moments : {A : Type 0} (p : Setup A) (calls : List Call) (z : InputEnd) (text : List ℕ) → SaysRun p calls (script_of_text z text) → MomentsAreShort calls
 script_moments {A} p calls z text says = calls_short A calls (behind_steps p.table (map item_of_call calls) (says_limits p calls z text says).1)
 
 -- its fields have their sizes
-pub script_sizes : {A : Type 0} (p : Setup A) (calls : List Call) (z : InputEnd) (text : List ℕ) → SaysRun p calls (script_of_text z text) → AreHeld p
+pub script_sizes : {A : Type 0} (p : Setup A) (calls : List Call) (z : InputEnd) (text : List ℕ) → SaysRun p calls (script_of_text z text) → HasSizes p
 script_sizes p calls z text says = let w = says_limits p calls z text says in setup_held p w.0 (at_steps p.table (map item_of_call calls) w.1)
 
 -- its addresses are octets, and the values of each change are written as octets

@@ -31,12 +31,16 @@ use Rattle.script_core.specs.declared.script.ScriptLines.{ScriptLines}
 use Rattle.script_core.specs.declared.script.ScriptLines.TheVariants.{First, After}
 use Rattle.script_core.specs.declared.script.ScriptPart.{ScriptPart}
 use Rattle.script_core.specs.declared.script.ScriptPart.TheVariants as part
-use Rattle.script_core.specs.declared.script_control.Numbers.{Numbers}
+use Rattle.script_core.specs.declared.script_control.ControlNumbers.{ControlNumbers}
 use Rattle.block_core.specs.Commas.{at_most_32_bits, comma_fields, number_by, octets_in, text_in, word_in}
-use Rattle.script_core.specs.Script.{ControlLine, all_said, block_of_line, call_said, change_said_by, change_said, change_to, control_of, control_said, control_with, flag_in, line_said, all_octets_in, numbers_with, poll_of, poll_said, script_rules, script_said, settled, step_said_by, step_said, tag_in, time_in, too_early}
+use Rattle.script_core.specs.ControlLine.{ControlLine, block_of_line, control_of, control_said, control_with, numbers_with}
+use Rattle.script_core.specs.Script.{all_said, line_said, script_rules, script_said, settled}
+use Rattle.script_core.specs.CallLine.{call_said, change_said_by, change_said, change_to, poll_of, poll_said, too_early}
+use Rattle.script_core.specs.ScriptFields.{flag_in, all_octets_in, tag_in, time_in}
+use Rattle.script_core.specs.StepLine.{step_said_by, step_said}
 use Rattle.exchange_engines.specs.computed.PublishStep.{is_good, with_step}
 use Rattle.exchange_engines.specs.PublishText.{IsScriptSound, item_of_request, item_of_call, items_of_lines, script_of}
-use Rattle.exchange_engines.specs.ScriptLaws.{ScriptsAreInOrder, StandsBefore}
+use Rattle.exchange_engines.specs.ScriptLaws.{ScriptsAreInOrder, StandsBefore, StandsBeforeCall}
 use Rattle.exchange_engines.proofs.PublishLemmas.{good_each}
 use Rattle.goose_cmd.specs.PublishedReplay.{script_of_text}
 
@@ -72,13 +76,10 @@ record HasSteps {A : Type 0} (before : List (ScriptItem A)) (n : ℕ) : Type 0 w
   pub some : 0 < p.first
   pub most : p.first ≤ 4294967295
 
-abbrev HasCalls : {A : Type 0} → List (ScriptItem A) → Type 0
-HasCalls {A} before = (p : Setup A) × (calls : List Call) × (before ≡ script_of p calls) × IsScriptSound p
-
 abbrev Settles : {A : Type 0} → ScriptPart → List (ScriptItem A) → Type 0
 Settles part.Control before = before ≡ []
 Settles (part.Steps n) before = HasSteps before n
-Settles part.Calls before = HasCalls before
+Settles part.Calls before = StandsBeforeCall before
 
 -- what a line gives stands behind these items, and settles what it should
 abbrev Goes : {A : Type 0} → List (ScriptItem A) → Result (Option (ScriptItem A) × ScriptPart) ScriptCause → Type 0
@@ -102,7 +103,7 @@ below None = tt
 below (Some n) = either (nat_le n 4294967295) (Some n) None Below (λ le. leb-true n 4294967295 le) (λ gt. tt)
 
 -- the first status number, where there is one
-abbrev Begins : Option Numbers → Type 0
+abbrev Begins : Option ControlNumbers → Type 0
 Begins None = Unit {0}
 Begins (Some n) = n.first ≤ 4294967295
 
@@ -118,7 +119,7 @@ abbrev LineBegins : Option ControlLine → Type 0
 LineBegins None = Unit {0}
 LineBegins (Some l) = l.numbers.first ≤ 4294967295
 
-line_begins : (a b : Option (List ℕ)) (c : Option (Option VlanTag)) (d : Option ℕ) (f g h : Option (List ℕ)) (n : Option Numbers) → Begins n → LineBegins (control_with a b c d f g h n)
+line_begins : (a b : Option (List ℕ)) (c : Option (Option VlanTag)) (d : Option ℕ) (f g h : Option (List ℕ)) (n : Option ControlNumbers) → Begins n → LineBegins (control_with a b c d f g h n)
 line_begins None b c d f g h n k = tt
 line_begins (Some a) None c d f g h n k = tt
 line_begins (Some a) (Some b) None d f g h n k = tt
@@ -177,7 +178,7 @@ module _ {A : Type 0} (before : List (ScriptItem A)) where
   good_step (part.Steps n) None h = tt
   good_step (part.Steps n) (Some s) h =
       either (is_good s) _ _ (Goes before) (λ good. either (nat_lt n 16) _ _ (Goes before) (λ room. (
-        (h.p, h.items, subst (λ (k : ℕ). k < 16) (sym h.count) (ltb-true n 16 room)),
+        record { setup = h.p; is_script = h.items; has_room = subst (λ (k : ℕ). k < 16) (sym h.count) (ltb-true n 16 room) },
         record {
           p = with_step h.p s;
           items = ap (λ (b : List (ScriptItem A)). b ++ item.Step s ∷ []) h.items ∙ step-push h.p s;
@@ -197,35 +198,40 @@ module _ {A : Type 0} (before : List (ScriptItem A)) where
   IsCall (Ok i) = (c : Call) × (i ≡ item_of_call c)
   IsCall (Err why) = Unit {0}
 
-  stands_call : (c : Call) → HasCalls before → StandsBefore before (item_of_call c)
+  stands_call : (c : Call) → StandsBeforeCall before → StandsBefore before (item_of_call c)
   stands_call c h = by_request c.moment c.request
     where
       by_request : (m : ℕ) (a : Request) → StandsBefore before (item_of_request m a)
       by_request m (Changed change) = h
       by_request m Polled = h
 
-  good_called : (r : Result (ScriptItem A) ScriptCause) → IsCall r → HasCalls before → Goes before (call_said None r)
+  good_called : (r : Result (ScriptItem A) ScriptCause) → IsCall r → StandsBeforeCall before → Goes before (call_said None r)
   good_called (Err why) c h = tt
   good_called (Ok i) c h =
-      subst (λ (j : ScriptItem A). StandsBefore before j × HasCalls (before ++ j ∷ [])) (sym c.1) (
+      subst (λ (j : ScriptItem A). StandsBefore before j × StandsBeforeCall (before ++ j ∷ [])) (sym c.1) (
         stands_call c.0 h,
-        (h.0, h.1 ++ c.0 ∷ [], ap (λ (b : List (ScriptItem A)). b ++ item_of_call c.0 ∷ []) h.2 ∙ call-push h.0 h.1 c.0, h.3),
+        record {
+          setup = h.setup;
+          calls = h.calls ++ c.0 ∷ [];
+          is_script = ap (λ (b : List (ScriptItem A)). b ++ item_of_call c.0 ∷ []) h.is_script ∙ call-push h.setup h.calls c.0;
+          is_sound = h.is_sound;
+        },
       )
 
-  has_calls : (n : ℕ) → HasSteps before n → (n == 0) ≡ false → HasCalls before
+  has_calls : (n : ℕ) → HasSteps before n → (n == 0) ≡ false → StandsBeforeCall before
   has_calls n h e =
       let no : ¬ (n ≡ 0) = eqb-false n 0 e in
       let count : length h.p.table ≡ n = h.count in
-      let room : n ≤ 16 = h.room in (
-        h.p,
-        [],
-        h.items,
-        record {
+      let room : n ≤ 16 = h.room in record {
+        setup = h.p;
+        calls = [];
+        is_script = h.items;
+        is_sound = record {
           steps = record { some = omega (arith, no, count); most = omega (arith, room, count); good = good_each h.p.table h.good };
           some = h.some;
           most = h.most;
-        },
-      )
+        };
+      }
 
   good_call : (q : ScriptPart) (r : Result (ScriptItem A) ScriptCause) → Settles q before → IsCall r → Goes before (call_said (too_early q) r)
   good_call part.Control r h c = tt
@@ -366,7 +372,7 @@ settled_items : {A : Type 0} (items : List (ScriptItem A)) (s : ScriptLines) →
 settled_items items First h = inl h
 settled_items items (After unit part.Control) h = inl h
 settled_items items (After unit (part.Steps n)) h = inr (h.p, [], h.items, record { few = subst (λ (k : ℕ). k ≤ 16) (sym h.count) h.room; sound = inl refl })
-settled_items items (After unit part.Calls) h = inr (h.0, h.1, h.2, record { few = h.3.steps.most; sound = inr h.3 })
+settled_items items (After unit part.Calls) h = inr (h.setup, h.calls, h.is_script, record { few = h.is_sound.steps.most; sound = inr h.is_sound })
 
 pub script_items : {A : Type 0} (z : InputEnd) (text : List ℕ) → AreOfScript (items_of_lines (script_of_text {A = A} z text).items)
 script_items {A} z text =

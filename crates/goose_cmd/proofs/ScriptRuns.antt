@@ -10,8 +10,8 @@ use Rattle.publish_core.specs.Run.{Request, Call, Changed, Polled}
 use Rattle.publish_core.specs.computed.Judgement.{IsJudged}
 use Rattle.publish_core.specs.Table.{AreSteps}
 use Rattle.publish_core.proofs.Judged.{changes_are_judged}
-use Rattle.goose_cmd.specs.PublishedReplay.{SaysRun, StopsBehind, script_of_text}
-use Rattle.goose_cmd.specs.PublishedLaws.{ScriptsSayRuns}
+use Rattle.goose_cmd.specs.PublishedReplay.{StopsBehind, script_of_text}
+use Rattle.goose_cmd.specs.PublishedLaws.{SaysSomeRun, ScriptsSayRuns}
 use Rattle.exchange_engines.specs.PublishText.{IsRefused, IsScriptSound, IsTaken, items_of_lines, script_of}
 use Rattle.goose_cmd.proofs.ScriptOrder.{AreOfScript, script_items}
 
@@ -59,20 +59,17 @@ up_to_refused : {A : Type 0} (p : Setup A) → AreSteps p.table → (cs done : L
 up_to_refused p steps [] done = ([], [], refl, tt, tt)
 up_to_refused p steps (c ∷ cs) done = call_judged p steps done cs c (up_to_refused p steps cs (done ++ c ∷ []))
 
-abbrev SomeRun : (A : Type 0) → InputEnd → List ℕ → Type 0
-SomeRun A z text = (p : Setup A) × (calls : List Call) × SaysRun p calls (script_of_text z text)
-
 -- each script says the run of a publisher, or nothing of one
 pub scripts_say_runs : {A : Type 0} → ScriptsSayRuns A
 scripts_say_runs {A} z text = by_items (script_items z text)
   where
-    by_setup : (p : Setup A) (calls : List Call) → items_of_lines (script_of_text z text).items ≡ script_of p calls → (calls ≡ []) ⊎ IsScriptSound p → SomeRun A z text
+    by_setup : (p : Setup A) (calls : List Call) → items_of_lines (script_of_text z text).items ≡ script_of p calls → (calls ≡ []) ⊎ IsScriptSound p → SaysSomeRun (script_of_text {A = A} z text)
     by_setup p calls is (inl none) =
-        (p, [], record { left = []; items = is ∙ ap (script_of p) none; accepted = λ i change at. all_accepted p [] [] tt i change at; stops = tt })
+        record { publisher = p; calls = []; run = record { calls_left = []; items = is ∙ ap (script_of p) none; accepted = λ i change at. all_accepted p [] [] tt i change at; stops = tt } }
     by_setup p calls is (inr sound) =
         let w = up_to_refused p sound.steps calls [] in
-        (p, w.0, record { left = w.1; items = is ∙ ap (script_of p) w.2; accepted = all_accepted p w.0 [] w.3; stops = w.4 })
+        record { publisher = p; calls = w.0; run = record { calls_left = w.1; items = is ∙ ap (script_of p) w.2; accepted = all_accepted p w.0 [] w.3; stops = w.4 } }
 
-    by_items : AreOfScript (items_of_lines (script_of_text {A = A} z text).items) → (items_of_lines (script_of_text {A = A} z text).items ≡ []) ⊎ SomeRun A z text
+    by_items : AreOfScript (items_of_lines (script_of_text {A = A} z text).items) → (items_of_lines (script_of_text {A = A} z text).items ≡ []) ⊎ SaysSomeRun (script_of_text {A = A} z text)
     by_items (inl none) = inl none
     by_items (inr w) = inr (by_setup w.0 w.1 w.2 w.3.sound)

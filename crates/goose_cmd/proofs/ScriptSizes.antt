@@ -12,10 +12,12 @@ use Rattle.publish_core.specs.declared.control.Control.{Control}
 use Rattle.publish_core.specs.declared.table.Step.{Step}
 use Rattle.publish_core.specs.Frames.{Setup}
 use Rattle.publish_core.specs.Table.{step_at}
-use Rattle.exchange_laws.specs.Stems.{AreHeld}
-use Rattle.script_core.specs.declared.script_control.Numbers.{Numbers}
+use Rattle.exchange_laws.specs.Stems.{HasSizes}
+use Rattle.script_core.specs.declared.script_control.ControlNumbers.{ControlNumbers}
 use Rattle.block_core.specs.Commas.{number_by, octets_in, text_in, word_in}
-use Rattle.script_core.specs.Script.{ControlLine, all_octets_in, control_of, control_with, flag_in, numbers_with, step_said_by, step_with, tag_in}
+use Rattle.script_core.specs.ControlLine.{ControlLine, control_of, control_with, numbers_with}
+use Rattle.script_core.specs.ScriptFields.{all_octets_in, flag_in, tag_in}
+use Rattle.script_core.specs.StepLine.{step_said_by, step_with}
 use Rattle.list_core.specs.Decimal.{decimal_of}
 use Rattle.goose_cmd.proofs.ScriptOrder.{Below, below, either}
 use Rattle.goose_cmd.proofs.WrittenOctets.{cons_octets, no_octets}
@@ -104,7 +106,7 @@ tag_low (d ∷ ds) = by_word (word_in (d ∷ ds)) (word_low (d ∷ ds))
 
 -- ---- the control line
 
-abbrev HaveSizes : Option Numbers → Type 0
+abbrev HaveSizes : Option ControlNumbers → Type 0
 HaveSizes None = Unit {0}
 HaveSizes (Some n) = (n.conf_rev ≤ 4294967295) × (n.entries ≤ 4294967295)
 
@@ -140,7 +142,7 @@ abbrev pub SaysSizes : Option ControlLine → Type 0
 SaysSizes None = Unit {0}
 SaysSizes (Some l) = LineIsHeld l
 
-line_sizes : (a b : Option (List ℕ)) (c : Option (Option VlanTag)) (d : Option ℕ) (f g h : Option (List ℕ)) (n : Option Numbers) →
+line_sizes : (a b : Option (List ℕ)) (c : Option (Option VlanTag)) (d : Option ℕ) (f g h : Option (List ℕ)) (n : Option ControlNumbers) →
     Sized 6 a → Sized 6 b → HasTag c → IsWord d → HaveSizes n → SaysSizes (control_with a b c d f g h n)
 line_sizes None b c d f g h n p q r s k = tt
 line_sizes (Some a) None c d f g h n p q r s k = tt
@@ -201,5 +203,5 @@ step_lives [] w i = omega arith
 step_lives (s ∷ steps) w zero = let low = w.0 in omega (arith, low)
 step_lives (s ∷ steps) w (suc i) = step_lives steps w.1 i
 
-pub setup_held : {A : Type 0} (p : Setup A) → ControlIsHeld p.control → LiveBelow p.table → AreHeld p
+pub setup_held : {A : Type 0} (p : Setup A) → ControlIsHeld p.control → LiveBelow p.table → HasSizes p
 setup_held p c w = record { to = c.to; from = c.from; tag = c.tag; app_id = c.app_id; conf_rev = c.conf_rev; entries = c.entries; lives = step_lives p.table w }

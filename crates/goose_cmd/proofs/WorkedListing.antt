@@ -34,16 +34,16 @@ first_cut a b xs ys e = cc
 
 -- a text of one line has that one
 one_line : (a b : List ℕ) → HasNo 10 a → HasLine (a ++ 10 ∷ []) b → b ≡ a
-one_line a b none h = elim h.starts [
+one_line a b none h = elim h.starts_line [
   | inl first ↦
-      let same : a ++ 10 ∷ [] ≡ b ++ 10 ∷ h.back = h.parts ∙ ap (λ (l : List ℕ). l ++ (b ++ 10 ∷ h.back)) first in
-      first_cut b a _ _ (sym (cut-part 10 b h.back h.unbroken) ∙ (ap (cut_at 10) (sym same) ∙ cut-part 10 a [] none))
+      let same : a ++ 10 ∷ [] ≡ b ++ 10 ∷ h.after = h.whole ∙ ap (λ (l : List ℕ). l ++ (b ++ 10 ∷ h.after)) first in
+      first_cut b a _ _ (sym (cut-part 10 b h.after h.has_no_lf) ∙ (ap (cut_at 10) (sym same) ∙ cut-part 10 a [] none))
   | inr later ↦
       let earlier : List ℕ = later.0 in
-      let same : a ++ 10 ∷ [] ≡ earlier ++ 10 ∷ (b ++ 10 ∷ h.back) = h.parts ∙ (ap (λ (l : List ℕ). l ++ (b ++ 10 ∷ h.back)) later.1 ∙ append_assoc earlier (10 ∷ []) (b ++ 10 ∷ h.back)) in
+      let same : a ++ 10 ∷ [] ≡ earlier ++ 10 ∷ (b ++ 10 ∷ h.after) = h.whole ∙ (ap (λ (l : List ℕ). l ++ (b ++ 10 ∷ h.after)) later.1 ∙ append_assoc earlier (10 ∷ []) (b ++ 10 ∷ h.after)) in
       let long = ap length same in
-      let within : length earlier < length a = omega (arith, long, sizes a [], sizes earlier (b ++ 10 ∷ h.back), sizes b h.back) in
-      absurd (none (length earlier) within (sym (get_or_append_left a (10 ∷ []) 0 (length earlier) within) ∙ (ap (λ (l : List ℕ). get_or l (length earlier) 0) same ∙ between earlier (b ++ 10 ∷ h.back))))
+      let within : length earlier < length a = omega (arith, long, sizes a [], sizes earlier (b ++ 10 ∷ h.after), sizes b h.after) in
+      absurd (none (length earlier) within (sym (get_or_append_left a (10 ∷ []) 0 (length earlier) within) ∙ (ap (λ (l : List ℕ). get_or l (length earlier) 0) same ∙ between earlier (b ++ 10 ∷ h.after))))
 ]
 
 -- no space stands in a number
@@ -73,8 +73,8 @@ pub one_listed : AreListed (codes "2 block 0001,G,D,,1,1\n") (listed_block ∷ [
 unfolding decode_pairs
 one_listed = record {
   each = λ what tells.
-      let same : codes "block " ++ what ≡ codes "block 0001,G,D,,1,1" = the_line tells.0 (codes "block ") what tells.1 tells.2 in
+      let same : codes "block " ++ what ≡ codes "block 0001,G,D,,1,1" = the_line tells.number (codes "block ") what tells.at_most tells.has_line in
       let is : what ≡ codes "0001,G,D,,1,1" = ap (drop 6) same in
-      (0, listed_block, refl, ap block_in is ∙ refl);
-  none_changes = λ what tells. unlike what (the_line tells.0 (codes "block-changed ") what tells.1 tells.2);
+      record { position = 0; block = listed_block; there = refl; says = ap block_in is ∙ refl };
+  none_changes = λ what tells. unlike what (the_line tells.number (codes "block-changed ") what tells.at_most tells.has_line);
 }

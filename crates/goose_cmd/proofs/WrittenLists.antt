@@ -22,17 +22,18 @@ use Rattle.publish_core.proofs.GivesOne.{carried}
 use Rattle.block_core.specs.declared.block.Block.{Block}
 use Rattle.subscribe_core.specs.declared.entry.Entry.{Entry}
 use Rattle.subscribe_core.specs.Entries.{AreEntries, AreEntriesAt}
-use Rattle.subscribe_core.specs.Standing.{AreApart}
+use Rattle.subscribe_core.specs.Apart.{AreApart}
 use Rattle.subscribe_core.proofs.Runs.{entries_are_one, entries_stay}
 use Rattle.exchange_laws.specs.PublishedList.{IsWholeRun, Sent, one_entry_each, published_events, sent_from, with_frame}
-use Rattle.exchange_laws.specs.Stems.{AreAccepted, AreHeld}
+use Rattle.exchange_laws.specs.Stems.{AreAccepted, HasSizes}
 use Rattle.exchange_laws.proofs.OneFrame.{one_apart}
 use Rattle.exchange_laws.proofs.PublishedLists.{whole_runs_replay}
 use Rattle.exchange_laws.proofs.WrittenForms.{change_accepted}
-use Rattle.engine_core.specs.EngineText.{Account, Text, put_step, told_after}
+use Rattle.engine_core.specs.EngineText.{Text}
+use Rattle.engine_core.specs.computed.WholeText.{Account, put_step, told_after}
 use Rattle.exchange_engines.specs.EntryText.{entry_lines}
 use Rattle.goose_cmd.specs.ListText.{CanBeListed, MomentsAreShort, ReplayGives, SendsOctets, lines_from, list_of_text, list_text}
-use Rattle.goose_cmd.specs.ListLaws.{PublishedListsReplay, WrittenListsReplay}
+use Rattle.goose_cmd.specs.ListLaws.{CanBeSent, CanBeWritten, PublishedListsReplay, WrittenListsReplay}
 use Rattle.exchange_engines.specs.ReplayText.{IsReplayText, events_of}
 use Rattle.exchange_engines.proofs.ReplayLemmas.{events_push}
 
@@ -67,11 +68,11 @@ list_is {A} events end w room ends = version-first A End (flat_map event_text ev
 pub step_is : {A : Type 0} (blocks : List (Block A)) (t : Text (Event A) ListCause) → AreApart blocks → IsReplayText blocks t → (before : List (ℕ × Event A)) (n : ℕ) (e : Event A) (es : List (Event A)) (x : List (Entry A)) → AreEntriesAt blocks (events_of before ++ e ∷ es) (length (events_of before)) x → t.step before (n, e) ≡ Ok (entry_lines n x, false)
 step_is {A} blocks t apart is before n e es x at =
     let w = is.step before (n, e) in
-    let stay : AreEntriesAt blocks (events_of before ++ e ∷ es) (length (events_of before)) w.0 =
-    subst (λ (l : List (Event A)). AreEntriesAt blocks l (length (events_of before)) w.0) (append_assoc (events_of before) (e ∷ []) es)
-    (entries_stay blocks (events_of before ++ e ∷ []) es (length (events_of before)) w.0 w.1) in
-    let same : w.0 ≡ x = entries_are_one blocks (events_of before ++ e ∷ es) (length (events_of before)) w.0 x apart stay at in
-    w.2 ∙ ap (λ (y : List (Entry A)). Ok (entry_lines n y, false)) same
+    let stay : AreEntriesAt blocks (events_of before ++ e ∷ es) (length (events_of before)) w.entries =
+    subst (λ (l : List (Event A)). AreEntriesAt blocks l (length (events_of before)) w.entries) (append_assoc (events_of before) (e ∷ []) es)
+    (entries_stay blocks (events_of before ++ e ∷ []) es (length (events_of before)) w.entries w.are_entries) in
+    let same : w.entries ≡ x = entries_are_one blocks (events_of before ++ e ∷ es) (length (events_of before)) w.entries x apart stay at in
+    w.lines ∙ ap (λ (y : List (Entry A)). Ok (entry_lines n y, false)) same
 
 abbrev lines_told : {A : Type 0} → ℕ → List (List (Entry A)) → Account ListCause
 lines_told n rest = record { text = lines_from n rest; found = false; stop = finished }
@@ -107,23 +108,23 @@ lines_are {A} blocks t apart is before n (e ∷ es) (x ∷ rest) size each =
 
 -- a list that is written and ended so is replayed by the lines of the entries
 pub ended_lists_replay : {A : Type 0} (blocks : List (Block A)) (events : List (Event A)) (entries : List (List (Entry A))) (end : List ℕ) (t : Text (Event A) ListCause) →
-    AreApart blocks → CanBeListed events → length events < 1000000 → AreEntries blocks events entries → IsReplayText blocks t → EndsList A (1 + length events) end → ReplayGives t (list_text events ++ end) entries
-ended_lists_replay {A} blocks events entries end t apart can room are is ends = (
-  ap₂ (λ (a : List ℕ) (o : Account ListCause). a ++ o.text) is.first told_is,
-  ap (λ (o : Account ListCause). o.stop) told_is,
-)
+    CanBeWritten blocks events entries → IsReplayText blocks t → EndsList A (1 + length events) end → ReplayGives t (list_text events ++ end) entries
+ended_lists_replay {A} blocks events entries end t w is ends = record {
+  writes = ap₂ (λ (a : List ℕ) (o : Account ListCause). a ++ o.text) is.first told_is;
+  to_its_end = ap (λ (o : Account ListCause). o.stop) told_is;
+}
   where
     at : (i : ℕ) (x : List (Entry A)) → slice_get entries i ≡ Some x → AreEntriesAt blocks events (0 + i) x
-    at i x here = let none : i ≡ 0 + i = omega arith in subst (λ (j : ℕ). AreEntriesAt blocks events j x) none (are.each i x here)
+    at i x here = let none : i ≡ 0 + i = omega arith in subst (λ (j : ℕ). AreEntriesAt blocks events j x) none (w.are_entries.each i x here)
 
     told_is : told_after t [] (list_of_text {A = A} (list_text events ++ end)).items (list_of_text {A = A} (list_text events ++ end)).stop ≡ lines_told 2 entries
     told_is =
-        ap (λ (l : Listing (Event A) ListCause). told_after t [] l.items l.stop) (list_is events end can room ends) ∙
-        lines_are blocks t apart is [] 2 events entries are.sizes at
+        ap (λ (l : Listing (Event A) ListCause). told_after t [] l.items l.stop) (list_is events end w.can_be_listed w.at_most ends) ∙
+        lines_are blocks t w.are_apart is [] 2 events entries w.are_entries.sizes at
 
 pub written_lists_replay : {A : Type 0} → WrittenListsReplay A
-written_lists_replay {A} blocks events entries t apart can room are is =
-    subst (λ (text : List ℕ). ReplayGives t text entries) (append-nil (list_text events)) (ended_lists_replay blocks events entries [] t apart can room are is (nothing_ends A (1 + length events)))
+written_lists_replay {A} blocks events entries t w is =
+    subst (λ (text : List ℕ). ReplayGives t text entries) (append-nil (list_text events)) (ended_lists_replay blocks events entries [] t w is (nothing_ends A (1 + length events)))
 
 -- ---- the frames that are sent can stand in a list
 
@@ -135,7 +136,7 @@ behind_some : (d a b : List ℕ) → length d ≡ 6 → 0 < length ((d ++ a) ++ 
 behind_some [] a b e = absurd (omega arith)
 behind_some (x ∷ d) a b e = omega arith
 
-answer_size : {A : Type 0} (p : Setup A) (calls : List Call) (i : ℕ) (f : Frame A) → AreHeld p → AreAccepted p calls → IsAnswer p (trace_of_calls calls) i (Some f) → HasSize f
+answer_size : {A : Type 0} (p : Setup A) (calls : List Call) (i : ℕ) (f : Frame A) → HasSizes p → AreAccepted p calls → IsAnswer p (trace_of_calls calls) i (Some f) → HasSize f
 answer_size {A} p calls i f held accepted w =
     let at = carried w.3 in
     let fit = (change_accepted p calls at.0 w.0 w.2 accepted at.2).fit w.1 in
@@ -166,16 +167,18 @@ events_counted B (s ∷ sent) = ap suc (events_counted B sent)
 
 -- the list of a publisher's whole run, ended so
 pub ended_runs_replay : {A B : Type 0} (p : Setup A) (block : Block B) (calls : List Call) (answers : List (Option (Frame A))) (end : List ℕ) (t : Text (Event B) ListCause) →
-    IsWholeRun p block calls answers → MomentsAreShort calls → SendsOctets (sent_from 0 calls answers) → length (sent_from 0 calls answers) < 1000000 → IsReplayText (block ∷ []) t →
-    EndsList B (1 + length (sent_from 0 calls answers)) end → ReplayGives t (list_text (published_events {B = B} (sent_from 0 calls answers)) ++ end) (one_entry_each (sent_from 0 calls answers))
-ended_runs_replay {A} {B} p block calls answers end t run short octets room is ends =
-    ended_lists_replay (block ∷ []) (published_events (sent_from 0 calls answers)) (one_entry_each (sent_from 0 calls answers)) end t (one_apart block)
-    (sent_can B 0 calls answers (omega arith) short (λ i f at. answer_size p calls i f run.held run.accepted (run.are_answers.1 i (Some f) at)) octets)
-    (omega (arith, room, events_counted B (sent_from 0 calls answers))) (whole_runs_replay p block calls answers run (omega arith)) is
+    CanBeSent p block calls answers → IsReplayText (block ∷ []) t → EndsList B (1 + length (sent_from 0 calls answers)) end → ReplayGives t (list_text (published_events {B = B} (sent_from 0 calls answers)) ++ end) (one_entry_each (sent_from 0 calls answers))
+ended_runs_replay {A} {B} p block calls answers end t w is ends =
+    ended_lists_replay (block ∷ []) (published_events (sent_from 0 calls answers)) (one_entry_each (sent_from 0 calls answers)) end t (record {
+      are_apart = one_apart block;
+      can_be_listed = sent_can B 0 calls answers (omega arith) w.moments_are_short (λ i f at. answer_size p calls i f w.is_run.held w.is_run.accepted (w.is_run.are_answers.each i (Some f) at)) w.are_octets;
+      at_most = let few : length (sent_from 0 calls answers) < 1000000 = w.at_most in omega (arith, few, events_counted B (sent_from 0 calls answers));
+      are_entries = whole_runs_replay p block calls answers w.is_run (omega arith);
+    }) is
     (subst (λ (n : ℕ). EndsList B (1 + n) end) (sym (events_counted B (sent_from 0 calls answers))) ends)
 
 pub published_lists_replay : {A B : Type 0} → PublishedListsReplay A B
-published_lists_replay {A} {B} p block calls answers t run short octets room is =
+published_lists_replay {A} {B} p block calls answers t w is =
     let sent = sent_from 0 calls answers in
     subst (λ (text : List ℕ). ReplayGives t text (one_entry_each sent)) (append-nil (list_text (published_events {B = B} sent)))
-    (ended_runs_replay p block calls answers [] t run short octets room is (nothing_ends B (1 + length sent)))
+    (ended_runs_replay p block calls answers [] t w is (nothing_ends B (1 + length sent)))

@@ -12,7 +12,8 @@ use Rattle.frame_core.specs.Written.{written_frame}
 use Rattle.publish_core.specs.Run.{Call}
 use Rattle.subscribe_core.specs.declared.entry.Entry.{Entry}
 use Rattle.exchange_laws.specs.PublishedList.{Sent}
-use Rattle.engine_core.specs.EngineText.{Text, whole_text, told}
+use Rattle.engine_core.specs.EngineText.{Text}
+use Rattle.engine_core.specs.computed.WholeText.{whole_text, told}
 use Rattle.exchange_engines.specs.EntryText.{entry_lines}
 
 -- a list of version 2: the line `V2`, and the one line of each event
@@ -44,5 +45,6 @@ lines_from n [] = []
 lines_from n (es ∷ rest) = entry_lines n es ++ lines_from (n + 1) rest
 
 -- a replay of a list writes the lines of these entries, event by event, and nothing else, and reads the list to its end
-abbrev pub ReplayGives : {A : Type 0} → Text (Event A) ListCause → List ℕ → List (List (Entry A)) → Type 0
-ReplayGives t text entries = (whole_text t (list_of_text text) ≡ lines_from 2 entries) × ((told t (list_of_text text)).stop ≡ finished)
+pub record ReplayGives {A : Type 0} (t : Text (Event A) ListCause) (text : List ℕ) (entries : List (List (Entry A))) : Type 0 where
+  pub writes : whole_text t (list_of_text text) ≡ lines_from 2 entries
+  pub to_its_end : (told t (list_of_text text)).stop ≡ finished

@@ -5,7 +5,7 @@ use Rattle.list_core.specs.declared.event.Event.{Event}
 use Rattle.list_core.specs.declared.list_fault.ListCause.{ListCause}
 use Rattle.list_core.specs.Items.{Listing, listing}
 use Rattle.block_core.specs.declared.block.Block.{Block}
-use Rattle.subscribe_core.specs.Standing.{AreApart}
+use Rattle.subscribe_core.specs.Apart.{AreApart}
 use Rattle.script_core.specs.declared.script.ScriptCause.{ScriptCause}
 use Rattle.script_core.specs.declared.script.ScriptItem.{ScriptItem}
 use Rattle.script_core.specs.declared.script.ScriptLines.TheVariants.{First}

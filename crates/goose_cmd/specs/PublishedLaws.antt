@@ -4,30 +4,42 @@ use Rattle.list_core.specs.declared.device.InputEnd.{InputEnd}
 use Rattle.list_core.specs.declared.event.Event.{Event}
 use Rattle.frame_core.specs.declared.frame.Frame.{Frame}
 use Rattle.list_core.specs.declared.list_fault.ListCause.{ListCause}
+use Rattle.list_core.specs.Items.{Listing}
 use Rattle.publish_core.specs.Frames.{Setup}
 use Rattle.publish_core.specs.Run.{AreAnswers, Call}
 use Rattle.block_core.specs.declared.block.Block.{Block}
 use Rattle.exchange_laws.specs.PublishedList.{one_entry_each, published_events, sent_from}
 use Rattle.script_core.specs.declared.script.ScriptCause.{ScriptCause}
 use Rattle.script_core.specs.declared.script.ScriptItem.{ScriptItem}
-use Rattle.engine_core.specs.EngineText.{Text, last_text, told, whole_text}
+use Rattle.engine_core.specs.EngineText.{Text, last_text}
+use Rattle.engine_core.specs.computed.WholeText.{told, whole_text}
 use Rattle.goose_cmd.specs.ListText.{ReplayGives, list_text}
 use Rattle.exchange_engines.specs.PublishText.{IsPublishText, items_of_lines}
 use Rattle.exchange_engines.specs.ReplayText.{IsReplayText}
 use Rattle.goose_cmd.specs.PublishedReplay.{script_of_text, SaysRun, TellsStop, CanBeFollowed}
+
+-- The text of a script is written as the list of the frames that these calls give, and the line by which it stops; and it stops as it should before the calls that are left.
+pub record GivesList {A : Type 0} (B : Type 0) (p : Setup A) (calls left : List Call) (answers : List (Option (Frame A))) (script : Listing (ScriptItem A) ScriptCause) (t : Text (ScriptItem A) ScriptCause) : Type 0 where
+  pub writes : whole_text t script ≡ list_text (published_events {B = B} (sent_from 0 calls answers)) ++ last_text t (told t script).stop
+  pub stops : TellsStop p calls left script (told t script).stop
 
 -- Of the text of a script, which says a run, `publish` writes the list of the frames that its calls give, and how it stops.
 abbrev pub ScriptsGiveLists : Type 0 → Type 0 → Type 0
 ScriptsGiveLists A B =
     (p : Setup A) (calls : List Call) (answers : List (Option (Frame A))) (z : InputEnd) (text : List ℕ) (t : Text (ScriptItem A) ScriptCause) →
     AreAnswers p calls answers → (says : SaysRun p calls (script_of_text z text)) → IsPublishText t →
-    (whole_text t (script_of_text z text) ≡ list_text (published_events {B = B} (sent_from 0 calls answers)) ++ last_text t (told t (script_of_text z text)).stop)
-    × TellsStop p calls says.left (script_of_text z text) (told t (script_of_text z text)).stop
+    GivesList B p calls says.calls_left answers (script_of_text z text) t
+
+-- a script says the run of some publisher
+pub record SaysSomeRun {A : Type 0} (script : Listing (ScriptItem A) ScriptCause) : Type 0 where
+  pub publisher : Setup A
+  pub calls : List Call
+  pub run : SaysRun publisher calls script
 
 -- the text of a script says nothing of a publisher, or a run of one
 abbrev pub ScriptsSayRuns : Type 0 → Type 0
 ScriptsSayRuns A =
-    (z : InputEnd) (text : List ℕ) → (items_of_lines (script_of_text {A = A} z text).items ≡ []) ⊎ ((p : Setup A) × (calls : List Call) × SaysRun p calls (script_of_text z text))
+    (z : InputEnd) (text : List ℕ) → (items_of_lines (script_of_text {A = A} z text).items ≡ []) ⊎ SaysSomeRun (script_of_text {A = A} z text)
 
 -- What `publish` writes of the text of a script is replayed with the publisher's own block by one line for each frame: an
 -- action for a change's, a renewal for a poll's, and nothing else.

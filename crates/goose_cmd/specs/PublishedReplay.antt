@@ -29,17 +29,23 @@ StopsBehind p calls (c ∷ more) = (why : PublishFault) × IsRefused p calls c.r
 
 -- A script says these calls of a publisher up to its end, to a fault, or to the first change that is refused.
 pub record SaysRun {A : Type 0} (p : Setup A) (calls : List Call) (script : Listing (ScriptItem A) ScriptCause) : Type 0 where
-  pub left : List Call
-  pub items : items_of_lines script.items ≡ script_of p (calls ++ left)
+  pub calls_left : List Call
+  pub items : items_of_lines script.items ≡ script_of p (calls ++ calls_left)
   pub accepted : AreAccepted p calls
-  pub stops : StopsBehind p calls left
+  pub stops : StopsBehind p calls calls_left
+
+-- the text of a script stops at the line of this call, which is refused behind these
+pub record StopsAtCall {A : Type 0} (p : Setup A) (calls : List Call) (c : Call) (script : Listing (ScriptItem A) ScriptCause) (stop : Stop (ItemFault ScriptCause)) : Type 0 where
+  pub line : ℕ
+  pub why : PublishFault
+  pub there : slice_get script.items (length (script_of p calls)) ≡ Some (line, item_of_call c)
+  pub refused : IsRefused p calls c.request why
+  pub stops : stop ≡ faulty (fault.Line line (script_cause why))
 
 -- where the text of such a script stops: as the script does, or at the line of the change that is refused
 abbrev pub TellsStop : {A : Type 0} → Setup A → List Call → List Call → Listing (ScriptItem A) ScriptCause → Stop (ItemFault ScriptCause) → Type 0
 TellsStop p calls [] script stop = stop ≡ script.stop
-TellsStop p calls (c ∷ more) script stop =
-    (n : ℕ) × (why : PublishFault) × (slice_get script.items (length (script_of p calls)) ≡ Some (n, item_of_call c)) × IsRefused p calls c.request why
-    × (stop ≡ faulty (fault.Line n (script_cause why)))
+TellsStop p calls (c ∷ more) script stop = StopsAtCall p calls c script stop
 
 -- A run that the publisher's own block can follow: the status numbers don't wrap, and each frame comes in the lifetime of the one before.
 pub record CanBeFollowed {A B : Type 0} (p : Setup A) (block : Block B) (calls : List Call) (answers : List (Option (Frame A))) : Type 0 where

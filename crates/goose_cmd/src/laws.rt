@@ -2,13 +2,15 @@
 ghost use Rattle.std.specs.Prelude.{◌≡◌, ◌++◌, ℕ, List, Bool};
 ghost use Rattle.std.specs.List.{flat_map, list_any};
 ghost use Rattle.list_core.specs.Items.{Listing};
-ghost use Rattle.engine_core.specs.EngineText.{IsPlain, Text, last_text, whole_text, told};
+ghost use Rattle.engine_core.specs.EngineText.{IsPlain, Text, last_text};
+ghost use Rattle.engine_core.specs.computed.WholeText.{whole_text, told};
 ghost use Rattle.goose_cmd.specs.ListLaws.{PublishedListsReplay, WrittenListsReplay};
 ghost use Rattle.goose_cmd.specs.ListedBlocks.{ListedBlocksAreApart, ListedBlocksFit, ReplaysWriteEntries};
 ghost use Rattle.goose_cmd.specs.OneTextLaws.{BlocksTextsAreOne, PublishTextsAreOne, ReplayTextsAreOne, WatchTextsAreOne};
 ghost use Rattle.exchange_engines.specs.ScriptLaws.{ScriptsAreInOrder};
 ghost use Rattle.goose_cmd.specs.PublishedLaws.{PublishedTextsReplay, ScriptsGiveLists, ScriptsSayRuns};
 
+pub use engine_core::laws::runs_write_whole_texts;
 pub use exchange_laws::laws::{
     actions_carry_what_was_published, changes_are_acted_on_in_order,
     what_is_published_is_of_the_run, whole_runs_replay,

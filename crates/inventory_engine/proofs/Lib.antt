@@ -2,6 +2,6 @@ pub mod Fronts
 pub mod KeyLemmas
 pub mod KnownLemmas
 pub mod Newest
-pub mod Saying
+pub mod Appending
 pub mod FirstLines
 pub mod BlockBack

@@ -4,7 +4,7 @@ use Rattle.std.specs.Prelude.{if◌then◌else◌}
 use Rattle.std.proofs.lemmas.List.{append-nil, reverse-append, reverse-reverse}
 use Rattle.std.proofs.lemmas.Option.{slice_get_within, none-some, same_Some}
 use Rattle.inventory_engine.specs.Sightings.{Key, Sighting, key_of, sightings_in, sightings_of}
-use Rattle.inventory_engine.specs.BlocksText.{AreLines, IsBlocksText, IsNewest, line_after}
+use Rattle.inventory_engine.specs.BlocksText.{AreLines, IsBlocksText, IsLineAfter, IsNewest, line_after}
 use Rattle.inventory_engine.specs.computed.BlocksStep.{blocks_text, lines_by, newest, text_seen}
 use Rattle.inventory_engine.specs.computed.KnownTexts.{same_key, text_by}
 use Rattle.inventory_engine.proofs.KeyLemmas.{same_is, same_yes}
@@ -31,41 +31,37 @@ newest-push seen s key = ap (λ (l : List Sighting). text_by key_of text_seen l 
 
 newest_more : (seen : List Sighting) (s : Sighting) (key : Key) (o : Option (List ℕ)) (b : Bool) → b ≡ same_key (key_of s) key → IsNewest seen key o
     → IsNewest (seen ++ s ∷ []) key (if b then Some s.text else o)
-newest_more seen s key o true e h = (
-  length seen,
-  s,
-  get_end seen s,
-  same_is (key_of s) key (sym e),
-  refl,
-  λ j r lt f g. elim (get_cases seen s j r f) [
-    | inl old ↦ let in_front : j < length seen = slice_get_within seen j r old in omega arith
+newest_more seen s key o true e h = record {
+  position = length seen;
+  is = record { sighting = s; there = get_end seen s; has_key = same_is (key_of s) key (sym e) };
+  has_text = refl;
+  none_after = λ j lt r. elim (get_cases seen s j r.sighting r.there) [
+    | inl old ↦ let in_front : j < length seen = slice_get_within seen j r.sighting old in omega arith
     | inr last ↦ let at_end : j ≡ length seen = last.0 in omega arith
-  ],
-)
-newest_more seen s key None false e h = λ i r f g. elim (get_cases seen s i r f) [
-  | inl old ↦ h i r old g
-  | inr last ↦ other s key e (ap key_of (sym last.1) ∙ g)
+  ];
+}
+newest_more seen s key None false e h = λ i r. elim (get_cases seen s i r.sighting r.there) [
+  | inl old ↦ h i (record { sighting = r.sighting; there = old; has_key = r.has_key })
+  | inr last ↦ other s key e (ap key_of (sym last.1) ∙ r.has_key)
 ]
   where
     other : (s : Sighting) (key : Key) → false ≡ same_key (key_of s) key → key_of s ≡ key → ⊥
     other s key e g = let yes = same_yes (key_of s) key g in let both : false ≡ true = e ∙ yes in cc
-newest_more seen s key (Some text) false e h = (
-  h.0,
-  h.1,
-  get_front seen s h.0 h.1 h.2,
-  h.3,
-  h.4,
-  λ j r lt f g. elim (get_cases seen s j r f) [
-    | inl old ↦ h.5 j r lt old g
-    | inr last ↦ other s key e (ap key_of (sym last.1) ∙ g)
-  ],
-)
+newest_more seen s key (Some text) false e h = record {
+  position = h.position;
+  is = record { sighting = h.is.sighting; there = get_front seen s h.position h.is.sighting h.is.there; has_key = h.is.has_key };
+  has_text = h.has_text;
+  none_after = λ j lt r. elim (get_cases seen s j r.sighting r.there) [
+    | inl old ↦ h.none_after j lt (record { sighting = r.sighting; there = old; has_key = r.has_key })
+    | inr last ↦ other s key e (ap key_of (sym last.1) ∙ r.has_key)
+  ];
+}
   where
     other : (s : Sighting) (key : Key) → false ≡ same_key (key_of s) key → key_of s ≡ key → ⊥
     other s key e g = let yes = same_yes (key_of s) key g in let both : false ≡ true = e ∙ yes in cc
 
 newest_of : (xs : List Sighting) (key : Key) → IsNewest (reverse xs) key (text_by key_of text_seen xs key)
-newest_of [] key = λ i s e g. none-some s e
+newest_of [] key = λ i r. none-some r.sighting r.there
 newest_of (x ∷ xs) key =
     subst (λ (l : List Sighting). IsNewest l key (text_by key_of text_seen (x ∷ xs) key)) (sym (reverse-append (x ∷ []) xs))
     (newest_more (reverse xs) x key (text_by key_of text_seen xs key) (same_key (key_of x) key) refl (newest_of xs key))
@@ -82,22 +78,26 @@ lines_are n earlier seen = record { sizes = sizes earlier seen; each = each earl
     sizes earlier (s ∷ seen) = ap suc (sizes (earlier ++ s ∷ []) seen)
 
     each : (earlier seen : List Sighting) (i : ℕ) (s : Sighting) (line : List ℕ) → slice_get seen i ≡ Some s → slice_get (lines_by n earlier seen) i ≡ Some line →
-        (o : Option (List ℕ)) × IsNewest (earlier ++ take i seen) (key_of s) o × (line ≡ line_after n s o)
+        IsLineAfter n (earlier ++ take i seen) s line
     each earlier [] i s line e f = absurd (none-some s e)
     each earlier (x ∷ seen) zero s line e f =
         let same : x ≡ s = same_Some x s e in
-        let o = newest earlier (key_of x) in (
-          o,
-          subst (λ (y : Sighting). IsNewest (earlier ++ []) (key_of y) o) same (subst (λ (l : List Sighting). IsNewest l (key_of x) o) (sym (append-nil earlier)) (newest_is earlier (key_of x))),
-          sym (same_Some _ line f) ∙ ap (λ (y : Sighting). line_after n y o) same,
-        )
+        let o = newest earlier (key_of x) in record {
+          newest = o;
+          is_newest = subst (λ (y : Sighting). IsNewest (earlier ++ []) (key_of y) o) same (subst (λ (l : List Sighting). IsNewest l (key_of x) o) (sym (append-nil earlier)) (newest_is earlier (key_of x)));
+          is_line = sym (same_Some _ line f) ∙ ap (λ (y : Sighting). line_after n y o) same;
+        }
     each earlier (x ∷ seen) (suc i) s line e f =
         let rest = each (earlier ++ x ∷ []) seen i s line e f in
-        (rest.0, subst (λ (l : List Sighting). IsNewest l (key_of s) rest.0) (append_assoc earlier (x ∷ []) (take i seen)) rest.1, rest.2)
+        subst (λ (l : List Sighting). IsLineAfter n l s line) (append_assoc earlier (x ∷ []) (take i seen)) rest
 
 pub blocks_is : {A : Type 0} → IsBlocksText {A = A} blocks_text
 blocks_is = record {
   first = refl;
-  step = λ before e. (lines_by e.0 (sightings_in before) (sightings_of e.1.kind), lines_are e.0 (sightings_in before) (sightings_of e.1.kind), refl);
+  step = λ before e. record {
+    lines = lines_by e.0 (sightings_in before) (sightings_of e.1.kind);
+    are_lines = lines_are e.0 (sightings_in before) (sightings_of e.1.kind);
+    text = refl;
+  };
   last = λ f. refl;
 }

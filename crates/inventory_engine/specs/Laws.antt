@@ -4,8 +4,8 @@ use Rattle.block_core.specs.declared.block.Block.{Block}
 use Rattle.block_core.specs.BlockText.{block_in, go_id_of}
 use Rattle.pdu_core.specs.declared.goose.GoosePdu.{GoosePdu}
 use Rattle.pdu_core.specs.Spellable.{IsSpellableGoose}
-use Rattle.inventory_engine.specs.Sightings.{Key, Sighting, block_text, has_fields, key_of, text_or_none}
-use Rattle.inventory_engine.specs.BlocksText.{AreLines, IsNewest}
+use Rattle.inventory_engine.specs.Sightings.{Key, Sighting, block_text, has_fields, text_or_none}
+use Rattle.inventory_engine.specs.BlocksText.{AreLines, HasKeyAt, IsNewest}
 
 -- what is written of some sightings behind earlier ones is one
 abbrev pub LinesAreOne : Type 0
@@ -13,15 +13,19 @@ LinesAreOne = (n : ℕ) (earlier seen : List Sighting) (a b : List (List ℕ)) �
 
 -- at this position stands a sighting with the key, and none before it: there its first line is written
 pub record IsFirst (seen : List Sighting) (key : Key) (i : ℕ) : Type 0 where
-  pub sighting : Sighting
-  pub there : slice_get seen i ≡ Some sighting
-  pub has : key_of sighting ≡ key
-  pub none : IsNewest (take i seen) key None
+  pub is : HasKeyAt seen key i
+  pub none_before : IsNewest (take i seen) key None
+
+-- one position is the first of the key, and it is no later than this one
+pub record HasOneFirst (seen : List Sighting) (key : Key) (j : ℕ) : Type 0 where
+  pub position : ℕ
+  pub is_first : IsFirst seen key position
+  pub no_later : position ≤ j
+  pub only : (k : ℕ) → IsFirst seen key k → k ≡ position
 
 -- of each control block and stream that occurs there is exactly one first line
 abbrev pub OneFirstLine : Type 0
-OneFirstLine = (seen : List Sighting) (j : ℕ) (s : Sighting) → slice_get seen j ≡ Some s →
-    (i : ℕ) × IsFirst seen (key_of s) i × (i ≤ j) × ((k : ℕ) → IsFirst seen (key_of s) k → k ≡ i)
+OneFirstLine = (seen : List Sighting) (key : Key) (j : ℕ) → HasKeyAt seen key j → HasOneFirst seen key j
 
 -- the control block that the frame shows, as replay awaits it: an empty goID is not compared
 abbrev pub block_told : {A : Type 0} → ℕ → GoosePdu (Unit {0}) → Block A

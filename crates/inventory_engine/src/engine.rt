@@ -2,12 +2,11 @@
 
 ghost use Rattle.std.specs.Prelude.{◌≡◌, ℕ, List, false};
 ghost use Rattle.list_core.specs.declared.device.InputEnd.{InputEnd};
-ghost use Rattle.list_core.specs.declared.event.Event.{Event as SpecEvent};
 ghost use Rattle.list_core.specs.declared.event_lines.EventLines.TheVariants.{First};
-ghost use Rattle.list_core.specs.declared.list_fault.ListCause.{ListCause as SpecCause};
 ghost use Rattle.list_core.specs.Device.{GivesOctets};
 ghost use Rattle.list_core.specs.EventLine.{event_rules};
-ghost use Rattle.engine_core.specs.EngineText.{Text, Writes, is_write_fault};
+ghost use Rattle.engine_core.specs.Ending.{is_write_fault};
+ghost use Rattle.engine_core.specs.Run.{WritesSome};
 ghost use Rattle.inventory_engine.specs.Sightings.{sightings_in};
 ghost use Rattle.inventory_engine.specs.BlocksText.{IsBlocksText};
 ghost use Rattle.inventory_engine.specs.computed.BlocksStep.{Keeps, blocks_text};
@@ -75,7 +74,7 @@ pub fn blocks<A: Allocator + Copy, R: Source, W: Sink>(
     requires open { R.ending reader ≡ InputEnd.Open }
     requires works { W.failed writer.old ≡ false }
     ensures text { (given : List ℕ) × GivesOctets (R.left reader) (R.left result.1) given
-        × ((t : Text (SpecEvent A) SpecCause) × IsBlocksText t × Writes event_rules First t result.0 (R.ending result.1) given (W.contents writer.old) (W.contents writer.new)) }
+        × WritesSome (IsBlocksText {A = A}) event_rules First result.0 (R.ending result.1) given (W.contents writer.old) (W.contents writer.new) }
     ensures read_fault { result.0 ≡ Ending.ReadFault → R.ending result.1 ≡ InputEnd.Failed }
     ensures fault { W.failed writer.new ≡ is_write_fault result.0 }
 {

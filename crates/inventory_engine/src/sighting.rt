@@ -9,7 +9,7 @@ ghost use Rattle.text_core.specs.Pieces.{AppendsText};
 ghost use Rattle.inventory_engine.specs.computed.PieceText.{piece_text};
 ghost use Rattle.inventory_engine.specs.Sightings.{block_parts, block_seen, has_fields as fields_have, is_field as field_is, is_field_octet as octet_is, named_parts, sightings_of, stream_parts, stream_seen, streams_seen, text_or_none};
 ghost use Rattle.inventory_engine.specs.BlocksText.{changed_word, first_word, sighting_line};
-ghost use Rattle.inventory_engine.specs.computed.BlocksStep.{Said, Wanted};
+ghost use Rattle.inventory_engine.specs.computed.BlocksStep.{AppendsLines, HasLines};
 
 use crate::known::{Known, find};
 use crate::pieces::{Piece, is_text, put_pieces, text_of};
@@ -64,8 +64,8 @@ fn put_sighting<A: Allocator + Copy>(
     name: &[u8],
     pieces: &[Piece<'_>],
 ) -> Result<(), AllocError>
-    ensures said { OnOk result (Said number (record { app_id = app_id; name = name.now; text = flat_map piece_text pieces.now } ∷ []) known.old.items known.new.items line.old.items line.new.items) }
-    ensures wants { OnErr result (Wanted number (record { app_id = app_id; name = name.now; text = flat_map piece_text pieces.now } ∷ []) known.old.items) }
+    ensures written { OnOk result (AppendsLines number (record { app_id = app_id; name = name.now; text = flat_map piece_text pieces.now } ∷ []) known.old.items known.new.items line.old.items line.new.items) }
+    ensures wants { OnErr result (HasLines number (record { app_id = app_id; name = name.now; text = flat_map piece_text pieces.now } ∷ []) known.old.items) }
     ensures front { take (length line.old.items) line.new.items ≡ line.old.items }
 {
     match find(known.as_slice(), app_id, name) {
@@ -178,8 +178,8 @@ fn put_block<A: Allocator + Copy>(
     app_id: u16,
     goose: &GooseView<'_>,
 ) -> Result<(), AllocError>
-    ensures said { OnOk result (Said number (block_seen app_id (pdu_of {A = Unit {0}} goose.now) ∷ []) known.old.items known.new.items line.old.items line.new.items) }
-    ensures wants { OnErr result (Wanted number (block_seen app_id (pdu_of {A = Unit {0}} goose.now) ∷ []) known.old.items) }
+    ensures written { OnOk result (AppendsLines number (block_seen app_id (pdu_of {A = Unit {0}} goose.now) ∷ []) known.old.items known.new.items line.old.items line.new.items) }
+    ensures wants { OnErr result (HasLines number (block_seen app_id (pdu_of {A = Unit {0}} goose.now) ∷ []) known.old.items) }
     ensures front { take (length line.old.items) line.new.items ≡ line.old.items }
 {
     let name = goose.gocb_ref;
@@ -200,8 +200,8 @@ fn put_stream<A: Allocator + Copy>(
     number: u64,
     asdu: &AsduView<'_>,
 ) -> Result<(), AllocError>
-    ensures said { OnOk result (Said number (stream_seen (asdu_of {A = Unit {0}} asdu.now) ∷ []) known.old.items known.new.items line.old.items line.new.items) }
-    ensures wants { OnErr result (Wanted number (stream_seen (asdu_of {A = Unit {0}} asdu.now) ∷ []) known.old.items) }
+    ensures written { OnOk result (AppendsLines number (stream_seen (asdu_of {A = Unit {0}} asdu.now) ∷ []) known.old.items known.new.items line.old.items line.new.items) }
+    ensures wants { OnErr result (HasLines number (stream_seen (asdu_of {A = Unit {0}} asdu.now) ∷ []) known.old.items) }
     ensures front { take (length line.old.items) line.new.items ≡ line.old.items }
 {
     let pieces = stream_pieces(asdu);
@@ -216,8 +216,8 @@ fn put_streams<A: Allocator + Copy>(
     number: u64,
     sampled: &SvView<'_>,
 ) -> Result<(), AllocError>
-    ensures said { OnOk result (Said number (streams_seen (asdus_left {A = Unit {0}} sampled.now.asdus)) known.old.items known.new.items line.old.items line.new.items) }
-    ensures wants { OnErr result (Wanted number (streams_seen (asdus_left {A = Unit {0}} sampled.now.asdus)) known.old.items) }
+    ensures written { OnOk result (AppendsLines number (streams_seen (asdus_left {A = Unit {0}} sampled.now.asdus)) known.old.items known.new.items line.old.items line.new.items) }
+    ensures wants { OnErr result (HasLines number (streams_seen (asdus_left {A = Unit {0}} sampled.now.asdus)) known.old.items) }
     ensures front { take (length line.old.items) line.new.items ≡ line.old.items }
 {
     for asdu in sampled.asdus {
@@ -234,8 +234,8 @@ pub fn put_event<A: Allocator + Copy>(
     number: u64,
     kind: &EventKind<A>,
 ) -> Result<(), AllocError>
-    ensures said { OnOk result (Said number (sightings_of kind.now) known.old.items known.new.items line.old.items line.new.items) }
-    ensures wants { OnErr result (Wanted number (sightings_of kind.now) known.old.items) }
+    ensures written { OnOk result (AppendsLines number (sightings_of kind.now) known.old.items known.new.items line.old.items line.new.items) }
+    ensures wants { OnErr result (HasLines number (sightings_of kind.now) known.old.items) }
     ensures front { take (length line.old.items) line.new.items ≡ line.old.items }
 {
     let EventKind::Frame(octets) = kind else {

@@ -1,5 +1,5 @@
 -- What the fields of a line say, shape by shape.
-use Rattle.std.proofs.Common.{Bool, Option, Some, None, Result, Err, true, false, ◌&&◌, ◌≡◌, ◌+◌, ◌<◌, ℕ, List, [], ◌∷◌, length, take, drop, ap, sym, subst, ◌∙◌, refl, arith, Bor, is_some}
+use Rattle.std.proofs.Common.{Option, Some, None, Result, Err, true, ◌&&◌, ◌≡◌, ◌+◌, ◌<◌, ℕ, List, [], ◌∷◌, length, take, drop, ap, sym, subst, ◌∙◌, refl, arith, Bor, is_some}
 use Rattle.list_core.specs.declared.event.Event.{Event}
 use Rattle.list_core.specs.declared.line_rules.LineError.{LineError}
 use Rattle.list_core.specs.declared.list_fault.ListCause.{ListCause}
@@ -10,6 +10,7 @@ use Rattle.list_core.specs.EventLine.{fields, event_of_fields, fields_keep, fram
 use Rattle.list_core.specs.computed.LineAnswer.{Answers, fields_after}
 use Rattle.list_core.proofs.Cuts.{cut_some, cut-first, cut-rest}
 use Rattle.list_core.proofs.LineShapes.{hex_digits_word, octets_to, some_is}
+use Rattle.list_core.proofs.Pairs.{and_true}
 use Rattle.list_core.proofs.WrittenLines.{frame_fields, word-HasNo}
 
 -- a clock with more fields than a moment
@@ -65,10 +66,6 @@ keeps_frame : (v : MomentUnit) (m h : List ℕ) → 0 < length m → 0 < length 
 keeps_frame v [] h a b = absurd (omega arith)
 keeps_frame v (m ∷ ms) [] a b = absurd (omega arith)
 keeps_frame v (m ∷ ms) (h ∷ hs) a b = refl
-
-and_true : (b : Bool) → (b && true) ≡ b
-and_true true = refl
-and_true false = refl
 
 -- digits that write octets are one field
 pub frame_answer : {A : Type 0} (r : Result (Option (Event A)) (LineError ListCause)) (v : MomentUnit) (xs m h : List ℕ) → fields xs ≡ m ∷ fields h → 0 < length m → is_some (frame_octets_by h) ≡ true

@@ -1,6 +1,6 @@
 -- The shapes of a line that says an event.
 use Rattle.std.proofs.Common.{Option, Some, None, is_some, Ok, Err, Result, Bool, true, false, cond, eqb, ltb, leb, ◌&&◌, ◌⊎◌, inl, inr, ◌≡◌, ℕ, ◌*◌, ◌%◌, ◌<◌, ◌≤◌, List, [], ◌∷◌, ◌++◌, length, ap, sym, ◌∙◌, refl, arith}
-use Rattle.std.specs.Prelude.{codes}
+use Rattle.std.specs.Prelude.{codes, IfOk, MatchOption}
 use Rattle.std.specs.List.{list_all, join_with_byte}
 use Rattle.std.specs.Char.{is_ascii_digit}
 use Rattle.std.specs.Str.Parse.{AllDigits, digits_value}
@@ -21,6 +21,7 @@ use Rattle.list_core.specs.declared.event_lines.MomentUnit.{MomentUnit}
 use Rattle.list_core.specs.declared.list_fault.ListCause.{ListCause}
 use Rattle.list_core.specs.declared.list_fault.ListCause.TheVariants.{LineForm}
 use Rattle.list_core.specs.EventLine.{fields, is_moment, most_digits, microseconds_in, moment_of, decoded, frame_octets_by, mode_of, mode_text, clock_event, frame_event, mode_event, event_of_fields, event_of, WritesMoment, WritesOctets}
+use Rattle.list_core.specs.computed.LineAnswer.{IsRead}
 use Rattle.list_core.proofs.Cuts.{cut-part, cut-rest}
 use Rattle.list_core.proofs.MomentDigits.{digits_test}
 use Rattle.list_core.proofs.WrittenLines.{IsWord, word-HasNo, hex_above, clock_fields, frame_fields, mode_fields, mode_facts}
@@ -294,8 +295,31 @@ pub some_is : {X : Type 0} (o : Option X) → is_some o ≡ true → (x : X) × 
 some_is None e = cc
 some_is (Some x) e = (x, refl)
 
--- what writes octets is all digits
-pub octets_digits : (digits : List ℕ) → is_some (frame_octets_by digits) ≡ true → list_all is_hex_digit digits ≡ true
-octets_digits digits h =
-    let octets = some_is (frame_octets_by digits) h in
-    list_all-from_AllPass is_hex_digit digits (decode_of-ok digits octets.0 (octets_to digits octets.0 octets.1).2).1
+none_is : {X : Type 0} (o : Option X) → is_some o ≡ false → o ≡ None
+none_is None e = refl
+none_is (Some x) e = cc
+
+-- octets, all of digits so many
+octets_read : {E : Type 0} (digits : List ℕ) (read : Result (List ℕ) E) → 0 < length digits → length digits ≤ 4000 → length digits % 2 ≡ 0
+    → (list_all is_hex_digit digits ≡ true) × IfOk read (λ octets. decode_of digits ≡ Ok octets) → IsRead read (frame_octets_by digits)
+octets_read digits (Ok octets) some short even r =
+    let first : ltb 0 (length digits) ≡ true = grind (arith, nat_tests) in
+    let second : leb (length digits) 4000 ≡ true = grind (arith, nat_tests) in
+    rw (first, second) (ap decoded r.1)
+octets_read digits (Err e) some short even r = octets_test digits some short even ∙ r.0
+
+-- none where one is no digit
+octets_unread : (digits : List ℕ) → 0 < length digits → length digits ≤ 4000 → length digits % 2 ≡ 0 → list_all is_hex_digit digits ≡ false → frame_octets_by digits ≡ None
+octets_unread digits some short even bad = none_is (frame_octets_by digits) (octets_test digits some short even ∙ bad)
+
+-- so the octets of a frame are read
+pub octets_answer : {E : Type 0} (digits : List ℕ) (o : Option (Result (List ℕ) E)) → 0 < length digits → length digits ≤ 4000 → length digits % 2 ≡ 0
+    → MatchOption o (list_all is_hex_digit digits ≡ false) (λ read. (list_all is_hex_digit digits ≡ true) × IfOk read (λ octets. decode_of digits ≡ Ok octets))
+    → MatchOption o (frame_octets_by digits ≡ None) (λ read. IsRead read (frame_octets_by digits))
+octets_answer digits None some short even r = octets_unread digits some short even r
+octets_answer digits (Some read) some short even r = octets_read digits read some short even r
+
+-- what was read is written
+pub read_there : {E : Type 0} (read : Result (List ℕ) E) (o : Option (List ℕ)) → IsRead read o → is_some o ≡ true
+read_there (Ok octets) o r = ap is_some r
+read_there (Err e) o r = r

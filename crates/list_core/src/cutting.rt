@@ -8,12 +8,16 @@ const PIECE: usize = 64;
 /// The same where fewer are left.
 const SHORT_PIECE: usize = 16;
 
+/// The same where fewer still are left.
+const FEW: usize = 4;
+
 /// The place of the first such octet.
 pub(crate) fn find(octets: &[u8], wanted: u8) -> Option<usize>
     ensures { IsFirst wanted octets.now result }
 {
     let start = pass_pieces(octets, 0, PIECE, wanted);
     let start = pass_pieces(octets, start, SHORT_PIECE, wanted);
+    let start = pass_pieces(octets, start, FEW, wanted);
     match find_each(&octets[start..], wanted) {
         Some(at) => Some(start + at),
         None => None,
@@ -57,7 +61,9 @@ fn find_each(octets: &[u8], wanted: u8) -> Option<usize>
     octets.iter().position(|octet| *octet == wanted)
 }
 
-/// Where the first piece of this size with the wanted octet begins, of those behind octets without it.
+/// Where the first piece of this size with the wanted octet begins, of those behind octets without it. Inlined, so that the
+/// compiler knows the size.
+#[inline(always)]
 fn pass_pieces(octets: &[u8], from: usize, piece: usize, wanted: u8) -> usize
     requires some { 0 < piece }
     requires from { from ≤ length octets.now }
@@ -73,6 +79,7 @@ fn pass_pieces(octets: &[u8], from: usize, piece: usize, wanted: u8) -> usize
 }
 
 /// Whether none of the octets is the wanted one. It looks at each, which the compiler does for several at once.
+#[inline(always)]
 fn lacks(octets: &[u8], wanted: u8) -> bool
     ensures { result ≡ true → HasNo wanted octets.now }
 {

@@ -59,6 +59,7 @@ impl<R: Source, G> ItemReader<R, G> {
     }
 
     /// Tries the next line.
+    #[inline(always)]
     fn try_line<A: Allocator + Copy>(&mut self, alloc: A) -> Tried<G::Item, G::Cause>
     where
         G: LineRules<A>,
@@ -98,6 +99,7 @@ impl<R: Source, G> ItemReader<R, G> {
     /// The next item, or None at the list's end. Lines without items are passed over. After a
     /// fault every later call answers the same fault, and after None it answers None. After want
     /// of memory the next call tries the same line again.
+    #[inline(always)]
     pub fn next<A: Allocator + Copy>(
         &mut self,
         alloc: A,

@@ -107,6 +107,7 @@ impl<R: Source> LineReader<R> {
     }
 
     /// The place of the first LF in what is held, of which the front has none.
+    #[inline(always)]
     fn look(&self, scanned: usize) -> Option<usize>
         requires within { scanned ≤ length (held self.now) }
         requires before { HasNo 10 (take scanned (held self.now)) }
@@ -120,6 +121,7 @@ impl<R: Source> LineReader<R> {
     }
 
     /// Reads until a line is whole or too long, or the source has ended, and says where its LF is.
+    #[inline(always)]
     fn grow(&mut self) -> Option<usize>
         ensures given { (given : List ℕ) × (held self.new ≡ held self.old ++ given) × OnlyOpen (R.ending self.old.reader) given (R.ending self.new.reader)
             × MatchOption result (TakesTo (R.ending self.new.reader) (R.left self.old.reader) (R.left self.new.reader) given)
@@ -169,6 +171,7 @@ impl<R: Source> LineReader<R> {
     }
 
     /// Holds what stands first: a line of so many octets, the end, or a fault. Takes nothing off.
+    #[inline(always)]
     pub(crate) fn fill(&mut self) -> Result<Option<usize>, ListFault>
         ensures given { (given : List ℕ) × (held self.new ≡ held self.old ++ given) × OnlyOpen (R.ending self.old.reader) given (R.ending self.new.reader)
             × MatchResult result (λ _. Consumes (R.left self.old.reader) (R.left self.new.reader) given)

@@ -1,16 +1,17 @@
 //! One line of a list: the event that it says.
-ghost use Rattle.std.specs.Prelude.{◌≡◌, true, None, Err, ◌<◌, is_some, length, ◌∷◌, []};
+ghost use Rattle.std.specs.Prelude.{◌≡◌, ℕ, List, Option, None, Err, ◌<◌, length, ◌∷◌, [], MatchOption};
 ghost use Rattle.list_core.specs.EventLine.{event_of, event_of_fields, fields, fields_keep, frame_event, is_moment, mode_of, moment_of, frame_octets_by};
-ghost use Rattle.list_core.specs.computed.LineAnswer.{Answers, fields_after};
+ghost use Rattle.list_core.specs.computed.LineAnswer.{Answers, IsRead, fields_after};
 
 use crate::cutting::{cut_short, find};
 use crate::decimal::decimal_in;
 use crate::event::{Event, EventKind};
 use crate::event_lines::MomentUnit;
-use crate::hexadecimal::{are_hexadecimal, octets_by};
+use crate::hexadecimal::octets_by;
 use crate::line_rules::LineError;
 use crate::list_fault::ListCause;
-use std::alloc::Allocator;
+use ber_core::Octets;
+use std::alloc::{AllocError, Allocator};
 
 /// The most digits of a moment in milliseconds.
 const MOST_MILLISECOND_DIGITS: usize = 15;
@@ -25,6 +26,7 @@ const MICROSECONDS: u64 = 1000;
 const MOST_HEX_DIGITS: usize = 4000;
 
 /// The event that a line says, if it is neither empty nor a comment.
+#[inline(always)]
 pub(crate) fn event_in<A: Allocator + Copy>(
     alloc: A,
     unit: MomentUnit,
@@ -39,6 +41,7 @@ pub(crate) fn event_in<A: Allocator + Copy>(
 }
 
 /// The event that the fields of a line say.
+#[inline(always)]
 fn event_in_fields<A: Allocator + Copy>(
     alloc: A,
     unit: MomentUnit,
@@ -82,6 +85,7 @@ fn clock_in<A: Allocator>(
 }
 
 /// The frame event whose moment and octets are the two fields here.
+#[inline(always)]
 fn frame_in<A: Allocator + Copy>(
     alloc: A,
     unit: MomentUnit,
@@ -97,37 +101,36 @@ fn frame_in<A: Allocator + Copy>(
         return Err(LineError::Cause(ListCause::LineForm));
     }
     // Digits that write octets are one field, since none of them is a space.
-    if write_octets(digits) {
-        frame_event(alloc, unit, moment, digits)
-    } else {
-        Err(LineError::Cause(why_no_frame::<A>(unit, moment, digits)))
+    match frame_octets_in(alloc, digits) {
+        Some(octets) => frame_event(unit, moment, octets),
+        None => Err(LineError::Cause(why_no_frame::<A>(unit, moment, digits))),
     }
 }
 
-/// Whether digits write the octets of a frame.
-fn write_octets(digits: &[u8]) -> bool
-    ensures { result ≡ is_some (frame_octets_by digits.now) }
+/// The octets of a frame that digits write, or that memory is wanted for them; none where they write none.
+#[inline(always)]
+fn frame_octets_in<A: Allocator>(alloc: A, digits: &[u8]) -> Option<Result<Octets<A>, AllocError>>
+    ensures { MatchOption result (frame_octets_by digits.now ≡ None) (λ read. IsRead read (frame_octets_by digits.now)) }
 {
     if digits.is_empty() || digits.len() > MOST_HEX_DIGITS || digits.len() % 2 != 0 {
-        return false;
+        return None;
     }
-    are_hexadecimal(digits)
+    octets_by(alloc, digits)
 }
 
-/// The frame event of these two fields.
-fn frame_event<A: Allocator + Copy>(
-    alloc: A,
+/// The frame event of a moment and of octets that were read.
+#[inline(always)]
+fn frame_event<A: Allocator>(
     unit: MomentUnit,
     moment: &[u8],
-    digits: &[u8],
+    octets: Result<Octets<A>, AllocError>,
 ) -> Result<Option<Event<A>>, LineError<ListCause>>
-    requires { is_some (frame_octets_by digits.now) ≡ true }
-    ensures { Answers result (frame_event (moment_of unit moment.now) (frame_octets_by digits.now)) (is_moment unit moment.now) }
+    ensures { (written : Option (List ℕ)) → IsRead octets written → Answers result (frame_event (moment_of unit moment.now) written) (is_moment unit moment.now) }
 {
     let Some(moment) = moment_in(unit, moment) else {
         return Err(LineError::Cause(ListCause::Moment));
     };
-    match octets_by(alloc, digits) {
+    match octets {
         Ok(octets) => Ok(Some(Event {
             moment,
             kind: EventKind::Frame(octets),

@@ -41,8 +41,8 @@ pub record Counts (depth at : ℕ) (octets : List ℕ) (end place count : ℕ) (
   pub stand : written ≡ true → slice_range octets at place ≡ written_all done
 
 module _ (depth at : ℕ) (octets : List ℕ) (end : ℕ) (inside : end ≤ length octets) where
-  pub counts_none : at ≤ end → Counts depth at octets end at 0 true
-  counts_none order =
+  pub counts_none : (written : Bool) → at ≤ end → Counts depth at octets end at 0 written
+  counts_none written order =
       let none : at - at ≡ 0 = omega arith in
       record { done = []; counted = refl; few = omega arith; goes = goes_none depth at octets end inside order; stand = λ _. rw none refl }
 

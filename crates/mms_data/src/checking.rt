@@ -45,15 +45,37 @@ fn count_alone(octets: &[u8], at: usize, end: usize, depth: u8) -> Result<usize,
     requires inside { end ≤ length octets.now }
     ensures { result ≡ less length (members_at depth at (slice_range octets.now at end)) }
 {
-    match count_members(octets, at, end, depth) {
+    match count_members::<false>(octets, at, end, depth) {
         Ok((count, _)) => Ok(count),
         Err(fault) => Err(fault),
     }
 }
 
-// The count of the members, and whether they are known to stand in their written form.
+// The count of the members, and whether they are known to stand in their written form, which is judged where `notes` is
+// true. Inlined, so that a caller who never asks for it takes the pass that does not judge it.
+#[inline(always)]
+pub(crate) fn count_noting(
+    octets: &[u8],
+    at: usize,
+    end: usize,
+    depth: u8,
+    notes: bool,
+) -> Result<(usize, bool), Fault>
+    requires order { at ≤ end }
+    requires inside { end ≤ length octets.now }
+    ensures exact { less (λ x. x.0) result ≡ less length (members_at depth at (slice_range octets.now at end)) }
+    ensures written { IfOk result (λ x. x.1 ≡ true → (ds : List Data) → members_at depth at (slice_range octets.now at end) ≡ Ok ds → slice_range octets.now at end ≡ written_all ds) }
+{
+    if notes {
+        count_members::<true>(octets, at, end, depth)
+    } else {
+        count_members::<false>(octets, at, end, depth)
+    }
+}
+
+// The same, judged where `NOTES` is true.
 #[cycle(checking)]
-pub(crate) fn count_members(
+fn count_members<const NOTES: bool>(
     octets: &[u8],
     at: usize,
     end: usize,
@@ -65,10 +87,10 @@ pub(crate) fn count_members(
     ensures written { IfOk result (λ x. x.1 ≡ true → (ds : List Data) → members_at depth at (slice_range octets.now at end) ≡ Ok ds → slice_range octets.now at end ≡ written_all ds) }
 {
     let mut count = 0;
-    let mut written = true;
+    let mut written = NOTES;
     let mut place = at;
     'members: while place < end {
-        let (next, stands) = pass_member(octets, place, end, depth)?;
+        let (next, stands) = pass_member::<NOTES>(octets, place, end, depth)?;
         place = next;
         written &= stands;
         count += 1;
@@ -77,9 +99,15 @@ pub(crate) fn count_members(
 }
 
 // The place after the member at `at`, and whether that is known to stand in its written form.
+#[inline(always)]
 #[cycle(checking)]
 #[tactic(auto, unfolding(crate::specs::computed::Reading::member_with, crate::specs::computed::Reading::member_at))]
-fn pass_member(octets: &[u8], at: usize, end: usize, depth: u8) -> Result<(usize, bool), Fault>
+fn pass_member<const NOTES: bool>(
+    octets: &[u8],
+    at: usize,
+    end: usize,
+    depth: u8,
+) -> Result<(usize, bool), Fault>
     requires order { at < end }
     requires inside { end ≤ length octets.now }
     ensures exact { less (λ x. x.0) result ≡ less (λ x. x.1) (member_at depth at (slice_range octets.now at end)) }
@@ -94,8 +122,11 @@ fn pass_member(octets: &[u8], at: usize, end: usize, depth: u8) -> Result<(usize
     match header(octets, at, end) {
         Ok(header) => {
             let kind = member_kind(&octets[at..end], at)?;
-            let written = check_contents(octets, &header, kind, depth - 1)?;
-            Ok((header.contents_to, has_short_length(&header) & written))
+            let written = check_contents::<NOTES>(octets, &header, kind, depth - 1)?;
+            Ok((
+                header.contents_to,
+                NOTES & has_short_length(&header) & written,
+            ))
         }
         Err(fault) => {
             let _kind = member_kind(&octets[at..end], at)?;
@@ -105,8 +136,14 @@ fn pass_member(octets: &[u8], at: usize, end: usize, depth: u8) -> Result<(usize
 }
 
 // The contents behind the header have to be those of a value of the kind: whether they are known to be its written ones.
+#[inline(always)]
 #[cycle(checking)]
-fn check_contents(octets: &[u8], header: &Header, kind: Kind, depth: u8) -> Result<bool, Fault>
+fn check_contents<const NOTES: bool>(
+    octets: &[u8],
+    header: &Header,
+    kind: Kind,
+    depth: u8,
+) -> Result<bool, Fault>
     requires begins { header.now.at < header.now.contents_from }
     requires order { header.now.contents_from ≤ header.now.contents_to }
     requires inside { header.now.contents_to ≤ length octets.now }
@@ -117,13 +154,13 @@ fn check_contents(octets: &[u8], header: &Header, kind: Kind, depth: u8) -> Resu
     let (from, to) = (header.contents_from, header.contents_to);
     match kind {
         Kind::Array | Kind::Structure => {
-            let (_count, written) = count_members(octets, from, to, depth)?;
+            let (_count, written) = count_members::<NOTES>(octets, from, to, depth)?;
             Ok(written)
         }
         Kind::Simple(kind) => {
             let contents = &octets[from..to];
             let _view = simple(kind, contents, header.at, from)?;
-            Ok(is_simple_written(kind, contents))
+            Ok(NOTES & is_simple_written(kind, contents))
         }
     }
 }

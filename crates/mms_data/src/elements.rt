@@ -15,6 +15,7 @@ use ber_core::{Full, put_header};
 ///
 /// `Full` exactly where the contents have more than 4294967295 octets, or the element does not fit; `out` is then
 /// unchanged.
+#[inline(always)]
 #[tactic(auto, unfolding(ber_core::specs::Written::written_element))]
 pub fn put_element<const N: usize>(
     out: &mut ArrayVec<u8, N>,

@@ -30,6 +30,7 @@ pub enum Kind {
 }
 
 // The kind that the identifier announces.
+#[inline(always)]
 #[tactic(auto, unfolding(crate::specs::computed::KindReading::kind_at))]
 fn announced(identifier: u8) -> Option<Kind>
     ensures { result ≡ kind_at identifier }
@@ -52,6 +53,7 @@ fn announced(identifier: u8) -> Option<Kind>
 }
 
 // The kind of the member at the front of `octets`, which stand at the place `at`.
+#[inline(always)]
 pub(crate) fn member_kind(octets: &[u8], at: usize) -> Result<Kind, Fault>
     ensures { result ≡ known_at at octets.now }
 {

@@ -12,7 +12,7 @@ ghost use Rattle.mms_data.specs.Spelling.{FaultIn, SpellSome, SpellsAll};
 ghost use Rattle.mms_data.specs.Value.{datas};
 ghost use Rattle.mms_data.specs.Written.{written_all};
 
-use crate::checking::{check_members, count_members};
+use crate::checking::{check_members, count_noting};
 use crate::fault::ReadFault;
 use crate::value::Value;
 use crate::view::{self, CountedMembers};
@@ -36,17 +36,19 @@ pub fn members<'a>(octets: &'a [u8], at: usize, end: usize, level: u8) -> view::
 }
 
 /// The members that the octets from `at` to `end` spell, the first at the level, seen where they stand and counted (ISO
-/// 9506-2): `check_members` and `members` in one pass, which also tells members that stand in their written form. No memory
-/// is taken.
+/// 9506-2): `check_members` and `members` in one pass, which where `notes` is true also tells members that stand in their
+/// written form. No memory is taken.
 ///
 /// # Errors
 ///
 /// The first fault, at its place.
+#[inline(always)]
 pub fn counted_members<'a>(
     octets: &'a [u8],
     at: usize,
     end: usize,
     level: u8,
+    notes: bool,
 ) -> Result<CountedMembers<'a>, Fault>
     requires order { at ≤ end }
     requires inside { end ≤ length octets.now }
@@ -64,7 +66,7 @@ pub fn counted_members<'a>(
     // For callers: the function on octets that it computes.
     ensures exact { Gives (λ m. left m.members) result (members_at (17 - level) at (slice_range octets.now at end)) }
 {
-    let (count, written) = count_members(octets, at, end, 17 - level)?;
+    let (count, written) = count_noting(octets, at, end, 17 - level, notes)?;
     Ok(CountedMembers {
         count,
         written,

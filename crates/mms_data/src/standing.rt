@@ -40,6 +40,7 @@ pub fn is_short(contents: &[u8]) -> bool
 }
 
 // The octet that says no more of a number than the octet behind it does.
+#[inline(always)]
 fn sign(octet: u8) -> u8
     ensures { result ≡ (if nat_lt octet 128 then 0 else 255) }
 {

@@ -17,6 +17,7 @@ use byteorder::{BigEndian, ByteOrder};
 /// # Errors
 ///
 /// `FixedLength` at the identifier's place plus 1, where the contents are not eight octets.
+#[inline(always)]
 pub fn utc_time(octets: &[u8], header: &Header) -> Result<UtcTime, Fault>
     requires behind { header.now.at < header.now.contents_from }
     requires ordered { header.now.contents_from ≤ header.now.contents_to }
@@ -37,6 +38,7 @@ pub fn utc_time(octets: &[u8], header: &Header) -> Result<UtcTime, Fault>
 }
 
 // The time that the contents spell, behind the identifier that stands at `at`.
+#[inline(always)]
 #[tactic(auto, unfolding(crate::specs::computed::UtcReading::utc_at))]
 pub(crate) fn eight_octets(contents: &[u8], at: usize) -> Result<UtcTime, Fault>
     requires { at + 1 < 2 ^ 64 }

@@ -85,8 +85,8 @@ pub record Counts (octets : List ℕ) (at end place count : ℕ) (written : Bool
   pub stand : written ≡ true → slice_range octets at place ≡ written_asdus done
 
 module _ (octets : List ℕ) (at end : ℕ) (within : end ≤ length octets) where
-  pub counts_none : at ≤ end → Counts octets at end at 0 true
-  counts_none order = record { done = []; counted = refl; few = omega arith; order = order; goes = none_before (asdus_at octets at end); stand = λ _. nothing octets at at (omega arith) }
+  pub counts_none : (written : Bool) → at ≤ end → Counts octets at end at 0 written
+  counts_none written order = record { done = []; counted = refl; few = omega arith; order = order; goes = none_before (asdus_at octets at end); stand = λ _. nothing octets at at (omega arith) }
 
   pub counts_on : (place next count : ℕ) (written stands : Bool) (a : Asdu (Unit {0})) → place < end → place < next → next ≤ end → asdu_at octets place end ≡ Ok (asdu_items a, next)
       → (stands ≡ true → slice_range octets place next ≡ written_asdu a) → Counts octets at end place count written → Counts octets at end next (count + 1) (written && stands)

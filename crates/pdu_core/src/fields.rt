@@ -23,6 +23,7 @@ use mms_data::utc::utc_time;
 use mms_data::{CountedMembers, UtcTime, counted_members};
 
 // The number behind a header.
+#[inline(always)]
 #[tactic(auto, unfolding(crate::specs::computed::ContentsReading::number_in))]
 fn number(octets: &[u8], header: &Header) -> Result<u32, Fault>
     requires behind { header.now.at < header.now.contents_from }
@@ -34,6 +35,7 @@ fn number(octets: &[u8], header: &Header) -> Result<u32, Fault>
 }
 
 // Whether the boolean behind a header is 0 or FF.
+#[inline(always)]
 fn is_plain(octets: &[u8], header: &Header) -> bool
     requires ordered { header.now.contents_from ≤ header.now.contents_to }
     requires inside { header.now.contents_to ≤ length octets.now }
@@ -160,10 +162,10 @@ pub fn flag_if_there(
     }
 }
 
-/// Members of Data that are always there.
+/// Members of Data that are always there, judged for their written form where `NOTES` is true.
 #[inline(always)]
 #[tactic(auto, unfolding(crate::specs::computed::ContentsReading::members_in))]
-pub fn members_field<'a>(
+pub fn members_field<'a, const NOTES: bool>(
     octets: &'a [u8],
     at: usize,
     end: usize,
@@ -179,7 +181,7 @@ pub fn members_field<'a>(
     ensures stands { IfOk result (λ x. x.2 ≡ true → (written ≡ true) × (slice_range octets.now at x.1 ≡ written_field identifier (Some (some_members (left x.0.members))))) }
 {
     let header = required(octets, at, end, identifier)?;
-    let entries = counted_members(octets, header.contents_from, header.contents_to, 1)?;
+    let entries = counted_members(octets, header.contents_from, header.contents_to, 1, NOTES)?;
     let written = written & has_short_length(&header) & entries.written;
     Ok((entries, header.contents_to, written))
 }

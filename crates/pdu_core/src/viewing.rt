@@ -20,6 +20,7 @@ use mms_data::CountedMembers;
 use mms_data::standing::has_short_length;
 
 // Whether the count at this place is that of the entries.
+#[inline(always)]
 fn check_count(place: usize, count: u32, entries: &CountedMembers<'_>) -> Result<(), Fault>
     requires { entries.now.count ≡ length (left entries.now.members) }
     ensures exact { result ≡ count_at place count (left entries.now.members) }
@@ -32,9 +33,15 @@ fn check_count(place: usize, count: u32, entries: &CountedMembers<'_>) -> Result
     }
 }
 
-// The APDU that fills the octets from `at` to `end`, as reading from left to right gives it.
+// The APDU that fills the octets from `at` to `end`, as reading from left to right gives it, and where `NOTES` is true,
+// whether it is known to stand in its written form. Never inlined, so that the view is put together once.
+#[inline(never)]
 #[tactic(auto, unfolding(crate::specs::computed::GooseReading::goose_at))]
-fn goose<'a>(octets: &'a [u8], at: usize, end: usize) -> Result<GooseView<'a>, Fault>
+fn goose<'a, const NOTES: bool>(
+    octets: &'a [u8],
+    at: usize,
+    end: usize,
+) -> Result<GooseView<'a>, Fault>
     requires ordered { at ≤ end }
     requires inside { end ≤ length octets.now }
     ensures exact { Gives (λ v. goose_items (pdu_of {A = Unit {0}} v)) result (goose_at octets.now at end) }
@@ -44,7 +51,7 @@ fn goose<'a>(octets: &'a [u8], at: usize, end: usize) -> Result<GooseView<'a>, F
 {
     let header = required(octets, at, end, 0x61)?;
     let to = header.contents_to;
-    let written = has_short_length(&header);
+    let written = NOTES & has_short_length(&header);
     let (gocb_ref, place, written) = text_field(octets, header.contents_from, to, 0x80, written)?;
     let (live, place, written) = number_field(octets, place, to, 0x81, written)?;
     let (dat_set, place, written) = text_field(octets, place, to, 0x82, written)?;
@@ -57,7 +64,7 @@ fn goose<'a>(octets: &'a [u8], at: usize, end: usize) -> Result<GooseView<'a>, F
     let (nds_com, place, written) = flag_if_there(octets, place, to, 0x89, written)?;
     let count_at = place;
     let (count, place, written) = number_field(octets, place, to, 0x8a, written)?;
-    let (entries, place, written) = members_field(octets, place, to, 0xab, written)?;
+    let (entries, place, written) = members_field::<NOTES>(octets, place, to, 0xab, written)?;
     check_end(place, to)?;
     check_end(to, end)?;
     check_count(count_at, count, &entries)?;
@@ -76,6 +83,65 @@ fn goose<'a>(octets: &'a [u8], at: usize, end: usize) -> Result<GooseView<'a>, F
         members: entries.members,
         written,
     })
+}
+
+// The same, noted or not.
+#[inline(always)]
+fn noted_goose<'a>(
+    octets: &'a [u8],
+    at: usize,
+    end: usize,
+    notes: bool,
+) -> Result<GooseView<'a>, Fault>
+    requires ordered { at ≤ end }
+    requires inside { end ≤ length octets.now }
+    ensures exact { Gives (λ v. goose_items (pdu_of {A = Unit {0}} v)) result (goose_at octets.now at end) }
+    ensures parts { IfOk result (λ v. GooseIsPart v octets.entry) }
+    ensures entries { IfOk result (λ v. v.entries ≡ length (left v.members)) }
+    ensures written { IfOk result (λ v. v.written ≡ true → slice_range octets.now at end ≡ written_goose (pdu_of {A = Unit {0}} v)) }
+{
+    if notes {
+        goose::<true>(octets, at, end)
+    } else {
+        goose::<false>(octets, at, end)
+    }
+}
+
+/// What `view_goose` answers, and where `notes` is true, whether the octets are known to be the written form of the APDU.
+/// Inlined, so that who does not ask for this does not pay for it.
+///
+/// # Errors
+///
+/// Those of `view_goose`.
+#[inline(always)]
+pub fn see_goose<'a>(
+    octets: &'a [u8],
+    at: usize,
+    end: usize,
+    notes: bool,
+) -> Result<GooseView<'a>, Fault>
+    requires ordered { at ≤ end }
+    requires inside { end ≤ length octets.now }
+
+    // What is seen is spelled so, and what is spelled so is seen.
+    ensures found { IfOk result (λ v. SpellsGoose {A = Unit {0}} (pdu_of v) (slice_range octets.now at end)) }
+    ensures only { (p : GoosePdu (Unit {0})) → SpellsGoose p (slice_range octets.now at end) → ShowsGoose result p }
+
+    // The fault that is answered is there, and the fault that is there is answered.
+    ensures fault { IfErr result (λ f. GooseFault f at (slice_range octets.now at end)) }
+    ensures fault_only { (f : Fault) → GooseFault f at (slice_range octets.now at end) → result ≡ Err f }
+
+    // Texts and members are parts of the octets, and the entries are counted.
+    ensures parts { IfOk result (λ v. GooseIsPart v octets.entry) }
+    ensures entries { IfOk result (λ v. v.entries ≡ length (left v.members)) }
+
+    // The octets are the written form of the APDU, where the view says so.
+    ensures written { IfOk result (λ v. v.written ≡ true → slice_range octets.now at end ≡ written_goose (pdu_of {A = Unit {0}} v)) }
+
+    // For callers: the function on octets that it computes.
+    ensures exact { Gives (λ v. goose_items (pdu_of {A = Unit {0}} v)) result (goose_at octets.now at end) }
+{
+    noted_goose(octets, at, end, notes)
 }
 
 /// The APDU whose one element fills the octets from `at` to `end` (IEC 61850-8-1, IECGoosePdu).
@@ -106,5 +172,5 @@ pub fn view_goose<'a>(octets: &'a [u8], at: usize, end: usize) -> Result<GooseVi
     // For callers: the function on octets that it computes.
     ensures exact { Gives (λ v. goose_items (pdu_of {A = Unit {0}} v)) result (goose_at octets.now at end) }
 {
-    goose(octets, at, end)
+    see_goose(octets, at, end, false)
 }

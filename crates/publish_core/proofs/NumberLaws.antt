@@ -46,9 +46,9 @@ number_after_some n = in_case (n == 4294967295)
     in_case false = omega arith
 
 pub numbers_go_on : NumbersGoOn
-numbers_go_on = (
-  state_number_first,
-  (λ first c. let e : c + 1 ≡ suc c = omega arith in subst (λ (x : ℕ). state_number first x ≡ number_behind (state_number first c)) e (state_number_next first c)),
-  refl,
-  sequence_number_next,
-)
+numbers_go_on = record {
+  first_state = state_number_first;
+  next_state = λ first c. let e : c + 1 ≡ suc c = omega arith in subst (λ (x : ℕ). state_number first x ≡ number_behind (state_number first c)) e (state_number_next first c);
+  first_frame = refl;
+  next_frame = sequence_number_next;
+}

@@ -5,7 +5,7 @@ use Rattle.publish_core.specs.declared.publisher.Last.{Last}
 use Rattle.publish_core.specs.Table.{step_at, step_of}
 use Rattle.publish_core.specs.Frames.{Setup, Change}
 use Rattle.publish_core.specs.Run.{CallTrace, IsDue, IsNext, GivesFrame, First, Next, changes, changes_of}
-use Rattle.publish_core.specs.Standing.{PublisherHolds}
+use Rattle.publish_core.specs.State.{PublisherHolds}
 
 pub record SameBelow (n : ℕ) (t u : CallTrace) : Type 0 where
   pub now : (i : ℕ) → i < n → t.now i ≡ u.now i

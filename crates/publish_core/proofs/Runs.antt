@@ -7,7 +7,7 @@ use Rattle.frame_core.specs.declared.frame.Frame.{Frame}
 use Rattle.publish_core.specs.Frames.{Setup, Change, frame}
 use Rattle.publish_core.specs.Run.{Request, Changed, Polled, Call, call, CallTrace, greatest_call_moment, trace_of_calls, IsAnswer, AreAnswers}
 use Rattle.publish_core.specs.Laws.{AnswersAreOne, AnswersAreThere, AnswersStay, PollsGive}
-use Rattle.publish_core.specs.Standing.{PublisherStanding, PublisherStandsAfter}
+use Rattle.publish_core.specs.State.{PublisherState, PublisherStandsAfter}
 use Rattle.publish_core.specs.computed.Step.{request_frame, request_state, run_calls, fresh_publisher}
 use Rattle.publish_core.proofs.NumberLaws.{state_number_first}
 use Rattle.publish_core.proofs.GivesOne.{gives_one}
@@ -39,7 +39,7 @@ list_same {X} (x ∷ xs) (y ∷ ys) e h =
 
 pub answers_are_one : {A : Type 0} → AnswersAreOne A
 answers_are_one p calls xs ys a b =
-    list_same xs ys (a.0 ∙ sym b.0) (λ i x y e f. answer_one p (trace_of_calls calls) i x y (a.1 i x e) (b.1 i y f))
+    list_same xs ys (a.sizes ∙ sym b.sizes) (λ i x y e f. answer_one p (trace_of_calls calls) i x y (a.each i x e) (b.each i y f))
 
 -- later calls change nothing
 
@@ -59,15 +59,15 @@ answers_stay p calls later i a lt x = answer_same (trace_longer calls later) p i
 
 -- a run
 
-pub request_ok : {A : Type 0} (p : Setup A) (calls : List Call) (s : PublisherStanding A) (request : Request) (now : ℕ) → PublisherStandsAfter p calls s → IsAnswer p (trace_of_calls (calls ++ call now request ∷ [])) (length calls) (request_frame s request now) × PublisherStandsAfter p (calls ++ call now request ∷ []) (request_state s request now)
+pub request_ok : {A : Type 0} (p : Setup A) (calls : List Call) (s : PublisherState A) (request : Request) (now : ℕ) → PublisherStandsAfter p calls s → IsAnswer p (trace_of_calls (calls ++ call now request ∷ [])) (length calls) (request_frame s request now) × PublisherStandsAfter p (calls ++ call now request ∷ []) (request_state s request now)
 request_ok p calls s (Changed change) now w = change_ok p calls s change now w
 request_ok p calls s Polled now w = poll_ok p calls s now w
 
-run_length : {A : Type 0} (cs : List Call) (s : PublisherStanding A) → length (run_calls s cs) ≡ length cs
+run_length : {A : Type 0} (cs : List Call) (s : PublisherState A) → length (run_calls s cs) ≡ length cs
 run_length [] s = refl
 run_length (c ∷ cs) s = ap suc (run_length cs (request_state s c.request c.moment))
 
-run_from : {A : Type 0} (p : Setup A) (cs before : List Call) (s : PublisherStanding A) → PublisherStandsAfter p before s → (i : ℕ) (a : Option (Frame A)) → slice_get (run_calls s cs) i ≡ Some a → IsAnswer p (trace_of_calls (before ++ cs)) (length before + i) a
+run_from : {A : Type 0} (p : Setup A) (cs before : List Call) (s : PublisherState A) → PublisherStandsAfter p before s → (i : ℕ) (a : Option (Frame A)) → slice_get (run_calls s cs) i ≡ Some a → IsAnswer p (trace_of_calls (before ++ cs)) (length before + i) a
 run_from p [] before s w i a e = absurd (none-some a e)
 run_from {A} p (c ∷ cs) before s w zero a is =
     let step = request_ok p before s c.request c.moment w in
@@ -90,12 +90,12 @@ fresh_stands p some most =
     record { control = refl; table = refl; next = sym (state_number_first p.first some most); moment = refl; holds = refl }
 
 pub runs_are_whole : {A : Type 0} (p : Setup A) (calls : List Call) → 0 < p.first → p.first ≤ 4294967295 → AreAnswers p calls (run_calls (fresh_publisher p) calls)
-runs_are_whole p calls some most = (
-  run_length calls (fresh_publisher p),
-  λ i a is.
+runs_are_whole p calls some most = record {
+  sizes = run_length calls (fresh_publisher p);
+  each = λ i a is.
       let e : 0 + i ≡ i = omega arith in
-      subst (λ (n : ℕ). IsAnswer p (trace_of_calls calls) n a) e (run_from p calls [] (fresh_publisher p) (fresh_stands p some most) i a is),
-)
+      subst (λ (n : ℕ). IsAnswer p (trace_of_calls calls) n a) e (run_from p calls [] (fresh_publisher p) (fresh_stands p some most) i a is);
+}
 
 pub answers_are_there : {A : Type 0} → AnswersAreThere A
 answers_are_there p calls some most = (run_calls (fresh_publisher p) calls, runs_are_whole p calls some most)
@@ -117,7 +117,10 @@ request_less calls n h a is lt none = go (slice_get calls n) (slice_get calls h)
     go (Some c) (Some d) e f x y = none-some d.request (sym y)
 
 pub polls_give : PollsGive
-polls_give table calls n poll = (
-  poll_gives table (trace_of_calls calls) n (λ h lt. request_less calls n h Polled poll lt) poll,
-  λ zero_yet c k change. none_yet table (trace_of_calls calls) n zero_yet poll c k change,
-)
+polls_give table calls n poll =
+    let gives = poll_gives table (trace_of_calls calls) n (λ h lt. request_less calls n h Polled poll lt) poll in
+    record {
+      where_due = λ i c k change newest. (gives i c k change newest).0;
+      no_other = λ i c k change newest. (gives i c k change newest).1;
+      none_yet = λ zero_yet c k change. none_yet table (trace_of_calls calls) n zero_yet poll c k change;
+    }

@@ -7,7 +7,7 @@ use Rattle.publish_core.specs.Numbers.{state_number, sequence_number, number_beh
 use Rattle.publish_core.specs.Table.{step_at, step_of}
 use Rattle.publish_core.specs.Frames.{Setup, Change, frame_with}
 use Rattle.publish_core.specs.Run.{Request, Changed, Polled, CallTrace, IsDue, IsNewestFrame, GivesFrame, First, Next, changes, changes_of, IsAnswer}
-use Rattle.publish_core.specs.Standing.{change_of, HoldsNewest, PublisherHolds}
+use Rattle.publish_core.specs.State.{change_of, HoldsNewest, PublisherHolds}
 use Rattle.publish_core.specs.computed.Step.{is_due, last_frame, next_last, polled, polled_frame, first_last}
 use Rattle.publish_core.proofs.NumberLaws.{sequence_number_next}
 use Rattle.publish_core.proofs.GivesOne.{changed-polled, gives_one, gives_apart, due_same}

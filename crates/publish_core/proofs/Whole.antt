@@ -9,7 +9,7 @@ use Rattle.publish_core.specs.Frames.{Setup, Change}
 use Rattle.publish_core.specs.Run.{Changed, Polled, Call, call, CallTrace, changes, changes_of, greatest_call_moment, trace_of_calls, IsAnswer}
 use Rattle.publish_core.specs.declared.fault.PublishFault.{PublishFault}
 use Rattle.publish_core.specs.Refusal.{Accepts, IsAccepted, IsRefusal, Refuses}
-use Rattle.publish_core.specs.Standing.{PublisherStanding, PublisherStandsAfter, PublisherHolds}
+use Rattle.publish_core.specs.State.{PublisherState, PublisherStandsAfter, PublisherHolds}
 use Rattle.publish_core.specs.computed.Step.{polled, polled_frame, poll_frame, poll_state, change_frame, change_state, first_last, last_frame}
 use Rattle.publish_core.proofs.NumberLaws.{state_number_next}
 use Rattle.publish_core.proofs.Prefix.{SameBelow, holds_same, changes_same}
@@ -61,7 +61,7 @@ trace_some calls e h lt is = go (slice_get (calls ++ e ∷ []) h) (get_some (cal
 pushed : (calls : List Call) (e : Call) → suc (length calls) ≡ length (calls ++ e ∷ [])
 pushed calls e = omega (arith, length_push calls e)
 
-pub poll_ok : {A : Type 0} (p : Setup A) (calls : List Call) (s : PublisherStanding A) (now : ℕ) → PublisherStandsAfter p calls s → IsAnswer p (trace_of_calls (calls ++ call now Polled ∷ [])) (length calls) (poll_frame s now) × PublisherStandsAfter p (calls ++ call now Polled ∷ []) (poll_state s now)
+pub poll_ok : {A : Type 0} (p : Setup A) (calls : List Call) (s : PublisherState A) (now : ℕ) → PublisherStandsAfter p calls s → IsAnswer p (trace_of_calls (calls ++ call now Polled ∷ [])) (length calls) (poll_frame s now) × PublisherStandsAfter p (calls ++ call now Polled ∷ []) (poll_state s now)
 poll_ok {A} p calls s now w = (
   subst (λ (m : ℕ). IsAnswer p t n (polled_frame s.control s.table s.last m)) m_is
       (subst (λ (b : List Step). IsAnswer p t n (polled_frame s.control b s.last (t.now n))) (sym w.table)
@@ -100,7 +100,7 @@ poll_ok {A} p calls s now w = (
         let c : changes (trace_of_calls calls) n ≡ changes t (suc n) = omega (arith, a, b) in
         c ∙ ap (changes t) (pushed calls (call now Polled))
 
-pub change_ok : {A : Type 0} (p : Setup A) (calls : List Call) (s : PublisherStanding A) (change : Change) (now : ℕ) → PublisherStandsAfter p calls s → IsAnswer p (trace_of_calls (calls ++ call now (Changed change) ∷ [])) (length calls) (Some (change_frame s change now)) × PublisherStandsAfter p (calls ++ call now (Changed change) ∷ []) (change_state s change now)
+pub change_ok : {A : Type 0} (p : Setup A) (calls : List Call) (s : PublisherState A) (change : Change) (now : ℕ) → PublisherStandsAfter p calls s → IsAnswer p (trace_of_calls (calls ++ call now (Changed change) ∷ [])) (length calls) (Some (change_frame s change now)) × PublisherStandsAfter p (calls ++ call now (Changed change) ∷ []) (change_state s change now)
 change_ok {A} p calls s change now w = (
   subst (λ (m : ℕ). IsAnswer p t n (Some (last_frame s.control s.table (first_last s.next change m)))) m_is
       (subst (λ (x : ℕ). IsAnswer p t n (Some (last_frame s.control s.table (first_last x change (t.now n))))) (sym next_is)
@@ -143,13 +143,13 @@ change_ok {A} p calls s change now w = (
         c ∙ ap (changes t) (pushed calls (call now (Changed change)))
 
 -- what is accepted or refused by what is held, is so by the whole list
-pub accepts_behind : {A : Type 0} (p : Setup A) (calls : List Call) (s : PublisherStanding A) (change : Change) → PublisherStandsAfter p calls s → IsAccepted s.control s.table s.next change → Accepts p calls change
+pub accepts_behind : {A : Type 0} (p : Setup A) (calls : List Call) (s : PublisherState A) (change : Change) → PublisherStandsAfter p calls s → IsAccepted s.control s.table s.next change → Accepts p calls change
 accepts_behind {A} p calls s change w accepted =
     subst (λ (n : ℕ). IsAccepted p.control p.table n change) w.next
     (subst (λ (b : List Step). IsAccepted p.control b s.next change) w.table
     (subst (λ (c : Control A). IsAccepted c s.table s.next change) w.control accepted))
 
-pub refuses_behind : {A : Type 0} (p : Setup A) (calls : List Call) (s : PublisherStanding A) (change : Change) (fault : PublishFault) → PublisherStandsAfter p calls s → IsRefusal s.control s.table s.next change fault → Refuses p calls change fault
+pub refuses_behind : {A : Type 0} (p : Setup A) (calls : List Call) (s : PublisherState A) (change : Change) (fault : PublishFault) → PublisherStandsAfter p calls s → IsRefusal s.control s.table s.next change fault → Refuses p calls change fault
 refuses_behind {A} p calls s change fault w refused =
     subst (λ (n : ℕ). IsRefusal p.control p.table n change fault) w.next
     (subst (λ (b : List Step). IsRefusal p.control b s.next change fault) w.table

@@ -19,7 +19,7 @@ pub record Setup (A : Type 0) : Type 0 where
 abbrev pub setup : {A : Type 0} → Control A → List Step → ℕ → Setup A
 setup control table first = record { control = control; table = table; first = first }
 
--- what a change hands in: the moment of the change, and the values of the data set
+-- what a change hands in: the time of the change, and the values of the data set
 pub record Change : Type 0 where
   pub t : UtcTime
   pub values : List Data

@@ -4,7 +4,7 @@ use Rattle.frame_core.specs.declared.frame.Frame.{Frame}
 use Rattle.publish_core.specs.declared.table.Step.{Step}
 use Rattle.publish_core.specs.Numbers.{number_behind, sequence_number, state_number}
 use Rattle.publish_core.specs.Frames.{Setup, Change}
-use Rattle.publish_core.specs.Run.{Polled, Call, GivesFrame, IsNewestFrame, IsDue, IsAnswer, AreAnswers, changes, trace_of_calls, IsChange}
+use Rattle.publish_core.specs.Run.{Polled, Call, CallTrace, GivesFrame, IsNewestFrame, IsDue, IsAnswer, AreAnswers, changes, trace_of_calls, IsChange}
 
 -- a list of calls has one list of answers
 abbrev pub AnswersAreOne : Type 0 → Type 0
@@ -18,24 +18,25 @@ AnswersAreThere A = (p : Setup A) (calls : List Call) → 0 < p.first → p.firs
 abbrev pub AnswersStay : Type 0 → Type 0
 AnswersStay A = (p : Setup A) (calls later : List Call) (i : ℕ) (a : Option (Frame A)) → i < length calls → IsAnswer p (trace_of_calls calls) i a → IsAnswer p (trace_of_calls (calls ++ later)) i a
 
--- a poll gives the frame behind the newest one exactly where the wait behind that is over, and no other frame; before
--- any change it gives none
-abbrev pub PollsGive : Type 0
-PollsGive =
-    (table : List Step) (calls : List Call) (n : ℕ) → (trace_of_calls calls).request n ≡ Some Polled →
-    ((i c k : ℕ) (change : Change) → IsNewestFrame table (trace_of_calls calls) n i c k change →
-    (GivesFrame table (trace_of_calls calls) n c (suc k) change ↔ IsDue table (trace_of_calls calls) i k n) ×
-    ((d m : ℕ) (other : Change) → GivesFrame table (trace_of_calls calls) n d m other → (d ≡ c) × (m ≡ suc k) × (other ≡ change))) ×
-    (changes (trace_of_calls calls) n ≡ 0 → (c k : ℕ) (change : Change) → ¬ GivesFrame table (trace_of_calls calls) n c k change)
+-- A poll at n gives the frame behind the newest one exactly where the wait behind that is over, and no other frame; before any
+-- change it gives none.
+pub record GivesNext (table : List Step) (t : CallTrace) (n : ℕ) : Type 0 where
+  pub where_due : (i c k : ℕ) (change : Change) → IsNewestFrame table t n i c k change → GivesFrame table t n c (suc k) change ↔ IsDue table t i k n
+  pub no_other : (i c k : ℕ) (change : Change) → IsNewestFrame table t n i c k change →
+      (d m : ℕ) (other : Change) → GivesFrame table t n d m other → (d ≡ c) × (m ≡ suc k) × (other ≡ change)
+  pub none_yet : changes t n ≡ 0 → (c k : ℕ) (change : Change) → ¬ GivesFrame table t n c k change
 
--- a number is followed by the next one, and 4294967295 by 1; the first state has the first number, and the first frame
--- of a state the sequence number 0
-abbrev pub NumbersGoOn : Type 0
-NumbersGoOn =
-    ((first : ℕ) → 0 < first → first ≤ 4294967295 → state_number first 0 ≡ first) ×
-    ((first c : ℕ) → state_number first (suc c) ≡ number_behind (state_number first c)) ×
-    (sequence_number 0 ≡ 0) ×
-    ((k : ℕ) → sequence_number (suc k) ≡ number_behind (sequence_number k))
+-- so does every poll of every list of calls
+abbrev pub PollsGive : Type 0
+PollsGive = (table : List Step) (calls : List Call) (n : ℕ) → (trace_of_calls calls).request n ≡ Some Polled → GivesNext table (trace_of_calls calls) n
+
+-- The first state has the first number, and the first frame of a state the sequence number 0. A number is followed by the next
+-- one, and 4294967295 by 1.
+pub record NumbersGoOn : Type 0 where
+  pub first_state : (first : ℕ) → 0 < first → first ≤ 4294967295 → state_number first 0 ≡ first
+  pub next_state : (first c : ℕ) → state_number first (suc c) ≡ number_behind (state_number first c)
+  pub first_frame : sequence_number 0 ≡ 0
+  pub next_frame : (k : ℕ) → sequence_number (suc k) ≡ number_behind (sequence_number k)
 
 -- a frame of state c carries what change c handed in, and comes no earlier than that change
 abbrev pub FramesCarryTheirChange : Type 0

@@ -3,6 +3,6 @@ pub mod Table
 pub mod Frames
 pub mod Run
 pub mod Refusal
-pub mod Standing
+pub mod State
 pub mod Laws
 pub mod computed

@@ -11,7 +11,7 @@ use Rattle.publish_core.specs.Numbers.{state_number}
 use Rattle.publish_core.specs.Frames.{Change, Setup, frame}
 use Rattle.publish_core.specs.Run.{Call, changes, trace_of_calls}
 
--- the texts of the control, the moment of the change and each value have a spelling
+-- the texts of the control, the time of the change and each value have a spelling
 pub record CanBeSpelled {A : Type 0} (control : Control A) (change : Change) : Type 0 where
   pub gocb_ref : AreVisible control.gocb_ref
   pub dat_set : AreVisible control.dat_set

@@ -93,9 +93,9 @@ abbrev pub PublishesOctets : {A : Type 0} → Setup A → List Call → ℕ → 
 PublishesOctets {A = A} p calls i octets = (f : Frame A) × Publishes p calls i f × (octets ≡ written_frame f)
 
 -- the answers of a whole list of calls, call by call
-abbrev pub AreAnswers : {A : Type 0} → Setup A → List Call → List (Option (Frame A)) → Type 0
-AreAnswers {A = A} p calls answers =
-    (length answers ≡ length calls) × ((i : ℕ) (a : Option (Frame A)) → slice_get answers i ≡ Some a → IsAnswer p (trace_of_calls calls) i a)
+pub record AreAnswers {A : Type 0} (p : Setup A) (calls : List Call) (answers : List (Option (Frame A))) : Type 0 where
+  pub sizes : length answers ≡ length calls
+  pub each : (i : ℕ) (a : Option (Frame A)) → slice_get answers i ≡ Some a → IsAnswer p (trace_of_calls calls) i a
 
 -- the status numbers of the calls do not wrap: that of the last change is at most 4294967295
 abbrev pub NoWrap : {A : Type 0} → Setup A → List Call → Type 0

@@ -18,22 +18,26 @@ step_at steps k = slice_index_or steps k (record { wait_ms = 0; live_ms = 0 })
 abbrev pub step_of : List Step → ℕ → ℕ
 step_of steps k = min k (length steps - 1)
 
+-- the most steps of a table
+abbrev pub most_steps : ℕ
+most_steps = 16
+
 -- the steps make a table: there are 1 to 16 of them, each good
 pub record AreSteps (steps : List Step) : Type 0 where
   pub some : 1 ≤ length steps
-  pub most : length steps ≤ 16
+  pub most : length steps ≤ most_steps
   pub good : (i : ℕ) → i < length steps → IsGood (step_at steps i)
 
 -- step i is there and not good, and all steps before it are good
-pub record IsFirstBad (steps : List Step) (i : ℕ) : Type 0 where
+pub record IsFirstBadStep (steps : List Step) (i : ℕ) : Type 0 where
   pub here : i < length steps
   pub bad : ¬ IsGood (step_at steps i)
   pub before : (j : ℕ) → j < i → IsGood (step_at steps j)
 
 -- why the steps make no table
 abbrev pub IsTableFault : List Step → PublishFault → Type 0
-IsTableFault steps faults.StepCount = (length steps < 1) ⊎ (16 < length steps)
-IsTableFault steps (faults.StepTimes i) = (1 ≤ length steps) × (length steps ≤ 16) × IsFirstBad steps i
+IsTableFault steps faults.StepCount = (length steps < 1) ⊎ (most_steps < length steps)
+IsTableFault steps (faults.StepTimes i) = (1 ≤ length steps) × (length steps ≤ most_steps) × IsFirstBadStep steps i
 IsTableFault steps faults.FirstState = ⊥
 IsTableFault steps faults.EntriesDiffer = ⊥
 IsTableFault steps faults.NotSpellable = ⊥

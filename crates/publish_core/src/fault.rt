@@ -17,7 +17,7 @@ pub enum PublishFault {
     /// The count of values is not the control's.
     #[error("the number of members differs from the control's entries")]
     EntriesDiffer,
-    /// A value, the moment of the change or a text of the control has no spelling.
+    /// A value, the time of the change or a text of the control has no spelling.
     #[error("a value, the time or a text has no encoding")]
     NotSpellable,
     /// A frame of the new state would be too long, the first or a retransmission.

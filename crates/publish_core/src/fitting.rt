@@ -7,7 +7,7 @@ ghost use Rattle.publish_core.specs.Refusal.{CanBeSpelled, EveryFrameFits};
 ghost use Rattle.publish_core.specs.Table.{AreSteps};
 
 use crate::control::Control;
-use crate::frames::{Numbers, is_too_long};
+use crate::frames::{FrameNumbers, is_too_long};
 use crate::table::Table;
 use mms_data::{UtcTime, ValueList};
 use std::alloc::Allocator;
@@ -43,7 +43,7 @@ pub fn every_frame_fits<A: Allocator>(
 {
     let steps = table.len();
     for i in 0..steps {
-        let numbers = Numbers {
+        let numbers = FrameNumbers {
             state,
             sequence: longest_number(i, steps),
             live_ms: table.at(i).live_ms,

@@ -15,7 +15,7 @@ use std::alloc::Allocator;
 
 // The numbers of a frame: status number, sequence number, and how long it lives, in milliseconds.
 #[derive(Clone, Copy)]
-pub struct Numbers {
+pub struct FrameNumbers {
     pub state: u32,
     pub sequence: u32,
     pub live_ms: u32,
@@ -33,7 +33,7 @@ fn frame_with<'a, A: Allocator>(
     control: &'a Control<A>,
     t: UtcTime,
     values: &'a ValueList<A>,
-    numbers: Numbers,
+    numbers: FrameNumbers,
 ) -> GooseFrame<'a, A>
     ensures { frame_of_parts result ≡ frame_with control.now (change t values.now) numbers.state numbers.sequence numbers.live_ms }
 {
@@ -61,7 +61,7 @@ fn frame_with<'a, A: Allocator>(
 }
 
 // Each number lies in the range of its type; nothing is computed.
-fn know_ranges(numbers: Numbers, conf_rev: u32, entries: u32)
+fn know_ranges(numbers: FrameNumbers, conf_rev: u32, entries: u32)
     ensures state { numbers.state < 2 ^ 32 }
     ensures sequence { numbers.sequence < 2 ^ 32 }
     ensures live { numbers.live_ms < 2 ^ 32 }
@@ -76,7 +76,7 @@ pub fn can_be_spelled<A: Allocator>(control: &Control<A>, t: UtcTime, values: &V
     requires { length values.now ≡ control.now.entries }
     ensures { IsTrue result ↔ CanBeSpelled control.now (change t values.now) }
 {
-    let numbers = Numbers {
+    let numbers = FrameNumbers {
         state: 1,
         sequence: 0,
         live_ms: 0,
@@ -91,7 +91,7 @@ pub fn is_too_long<A: Allocator>(
     control: &Control<A>,
     t: UtcTime,
     values: &ValueList<A>,
-    numbers: Numbers,
+    numbers: FrameNumbers,
 ) -> bool
     requires entries { length values.now ≡ control.now.entries }
     requires spelled { CanBeSpelled control.now (change t values.now) }
@@ -106,7 +106,7 @@ pub fn write_frame<A: Allocator>(
     control: &Control<A>,
     t: UtcTime,
     values: &ValueList<A>,
-    numbers: Numbers,
+    numbers: FrameNumbers,
 ) -> ArrayVec<u8, 1600>
     requires entries { length values.now ≡ control.now.entries }
     requires spelled { CanBeSpelled control.now (change t values.now) }

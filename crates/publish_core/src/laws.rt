@@ -23,7 +23,7 @@ pub fn numbers_go_on()
     ensures { NumbersGoOn }
 {}
 
-/// A frame carries the values and the moment of change of its own state's change, and comes no earlier than that.
+/// A frame carries the values and the time of change of its own state's change, and comes no earlier than that.
 pub fn frames_carry_their_change()
     ensures { FramesCarryTheirChange }
 {}

@@ -22,4 +22,4 @@ mod table;
 pub use crate::control::Control;
 pub use crate::fault::PublishFault;
 pub use crate::publisher::Publisher;
-pub use crate::table::{Step, Table};
+pub use crate::table::{MOST_STEPS, Step, Table};

@@ -7,14 +7,14 @@ ghost use Rattle.publish_core.specs.Frames.{Setup, change, setup};
 ghost use Rattle.publish_core.specs.Numbers.{number_behind};
 ghost use Rattle.publish_core.specs.Refusal.{Accepts, IsAccepted, IsRefusal, Refuses};
 ghost use Rattle.publish_core.specs.Run.{Call, Changed, Polled, PublishesNone, PublishesOctets, call, greatest_call_moment};
-ghost use Rattle.publish_core.specs.Standing.{PublisherStandsAfter};
+ghost use Rattle.publish_core.specs.State.{PublisherStandsAfter};
 ghost use Rattle.publish_core.specs.computed.Step.{IsFrameOf, IsWritten, change_frame, change_state, last_frame, poll_frame, poll_state};
 ghost use Rattle.publish_core.specs.Table.{AreSteps};
 
 use crate::control::Control;
 use crate::fault::PublishFault;
 use crate::fitting::every_frame_fits;
-use crate::frames::{Numbers, can_be_spelled, write_frame};
+use crate::frames::{FrameNumbers, can_be_spelled, write_frame};
 use crate::table::Table;
 use arrayvec::ArrayVec;
 use mms_data::{UtcTime, ValueList};
@@ -46,18 +46,25 @@ pub struct Publisher<A: Allocator> {
 
 impl<A: Allocator> Model for Publisher<A> {
     ghost use Rattle.std.specs.Prelude.{◌<◌};
-    ghost use Rattle.publish_core.specs.Standing.{PublisherStanding};
-    ghost use Rattle.publish_core.specs.computed.Step.{IsStandingSound};
+    ghost use Rattle.publish_core.specs.State.{PublisherState};
+    ghost use Rattle.publish_core.specs.computed.Step.{IsLastSound};
     ghost use Rattle.std.specs.Coded.{codes};
     ghost use Rattle.mms_data.specs.computed.DataCode.{data_code};
 
-    ghost Value = { PublisherStanding A };
+    ghost Value = { PublisherState A };
 
     ghost coded = { Prim.hlevel (codes, data_code) };
 
     ghost view = { λ p. record { control = p.control; table = p.table; next = p.next; moment = p.moment; last = p.last } };
 
-    ghost invariant = { λ p. (0 < p.next) × IsStandingSound p.control p.table p.last };
+    ghost invariant = { λ p. (0 < p.next) × IsLastSound p.control p.table p.last };
+}
+
+// A table has its steps; nothing is computed.
+fn know_steps(table: &Table)
+    ensures { AreSteps table.now }
+{
+    let _ = table.len();
 }
 
 // The number behind this one.
@@ -84,7 +91,7 @@ fn write_last<A: Allocator>(
     requires frame { IsFrameOf control.now table.now last.now }
     ensures { result.items ≡ written_frame (last_frame control.now table.now last.now) }
 {
-    let numbers = Numbers {
+    let numbers = FrameNumbers {
         state: last.state,
         sequence: last.sequence,
         live_ms: table.at(last.step).live_ms,
@@ -111,7 +118,7 @@ impl<A: Allocator> Publisher<A> {
         if first_state == 0 {
             return Err(PublishFault::FirstState);
         }
-        let _steps = table.len();
+        know_steps(&table);
         Ok(Publisher {
             control,
             table,
@@ -130,7 +137,7 @@ impl<A: Allocator> Publisher<A> {
     }
 
     /// Changes the data set at a moment, in microseconds: the octets of the first frame of the next state, whose values
-    /// and moment of change (t) the frames of this state carry. A moment below the publisher's counts as the
+    /// and time of change (t) the frames of this state carry. A moment below the publisher's counts as the
     /// publisher's. Takes no memory.
     ///
     /// # Errors

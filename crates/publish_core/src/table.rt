@@ -1,14 +1,14 @@
 // Tables of retransmission.
 
 ghost use Rattle.std.specs.Prelude.{◌≡◌, ◌<◌, ◌↔◌, IfErr, IfNone, IfOk, IfSome, IsTrue, OnOk, length, ℕ};
-ghost use Rattle.publish_core.specs.Table.{AreSteps, IsFirstBad, IsGood, IsTableFault, step_at};
+ghost use Rattle.publish_core.specs.Table.{AreSteps, IsFirstBadStep, IsGood, IsTableFault, step_at};
 
 use crate::fault::PublishFault;
 use arrayvec::ArrayVec;
 use std::marker::Model;
 
 /// The most steps of a table.
-const MOST_STEPS: usize = 16;
+pub const MOST_STEPS: usize = 16;
 
 /// One step of retransmission.
 #[derive(Clone, Copy, PartialEq, Eq, Debug, Default)]
@@ -46,8 +46,8 @@ fn is_good(step: Step) -> bool
 }
 
 // The position of the first step that is not good.
-fn first_bad(steps: &[Step]) -> Option<usize>
-    ensures bad { IfSome result (λ i. IsFirstBad steps.now i) }
+fn first_bad_step(steps: &[Step]) -> Option<usize>
+    ensures bad { IfSome result (λ i. IsFirstBadStep steps.now i) }
     ensures good { IfNone result ((i : ℕ) → i < length steps.now → IsGood (step_at steps.now i)) }
 {
     for i in 0..steps.len() {
@@ -73,7 +73,7 @@ impl Table {
         if steps.is_empty() || MOST_STEPS < steps.len() {
             return Err(PublishFault::StepCount);
         }
-        if let Some(i) = first_bad(steps) {
+        if let Some(i) = first_bad_step(steps) {
             return Err(PublishFault::StepTimes(i));
         }
         let mut items = ArrayVec::new();

@@ -1,3 +1,4 @@
 pub mod ScriptLemmas
 pub mod ControlLemmas
+pub mod LineLaws
 pub mod WorkedExamples

@@ -14,13 +14,9 @@ use Rattle.mms_data.proofs.WrongAgain.{all_wrong_again}
 use Rattle.list_core.specs.Cuts.{cut_at, parts_after}
 use Rattle.list_core.specs.declared.event_lines.MomentUnit.{MomentUnit}
 use Rattle.list_core.proofs.Cuts.{cut_some}
-use Rattle.script_core.specs.Script.{change_said, octets_keep, poll_said}
+use Rattle.script_core.specs.CallLine.{change_said, octets_keep}
 use Rattle.script_core.specs.declared.script.ScriptCause.TheVariants as cause
 use Rattle.script_core.specs.declared.script.ScriptPart.{ScriptPart}
-
-pub poll_more : {A : Type 0} (unit : MomentUnit) (p : ScriptPart) (text moment : List ℕ) (more : Option (Bor (List ℕ))) → cut_at 44 text ≡ moment ∷ parts_after 44 more → is_some more ≡ true → poll_said {A = A} unit p (cut_at 44 text) ≡ Err cause.ScriptForm
-poll_more unit p text moment None cut e = absurd (cc)
-poll_more unit p text moment (Some rest) cut e = let r = cut_some 44 rest.now in rw (cut, r.2) refl
 
 pub change_more : {A : Type 0} (unit : MomentUnit) (p : ScriptPart) (text moment first t second members : List ℕ) (more : Option (Bor (List ℕ))) → cut_at 44 text ≡ moment ∷ cut_at 44 first → cut_at 44 first ≡ t ∷ cut_at 44 second → cut_at 44 second ≡ members ∷ parts_after 44 more → is_some more ≡ true → change_said {A = A} unit p (cut_at 44 text) ≡ Err cause.ScriptForm
 change_more unit p text moment first t second members None a b c e = absurd (cc)

@@ -10,7 +10,9 @@ use Rattle.mms_data.specs.Data.{boolean, simple}
 use Rattle.mms_data.specs.computed.KindReading.{kind_at}
 use Rattle.mms_data.specs.computed.Reading.{member_at, member_with, members_at, members_with}
 use Rattle.list_core.specs.declared.event_lines.MomentUnit.TheVariants.{Milliseconds, Microseconds}
-use Rattle.script_core.specs.Script.{flag_in, line_said, script_said, tag_in}
+use Rattle.script_core.specs.ScriptFields.{flag_in, tag_in}
+use Rattle.script_core.specs.Script.{line_said, script_said}
+use Rattle.script_core.specs.Lines.{SaysControl, SaysPoll, SaysStep}
 use Rattle.script_core.specs.declared.script.ScriptCause.TheVariants as cause
 use Rattle.script_core.specs.declared.script.ScriptItem.TheVariants as item
 use Rattle.script_core.specs.declared.script.ScriptLines.TheVariants.{First, After}
@@ -44,6 +46,33 @@ pub record AreLines : Type 0 where
 lines : AreLines
 unfolding decode_pairs
 lines = record { comment = refl; step = refl; no_wait = refl; short_life = refl; step_17 = refl; late_step = refl; poll = refl; fine_poll = refl; early_poll = refl; no_moment = refl; odd = refl; version = refl }
+
+-- the fields of some of these lines, by the relation of their kind
+pub record AreSaid : Type 0 where
+  pub control : SaysControl {A = Unit {0}} (codes "010ccd010001" ∷ codes "020000000001" ∷ [] ∷ codes "0001" ∷ codes "G" ∷ codes "D" ∷ [] ∷ codes "1" ∷ codes "2" ∷ codes "0" ∷ codes "1" ∷ codes "5" ∷ [])
+      (record {
+        destination = 0x01 ∷ 0x0c ∷ 0xcd ∷ 0x01 ∷ 0x00 ∷ 0x01 ∷ [];
+        source = 0x02 ∷ 0x00 ∷ 0x00 ∷ 0x00 ∷ 0x00 ∷ 0x01 ∷ [];
+        tag = None;
+        app_id = 1;
+        gocb_ref = codes "G";
+        dat_set = codes "D";
+        go_id = None;
+        conf_rev = 1;
+        entries = 2;
+        simulation = false;
+        nds_com = true;
+      }) 5
+  pub step : SaysStep (codes "10" ∷ codes "2000" ∷ []) (record { wait_ms = 10; live_ms = 2000 })
+  pub poll : SaysPoll Milliseconds (codes "10" ∷ []) 10000
+
+said : AreSaid
+unfolding decode_pairs
+said = record {
+  control = record { size = refl; destination = refl; source = refl; tag = refl; app_id = refl; gocb_ref = refl; dat_set = refl; go_id = refl; conf_rev = refl; entries = refl; simulation = refl; nds_com = refl; first_state = refl };
+  step = record { size = refl; wait = refl; live = refl };
+  poll = record { size = refl; moment_is = refl };
+}
 
 -- the control line and a change of docs/FORMATS.md, each with what makes it a fault
 pub record AreKept : Type 0 where

@@ -1,2 +1,8 @@
+pub mod ScriptFields
+pub mod Lines
+pub mod ControlLine
+pub mod StepLine
+pub mod CallLine
 pub mod Script
-pub mod ScriptView
+pub mod ControlView
+pub mod Laws

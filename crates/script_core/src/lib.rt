@@ -1,6 +1,7 @@
 //! The texts that engineers write for `goose`: control blocks by six fields, and the scripts of `publish`.
 #![tactic(auto)]
 
+pub mod laws;
 mod script;
 mod script_control;
 mod script_line;

@@ -14,7 +14,7 @@ pub enum ScriptItem<A: Allocator> {
     Control(Control<A>, u32),
     /// A step of the table.
     Step(Step),
-    /// A change at a moment, in microseconds: the moment of change that frames carry, and the values.
+    /// A change at a moment, in microseconds: the time of change that frames carry, and the values.
     Change(u64, UtcTime, ValueList<A>),
     /// A poll at a moment, in microseconds.
     Poll(u64),
@@ -39,7 +39,7 @@ pub enum ScriptCause {
     /// The moment has no such digits.
     #[error("the time is not 1 to 15 decimal digits (1 to 18 after a first line V2)")]
     Moment,
-    /// The moment of change or the members have no such digits.
+    /// The time of change or the members have no such digits.
     #[error("T is not 16 hexadecimal digits, or MEMBERS not an even count of them")]
     Hex,
     /// The members have this fault, its place counted in their octets.
@@ -48,7 +48,7 @@ pub enum ScriptCause {
     /// The count of values is not the control's.
     #[error("the number of members differs from the control's entries")]
     EntriesDiffer,
-    /// A value, the moment of the change or a text of the control has no spelling.
+    /// A value, the time of the change or a text of the control has no spelling.
     #[error("a value, the time or a text has no encoding")]
     NotSpellable,
     /// A frame of the new state would be too long.

@@ -3,10 +3,13 @@ ghost use Rattle.std.specs.Prelude.{◌≡◌, ◌≤◌, Some, IfSome, length};
 ghost use Rattle.list_core.specs.Cuts.{parts_after};
 ghost use Rattle.list_core.specs.EventLine.{moment_of};
 ghost use Rattle.block_core.specs.Commas.{comma_fields};
-ghost use Rattle.script_core.specs.Script.{AnswersScriptLine, all_keep, all_said, change_keeps, members_keep, octets_keep, change_said_by, change_said, part_keeps, fields_said, line_keeps, line_said, all_octets_in, poll_said, time_in, too_early};
+ghost use Rattle.script_core.specs.Script.{AnswersScriptLine, all_keep, all_said, part_keeps, fields_said, line_keeps, line_said};
+ghost use Rattle.script_core.specs.CallLine.{change_keeps, members_keep, octets_keep, change_said_by, change_said, poll_said, too_early};
+ghost use Rattle.script_core.specs.ScriptFields.{all_octets_in, time_in};
 
 use crate::script::{ScriptCause, ScriptItem, ScriptPart};
-use crate::script_control::{control_in, step_in};
+use crate::script_control::{control_line, step_line};
+use block_core::commas::fields_of;
 use byteorder::{BigEndian, ByteOrder};
 use frame_core::{LineError, MomentUnit, cut_first, moment_in};
 use mms_data::{ReadFault, UtcTime, ValueList, read_members};
@@ -25,7 +28,7 @@ fn early(part: ScriptPart) -> Option<ScriptCause>
 }
 
 // The poll whose fields behind its name are these.
-pub fn poll_in<A: Allocator>(
+pub fn poll_line<A: Allocator>(
     unit: MomentUnit,
     part: ScriptPart,
     fields: Option<&[u8]>,
@@ -35,10 +38,12 @@ pub fn poll_in<A: Allocator>(
     let Some(fields) = fields else {
         return Err(ScriptCause::ScriptForm);
     };
-    let (moment, more) = cut_first(fields, b',');
-    if more.is_some() {
+    let Some(fields) = fields_of(fields) else {
         return Err(ScriptCause::ScriptForm);
-    }
+    };
+    let [moment] = fields.as_slice() else {
+        return Err(ScriptCause::ScriptForm);
+    };
     if let Some(cause) = early(part) {
         return Err(cause);
     }
@@ -48,7 +53,7 @@ pub fn poll_in<A: Allocator>(
     }
 }
 
-// A moment of change by 16 hexadecimal digits.
+// A time of change by 16 hexadecimal digits.
 fn time_in(digits: &[u8]) -> Option<UtcTime>
     ensures { result ≡ time_in digits.now }
 {
@@ -108,7 +113,7 @@ fn change_of_fields<A: Allocator + Copy>(
 }
 
 // The change whose fields behind its name are these.
-pub fn change_in<A: Allocator + Copy>(
+pub fn change_line<A: Allocator + Copy>(
     alloc: A,
     unit: MomentUnit,
     part: ScriptPart,
@@ -153,16 +158,16 @@ fn fields_in<A: Allocator + Copy>(
     ensures { AnswersScriptLine result (fields_said unit part name.now (parts_after 44 fields.entry)) (part_keeps unit part name.now (parts_after 44 fields.entry)) }
 {
     if name == b"control".as_slice() {
-        control_in(alloc, part, fields)
+        control_line(alloc, part, fields)
     } else if name == b"step".as_slice() {
-        match step_in(part, fields) {
+        match step_line(part, fields) {
             Ok(said) => Ok(said),
             Err(cause) => Err(LineError::Cause(cause)),
         }
     } else if name == b"change".as_slice() {
-        change_in(alloc, unit, part, fields)
+        change_line(alloc, unit, part, fields)
     } else if name == b"poll".as_slice() {
-        match poll_in(unit, part, fields) {
+        match poll_line(unit, part, fields) {
             Ok(said) => Ok(said),
             Err(cause) => Err(LineError::Cause(cause)),
         }

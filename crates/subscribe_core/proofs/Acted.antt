@@ -1,5 +1,5 @@
 -- The actions of an event are those of the blocks that act on it.
-use Rattle.std.proofs.Common.{◌≡◌, ◌⊎◌, ℕ, zero, suc, ◌+◌, ◌<◌, Bool, true, false, if◌then◌else◌, inl, inr, Option, Some, None, List, [], ◌∷◌, ◌++◌, length, slice_get, get_or, Contains, sym, refl, ap, ◌∙◌, subst, arith}
+use Rattle.std.proofs.Common.{◌≡◌, ◌⊎◌, ℕ, zero, suc, ◌+◌, ◌<◌, true, inl, inr, Option, Some, None, List, [], ◌∷◌, ◌++◌, length, slice_get, get_or, Contains, sym, refl, ap, ◌∙◌, subst, arith}
 use Rattle.std.proofs.lemmas.Bool.{false≢true}
 use Rattle.std.proofs.lemmas.List.Elements.{Contains-append_cases, Contains-append_right}
 use Rattle.std.proofs.lemmas.Option.{same_Some}
@@ -12,16 +12,17 @@ use Rattle.subscribe_core.specs.declared.entry.Reason.{Reason}
 use Rattle.subscribe_core.specs.declared.registers.Facts.{Facts}
 use Rattle.subscribe_core.specs.declared.registers.Verdict.{Verdict}
 use Rattle.subscribe_core.specs.declared.registers.Verdict.TheVariants.{Act, Refreshed, Repeated, Older}
-use Rattle.subscribe_core.specs.Entries.{AreExpired, AreOfContent, AreReadEntriesAt, IsBlockEntry, IsFrameEntry, entry_of, reason_at, switched_at}
+use Rattle.subscribe_core.specs.Entries.{AreOfContent, AreOfEach, AreReadEntriesAt, ExpiresAt, SwitchesAt}
+use Rattle.subscribe_core.specs.FrameEntry.{IsBlockEntry, IsFrameEntry, entry_of, reason_at}
 use Rattle.subscribe_core.specs.Epoch.{Acts, IsVerdict}
 use Rattle.subscribe_core.specs.Laws.{ActsAreTold, IsActOn}
 use Rattle.subscribe_core.specs.Matching.{facts_of_frame, is_of}
 use Rattle.subscribe_core.specs.Reading.{Content, FrameRead, OfClock, OfFault, OfGoose, OfMode, OfSampled, EventRead}
 use Rattle.subscribe_core.specs.Sight.{facts_at, facts_of, trace_of_block}
-use Rattle.subscribe_core.specs.Simulation.{is_switched, mode_at, takes_simulated}
-use Rattle.subscribe_core.specs.Standing.{AreApart}
+use Rattle.subscribe_core.specs.Simulation.{mode_at, takes_simulated}
+use Rattle.subscribe_core.specs.Apart.{AreApart}
 use Rattle.subscribe_core.proofs.Alike.{good_frame}
-use Rattle.subscribe_core.proofs.Alone.{same_block, same_place, verdict_unique}
+use Rattle.subscribe_core.proofs.Alone.{same_block, same_position, verdict_unique}
 
 cons_cases : {X : Type 0} (y : X) (rest : List X) (x : X) → Contains (y ∷ rest) x → (y ≡ x) ⊎ Contains rest x
 cons_cases y rest x w = go w.0 w.1 w.2
@@ -41,23 +42,14 @@ only_has x = (0, omega arith, refl)
 
 -- neither the expiries nor the switches hold an action
 
-expired_only : {A : Type 0} → (events : List EventRead) (i b : ℕ) (blocks : List (Block A)) (es : List (Entry A)) → AreExpired events i b blocks es → (c st sq : ℕ) (t : UtcTime) (m : List Data) → Contains es (says.Act c st sq t m) → ⊥
-expired_only {A} events i b [] es a c st sq t m w = nil_cases (says.Act c st sq t m) (subst (λ (l : List (Entry A)). Contains l (says.Act c st sq t m)) a w)
-expired_only events i b (x ∷ xs) es (inr a) c st sq t m w = expired_only events i (b + 1) xs es a.1 c st sq t m w
-expired_only {A} events i b (x ∷ xs) es (inl a) c st sq t m w =
-    elim (cons_cases (says.Expired b) a.1.0 (says.Act c st sq t m) (subst (λ (l : List (Entry A)). Contains l (says.Act c st sq t m)) a.1.1 w)) [
-      | inl e ↦ cc
-      | inr r ↦ expired_only events i (b + 1) xs a.1.0 a.1.2 c st sq t m r
+each_only : {A : Type 0} → (so : Block A → Type 0) (entry : ℕ → Entry A) (x : Entry A) → ((b : ℕ) → entry b ≡ x → ⊥) → (b : ℕ) (blocks : List (Block A)) (es : List (Entry A)) → AreOfEach so entry b blocks es → Contains es x → ⊥
+each_only {A} so entry x apart b [] es a w = nil_cases x (subst (λ (l : List (Entry A)). Contains l x) a w)
+each_only so entry x apart b (y ∷ ys) es (inr a) w = each_only so entry x apart (b + 1) ys es a.1 w
+each_only {A} so entry x apart b (y ∷ ys) es (inl a) w =
+    elim (cons_cases (entry b) a.1.0 x (subst (λ (l : List (Entry A)). Contains l x) a.1.1 w)) [
+      | inl e ↦ apart b e
+      | inr r ↦ each_only so entry x apart (b + 1) ys a.1.0 a.1.2 r
     ]
-
-switched_or : {A : Type 0} → (y : Bool) (b : ℕ) (l : List (Entry A)) (c st sq : ℕ) (t : UtcTime) (m : List Data) → Contains (if y then says.Switched b ∷ l else l) (says.Act c st sq t m) → Contains l (says.Act c st sq t m)
-switched_or true b l c st sq t m w = elim (cons_cases (says.Switched b) l (says.Act c st sq t m) w) [ inl e ↦ cc | inr r ↦ r ]
-switched_or false b l c st sq t m w = w
-
-switched_only : {A : Type 0} → (events : List EventRead) (i b : ℕ) (blocks : List (Block A)) (c st sq : ℕ) (t : UtcTime) (m : List Data) → Contains (switched_at events i b blocks) (says.Act c st sq t m) → ⊥
-switched_only {A} events i b [] c st sq t m w = nil_cases (says.Act c st sq t m) w
-switched_only {A} events i b (x ∷ xs) c st sq t m w =
-    switched_only events i (b + 1) xs c st sq t m (switched_or (is_switched x events i) b (switched_at events i (b + 1) xs) c st sq t m w)
 
 -- an action is that of its block
 
@@ -69,12 +61,12 @@ record IsActionOf {A : Type 0} (blocks : List (Block A)) (events : List EventRea
 
 verdict_action : {A : Type 0} → (blocks : List (Block A)) (events : List EventRead) (i c : ℕ) (block : Block A) (f : FrameRead) (v : Verdict) (b st sq : ℕ) (t : UtcTime) (m : List Data) → slice_get blocks c ≡ Some block → IsVerdict (trace_of_block block events) i (facts_of_frame f) v → entry_of {A = A} c f v ≡ says.Act b st sq t m → IsActionOf blocks events i b f (says.Act b st sq t m)
 verdict_action {A} blocks events i c block f Act b st sq t m here w e =
-    let place : c ≡ b = cc in
+    let position : c ≡ b = cc in
     record {
       block = block;
-      at = ap (slice_get blocks) (sym place) ∙ here;
+      at = ap (slice_get blocks) (sym position) ∙ here;
       acts = w;
-      told = sym e ∙ ap (λ (n : ℕ). entry_of {A = A} n f Act) place;
+      told = sym e ∙ ap (λ (n : ℕ). entry_of {A = A} n f Act) position;
     }
 verdict_action blocks events i c block f Refreshed b st sq t m here w e = absurd cc
 verdict_action blocks events i c block f Repeated b st sq t m here w e = absurd cc
@@ -85,8 +77,8 @@ block_action blocks events i c block f (Some r) b st sq t m here a = absurd cc
 block_action blocks events i c block f None b st sq t m here a = verdict_action blocks events i c block f a.0 b st sq t m here a.1 (sym a.2)
 
 frame_action : {A : Type 0} → (blocks : List (Block A)) (events : List EventRead) (i : ℕ) (f : FrameRead) (b st sq : ℕ) (t : UtcTime) (m : List Data) → IsFrameEntry blocks events i f (says.Act b st sq t m) → IsActionOf blocks events i b f (says.Act b st sq t m)
-frame_action blocks events i f b st sq t m (inl a) = absurd (let e = a.1 in cc)
-frame_action blocks events i f b st sq t m (inr a) = block_action blocks events i a.0 a.1 f (reason_at a.1 events i f) b st sq t m a.2 a.4
+frame_action blocks events i f b st sq t m (inl a) = absurd (let e = a.told in cc)
+frame_action blocks events i f b st sq t m (inr a) = block_action blocks events i a.position a.block f (reason_at a.block events i f) b st sq t m a.here a.told
 
 content_action : {A : Type 0} → (blocks : List (Block A)) (events : List EventRead) (i : ℕ) (k : Content) (es : List (Entry A)) (b st sq : ℕ) (t : UtcTime) (m : List Data) → AreOfContent blocks events i k es → Contains es (says.Act b st sq t m) → (f : FrameRead) × (k ≡ OfGoose f) × IsActionOf blocks events i b f (says.Act b st sq t m)
 content_action {A} blocks events i (OfGoose f) es b st sq t m a w =
@@ -102,10 +94,10 @@ content_action {A} blocks events i (OfMode on) es b st sq t m a w = absurd (nil_
 act_told : {A : Type 0} → (blocks : List (Block A)) (events : List EventRead) (i : ℕ) (es : List (Entry A)) (b st sq : ℕ) (t : UtcTime) (m : List Data) → AreReadEntriesAt blocks events i es → Contains es (says.Act b st sq t m) → IsActOn blocks events i b (says.Act b st sq t m)
 act_told {A} blocks events i es b st sq t m a has =
     let said : Contains a.said (says.Act b st sq t m) =
-    elim (Contains-append_cases a.expired (switched_at events i 0 blocks ++ a.said) (says.Act b st sq t m) (subst (λ (l : List (Entry A)). Contains l (says.Act b st sq t m)) a.whole has)) [
-      | inl x ↦ absurd (expired_only events i 0 blocks a.expired a.are_expired b st sq t m x)
-      | inr y ↦ elim (Contains-append_cases (switched_at events i 0 blocks) a.said (says.Act b st sq t m) y) [
-        | inl x ↦ absurd (switched_only events i 0 blocks b st sq t m x)
+    elim (Contains-append_cases a.expired (a.switched ++ a.said) (says.Act b st sq t m) (subst (λ (l : List (Entry A)). Contains l (says.Act b st sq t m)) a.whole has)) [
+      | inl x ↦ absurd (each_only (ExpiresAt events i) says.Expired (says.Act b st sq t m) (λ n e. cc) 0 blocks a.expired a.are_expired x)
+      | inr y ↦ elim (Contains-append_cases a.switched a.said (says.Act b st sq t m) y) [
+        | inl x ↦ absurd (each_only (SwitchesAt events i) says.Switched (says.Act b st sq t m) (λ n e. cc) 0 blocks a.switched a.are_switched x)
         | inr x ↦ x
       ]
     ] in
@@ -135,13 +127,13 @@ acted_block {A} events i c block f None x acts none a =
     a.2 ∙ ap (entry_of {A = A} c f) (verdict_unique (trace_of_block block events) i (facts_of_frame f) a.0 Act a.1 acts)
 
 acted_frame : {A : Type 0} → (blocks : List (Block A)) (events : List EventRead) (i b : ℕ) (block : Block A) (f : FrameRead) (x : Entry A) → AreApart blocks → slice_get blocks b ≡ Some block → is_of f block ≡ true → reason_at block events i f ≡ None → Acts (trace_of_block block events) i → IsFrameEntry blocks events i f x → x ≡ entry_of b f Act
-acted_frame blocks events i b block f x apart here yes_of clear acts (inl a) = absurd (false≢true (sym (a.0 b block here) ∙ yes_of))
+acted_frame blocks events i b block f x apart here yes_of clear acts (inl a) = absurd (false≢true (sym (a.foreign b block here) ∙ yes_of))
 acted_frame {A} blocks events i b block f x apart here yes_of clear acts (inr a) =
-    let place : a.0 ≡ b = same_place blocks apart f a.0 b a.1 block a.2 here a.3 yes_of in
-    let same : a.1 ≡ block = same_block blocks a.0 b a.1 block a.2 here place in
+    let position : a.position ≡ b = same_position blocks apart f a.position b a.block block a.here here a.own yes_of in
+    let same : a.block ≡ block = same_block blocks a.position b a.block block a.here here position in
     acted_block events i b block f (reason_at block events i f) x acts clear
     (subst (λ (z : Block A). IsBlockEntry events i b z f (reason_at z events i f) x) same
-    (subst (λ n. IsBlockEntry events i n a.1 f (reason_at a.1 events i f) x) place a.4))
+    (subst (λ n. IsBlockEntry events i n a.block f (reason_at a.block events i f) x) position a.told))
 
 acted_told : {A : Type 0} → (blocks : List (Block A)) (events : List EventRead) (i : ℕ) (es : List (Entry A)) (b : ℕ) (entry : Entry A) → AreApart blocks → AreReadEntriesAt blocks events i es → IsActOn blocks events i b entry → Contains es entry
 acted_told {A} blocks events i es b entry apart a w =
@@ -152,7 +144,7 @@ acted_told {A} blocks events i es b entry apart a w =
     let is : said.0 ≡ entry = acted_frame blocks events i b w.block w.frame said.0 apart w.at good.0 good.1 w.acts said.1 ∙ sym w.told in
     let one : Contains a.said entry = subst (λ (l : List (Entry A)). Contains l entry) (sym (said.2 ∙ ap (λ (x : Entry A). x ∷ []) is)) (only_has entry) in
     subst (λ (l : List (Entry A)). Contains l entry) (sym a.whole)
-    (Contains-append_right a.expired (switched_at events i 0 blocks ++ a.said) entry (Contains-append_right (switched_at events i 0 blocks) a.said entry one))
+    (Contains-append_right a.expired (a.switched ++ a.said) entry (Contains-append_right a.switched a.said entry one))
 
 pub acts_are_told : {A : Type 0} → ActsAreTold A
 acts_are_told blocks events i es b st sq t m apart a =

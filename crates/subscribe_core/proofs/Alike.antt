@@ -9,7 +9,7 @@ use Rattle.subscribe_core.specs.declared.entry.Reason.{Reason}
 use Rattle.subscribe_core.specs.declared.entry.Reason.TheVariants.{DatSet, GoId, ConfRev, Commissioning, Simulated, Entries, StateZero, LiveZero}
 use Rattle.subscribe_core.specs.Epoch.{Trace, IsOver, Ends, Next, IsLastStart}
 use Rattle.subscribe_core.specs.Matching.{first_of, holds, is_of, reason_of, is_clear, facts_unless_refused, facts_of_frame}
-use Rattle.subscribe_core.specs.Simulation.{is_against, holds_at, is_plain_simulated, mode_at, invites, sets_off, takes_simulated, is_switched, TakesSimulated}
+use Rattle.subscribe_core.specs.Simulation.{is_other_kind, holds_at, is_plain_simulated, mode_at, invites, sets_off, takes_simulated, is_switched, TakesSimulated}
 use Rattle.subscribe_core.specs.Sight.{facts_of, facts_at, trace_of_block}
 use Rattle.subscribe_core.specs.Laws.{IsIn, OneKind, SimulatedAreTaken}
 use Rattle.subscribe_core.proofs.Epochs.{first_good, over_after}
@@ -28,7 +28,7 @@ no_reason p (x ∷ rs) qs r yes_r e =
 not_ended : (t : Trace) (s j : ℕ) (g : Facts) → IsLastStart t j s → t.good j ≡ Some g → (k : ℕ) → k ≤ j → ¬ Ends t s k
 not_ended t s j g l e k le ends =
     let x = first_good (j - k) t k j g (omega arith) e in
-    let after : s < k = over_after t s k ends.0 in
+    let after : s < k = over_after t s k ends.over in
     let from : k ≤ x.0 = x.2.from in
     let last : x.0 ≤ s = l.last x.0 (Next l.start ends x.2) x.1 in
     omega arith
@@ -36,7 +36,7 @@ not_ended t s j g l e k le ends =
 not_over : (m : ℕ) (t : Trace) (s j : ℕ) (g : Facts) → IsLastStart t j s → t.good j ≡ Some g → (k : ℕ) → k < m → k ≤ j → ¬ IsOver t s k
 not_over zero t s j g l e k lt le over = omega arith
 not_over (suc m) t s j g l e k lt le over =
-    not_ended t s j g l e k le (over, λ i less. not_over m t s j g l e i (omega arith) (omega arith))
+    not_ended t s j g l e k le (record { over = over; first = λ i less. not_over m t s j g l e i (omega arith) (omega arith) })
 
 no_switch : (t : Trace) (s j : ℕ) (g : Facts) → IsLastStart t j s → t.good j ≡ Some g → (k : ℕ) → s < k → k ≤ j → t.switched k ≡ false
 no_switch t s j g l e k lt le =
@@ -62,15 +62,15 @@ refused false b f e = refl
 refused true b f e =
     absurd (no_reason (holds true b f) (DatSet ∷ GoId ∷ ConfRev ∷ Commissioning ∷ []) (Entries ∷ StateZero ∷ LiveZero ∷ []) Simulated refl e)
 
-pub good_frame : {A : Type 0} → (b : Block A) (mode taken : Bool) (f : FrameRead) (g : Facts) → facts_of b mode taken (OfGoose f) ≡ Some g → (is_of f b ≡ true) × (reason_of (is_against f mode taken) b f ≡ None)
-good_frame b mode taken f g e = go (is_of f b) refl (reason_of (is_against f mode taken) b f) refl e
+pub good_frame : {A : Type 0} → (b : Block A) (mode taken : Bool) (f : FrameRead) (g : Facts) → facts_of b mode taken (OfGoose f) ≡ Some g → (is_of f b ≡ true) × (reason_of (is_other_kind f mode taken) b f ≡ None)
+good_frame b mode taken f g e = go (is_of f b) refl (reason_of (is_other_kind f mode taken) b f) refl e
   where
-    go : (o : Bool) → is_of f b ≡ o → (r : Option Reason) → reason_of (is_against f mode taken) b f ≡ r → (if o then facts_unless_refused r (facts_of_frame f) else None) ≡ Some g → (is_of f b ≡ true) × (reason_of (is_against f mode taken) b f ≡ None)
+    go : (o : Bool) → is_of f b ≡ o → (r : Option Reason) → reason_of (is_other_kind f mode taken) b f ≡ r → (if o then facts_unless_refused r (facts_of_frame f) else None) ≡ Some g → (is_of f b ≡ true) × (reason_of (is_other_kind f mode taken) b f ≡ None)
     go true o None r e = (o, r)
     go true o (Some reason) r e = absurd (none-some g e)
     go false o r rs e = absurd (none-some g e)
 
-against_is : (f : FrameRead) (mode taken v : Bool) → f.pdu.simulation ≡ v → is_against f mode taken ≡ (if v then not mode else taken)
+against_is : (f : FrameRead) (mode taken v : Bool) → f.pdu.simulation ≡ v → is_other_kind f mode taken ≡ (if v then not mode else taken)
 against_is f mode taken v e = ap (λ (x : Bool). if x then not mode else taken) e
 
 -- a good frame at i is simulated or real as the block takes them afterwards
@@ -86,8 +86,8 @@ tells b events i g e f good at kind =
     ap (facts_of b (mode_at events i) (takes_simulated b events i)) (sym kind) ∙
     (ap (facts_at b (mode_at events i) (takes_simulated b events i)) (sym at) ∙ good) in
     let x = good_frame b (mode_at events i) (takes_simulated b events i) f g facts in
-    let no_reason : is_against f (mode_at events i) (takes_simulated b events i) ≡ false =
-    refused (is_against f (mode_at events i) (takes_simulated b events i)) b f x.1 in
+    let no_reason : is_other_kind f (mode_at events i) (takes_simulated b events i) ≡ false =
+    refused (is_other_kind f (mode_at events i) (takes_simulated b events i)) b f x.1 in
     let clear : reason_of false b f ≡ None = ap (λ (y : Bool). reason_of y b f) (sym no_reason) ∙ x.1 in
     let invite_is : invites b events i ≡ ((is_of f b && (is_clear (reason_of false b f) && f.pdu.simulation)) && mode_at events i) =
     ap (λ (o : Option EventRead). holds_at (is_plain_simulated b) o && mode_at events i) at ∙

@@ -1,5 +1,5 @@
 -- The entries are determined, and those of a block are its own.
-use Rattle.std.proofs.Common.{◌≡◌, ℕ, zero, suc, ◌+◌, ◌<◌, Bool, true, false, inl, inr, Option, Some, None, List, [], ◌∷◌, ◌++◌, slice_get, if◌then◌else◌, sym, refl, ap, ◌∙◌, subst, arith, append_assoc, ne_eqb, eq-eqb}
+use Rattle.std.proofs.Common.{◌≡◌, ℕ, zero, suc, ◌+◌, ◌<◌, Bool, true, false, inl, inr, Option, Some, None, List, [], ◌∷◌, ◌++◌, slice_get, if◌then◌else◌, sym, refl, ap, ap₂, ◌∙◌, subst, arith, append_assoc, ne_eqb, eq-eqb}
 use Rattle.std.proofs.lemmas.Bool.{false≢true}
 use Rattle.std.proofs.lemmas.Option.{none-some, same_Some}
 use Rattle.block_core.specs.declared.block.Block.{Block}
@@ -10,13 +10,13 @@ use Rattle.subscribe_core.specs.declared.registers.Verdict.{Verdict}
 use Rattle.subscribe_core.specs.declared.registers.Verdict.TheVariants.{Act, Refreshed, Repeated, Older}
 use Rattle.subscribe_core.specs.declared.entry.Entry.{Entry}
 use Rattle.subscribe_core.specs.declared.entry.Entry.TheVariants as says
-use Rattle.subscribe_core.specs.Epoch.{Trace, IsExpiry, IsVerdict}
+use Rattle.subscribe_core.specs.Epoch.{Trace, IsVerdict}
 use Rattle.subscribe_core.specs.Matching.{is_of, facts_of_frame}
 use Rattle.subscribe_core.specs.Sight.{trace_of_block}
-use Rattle.subscribe_core.specs.Entries.{AreExpired, AreOfContent, IsFrameEntry, IsBlockEntry, entry_of, AreReadEntriesAt, reason_at, switched_at}
-use Rattle.subscribe_core.specs.Simulation.{is_switched}
+use Rattle.subscribe_core.specs.Entries.{AreOfContent, AreOfEach, ExpiresAt, SwitchesAt, AreReadEntriesAt}
+use Rattle.subscribe_core.specs.FrameEntry.{IsFrameEntry, IsBlockEntry, entry_of, reason_at}
 use Rattle.subscribe_core.proofs.BlockNames.{is_of_key}
-use Rattle.subscribe_core.specs.Standing.{AreApart}
+use Rattle.subscribe_core.specs.Apart.{AreApart}
 use Rattle.subscribe_core.specs.Laws.{own, own_of}
 
 -- one verdict
@@ -41,13 +41,13 @@ verdict_unique t i f Older Older a b = refl
 
 -- one list of entries
 
-expired_unique : {A : Type 0} → (events : List EventRead) (i b : ℕ) (blocks : List (Block A)) (es fs : List (Entry A)) → AreExpired events i b blocks es → AreExpired events i b blocks fs → es ≡ fs
-expired_unique {A} events i b [] es fs a c = a ∙ sym c
-expired_unique {A} events i b (x ∷ xs) es fs (inl a) (inl c) =
-    a.1.1 ∙ (ap (λ (r : List (Entry A)). says.Expired b ∷ r) (expired_unique events i (b + 1) xs a.1.0 c.1.0 a.1.2 c.1.2) ∙ sym c.1.1)
-expired_unique {A} events i b (x ∷ xs) es fs (inl a) (inr c) = absurd (c.0 a.0)
-expired_unique {A} events i b (x ∷ xs) es fs (inr a) (inl c) = absurd (a.0 c.0)
-expired_unique {A} events i b (x ∷ xs) es fs (inr a) (inr c) = expired_unique events i (b + 1) xs es fs a.1 c.1
+each_unique : {A : Type 0} → (so : Block A → Type 0) (entry : ℕ → Entry A) (b : ℕ) (blocks : List (Block A)) (es fs : List (Entry A)) → AreOfEach so entry b blocks es → AreOfEach so entry b blocks fs → es ≡ fs
+each_unique so entry b [] es fs a c = a ∙ sym c
+each_unique {A} so entry b (x ∷ xs) es fs (inl a) (inl c) =
+    a.1.1 ∙ (ap (λ (r : List (Entry A)). entry b ∷ r) (each_unique so entry (b + 1) xs a.1.0 c.1.0 a.1.2 c.1.2) ∙ sym c.1.1)
+each_unique so entry b (x ∷ xs) es fs (inl a) (inr c) = absurd (c.0 a.0)
+each_unique so entry b (x ∷ xs) es fs (inr a) (inl c) = absurd (a.0 c.0)
+each_unique so entry b (x ∷ xs) es fs (inr a) (inr c) = each_unique so entry (b + 1) xs es fs a.1 c.1
 
 block_unique : {A : Type 0} → (events : List EventRead) (i b : ℕ) (block : Block A) (f : FrameRead) (r : Option Reason) (x y : Entry A) → IsBlockEntry events i b block f r x → IsBlockEntry events i b block f r y → x ≡ y
 block_unique {A} events i b block f (Some r) x y a c = a ∙ sym c
@@ -55,8 +55,8 @@ block_unique {A} events i b block f None x y a c =
     a.2 ∙ (ap (entry_of b f) (verdict_unique (trace_of_block block events) i (facts_of_frame f) a.0 c.0 a.1 c.1) ∙ sym c.2)
 
 -- two blocks of one frame are one
-pub same_place : {A : Type 0} → (blocks : List (Block A)) → AreApart blocks → (f : FrameRead) (b c : ℕ) (x y : Block A) → slice_get blocks b ≡ Some x → slice_get blocks c ≡ Some y → is_of f x ≡ true → is_of f y ≡ true → b ≡ c
-same_place {A} blocks apart f b c x y p q u v =
+pub same_position : {A : Type 0} → (blocks : List (Block A)) → AreApart blocks → (f : FrameRead) (b c : ℕ) (x y : Block A) → slice_get blocks b ≡ Some x → slice_get blocks c ≡ Some y → is_of f x ≡ true → is_of f y ≡ true → b ≡ c
+same_position {A} blocks apart f b c x y p q u v =
     let u_key = is_of_key f x u in
     let v_key = is_of_key f y v in
     apart b c x y p q (u_key.0 ∙ sym v_key.0, u_key.1 ∙ sym v_key.1)
@@ -65,15 +65,15 @@ pub same_block : {A : Type 0} → (blocks : List (Block A)) (b c : ℕ) (x y : B
 same_block {A} blocks b c x y p q e = same_Some x y (sym p ∙ (ap (slice_get blocks) e ∙ q))
 
 frame_unique : {A : Type 0} → (blocks : List (Block A)) → AreApart blocks → (events : List EventRead) (i : ℕ) (f : FrameRead) (x y : Entry A) → IsFrameEntry blocks events i f x → IsFrameEntry blocks events i f y → x ≡ y
-frame_unique {A} blocks apart events i f x y (inl a) (inl c) = a.1 ∙ sym c.1
-frame_unique {A} blocks apart events i f x y (inl a) (inr c) = absurd (false≢true (sym (a.0 c.0 c.1 c.2) ∙ c.3))
-frame_unique {A} blocks apart events i f x y (inr a) (inl c) = absurd (false≢true (sym (c.0 a.0 a.1 a.2) ∙ a.3))
+frame_unique {A} blocks apart events i f x y (inl a) (inl c) = a.told ∙ sym c.told
+frame_unique {A} blocks apart events i f x y (inl a) (inr c) = absurd (false≢true (sym (a.foreign c.position c.block c.here) ∙ c.own))
+frame_unique {A} blocks apart events i f x y (inr a) (inl c) = absurd (false≢true (sym (c.foreign a.position a.block a.here) ∙ a.own))
 frame_unique {A} blocks apart events i f x y (inr a) (inr c) =
-    let place : c.0 ≡ a.0 = same_place blocks apart f c.0 a.0 c.1 a.1 c.2 a.2 c.3 a.3 in
-    let block : c.1 ≡ a.1 = same_block blocks c.0 a.0 c.1 a.1 c.2 a.2 place in
-    block_unique events i a.0 a.1 f (reason_at a.1 events i f) x y a.4
-    (subst (λ (z : Block A). IsBlockEntry events i a.0 z f (reason_at z events i f) y) block
-    (subst (λ b. IsBlockEntry events i b c.1 f (reason_at c.1 events i f) y) place c.4))
+    let position : c.position ≡ a.position = same_position blocks apart f c.position a.position c.block a.block c.here a.here c.own a.own in
+    let block : c.block ≡ a.block = same_block blocks c.position a.position c.block a.block c.here a.here position in
+    block_unique events i a.position a.block f (reason_at a.block events i f) x y a.told
+    (subst (λ (z : Block A). IsBlockEntry events i a.position z f (reason_at z events i f) y) block
+    (subst (λ b. IsBlockEntry events i b c.block f (reason_at c.block events i f) y) position c.told))
 
 content_unique : {A : Type 0} → (blocks : List (Block A)) → AreApart blocks → (events : List EventRead) (i : ℕ) (k : Content) (es fs : List (Entry A)) → AreOfContent blocks events i k es → AreOfContent blocks events i k fs → es ≡ fs
 content_unique {A} blocks apart events i (OfGoose f) es fs a c =
@@ -89,10 +89,10 @@ read_entries_are_one {A} blocks events i es fs apart a c =
     let said : a.said ≡ c.said =
     content_unique blocks apart events i a.event.content a.said c.said a.are_said
     (subst (λ (e : EventRead). AreOfContent blocks events i e.content c.said) event c.are_said) in
-    let expired : a.expired ≡ c.expired = expired_unique events i 0 blocks a.expired c.expired a.are_expired c.are_expired in
-    let switched : List (Entry A) = switched_at events i 0 blocks in
-    a.whole ∙ (ap (λ (x : List (Entry A)). x ++ (switched_at events i 0 blocks ++ a.said)) expired ∙
-    (ap (λ (x : List (Entry A)). c.expired ++ (switched_at events i 0 blocks ++ x)) said ∙ sym c.whole))
+    let expired : a.expired ≡ c.expired = each_unique (ExpiresAt events i) says.Expired 0 blocks a.expired c.expired a.are_expired c.are_expired in
+    let switched : a.switched ≡ c.switched = each_unique (SwitchesAt events i) says.Switched 0 blocks a.switched c.switched a.are_switched c.are_switched in
+    a.whole ∙ (ap (λ (x : List (Entry A)). x ++ (a.switched ++ a.said)) expired ∙
+    (ap₂ (λ (x y : List (Entry A)). c.expired ++ (x ++ y)) switched said ∙ sym c.whole))
 
 -- a block's own entries
 
@@ -100,78 +100,58 @@ own-append : {A : Type 0} → (b : ℕ) (es fs : List (Entry A)) → own b (es +
 own-append {A} b [] fs = refl
 own-append {A} b (e ∷ es) fs = ap (λ (x : List (Entry A)). own_of b e ++ x) (own-append b es fs) ∙ sym (append_assoc (own_of b e) (own b es) (own b fs))
 
-abbrev one_switched : (A : Type 0) → Bool → List (Entry A)
-one_switched A x = if x then says.Switched 0 ∷ [] else []
+-- an entry that says nothing but the position of its block is that block's own
+record IsOwn (A : Type 0) (entry : ℕ → Entry A) : Type 0 where
+  here : (b c : ℕ) → c ≡ b → own_of b (entry c) ≡ entry 0 ∷ []
+  away : (b c : ℕ) → (c ≡ b → ⊥) → own_of b (entry c) ≡ []
 
-abbrev one_expired : (A : Type 0) → Bool → List (Entry A)
-one_expired A x = if x then says.Expired 0 ∷ [] else []
+abbrev one_if : {A : Type 0} → Entry A → Bool → List (Entry A)
+one_if e x = if x then e ∷ [] else []
 
-own_expired_is : (A : Type 0) (b c : ℕ) → c ≡ b → own_of {A = A} b (says.Expired c) ≡ says.Expired 0 ∷ []
-own_expired_is A b c e = ap (one_expired A) (eq-eqb c b e)
+expired_is_own : (A : Type 0) → IsOwn A says.Expired
+expired_is_own A = record { here = λ b c e. ap (one_if {A = A} (says.Expired 0)) (eq-eqb c b e); away = λ b c ne. ap (one_if {A = A} (says.Expired 0)) (ne_eqb c b ne) }
 
-own_expired_not : (A : Type 0) (b c : ℕ) → (c ≡ b → ⊥) → own_of {A = A} b (says.Expired c) ≡ []
-own_expired_not A b c ne = ap (one_expired A) (ne_eqb c b ne)
+switched_is_own : (A : Type 0) → IsOwn A says.Switched
+switched_is_own A = record { here = λ b c e. ap (one_if {A = A} (says.Switched 0)) (eq-eqb c b e); away = λ b c ne. ap (one_if {A = A} (says.Switched 0)) (ne_eqb c b ne) }
 
-own_below : {A : Type 0} → (events : List EventRead) (i from c : ℕ) (blocks : List (Block A)) (es : List (Entry A)) → c < from → AreExpired events i from blocks es → own c es ≡ []
-own_below {A} events i from c [] es lt a = ap (own c) a
-own_below {A} events i from c (x ∷ xs) es lt (inl a) =
-    ap (own c) a.1.1 ∙ (ap (λ (y : List (Entry A)). y ++ own c a.1.0) (own_expired_not A c from (λ e. omega arith)) ∙ own_below events i (from + 1) c xs a.1.0 (omega arith) a.1.2)
-own_below {A} events i from c (x ∷ xs) es lt (inr a) = own_below events i (from + 1) c xs es (omega arith) a.1
+module _ {A : Type 0} (so : Block A → Type 0) (entry : ℕ → Entry A) (is : IsOwn A entry) where
+  own_below : (from c : ℕ) (blocks : List (Block A)) (es : List (Entry A)) → c < from → AreOfEach so entry from blocks es → own c es ≡ []
+  own_below from c [] es lt a = ap (own c) a
+  own_below from c (x ∷ xs) es lt (inl a) =
+      ap (own c) a.1.1 ∙ (ap (λ (y : List (Entry A)). y ++ own c a.1.0) (is.away c from (λ e. omega arith)) ∙ own_below (from + 1) c xs a.1.0 (omega arith) a.1.2)
+  own_below from c (x ∷ xs) es lt (inr a) = own_below (from + 1) c xs es (omega arith) a.1
 
--- what the expiries leave of block c, by whether it expires
-abbrev Left : {A : Type 0} → List EventRead → ℕ → Block A → List (Entry A) → Type 0
-Left {A} events i block es = (IsExpiry (trace_of_block block events) i → es ≡ says.Expired 0 ∷ []) × (¬ IsExpiry (trace_of_block block events) i → es ≡ [])
+  -- what such entries leave of block c, by whether it is so of that
+  abbrev Left : Block A → List (Entry A) → Type 0
+  Left block es = (so block → es ≡ entry 0 ∷ []) × (¬ so block → es ≡ [])
 
-own_expired : {A : Type 0} → (events : List EventRead) (i from c k : ℕ) (blocks : List (Block A)) (block : Block A) (es : List (Entry A)) → c ≡ from + k → slice_get blocks k ≡ Some block → AreExpired events i from blocks es → Left events i block (own c es)
-own_expired {A} events i from c k [] block es e is a = absurd (none-some block is)
-own_expired {A} events i from c zero (x ∷ xs) block es e is (inl a) =
-    let same : x ≡ block = same_Some x block is in
-    let whole : own c es ≡ says.Expired 0 ∷ [] =
-    ap (own c) a.1.1 ∙ (ap (λ (y : List (Entry A)). y ++ own c a.1.0) (own_expired_is A c from (omega arith)) ∙ ap (λ (y : List (Entry A)). says.Expired 0 ∷ y) (own_below events i (from + 1) c xs a.1.0 (omega arith) a.1.2)) in
-    ((λ w. whole), (λ w. absurd (w (subst (λ (y : Block A). IsExpiry (trace_of_block y events) i) same a.0))))
-own_expired {A} events i from c zero (x ∷ xs) block es e is (inr a) =
-    let same : x ≡ block = same_Some x block is in (
-      (λ w. absurd (a.0 (subst (λ (y : Block A). IsExpiry (trace_of_block y events) i) (sym same) w))),
-      (λ w. own_below events i (from + 1) c xs es (omega arith) a.1),
-    )
-own_expired {A} events i from c (suc k) (x ∷ xs) block es e is (inl a) =
-    let rest = own_expired events i (from + 1) c k xs block a.1.0 (omega arith) is a.1.2 in
-    let whole : own c es ≡ own c a.1.0 =
-    ap (own c) a.1.1 ∙ ap (λ (y : List (Entry A)). y ++ own c a.1.0) (own_expired_not A c from (λ q. omega arith)) in
-    ((λ w. whole ∙ rest.0 w), (λ w. whole ∙ rest.1 w))
-own_expired {A} events i from c (suc k) (x ∷ xs) block es e is (inr a) =
-    own_expired events i (from + 1) c k xs block es (omega arith) is a.1
+  own_left : (from c k : ℕ) (blocks : List (Block A)) (block : Block A) (es : List (Entry A)) → c ≡ from + k → slice_get blocks k ≡ Some block → AreOfEach so entry from blocks es → Left block (own c es)
+  own_left from c k [] block es e at a = absurd (none-some block at)
+  own_left from c zero (x ∷ xs) block es e at (inl a) =
+      let whole : own c es ≡ entry 0 ∷ [] =
+      ap (own c) a.1.1 ∙ (ap (λ (y : List (Entry A)). y ++ own c a.1.0) (is.here c from (omega arith)) ∙ ap (λ (y : List (Entry A)). entry 0 ∷ y) (own_below (from + 1) c xs a.1.0 (omega arith) a.1.2)) in
+      ((λ w. whole), (λ w. absurd (w (subst so (same_Some x block at) a.0))))
+  own_left from c zero (x ∷ xs) block es e at (inr a) =
+      ((λ w. absurd (a.0 (subst so (sym (same_Some x block at)) w))), (λ w. own_below (from + 1) c xs es (omega arith) a.1))
+  own_left from c (suc k) (x ∷ xs) block es e at (inl a) =
+      let rest = own_left (from + 1) c k xs block a.1.0 (omega arith) at a.1.2 in
+      let whole : own c es ≡ own c a.1.0 = ap (own c) a.1.1 ∙ ap (λ (y : List (Entry A)). y ++ own c a.1.0) (is.away c from (λ q. omega arith)) in
+      ((λ w. whole ∙ rest.0 w), (λ w. whole ∙ rest.1 w))
+  own_left from c (suc k) (x ∷ xs) block es e at (inr a) = own_left (from + 1) c k xs block es (omega arith) at a.1
 
--- what the switches leave of block c, by whether it is switched
-own_switched_is : (A : Type 0) (b c : ℕ) → c ≡ b → own_of {A = A} b (says.Switched c) ≡ says.Switched 0 ∷ []
-own_switched_is A b c e = ap (λ (x : Bool). one_switched A x) (eq-eqb c b e)
+  -- they are those that the block has alone
+  own_each : (b : ℕ) (blocks : List (Block A)) (block : Block A) (es fs : List (Entry A)) → slice_get blocks b ≡ Some block → AreOfEach so entry 0 blocks es → AreOfEach so entry 0 (block ∷ []) fs → own b es ≡ own 0 fs
+  own_each b blocks block es fs at a c = go c
+    where
+      mine : Left block (own b es)
+      mine = own_left 0 b b blocks block es (omega arith) at a
 
-own_switched_not : (A : Type 0) (b c : ℕ) → (c ≡ b → ⊥) → own_of {A = A} b (says.Switched c) ≡ []
-own_switched_not A b c ne = ap (λ (x : Bool). one_switched A x) (ne_eqb c b ne)
+      only_one : Left block (own 0 fs)
+      only_one = own_left 0 0 0 (block ∷ []) block fs (omega arith) refl c
 
--- one more block, by whether it is switched
-switched_other : (A : Type 0) (c from : ℕ) (y : Bool) (l es : List (Entry A)) → (from ≡ c → ⊥) → own c l ≡ es → own c (if y then says.Switched from ∷ l else l) ≡ es
-switched_other A c from true l es apart rest = ap (λ (x : List (Entry A)). x ++ own c l) (own_switched_not A c from apart) ∙ rest
-switched_other A c from false l es apart rest = rest
-
-switched_here : (A : Type 0) (c from : ℕ) (y : Bool) (l : List (Entry A)) → from ≡ c → own c l ≡ [] → own c (if y then says.Switched from ∷ l else l) ≡ one_switched A y
-switched_here A c from true l same rest =
-    ap (λ (x : List (Entry A)). x ++ own c l) (own_switched_is A c from same) ∙ ap (λ (x : List (Entry A)). says.Switched 0 ∷ x) rest
-switched_here A c from false l same rest = rest
-
-switched_below : {A : Type 0} → (events : List EventRead) (i from c : ℕ) (blocks : List (Block A)) → c < from → own c (switched_at events i from blocks) ≡ []
-switched_below events i from c [] lt = refl
-switched_below {A} events i from c (x ∷ xs) lt =
-    switched_other A c from (is_switched x events i) (switched_at events i (from + 1) xs) [] (λ e. omega arith) (switched_below events i (from + 1) c xs (omega arith))
-
-own_switched : {A : Type 0} → (events : List EventRead) (i from c k : ℕ) (blocks : List (Block A)) (block : Block A) → c ≡ from + k → slice_get blocks k ≡ Some block → own c (switched_at events i from blocks) ≡ one_switched A (is_switched block events i)
-own_switched events i from c k [] block e is = absurd (none-some block is)
-own_switched {A} events i from c zero (x ∷ xs) block e is =
-    switched_here A c from (is_switched x events i) (switched_at events i (from + 1) xs) (omega arith) (switched_below events i (from + 1) c xs (omega arith)) ∙
-    ap (λ (z : Block A). one_switched A (is_switched z events i)) (same_Some x block is)
-own_switched {A} events i from c (suc k) (x ∷ xs) block e is =
-    switched_other A c from (is_switched x events i) (switched_at events i (from + 1) xs) (one_switched A (is_switched block events i)) (λ q. omega arith)
-    (own_switched events i (from + 1) c k xs block (omega arith) is)
+      go : AreOfEach so entry 0 (block ∷ []) fs → own b es ≡ own 0 fs
+      go (inl w) = mine.0 w.0 ∙ sym (only_one.0 w.0)
+      go (inr w) = mine.1 w.0 ∙ sym (only_one.1 w.0)
 
 own_three : {A : Type 0} → (b : ℕ) (xs ys zs : List (Entry A)) → own b (xs ++ (ys ++ zs)) ≡ own b xs ++ (own b ys ++ own b zs)
 own_three {A} b xs ys zs = own-append b xs (ys ++ zs) ∙ ap (λ (l : List (Entry A)). own b xs ++ l) (own-append b ys zs)
@@ -201,31 +181,31 @@ own_block_same {A} events i b block f None x y a c =
     let v = verdict_unique (trace_of_block block events) i (facts_of_frame f) a.0 c.0 a.1 c.1 in
     ap (own_of b) a.2 ∙ (own_entry_is A b f a.0 ∙ (ap (λ (v : Verdict). entry_of 0 f v ∷ []) v ∙ sym (ap (own_of 0) c.2 ∙ own_entry_is A 0 f c.0)))
 
--- the one place of a list of one
+-- the one position of a list of one
 only : {A : Type 0} → (block x : Block A) (c : ℕ) → slice_get (block ∷ []) c ≡ Some x → (c ≡ 0) × (block ≡ x)
 only {A} block x zero e = (refl, same_Some block x e)
 only {A} block x (suc c) e = absurd (none-some x e)
 
 own_frame : {A : Type 0} → (blocks : List (Block A)) → AreApart blocks → (events : List EventRead) (i b : ℕ) (block : Block A) (f : FrameRead) (x y : Entry A) → slice_get blocks b ≡ Some block → IsFrameEntry blocks events i f x → IsFrameEntry (block ∷ []) events i f y → own_of b x ≡ own_of 0 y
-own_frame {A} blocks apart events i b block f x y here (inl a) (inl c) = ap (own_of b) a.1 ∙ sym (ap (own_of 0) c.1)
+own_frame {A} blocks apart events i b block f x y here (inl a) (inl c) = ap (own_of b) a.told ∙ sym (ap (own_of 0) c.told)
 own_frame {A} blocks apart events i b block f x y here (inl a) (inr c) =
-    let o = only block c.1 c.0 c.2 in
-    absurd (false≢true (sym (a.0 b block here) ∙ (ap (is_of f) o.1 ∙ c.3)))
+    let o = only block c.block c.position c.here in
+    absurd (false≢true (sym (a.foreign b block here) ∙ (ap (is_of f) o.1 ∙ c.own)))
 own_frame {A} blocks apart events i b block f x y here (inr a) (inl c) =
-    let no_of : is_of f block ≡ false = c.0 0 block refl in
-    let ne : a.0 ≡ b → ⊥ =
-    λ e. false≢true (sym no_of ∙ (ap (is_of f) (sym (same_block blocks a.0 b a.1 block a.2 here e)) ∙ a.3)) in
-    own_block_not events i b a.0 a.1 f (reason_at a.1 events i f) x ne a.4 ∙ sym (ap (own_of 0) c.1)
+    let no_of : is_of f block ≡ false = c.foreign 0 block refl in
+    let ne : a.position ≡ b → ⊥ =
+    λ e. false≢true (sym no_of ∙ (ap (is_of f) (sym (same_block blocks a.position b a.block block a.here here e)) ∙ a.own)) in
+    own_block_not events i b a.position a.block f (reason_at a.block events i f) x ne a.told ∙ sym (ap (own_of 0) c.told)
 own_frame {A} blocks apart events i b block f x y here (inr a) (inr c) =
-    let o = only block c.1 c.0 c.2 in
-    let yes_of : is_of f block ≡ true = ap (is_of f) o.1 ∙ c.3 in
-    let place : a.0 ≡ b = same_place blocks apart f a.0 b a.1 block a.2 here a.3 yes_of in
-    let same : a.1 ≡ block = same_block blocks a.0 b a.1 block a.2 here place in
+    let o = only block c.block c.position c.here in
+    let yes_of : is_of f block ≡ true = ap (is_of f) o.1 ∙ c.own in
+    let position : a.position ≡ b = same_position blocks apart f a.position b a.block block a.here here a.own yes_of in
+    let same : a.block ≡ block = same_block blocks a.position b a.block block a.here here position in
     own_block_same events i b block f (reason_at block events i f) x y
     (subst (λ (z : Block A). IsBlockEntry events i b z f (reason_at z events i f) x) same
-    (subst (λ k. IsBlockEntry events i k a.1 f (reason_at a.1 events i f) x) place a.4))
+    (subst (λ k. IsBlockEntry events i k a.block f (reason_at a.block events i f) x) position a.told))
     (subst (λ (z : Block A). IsBlockEntry events i 0 z f (reason_at z events i f) y) (sym o.1)
-    (subst (λ k. IsBlockEntry events i k c.1 f (reason_at c.1 events i f) y) o.0 c.4))
+    (subst (λ k. IsBlockEntry events i k c.block f (reason_at c.block events i f) y) o.0 c.told))
 
 own_content : {A : Type 0} → (blocks : List (Block A)) → AreApart blocks → (events : List EventRead) (i b : ℕ) (block : Block A) (k : Content) (es fs : List (Entry A)) → slice_get blocks b ≡ Some block → AreOfContent blocks events i k es → AreOfContent (block ∷ []) events i k fs → own b es ≡ own 0 fs
 own_content {A} blocks apart events i b block (OfGoose f) es fs here a c =
@@ -235,10 +215,6 @@ own_content {A} blocks apart events i b block (OfFault fault) es fs here a c = a
 own_content {A} blocks apart events i b block OfClock es fs here a c = ap (own b) a ∙ sym (ap (own 0) c)
 own_content {A} blocks apart events i b block (OfMode on) es fs here a c = ap (own b) a ∙ sym (ap (own 0) c)
 
-own_first : {A : Type 0} → (events : List EventRead) (i : ℕ) (block : Block A) (xs ys : List (Entry A)) → Left events i block xs → AreExpired events i 0 (block ∷ []) ys → Left events i block (own 0 ys) → xs ≡ own 0 ys
-own_first {A} events i block xs ys a (inl c) d = a.0 c.0 ∙ sym (d.0 c.0)
-own_first {A} events i block xs ys a (inr c) d = a.1 c.0 ∙ sym (d.1 c.0)
-
 pub read_blocks_are_alone : {A : Type 0} → (blocks : List (Block A)) (events : List EventRead) (b : ℕ) (block : Block A) (i : ℕ) (es alone : List (Entry A)) → AreApart blocks → slice_get blocks b ≡ Some block → AreReadEntriesAt blocks events i es → AreReadEntriesAt (block ∷ []) events i alone → own b es ≡ own 0 alone
 read_blocks_are_alone {A} blocks events b block i es alone apart here a c =
     let event : c.event ≡ a.event = same_Some c.event a.event (sym c.at ∙ a.at) in
@@ -246,13 +222,10 @@ read_blocks_are_alone {A} blocks events b block i es alone apart here a c =
     own_content blocks apart events i b block a.event.content a.said c.said here a.are_said
     (subst (λ (e : EventRead). AreOfContent (block ∷ []) events i e.content c.said) event c.are_said) in
     let expired : own b a.expired ≡ own 0 c.expired =
-    own_first events i block (own b a.expired) c.expired
-    (own_expired events i 0 b b blocks block a.expired (omega arith) here a.are_expired) c.are_expired
-    (own_expired events i 0 0 0 (block ∷ []) block c.expired (omega arith) refl c.are_expired) in
-    let switched : own b (switched_at events i 0 blocks) ≡ own 0 (switched_at events i 0 (block ∷ [])) =
-    own_switched events i 0 b b blocks block (omega arith) here ∙ sym (own_switched events i 0 0 0 (block ∷ []) block (omega arith) refl) in
-    ap (own b) a.whole ∙ (own_three b a.expired (switched_at events i 0 blocks) a.said ∙
-    (ap (λ (x : List (Entry A)). x ++ (own b (switched_at events i 0 blocks) ++ own b a.said)) expired ∙
-    (ap (λ (x : List (Entry A)). own 0 c.expired ++ (x ++ own b a.said)) switched ∙
-    (ap (λ (x : List (Entry A)). own 0 c.expired ++ (own 0 (switched_at events i 0 (block ∷ [])) ++ x)) said ∙
-    (sym (own_three 0 c.expired (switched_at events i 0 (block ∷ [])) c.said) ∙ sym (ap (own 0) c.whole))))))
+    own_each (ExpiresAt events i) says.Expired (expired_is_own A) b blocks block a.expired c.expired here a.are_expired c.are_expired in
+    let switched : own b a.switched ≡ own 0 c.switched =
+    own_each (SwitchesAt events i) says.Switched (switched_is_own A) b blocks block a.switched c.switched here a.are_switched c.are_switched in
+    ap (own b) a.whole ∙ (own_three b a.expired a.switched a.said ∙
+    (ap (λ (x : List (Entry A)). x ++ (own b a.switched ++ own b a.said)) expired ∙
+    (ap₂ (λ (x y : List (Entry A)). own 0 c.expired ++ (x ++ y)) switched said ∙
+    (sym (own_three 0 c.expired c.switched c.said) ∙ sym (ap (own 0) c.whole)))))

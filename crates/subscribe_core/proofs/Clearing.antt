@@ -10,7 +10,7 @@ use Rattle.subscribe_core.specs.declared.registers.Held.{Held}
 use Rattle.subscribe_core.specs.declared.registers.Register.{Register}
 use Rattle.subscribe_core.specs.computed.Deadlines.{AreDeadlinesOf, due_count, helds, pair_cmp}
 use Rattle.subscribe_core.specs.computed.Indexed.{IsIndexed, registers_after_clock, register_after_clock}
-use Rattle.subscribe_core.specs.Standing.{idle}
+use Rattle.subscribe_core.specs.State.{idle}
 use Rattle.subscribe_core.specs.computed.Steps.{is_dead, after_clock}
 
 -- what is due isn't held after

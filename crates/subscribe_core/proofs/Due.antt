@@ -21,7 +21,7 @@ use Rattle.subscribe_core.specs.declared.registers.Held.{Held}
 use Rattle.subscribe_core.specs.declared.entry.Entry.{Entry}
 use Rattle.subscribe_core.specs.declared.entry.Entry.TheVariants as says
 use Rattle.subscribe_core.specs.declared.registers.Register.{Register}
-use Rattle.subscribe_core.specs.Entries.{expired_count}
+use Rattle.subscribe_core.specs.Looks.{expired_count}
 use Rattle.subscribe_core.specs.computed.Steps.{is_dead, expired_entries}
 use Rattle.subscribe_core.specs.computed.Deadlines.{pair_cmp, has_deadline, helds, AreDeadlinesOf, due_pairs, due_count, due_positions}
 use Rattle.subscribe_core.proofs.Pairs.{pair_total, at_same, due_has, due_from, within_from}

@@ -49,8 +49,8 @@ pub ends_unique : {t : Trace} {s k j : ℕ} → Ends t s k → Ends t s j → k 
 ends_unique {t} {s} {k} {j} a b =
     elim (cases_order k j) [
       | inl e ↦ e
-      | inr (inl lt) ↦ absurd (b.1 k lt a.0)
-      | inr (inr gt) ↦ absurd (a.1 j gt b.0)
+      | inr (inl lt) ↦ absurd (b.first k lt a.over)
+      | inr (inr gt) ↦ absurd (a.first j gt b.over)
     ]
 
 -- what is over at k started before
@@ -96,7 +96,7 @@ settled (suc n) t k kn (inr w) r u lt =
       | inl e ↦ (k, le_refl k, subst (λ x. Ends t x k) (sym e) w.2)
       | inr (inl less) ↦
           let b = start_from w.1 in
-          let after : w.0 < k = over_after t w.0 k w.2.0 in
+          let after : w.0 < k = over_after t w.0 k w.2.over in
           let from : b.0 ≤ w.0 = b.2.from in
           let x = settled n t b.0 (omega arith) b.1 r u (before_first b.2 u less) in
           (x.0, omega arith, x.2)

@@ -18,8 +18,8 @@ use Rattle.subscribe_core.specs.computed.Deadlines.{due_count, helds}
 use Rattle.subscribe_core.specs.computed.Indexed.{registers_after_clock, register_after_clock, good_entries, good_held, good_register, good_renewal, switches}
 use Rattle.subscribe_core.specs.Matching.{facts_of_frame, holds, is_clear, is_of, reason_of}
 use Rattle.subscribe_core.specs.Reading.{FrameRead, OfGoose}
-use Rattle.subscribe_core.specs.Simulation.{is_against, is_plain_simulated}
-use Rattle.subscribe_core.specs.Standing.{AreApart}
+use Rattle.subscribe_core.specs.Simulation.{is_other_kind, is_plain_simulated}
+use Rattle.subscribe_core.specs.Apart.{AreApart}
 use Rattle.subscribe_core.specs.computed.Steps.{after_clock, after_switch, block_entry, block_held, flag_by, is_dead, register_by, registers_by, said_of, switch_by, switched_entries, held_after_frame, turned, verdict_on}
 use Rattle.subscribe_core.proofs.Alike.{no_reason, refused}
 use Rattle.subscribe_core.proofs.BlockNames.{is_of_key}
@@ -72,9 +72,9 @@ good_case mode flag x f false false e s same =
 good_case mode flag x f true false e s same = absurd (false≢true (sym same))
 good_case mode flag x f false true e s same = absurd (false≢true same)
 
-pub good_is : {A : Type 0} (mode flag : Bool) (x : Block A) (f : FrameRead) → is_of f x ≡ true → reason_of (is_against f mode flag) x f ≡ None → Good mode flag x f
+pub good_is : {A : Type 0} (mode flag : Bool) (x : Block A) (f : FrameRead) → is_of f x ≡ true → reason_of (is_other_kind f mode flag) x f ≡ None → Good mode flag x f
 good_is mode flag x f yes_of clear =
-    let none : is_against f mode flag ≡ false = refused (is_against f mode flag) x f clear in
+    let none : is_other_kind f mode flag ≡ false = refused (is_other_kind f mode flag) x f clear in
     elim (cases_Bool f.pdu.simulation) [
       | inl s ↦
           let off : not mode ≡ false = sym (ap (λ (y : Bool). if y then not mode else flag) s) ∙ none in
@@ -96,7 +96,7 @@ quiet_from mode flag x f e =
       flag_is = ap (λ (y : Bool). y || flag) e;
     }
 
-pub quiet_refused : {A : Type 0} (mode flag : Bool) (x : Block A) (f : FrameRead) (r : Reason) → reason_of (is_against f mode flag) x f ≡ Some r → Quiet mode flag x f
+pub quiet_refused : {A : Type 0} (mode flag : Bool) (x : Block A) (f : FrameRead) (r : Reason) → reason_of (is_other_kind f mode flag) x f ≡ Some r → Quiet mode flag x f
 quiet_refused mode flag x f r e =
     quiet_from mode flag x f
     (elim (cases_Bool (is_plain_simulated x (OfGoose f) && mode)) [
@@ -105,7 +105,7 @@ quiet_refused mode flag x f r e =
           let p = and_parts (is_plain_simulated x (OfGoose f)) mode both in
           let q = and_parts (is_of f x) (is_clear (reason_of false x f) && f.pdu.simulation) p.0 in
           let s = and_parts (is_clear (reason_of false x f)) f.pdu.simulation q.1 in
-          let none : is_against f mode flag ≡ false = ap (λ (y : Bool). if y then not mode else flag) s.1 ∙ ap not p.1 in
+          let none : is_other_kind f mode flag ≡ false = ap (λ (y : Bool). if y then not mode else flag) s.1 ∙ ap not p.1 in
           let told : reason_of false x f ≡ Some r = ap (λ (y : Bool). reason_of y x f) (sym none) ∙ e in
           absurd (false≢true (sym (ap is_clear told) ∙ s.0))
     ])
@@ -118,8 +118,8 @@ register_other : {A : Type 0} (now : ℕ) (mode : Bool) (x : Block A) (r : Regis
 register_other now mode x r f no_of =
     let q = quiet_other mode r.simulated x f no_of in
     let held : turned now mode (OfGoose f) x r ≡ after_clock r.held now = ap (λ (y : Bool). after_switch y (after_clock r.held now)) q.switch_is in
-    let stays : (if is_of f x then block_held now f (reason_of (is_against f mode r.simulated) x f) (turned now mode (OfGoose f) x r) else turned now mode (OfGoose f) x r) ≡ turned now mode (OfGoose f) x r =
-    ap (λ (y : Bool). if y then block_held now f (reason_of (is_against f mode r.simulated) x f) (turned now mode (OfGoose f) x r) else turned now mode (OfGoose f) x r) no_of in
+    let stays : (if is_of f x then block_held now f (reason_of (is_other_kind f mode r.simulated) x f) (turned now mode (OfGoose f) x r) else turned now mode (OfGoose f) x r) ≡ turned now mode (OfGoose f) x r =
+    ap (λ (y : Bool). if y then block_held now f (reason_of (is_other_kind f mode r.simulated) x f) (turned now mode (OfGoose f) x r) else turned now mode (OfGoose f) x r) no_of in
     ap₂ (λ (o : Option Held) (b : Bool). record { held = o; simulated = b }) (stays ∙ held) q.flag_is
 
 -- lists of blocks, of which the frame is none's
@@ -204,7 +204,7 @@ abbrev pub Answers : {A : Type 0} → ℕ → Bool → List (Block A) → List R
 Answers now mode xs rs f es = es ≡ switched_entries mode (OfGoose f) 0 xs rs ++ said_of now mode xs rs (OfGoose f)
 
 said_at : {A : Type 0} (now : ℕ) (mode : Bool) (xs : List (Block A)) (rs : List Register) (f : FrameRead) (at : ℕ) (x : Block A) (r : Register) → position (is_of f) xs ≡ Some at → slice_get xs at ≡ Some x → slice_get rs at ≡ Some r
-    → said_of now mode xs rs (OfGoose f) ≡ block_entry at f (reason_of (is_against f mode r.simulated) x f) (turned now mode (OfGoose f) x r) ∷ []
+    → said_of now mode xs rs (OfGoose f) ≡ block_entry at f (reason_of (is_other_kind f mode r.simulated) x f) (turned now mode (OfGoose f) x r) ∷ []
 said_at {A} now mode xs rs f at x r e p q = rw (e, p, q) refl
 
 pub answer_none : {A : Type 0} (now : ℕ) (mode : Bool) (xs : List (Block A)) (rs : List Register) (f : FrameRead) → position (is_of f) xs ≡ None → Answers now mode xs rs f (says.NotSubscribed ∷ [])
@@ -216,7 +216,7 @@ pub registers_kept : {A : Type 0} (now : ℕ) (mode : Bool) (xs : List (Block A)
 registers_kept now mode xs rs f same e = sym (registers_none now mode f xs rs same (λ j y p. position_none (is_of f) xs e j y p))
 
 pub answer_refused : {A : Type 0} (now : ℕ) (mode : Bool) (xs : List (Block A)) (rs : List Register) (f : FrameRead) (at : ℕ) (x : Block A) (r : Register) (reason : Reason) → AreApart xs → position (is_of f) xs ≡ Some at → slice_get xs at ≡ Some x → slice_get rs at ≡ Some r
-    → reason_of (is_against f mode r.simulated) x f ≡ Some reason → Answers now mode xs rs f (says.Refused at reason ∷ [])
+    → reason_of (is_other_kind f mode r.simulated) x f ≡ Some reason → Answers now mode xs rs f (says.Refused at reason ∷ [])
 answer_refused {A} now mode xs rs f at x r reason apart e p q told =
     let others = is_of_others xs f at x apart p (found_is_of xs f at x e p) in
     let quiet : switched_entries mode (OfGoose f) 0 xs rs ≡ [] =
@@ -236,13 +236,13 @@ cleared_get now (x ∷ rs) zero r e = ap (λ (y : Register). Some (register_afte
 cleared_get now (x ∷ rs) (suc at) r e = cleared_get now rs at r e
 
 pub registers_refused : {A : Type 0} (now : ℕ) (mode : Bool) (xs : List (Block A)) (rs : List Register) (f : FrameRead) (at : ℕ) (x : Block A) (r : Register) (reason : Reason) → length rs ≡ length xs → AreApart xs → position (is_of f) xs ≡ Some at → slice_get xs at ≡ Some x → slice_get rs at ≡ Some r
-    → reason_of (is_against f mode r.simulated) x f ≡ Some reason → registers_after_clock now rs ≡ registers_by now mode (OfGoose f) xs rs
+    → reason_of (is_other_kind f mode r.simulated) x f ≡ Some reason → registers_after_clock now rs ≡ registers_by now mode (OfGoose f) xs rs
 registers_refused now mode xs rs f at x r reason same apart e p q told =
     let yes_of = found_is_of xs f at x e p in
     let quiet = quiet_refused mode r.simulated x f reason told in
     let held : turned now mode (OfGoose f) x r ≡ after_clock r.held now = ap (λ (y : Bool). after_switch y (after_clock r.held now)) quiet.switch_is in
-    let stays : (if is_of f x then block_held now f (reason_of (is_against f mode r.simulated) x f) (turned now mode (OfGoose f) x r) else turned now mode (OfGoose f) x r) ≡ turned now mode (OfGoose f) x r =
-    ap (λ (y : Bool). if y then block_held now f (reason_of (is_against f mode r.simulated) x f) (turned now mode (OfGoose f) x r) else turned now mode (OfGoose f) x r) yes_of
+    let stays : (if is_of f x then block_held now f (reason_of (is_other_kind f mode r.simulated) x f) (turned now mode (OfGoose f) x r) else turned now mode (OfGoose f) x r) ≡ turned now mode (OfGoose f) x r =
+    ap (λ (y : Bool). if y then block_held now f (reason_of (is_other_kind f mode r.simulated) x f) (turned now mode (OfGoose f) x r) else turned now mode (OfGoose f) x r) yes_of
     ∙ ap (λ (o : Option Reason). block_held now f o (turned now mode (OfGoose f) x r)) told in
     let register : register_by now mode (OfGoose f) x r ≡ register_after_clock now r =
     ap₂ (λ (o : Option Held) (b : Bool). record { held = o; simulated = b }) (stays ∙ held) quiet.flag_is in
@@ -250,7 +250,7 @@ registers_refused now mode xs rs f at x r reason same apart e p q told =
     ∙ (ap (set (registers_after_clock now rs) at) register ∙ set_same (registers_after_clock now rs) at (register_after_clock now r) (cleared_get now rs at r q)))
 
 pub answer_good : {A : Type 0} (now : ℕ) (mode : Bool) (xs : List (Block A)) (rs : List Register) (f : FrameRead) (at : ℕ) (x : Block A) (r : Register) → AreApart xs → position (is_of f) xs ≡ Some at → slice_get xs at ≡ Some x → slice_get rs at ≡ Some r
-    → reason_of (is_against f mode r.simulated) x f ≡ None → Answers now mode xs rs f (good_entries at now r f)
+    → reason_of (is_other_kind f mode r.simulated) x f ≡ None → Answers now mode xs rs f (good_entries at now r f)
 answer_good {A} now mode xs rs f at x r apart e p q clear =
     let yes_of = found_is_of xs f at x e p in
     let good = good_is mode r.simulated x f yes_of clear in
@@ -264,13 +264,13 @@ answer_good {A} now mode xs rs f at x r apart e p q clear =
     sym (ap₂ (λ (a b : List (Entry A)). a ++ b) switched said)
 
 pub registers_good : {A : Type 0} (now : ℕ) (mode : Bool) (xs : List (Block A)) (rs : List Register) (f : FrameRead) (at : ℕ) (x : Block A) (r : Register) → length rs ≡ length xs → AreApart xs → position (is_of f) xs ≡ Some at → slice_get xs at ≡ Some x → slice_get rs at ≡ Some r
-    → reason_of (is_against f mode r.simulated) x f ≡ None → set (registers_after_clock now rs) at (good_register now r f) ≡ registers_by now mode (OfGoose f) xs rs
+    → reason_of (is_other_kind f mode r.simulated) x f ≡ None → set (registers_after_clock now rs) at (good_register now r f) ≡ registers_by now mode (OfGoose f) xs rs
 registers_good now mode xs rs f at x r same apart e p q clear =
     let yes_of = found_is_of xs f at x e p in
     let good = good_is mode r.simulated x f yes_of clear in
     let held : turned now mode (OfGoose f) x r ≡ good_held now r f = ap (λ (y : Bool). after_switch y (after_clock r.held now)) good.switch_is in
-    let stays : (if is_of f x then block_held now f (reason_of (is_against f mode r.simulated) x f) (turned now mode (OfGoose f) x r) else turned now mode (OfGoose f) x r) ≡ block_held now f None (turned now mode (OfGoose f) x r) =
-    ap (λ (y : Bool). if y then block_held now f (reason_of (is_against f mode r.simulated) x f) (turned now mode (OfGoose f) x r) else turned now mode (OfGoose f) x r) yes_of
+    let stays : (if is_of f x then block_held now f (reason_of (is_other_kind f mode r.simulated) x f) (turned now mode (OfGoose f) x r) else turned now mode (OfGoose f) x r) ≡ block_held now f None (turned now mode (OfGoose f) x r) =
+    ap (λ (y : Bool). if y then block_held now f (reason_of (is_other_kind f mode r.simulated) x f) (turned now mode (OfGoose f) x r) else turned now mode (OfGoose f) x r) yes_of
     ∙ ap (λ (o : Option Reason). block_held now f o (turned now mode (OfGoose f) x r)) clear in
     let register : register_by now mode (OfGoose f) x r ≡ good_register now r f =
     ap₂ (λ (o : Option Held) (b : Bool). record { held = o; simulated = b }) (stays ∙ ap (block_held now f None) held) good.flag_is in
@@ -357,7 +357,7 @@ written_fewer now rs at r e =
     subst (λ (hs : List (Option Held)). due_count now hs ≤ due_count now (helds rs)) (sym (map-set (λ (x : Register). x.held) rs at r)) (due_fewer (helds rs) at now r.held e)
 
 -- the reason that was found
-pub reason_told : {A : Type 0} (x : Block A) (f : FrameRead) (against mode m flag : Bool) (o : Option Reason) → against ≡ is_against f m flag → m ≡ mode → o ≡ reason_of against x f
-    → reason_of (is_against f mode flag) x f ≡ o
+pub reason_told : {A : Type 0} (x : Block A) (f : FrameRead) (against mode m flag : Bool) (o : Option Reason) → against ≡ is_other_kind f m flag → m ≡ mode → o ≡ reason_of against x f
+    → reason_of (is_other_kind f mode flag) x f ≡ o
 reason_told x f against mode m flag o a b told =
-    sym (told ∙ ap (λ (y : Bool). reason_of y x f) (a ∙ ap (λ (y : Bool). is_against f y flag) b))
+    sym (told ∙ ap (λ (y : Bool). reason_of y x f) (a ∙ ap (λ (y : Bool). is_other_kind f y flag) b))

@@ -10,7 +10,8 @@ use Rattle.subscribe_core.specs.declared.registers.Register.{Register}
 use Rattle.subscribe_core.specs.computed.Deadlines.{has_deadline, helds}
 use Rattle.subscribe_core.specs.computed.Indexed.{IsIndexed}
 use Rattle.subscribe_core.specs.computed.Names.{AreSorted, AreNamesOf}
-use Rattle.subscribe_core.specs.Standing.{AreApart, IsTwice, idle}
+use Rattle.subscribe_core.specs.Apart.{AreApart, IsTwice}
+use Rattle.subscribe_core.specs.State.{idle}
 
 pub apart_from : {A : Type 0} → (blocks : List (Block A)) → ((k : ℕ) → k < length blocks → ¬ IsTwice blocks k) → AreApart blocks
 apart_from blocks h i j a b p q e =

@@ -20,7 +20,7 @@ use Rattle.block_core.specs.declared.block.Block.{Block}
 use Rattle.subscribe_core.specs.Reading.{FrameRead}
 use Rattle.subscribe_core.specs.declared.names.Name.{Name}
 use Rattle.subscribe_core.specs.Matching.{is_of}
-use Rattle.subscribe_core.specs.Standing.{AreApart}
+use Rattle.subscribe_core.specs.Apart.{AreApart}
 use Rattle.subscribe_core.proofs.BlockNames.{is_of_key, key_is_of}
 use Rattle.subscribe_core.specs.computed.Names.{key_cmp, key_of, block_key, HasName, AreNamesOf}
 

@@ -154,11 +154,11 @@ first_of (suc d) t s k i number f from none e is state =
 acts_first : (t : Trace) (s i number : ℕ) (f : Facts) → IsIn t s i f → ((j : ℕ) (g : Facts) → IsIn t s j g → j < i → g.state ≤ number) → (m : ℕ) (h : Facts) → m ≤ i → IsFirstOf t s m number h → IsActedOn t s number
 acts_first t s i number f a below m h le x =
     let from : s ≤ m = x.from in
-    let l = epoch_back t s i m a.epoch from le in (
-      m,
-      h,
-      record { good = x.good; epoch = l },
-      record {
+    let l = epoch_back t s i m a.epoch from le in record {
+      position = m;
+      facts = h;
+      good = record { good = x.good; epoch = l };
+      acts = record {
         facts = h;
         good = x.good;
         start = s;
@@ -169,25 +169,25 @@ acts_first t s i number f a below m h le x =
             let differ : g.state ≡ number → ⊥ = λ e. x.first j g b lt is e in
             let state : h.state ≡ number = x.state in
             omega arith;
-      },
-      x.state,
-    )
+      };
+      numbered = x.state;
+    }
 
 pub acted_where_in_time : (t : Trace) → ActedWhereInTime t
 acted_where_in_time t s number = (
-  (λ w. (
-    w.0,
-    w.1,
-    w.2,
-    w.4,
-    λ j g b lt.
-        let above : g.state < w.1.state = acts_above t s j w.0 g w.1 b w.2 lt w.3 in
-        let state : w.1.state ≡ number = w.4 in
-        omega arith,
-  )),
+  (λ w. record {
+    position = w.position;
+    facts = w.facts;
+    good = w.good;
+    numbered = w.numbered;
+    before = λ j g b lt.
+        let above : g.state < w.facts.state = acts_above t s j w.position g w.facts b w.good lt w.acts in
+        let state : w.facts.state ≡ number = w.numbered in
+        omega arith;
+  }),
   (λ w.
-      let from : s ≤ w.0 = w.2.epoch.within in
+      let from : s ≤ w.position = w.good.epoch.within in
       let x =
-      first_of (w.0 - s) t s s w.0 number w.1 (le_refl s) (λ j g a lt is b. absurd (omega arith)) (omega arith) w.2.good w.3 in
-      acts_first t s w.0 number w.1 w.2 w.4 x.0 x.1 x.2 x.3),
+      first_of (w.position - s) t s s w.position number w.facts (le_refl s) (λ j g a lt is b. absurd (omega arith)) (omega arith) w.good.good w.numbered in
+      acts_first t s w.position number w.facts w.good w.before x.0 x.1 x.2 x.3),
 )

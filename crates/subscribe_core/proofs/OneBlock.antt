@@ -50,18 +50,16 @@ idle_in t n (inl none) =
       past = inl refl;
     }
 idle_in t n (inr w) =
-    let s : ℕ = w.0 in
-    let k : ℕ = w.1 in
-    let after : s < k = over_after t s k w.5.0 in
-    let below : k < n = w.4 in
+    let after : w.start < w.end = over_after t w.start w.end w.ends.over in
+    let below : w.end < n = w.before in
     record {
       ready = record {
-        from = k;
-        may = inr (s, w.2, w.5);
+        from = w.end;
+        may = inr (w.start, w.is_start, w.ends);
         past = omega arith;
-        none = none_good t k n (λ m lt g.
-            let le : m ≤ s = w.3 m (Next w.2 w.5 g) lt in
-            let from : k ≤ m = g.from in
+        none = none_good t w.end n (λ m lt g.
+            let le : m ≤ w.start = w.last m (Next w.is_start w.ends g) lt in
+            let from : w.end ≤ m = g.from in
             absurd (omega arith));
       };
       past = inr below;
@@ -76,21 +74,21 @@ idle_out t n i = go i.ready.may
     go : MayStart t i.ready.from → IsIdleAfter t n
     go (inl e) = inl (λ s lt u. bad s u (omega arith) lt)
     go (inr w) =
-        let after : w.0 < i.ready.from = over_after t w.0 i.ready.from w.2.0 in
-        inr (
-          w.0,
-          i.ready.from,
-          w.1,
-          (λ r u lt. elim (cases_lt w.0 r) [
+        let after : w.0 < i.ready.from = over_after t w.0 i.ready.from w.2.over in
+        inr (record {
+          start = w.0;
+          is_start = w.1;
+          last = λ r u lt. elim (cases_lt w.0 r) [
             | inr le ↦ le
             | inl more ↦
                 let x = later w.1 u more in
                 let same : x.0 ≡ i.ready.from = ends_unique x.2 w.2 in
                 absurd (bad r u (omega arith) lt)
-          ]),
-          omega arith,
-          w.2,
-        )
+          ];
+          end = i.ready.from;
+          before = omega arith;
+          ends = w.2;
+        })
 
 pub open_in : (t : Trace) (n : ℕ) (h : Held) (b : HoldsBest t n h) → Open t n b.start b.best b.facts n
 open_in t n h b =
@@ -98,7 +96,7 @@ open_in t n h b =
   where
     alive : (m k : ℕ) → k < m → k < n → ¬ IsOver t b.start k
     alive zero k a lt d = absurd (omega arith)
-    alive (suc m) k a lt d = b.lives k lt (d, λ j less. alive m j (omega arith) (omega arith))
+    alive (suc m) k a lt d = b.lives k lt (record { over = d; first = λ j less. alive m j (omega arith) (omega arith) })
 
 pub open_out : (t : Trace) (n s p : ℕ) (f : Facts) (h : Held) → Open t n s p f n → h.state ≡ f.state → h.sequence ≡ f.sequence → h.deadline ≡ t.now p + f.lifetime → HoldsBest t n h
 open_out t n s p f h o a b c =
@@ -109,9 +107,9 @@ open_out t n s p f h o a b c =
         | inr le ↦ le
         | inl more ↦
             let x = later o.start u more in
-            absurd (o.lives x.0 (omega arith) x.2.0)
+            absurd (o.lives x.0 (omega arith) x.2.over)
       ];
-      lives = λ k lt e. o.lives k lt e.0;
+      lives = λ k lt e. o.lives k lt e.over;
       best = p;
       facts = f;
       is_best = o.best;
@@ -130,31 +128,31 @@ idle_no_end t n i r u e =
           let x = settled i.ready.from t i.ready.from (le_refl i.ready.from) i.ready.may r u lt in
           let same : x.0 ≡ n = ends_unique x.2 e in
           let le : x.0 ≤ i.ready.from = x.1 in
-          let after : r < n = over_after t r n e.0 in
+          let after : r < n = over_after t r n e.over in
           absurd (elim i.past [ inl z ↦ omega arith | inr below ↦ omega arith ])
       | inr from ↦
-          absurd (good_not_none t r (start_good u).0 (start_good u).1 (i.ready.none r from (over_after t r n e.0)))
+          absurd (good_not_none t r (start_good u).0 (start_good u).1 (i.ready.none r from (over_after t r n e.over)))
     ]
 
 -- a block that is idle doesn't expire
 pub idle_no_expiry : (t : Trace) (n : ℕ) → Idle t n → ¬ IsExpiry t n
-idle_no_expiry t n i w = idle_no_end t n i w.0 w.1 w.2
+idle_no_expiry t n i w = idle_no_end t n i w.start w.is_start w.ends
 
 -- of what isn't over before n, the block expires at n only where that is dead
 pub open_expiry : (t : Trace) (n s p : ℕ) (f : Facts) → Open t n s p f n → IsExpiry t n → Dead t s n
 open_expiry t n s p f o w =
-    elim (cases_order w.0 s) [
-      | inl e ↦ subst (λ x. Dead t x n) e w.3
+    elim (cases_order w.start s) [
+      | inl e ↦ subst (λ x. Dead t x n) e w.dead
       | inr (inl less) ↦
-          let x = later w.1 o.start less in
-          let same : x.0 ≡ n = ends_unique x.2 w.2 in
+          let x = later w.is_start o.start less in
+          let same : x.0 ≡ n = ends_unique x.2 w.ends in
           let a : s ≤ p = o.best.from in
           let b : p < n = o.best.below in
           absurd (omega arith)
       | inr (inr more) ↦
-          let x = later o.start w.1 more in
-          let after : w.0 < n = w.3.after in
-          absurd (o.lives x.0 (omega arith) x.2.0)
+          let x = later o.start w.is_start more in
+          let after : w.start < n = w.dead.after in
+          absurd (o.lives x.0 (omega arith) x.2.over)
     ]
 
 pub open_dead : (t : Trace) (n s p : ℕ) (f : Facts) → Open t n s p f n → t.now p + f.lifetime ≤ t.now n → Dead t s n
@@ -305,7 +303,7 @@ open_last t n s p f o =
         | inr ge ↦ ge
         | inl more ↦
             let x = later o.start u more in
-            absurd (o.lives x.0 (omega arith) x.2.0)
+            absurd (o.lives x.0 (omega arith) x.2.over)
       ];
     }
 
@@ -338,25 +336,26 @@ open_not_acts t n s p f g o e le a =
     omega arith
 
 pub open_refreshes : (t : Trace) (n s p : ℕ) (f g : Facts) → Open t n s p f (n + 1) → t.good n ≡ Some g → IsBefore f g → Refreshes t n g
-open_refreshes t n s p f g o e before = (s, open_last t n s p f o, best_new t s n p f g o.best e before)
+open_refreshes t n s p f g o e before = record { start = s; epoch = open_last t n s p f o; is_best = best_new t s n p f g o.best e before }
 
 pub open_not_refreshes : (t : Trace) (n s p : ℕ) (f g : Facts) → Open t n s p f (n + 1) → t.good n ≡ Some g → ¬ IsBefore f g → ¬ Refreshes t n g
 open_not_refreshes t n s p f g o e past w =
-    let same : w.0 ≡ s = last_unique w.1 (open_last t n s p f o) in
-    let best : IsBest t s (n + 1) n g = subst (λ x. IsBest t x (n + 1) n g) same w.2 in
+    let same : w.start ≡ s = last_unique w.epoch (open_last t n s p f o) in
+    let best : IsBest t s (n + 1) n g = subst (λ x. IsBest t x (n + 1) n g) same w.is_best in
     let at : n ≡ p = best_unique best (best_kept t s n p f g o.best e past) in
     let below : p < n = o.best.below in
     omega arith
 
 pub open_repeats : (t : Trace) (n s p : ℕ) (f g : Facts) → Open t n s p f (n + 1) → g.state ≡ f.state → g.sequence ≡ f.sequence → Repeats t n g
-open_repeats t n s p f g o a b = (s, open_last t n s p f o, (p, f, o.best, a, b))
+open_repeats t n s p f g o a b =
+    record { start = s; epoch = open_last t n s p f o; best = p; facts = f; is_best = o.best; state = a; sequence = b }
 
 pub open_not_repeats : (t : Trace) (n s p : ℕ) (f g : Facts) → Open t n s p f (n + 1) → (g.state ≡ f.state → g.sequence ≡ f.sequence → ⊥) → ¬ Repeats t n g
 open_not_repeats t n s p f g o differ w =
-    let same : w.0 ≡ s = last_unique w.1 (open_last t n s p f o) in
-    let best : IsBest t s n w.2.0 w.2.1 = subst (λ x. IsBest t x n w.2.0 w.2.1) same w.2.2 in
-    let facts : w.2.1 ≡ f = best_facts best o.best in
-    differ (w.2.3 ∙ ap (λ (x : Facts). x.state) facts) (w.2.4 ∙ ap (λ (x : Facts). x.sequence) facts)
+    let same : w.start ≡ s = last_unique w.epoch (open_last t n s p f o) in
+    let best : IsBest t s n w.best w.facts = subst (λ x. IsBest t x n w.best w.facts) same w.is_best in
+    let facts : w.facts ≡ f = best_facts best o.best in
+    differ (w.state ∙ ap (λ (x : Facts). x.state) facts) (w.sequence ∙ ap (λ (x : Facts). x.sequence) facts)
 
 -- what a block holds, while its epoch isn't over at n
 pub record Going (t : Trace) (n : ℕ) (h : Held) : Type 0 where
@@ -393,9 +392,9 @@ clock_step t n (Some h) b = go (nat_le h.deadline (t.now n)) refl (t.switched n)
         let deadline : h.deadline ≡ t.now b.best + b.facts.lifetime = b.deadline in
         let dead : Dead t b.start n =
         open_dead t n b.start b.best b.facts o (omega (arith, leb-true h.deadline (t.now n) e)) in
-        let ends : Ends t b.start n = (inl dead, o.lives) in
+        let ends : Ends t b.start n = record { over = inl dead; first = o.lives } in
         let ready : Ready t n = dead_ready t n b.start o.start ends in (
-          ((λ x. (b.start, o.start, ends, dead)), (λ w. refl)),
+          ((λ x. record { start = b.start; is_start = o.start; ends = ends; dead = dead }), (λ w. refl)),
           elim sw as (λ v. HoldsAt t n (after_switch v None)) [ true ↦ ready | false ↦ ready ],
         )
     go false e true se =
@@ -406,7 +405,7 @@ clock_step t n (Some h) b = go (nat_le h.deadline (t.now n)) refl (t.switched n)
             (λ x. absurd (false≢true x)),
             (λ w. absurd (lives (open_expiry t n b.start b.best b.facts o w))),
           ),
-          dead_ready t n b.start o.start (open_switched t n b.start b.best b.facts o se, o.lives),
+          dead_ready t n b.start o.start (record { over = open_switched t n b.start b.best b.facts o se; first = o.lives }),
         )
     go false e false se =
         let deadline : h.deadline ≡ t.now b.best + b.facts.lifetime = b.deadline in

@@ -47,7 +47,7 @@ over_same a s k lt (inr x) = inr (x.0, sym (a.switched k lt) ∙ x.1)
 
 pub ends_same : {n : ℕ} {t u : Trace} → SameBelow n t u → (s k : ℕ) → k < n → Ends t s k → Ends u s k
 ends_same a s k lt e =
-    (over_same a s k lt e.0, λ j less d. e.1 j less (over_same (same_sym a) s j (omega arith) d))
+    record { over = over_same a s k lt e.over; first = λ j less d. e.first j less (over_same (same_sym a) s j (omega arith) d) }
 
 pub first_same : {n : ℕ} {t u : Trace} → SameBelow n t u → (k i : ℕ) → i < n → IsFirstGood t k i → IsFirstGood u k i
 first_same a k i lt g =
@@ -62,13 +62,18 @@ pub start_same : {n : ℕ} {t u : Trace} → SameBelow n t u → {s : ℕ} → s
 start_same a lt (First g) = First (first_same a 0 _ lt g)
 start_same {n} a {s} lt (Next {r = r} {k = k} w e g) =
     let from : k ≤ s = g.from in
-    let after : r < k = over_after _ r k e.0 in
+    let after : r < k = over_after _ r k e.over in
     Next (start_same a (omega arith) w) (ends_same a r k (omega arith) e) (first_same a k s lt g)
 
 pub expiry_same : {n : ℕ} {t u : Trace} → SameBelow n t u → (k : ℕ) → k < n → IsExpiry t k → IsExpiry u k
 expiry_same a k lt w =
-    let after : w.0 < k = w.3.after in
-    (w.0, start_same a (omega arith) w.1, ends_same a w.0 k lt w.2, dead_same a w.0 k lt w.3)
+    let after : w.start < k = w.dead.after in
+    record {
+      start = w.start;
+      is_start = start_same a (omega arith) w.is_start;
+      ends = ends_same a w.start k lt w.ends;
+      dead = dead_same a w.start k lt w.dead;
+    }
 
 pub last_same : {n : ℕ} {t u : Trace} → SameBelow n t u → (i s : ℕ) → i < n → IsLastStart t i s → IsLastStart u i s
 last_same a i s lt l =
@@ -91,14 +96,18 @@ acts_same a i lt w =
 
 pub refreshes_same : {n : ℕ} {t u : Trace} → SameBelow n t u → (i : ℕ) (f : Facts) → i < n → Refreshes t i f → Refreshes u i f
 refreshes_same a i f lt w =
-    (w.0, last_same a i w.0 lt w.1, best_same a w.0 (i + 1) i f (omega arith) w.2)
+    record { start = w.start; epoch = last_same a i w.start lt w.epoch; is_best = best_same a w.start (i + 1) i f (omega arith) w.is_best }
 
 pub repeats_same : {n : ℕ} {t u : Trace} → SameBelow n t u → (i : ℕ) (f : Facts) → i < n → Repeats t i f → Repeats u i f
-repeats_same a i f lt w = (
-  w.0,
-  last_same a i w.0 lt w.1,
-  (w.2.0, w.2.1, best_same a w.0 i w.2.0 w.2.1 (omega arith) w.2.2, w.2.3, w.2.4),
-)
+repeats_same a i f lt w = record {
+  start = w.start;
+  epoch = last_same a i w.start lt w.epoch;
+  best = w.best;
+  facts = w.facts;
+  is_best = best_same a w.start i w.best w.facts (omega arith) w.is_best;
+  state = w.state;
+  sequence = w.sequence;
+}
 
 pub verdict_same : {n : ℕ} {t u : Trace} → SameBelow n t u → (i : ℕ) (f : Facts) (v : Verdict) → i < n → IsVerdict t i f v → IsVerdict u i f v
 verdict_same a i f Act lt w = acts_same a i lt w
@@ -118,16 +127,16 @@ verdict_same a i f Older lt w = (
 pub holds_same : {n : ℕ} {t u : Trace} → SameBelow n t u → (held : Option Held) → BlockHolds t n held → BlockHolds u n held
 holds_same a None (inl none) = inl (λ s lt w. none s lt (start_same (same_sym a) lt w))
 holds_same {n} {t} {u} a None (inr w) =
-    let after : w.0 < w.1 = over_after t w.0 w.1 w.5.0 in
-    let below : w.1 < n = w.4 in
-    inr (
-      w.0,
-      w.1,
-      start_same a (omega arith) w.2,
-      (λ r x lt. w.3 r (start_same (same_sym a) lt x) lt),
-      w.4,
-      ends_same a w.0 w.1 below w.5,
-    )
+    let after : w.start < w.end = over_after t w.start w.end w.ends.over in
+    let below : w.end < n = w.before in
+    inr (record {
+      start = w.start;
+      is_start = start_same a (omega arith) w.is_start;
+      last = λ r x lt. w.last r (start_same (same_sym a) lt x) lt;
+      end = w.end;
+      before = w.before;
+      ends = ends_same a w.start w.end below w.ends;
+    })
 holds_same {n} {t} {u} a (Some h) b =
     let from : b.start ≤ b.best = b.is_best.from in
     let below : b.best < n = b.is_best.below in

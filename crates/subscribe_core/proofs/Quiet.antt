@@ -14,7 +14,8 @@ use Rattle.subscribe_core.specs.declared.registers.Register.{Register}
 use Rattle.subscribe_core.specs.computed.Content.{content_by, content_of, content_with, reading_of}
 use Rattle.subscribe_core.specs.Entries.{AreEntriesAt}
 use Rattle.subscribe_core.specs.Reading.{IsFrame}
-use Rattle.subscribe_core.specs.Standing.{AreApart, State, StandsAfter}
+use Rattle.subscribe_core.specs.Apart.{AreApart}
+use Rattle.subscribe_core.specs.State.{State, StandsAfter}
 use Rattle.subscribe_core.specs.computed.Steps.{said_of, step_entries}
 use Rattle.list_core.proofs.Emptiness.{back_nil}
 use Rattle.subscribe_core.proofs.Readings.{is_read}

@@ -12,7 +12,7 @@ use Rattle.subscribe_core.specs.computed.Content.{reading_of}
 use Rattle.subscribe_core.specs.Entries.{AreReadEntriesAt, AreEntriesAt, AreEntries}
 use Rattle.subscribe_core.specs.Laws.{BlocksAreAlone, EntriesAreOne, EntriesStay, EntriesExist}
 use Rattle.subscribe_core.specs.Sight.{trace_of_block}
-use Rattle.subscribe_core.specs.Standing.{State, StandsAfterRead, StandsAfter, fresh_state, idle}
+use Rattle.subscribe_core.specs.State.{State, StandsAfterRead, StandsAfter, fresh_state, idle}
 use Rattle.subscribe_core.specs.computed.Steps.{step_entries, step_state, run_events}
 use Rattle.subscribe_core.proofs.Alone.{read_entries_are_one, read_blocks_are_alone}
 use Rattle.subscribe_core.proofs.Readings.{all_read, reads_one, read_append, read_length}

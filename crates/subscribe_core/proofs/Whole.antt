@@ -16,10 +16,11 @@ use Rattle.subscribe_core.specs.declared.entry.Entry.TheVariants as says
 use Rattle.subscribe_core.specs.Epoch.{IsExpiry, BlockHolds}
 use Rattle.subscribe_core.specs.computed.Steps.{is_dead, after_clock, after_switch, verdict_on, held_after_frame, switch_by, flag_by, expired_entries, switched_entries, turned, block_entry, block_held, held_by, register_by, registers_by, found_entry, frame_entry, said_of, step_entries, step_state}
 use Rattle.subscribe_core.specs.Matching.{is_of, reason_of, facts_of_frame, facts_unless_refused}
-use Rattle.subscribe_core.specs.Simulation.{is_against, mode_by, mode_at, takes_simulated, is_switched}
+use Rattle.subscribe_core.specs.Simulation.{is_other_kind, mode_by, mode_at, takes_simulated}
 use Rattle.subscribe_core.specs.Sight.{facts_of, greatest_event_moment, trace_of_block}
-use Rattle.subscribe_core.specs.Standing.{State, StandsAfterRead}
-use Rattle.subscribe_core.specs.Entries.{AreExpired, AreReadEntriesAt, AreOfContent, IsFrameEntry, IsBlockEntry, switched_at}
+use Rattle.subscribe_core.specs.State.{State, StandsAfterRead}
+use Rattle.subscribe_core.specs.Entries.{AreOfContent, AreOfEach, AreReadEntriesAt, ExpiresAt, SwitchesAt}
+use Rattle.subscribe_core.specs.FrameEntry.{IsFrameEntry, IsBlockEntry}
 use Rattle.subscribe_core.proofs.OneBlock.{HoldsAt, clock_step, none_step, frame_step}
 use Rattle.subscribe_core.proofs.Prefix.{holds_same}
 use Rattle.subscribe_core.proofs.Traces.{get_pushed, front_same, switched_new, flag_new, mode_new, mode_kept, good_new, takes_front}
@@ -49,7 +50,7 @@ record Agrees {A : Type 0} (events : List EventRead) (e : EventRead) (now : ℕ)
   now_is : now ≡ (trace_of_block x (events ++ e ∷ [])).now (length events)
   switch_is : (trace_of_block x (events ++ e ∷ [])).switched (length events) ≡ switch_by x mode r.simulated e.content
   good_is : (trace_of_block x (events ++ e ∷ [])).good (length events) ≡ facts_of x mode r.simulated e.content
-  reason_is : (f : FrameRead) → reason_of (is_against f (mode_at (events ++ e ∷ []) (length events)) (takes_simulated x (events ++ e ∷ []) (length events))) x f ≡ reason_of (is_against f mode r.simulated) x f
+  reason_is : (f : FrameRead) → reason_of (is_other_kind f (mode_at (events ++ e ∷ []) (length events)) (takes_simulated x (events ++ e ∷ []) (length events))) x f ≡ reason_of (is_other_kind f mode r.simulated) x f
   flag_is : flag_by x mode r.simulated e.content ≡ takes_simulated x (events ++ e ∷ []) (length events + 1)
   expiry : (is_dead r.held now ≡ true) ↔ IsExpiry (trace_of_block x (events ++ e ∷ [])) (length events)
   held : HoldsAt (trace_of_block x (events ++ e ∷ [])) (length events) (turned now mode e.content x r)
@@ -67,8 +68,8 @@ agrees events e s w b x r p q =
       switch_is = sw;
       good_is = good_new x events e ∙ (ap (λ m. facts_of x m (takes_simulated x events (length events)) e.content) (sym w.mode) ∙ ap (λ y. facts_of x s.mode y e.content) (sym flag));
       reason_is = λ f.
-          ap (λ m. reason_of (is_against f m (takes_simulated x (events ++ e ∷ []) (length events))) x f) (mode_new events e ∙ sym w.mode) ∙
-          ap (λ y. reason_of (is_against f s.mode y) x f) (takes_front x events (e ∷ []) (length events) (omega arith) ∙ sym flag);
+          ap (λ m. reason_of (is_other_kind f m (takes_simulated x (events ++ e ∷ []) (length events))) x f) (mode_new events e ∙ sym w.mode) ∙
+          ap (λ y. reason_of (is_other_kind f s.mode y) x f) (takes_front x events (e ∷ []) (length events) (omega arith) ∙ sym flag);
       flag_is = sym (flag_new x events e ∙ (ap (λ m. flag_by x m (takes_simulated x events (length events)) e.content) (sym w.mode) ∙ ap (λ y. flag_by x s.mode y e.content) (sym flag)));
       expiry = subst (λ m. (is_dead r.held m ≡ true) ↔ IsExpiry (trace_of_block x (events ++ e ∷ [])) (length events)) (sym now) step.0;
       held = subst (λ m. HoldsAt (trace_of_block x (events ++ e ∷ [])) (length events) (after_switch (switch_by x s.mode r.simulated e.content) (after_clock r.held m))) (sym now)
@@ -76,12 +77,12 @@ agrees events e s w b x r p q =
     }
 
 -- what the block holds after the event, and the verdict on its frame
-of_facts : {A : Type 0} → (f : FrameRead) (x : Block A) (mode flag : Bool) (o : Bool) (r : Option Reason) → is_of f x ≡ o → reason_of (is_against f mode flag) x f ≡ r → facts_of x mode flag (OfGoose f) ≡ (if o then facts_unless_refused r (facts_of_frame f) else None)
+of_facts : {A : Type 0} → (f : FrameRead) (x : Block A) (mode flag : Bool) (o : Bool) (r : Option Reason) → is_of f x ≡ o → reason_of (is_other_kind f mode flag) x f ≡ r → facts_of x mode flag (OfGoose f) ≡ (if o then facts_unless_refused r (facts_of_frame f) else None)
 of_facts f x mode flag o r a b =
-    ap (λ (y : Bool). if y then facts_unless_refused (reason_of (is_against f mode flag) x f) (facts_of_frame f) else None) a ∙
+    ap (λ (y : Bool). if y then facts_unless_refused (reason_of (is_other_kind f mode flag) x f) (facts_of_frame f) else None) a ∙
     ap (λ (y : Option Reason). if o then facts_unless_refused y (facts_of_frame f) else None) b
 
-block_ok : {A : Type 0} → (events : List EventRead) (e : EventRead) (now : ℕ) (mode : Bool) (x : Block A) (r : Register) (c : ℕ) (f : FrameRead) → Agrees events e now mode x r → e.content ≡ OfGoose f → is_of f x ≡ true → (held : Option Held) → HoldsAt (trace_of_block x (events ++ e ∷ [])) (length events) held → (reason : Option Reason) → reason_of (is_against f mode r.simulated) x f ≡ reason → IsBlockEntry (events ++ e ∷ []) (length events) c x f reason (block_entry c f reason held) × BlockHolds (trace_of_block x (events ++ e ∷ [])) (length events + 1) (block_held now f reason held)
+block_ok : {A : Type 0} → (events : List EventRead) (e : EventRead) (now : ℕ) (mode : Bool) (x : Block A) (r : Register) (c : ℕ) (f : FrameRead) → Agrees events e now mode x r → e.content ≡ OfGoose f → is_of f x ≡ true → (held : Option Held) → HoldsAt (trace_of_block x (events ++ e ∷ [])) (length events) held → (reason : Option Reason) → reason_of (is_other_kind f mode r.simulated) x f ≡ reason → IsBlockEntry (events ++ e ∷ []) (length events) c x f reason (block_entry c f reason held) × BlockHolds (trace_of_block x (events ++ e ∷ [])) (length events + 1) (block_held now f reason held)
 block_ok events e now mode x r c f a is yes_of held at (Some reason) ri =
     (refl, none_step (trace_of_block x (events ++ e ∷ [])) (length events) held at (a.good_is ∙ (ap (facts_of x mode r.simulated) is ∙ of_facts f x mode r.simulated true (Some reason) yes_of ri)))
 block_ok events e now mode x r c f a is yes_of held at None ri =
@@ -93,11 +94,11 @@ block_ok events e now mode x r c f a is yes_of held at None ri =
 held_ok : {A : Type 0} → (events : List EventRead) (e : EventRead) (now : ℕ) (mode : Bool) (x : Block A) (r : Register) → Agrees events e now mode x r → (held : Option Held) → HoldsAt (trace_of_block x (events ++ e ∷ [])) (length events) held → (k : Content) → e.content ≡ k → BlockHolds (trace_of_block x (events ++ e ∷ [])) (length events + 1) (held_by now mode x r k held)
 held_ok events e now mode x r a held at (OfGoose f) is = go (is_of f x) refl
   where
-    go : (o : Bool) → is_of f x ≡ o → BlockHolds (trace_of_block x (events ++ e ∷ [])) (length events + 1) (if o then block_held now f (reason_of (is_against f mode r.simulated) x f) held else held)
-    go true o = (block_ok events e now mode x r 0 f a is o held at (reason_of (is_against f mode r.simulated) x f) refl).1
+    go : (o : Bool) → is_of f x ≡ o → BlockHolds (trace_of_block x (events ++ e ∷ [])) (length events + 1) (if o then block_held now f (reason_of (is_other_kind f mode r.simulated) x f) held else held)
+    go true o = (block_ok events e now mode x r 0 f a is o held at (reason_of (is_other_kind f mode r.simulated) x f) refl).1
     go false o =
         none_step (trace_of_block x (events ++ e ∷ [])) (length events) held at
-        (a.good_is ∙ (ap (facts_of x mode r.simulated) is ∙ of_facts f x mode r.simulated false (reason_of (is_against f mode r.simulated) x f) o refl))
+        (a.good_is ∙ (ap (facts_of x mode r.simulated) is ∙ of_facts f x mode r.simulated false (reason_of (is_other_kind f mode r.simulated) x f) o refl))
 held_ok events e now mode x r a held at OfSampled is = none_step (trace_of_block x (events ++ e ∷ [])) (length events) held at (a.good_is ∙ ap (facts_of x mode r.simulated) is)
 held_ok events e now mode x r a held at (OfFault z) is = none_step (trace_of_block x (events ++ e ∷ [])) (length events) held at (a.good_is ∙ ap (facts_of x mode r.simulated) is)
 held_ok events e now mode x r a held at OfClock is = none_step (trace_of_block x (events ++ e ∷ [])) (length events) held at (a.good_is ∙ ap (facts_of x mode r.simulated) is)
@@ -116,25 +117,25 @@ register_at {A} now mode k (z ∷ xs) (r ∷ rs) zero x y p q =
     (r, refl, ap (λ (w : Block A). register_by now mode k w r) (sym (same_Some z x p)) ∙ same_Some (register_by now mode k z r) y q)
 register_at now mode k (z ∷ xs) (r ∷ rs) (suc b) x y p q = register_at now mode k xs rs b x y p q
 
-expired_one : {A : Type 0} → (events : List EventRead) (n now b : ℕ) (x : Block A) (xs : List (Block A)) (r : Register) (rs : List Register) (due : Bool) → is_dead r.held now ≡ due → ((is_dead r.held now ≡ true) ↔ IsExpiry (trace_of_block x events) n) → AreExpired events n (b + 1) xs (expired_entries now (b + 1) rs) → AreExpired events n b (x ∷ xs) (if due then says.Expired b ∷ expired_entries now (b + 1) rs else expired_entries now (b + 1) rs)
-expired_one events n now b x xs r rs true is iff rest = inl (iff.0 is, (expired_entries now (b + 1) rs, refl, rest))
-expired_one events n now b x xs r rs false is iff rest = inr ((λ w. false≢true (sym is ∙ iff.1 w)), rest)
+each_one : {A : Type 0} → (so : Block A → Type 0) (entry : ℕ → Entry A) (b : ℕ) (x : Block A) (xs : List (Block A)) (es : List (Entry A)) (y : Bool) → (y ≡ true) ↔ so x → AreOfEach so entry (b + 1) xs es → AreOfEach so entry b (x ∷ xs) (if y then entry b ∷ es else es)
+each_one so entry b x xs es true iff rest = inl (iff.0 refl, (es, refl, rest))
+each_one so entry b x xs es false iff rest = inr ((λ w. false≢true (iff.1 w)), rest)
 
-expired_ok : {A : Type 0} → (events : List EventRead) (e : EventRead) (now : ℕ) (mode : Bool) (b : ℕ) (xs : List (Block A)) (rs : List Register) → length rs ≡ length xs → AllAgree events e now mode xs rs → AreExpired (events ++ e ∷ []) (length events) b xs (expired_entries now b rs)
+expired_ok : {A : Type 0} → (events : List EventRead) (e : EventRead) (now : ℕ) (mode : Bool) (b : ℕ) (xs : List (Block A)) (rs : List Register) → length rs ≡ length xs → AllAgree events e now mode xs rs → AreOfEach (ExpiresAt (events ++ e ∷ []) (length events)) says.Expired b xs (expired_entries now b rs)
 expired_ok events e now mode b [] [] same all = refl
 expired_ok events e now mode b [] (r ∷ rs) same all = absurd (omega arith)
 expired_ok events e now mode b (x ∷ xs) [] same all = absurd (omega arith)
 expired_ok events e now mode b (x ∷ xs) (r ∷ rs) same all =
-    expired_one (events ++ e ∷ []) (length events) now b x xs r rs (is_dead r.held now) refl (all 0 x r refl refl).expiry
+    each_one (ExpiresAt (events ++ e ∷ []) (length events)) says.Expired b x xs (expired_entries now (b + 1) rs) (is_dead r.held now) (all 0 x r refl refl).expiry
     (expired_ok events e now mode (b + 1) xs rs (omega arith) (λ j. all (suc j)))
 
-switched_ok : {A : Type 0} → (events : List EventRead) (e : EventRead) (now : ℕ) (mode : Bool) (b : ℕ) (xs : List (Block A)) (rs : List Register) → length rs ≡ length xs → AllAgree events e now mode xs rs → switched_entries mode e.content b xs rs ≡ switched_at (events ++ e ∷ []) (length events) b xs
+switched_ok : {A : Type 0} → (events : List EventRead) (e : EventRead) (now : ℕ) (mode : Bool) (b : ℕ) (xs : List (Block A)) (rs : List Register) → length rs ≡ length xs → AllAgree events e now mode xs rs → AreOfEach (SwitchesAt (events ++ e ∷ []) (length events)) says.Switched b xs (switched_entries mode e.content b xs rs)
 switched_ok events e now mode b [] rs same all = refl
 switched_ok events e now mode b (x ∷ xs) [] same all = absurd (omega arith)
-switched_ok {A} events e now mode b (x ∷ xs) (r ∷ rs) same all =
-    ap (λ (y : Bool). if y then says.Switched b ∷ switched_entries mode e.content (b + 1) xs rs else switched_entries mode e.content (b + 1) xs rs) (sym (all 0 x r refl refl).switch_is) ∙
-    ap (λ (l : List (Entry A)). if is_switched x (events ++ e ∷ []) (length events) then says.Switched b ∷ l else l)
-    (switched_ok events e now mode (b + 1) xs rs (omega arith) (λ j. all (suc j)))
+switched_ok events e now mode b (x ∷ xs) (r ∷ rs) same all =
+    let is = (all 0 x r refl refl).switch_is in
+    each_one (SwitchesAt (events ++ e ∷ []) (length events)) says.Switched b x xs (switched_entries mode e.content (b + 1) xs rs) (switch_by x mode r.simulated e.content)
+    ((λ on. is ∙ on), (λ on. sym is ∙ on)) (switched_ok events e now mode (b + 1) xs rs (omega arith) (λ j. all (suc j)))
 
 pub no_block : {A : Type 0} → Block A
 no_block = record { app_id = 0; gocb_ref = []; dat_set = []; go_id = None; conf_rev = 0; entries = 0 }
@@ -144,7 +145,7 @@ no_register = record { held = None; simulated = false }
 
 frame_ok : {A : Type 0} → (events : List EventRead) (e : EventRead) (now : ℕ) (mode : Bool) (xs : List (Block A)) (rs : List Register) → length rs ≡ length xs → AllAgree events e now mode xs rs → (f : FrameRead) → e.content ≡ OfGoose f → (o : Option ℕ) → position (is_of f) xs ≡ o → IsFrameEntry xs (events ++ e ∷ []) (length events) f (frame_entry now mode xs rs f o)
 frame_ok events e now mode xs rs same all f is None o =
-    inl ((λ b x p. position_none (is_of f) xs o b x p), refl)
+    inl (record { foreign = λ b x p. position_none (is_of f) xs o b x p; told = refl })
 frame_ok {A} events e now mode xs rs same all f is (Some c) o =
     let found = position-Some (is_of f) xs c no_block o in
     at_block c (get_or xs c no_block) (get_or rs c no_register) (slice_get-get_or xs c no_block found.0) (slice_get-get_or rs c no_register (omega (arith, found.0))) found.1
@@ -154,9 +155,9 @@ frame_ok {A} events e now mode xs rs same all f is (Some c) o =
         let a = all c x r p q in
         let held : HoldsAt (trace_of_block x (events ++ e ∷ [])) (length events) (turned now mode (OfGoose f) x r) =
         subst (λ (k : Content). HoldsAt (trace_of_block x (events ++ e ∷ [])) (length events) (turned now mode k x r)) is a.held in
-        let entry = (block_ok events e now mode x r c f a is yes_of (turned now mode (OfGoose f) x r) held (reason_of (is_against f mode r.simulated) x f) refl).0 in
+        let entry = (block_ok events e now mode x r c f a is yes_of (turned now mode (OfGoose f) x r) held (reason_of (is_other_kind f mode r.simulated) x f) refl).0 in
         let whole : IsFrameEntry xs (events ++ e ∷ []) (length events) f (found_entry now mode f c (Some x) (Some r)) =
-        inr (c, x, p, yes_of, subst (λ (y : Option Reason). IsBlockEntry (events ++ e ∷ []) (length events) c x f y (found_entry now mode f c (Some x) (Some r))) (sym (a.reason_is f)) entry) in
+        inr (record { position = c; block = x; here = p; own = yes_of; told = subst (λ (y : Option Reason). IsBlockEntry (events ++ e ∷ []) (length events) c x f y (found_entry now mode f c (Some x) (Some r))) (sym (a.reason_is f)) entry }) in
         subst (λ (y : Option Register). IsFrameEntry xs (events ++ e ∷ []) (length events) f (found_entry now mode f c (slice_get xs c) y)) (sym q)
         (subst (λ (y : Option (Block A)). IsFrameEntry xs (events ++ e ∷ []) (length events) f (found_entry now mode f c y (Some r))) (sym p) whole)
 
@@ -183,11 +184,12 @@ step_ok {A} events e s w =
         event = e;
         at = get_pushed events e;
         expired = expired_entries (max s.moment e.moment) 0 s.registers;
+        switched = switched_entries s.mode e.content 0 s.blocks s.registers;
         said = said_of (max s.moment e.moment) s.mode s.blocks s.registers e.content;
         are_expired = expired_ok events e (max s.moment e.moment) s.mode 0 s.blocks s.registers same all;
+        are_switched = switched_ok events e (max s.moment e.moment) s.mode 0 s.blocks s.registers same all;
         are_said = said_ok events e (max s.moment e.moment) s.mode s.blocks s.registers same all e.content refl;
-        whole = ap (λ (l : List (Entry A)). expired_entries (max s.moment e.moment) 0 s.registers ++ (l ++ said_of (max s.moment e.moment) s.mode s.blocks s.registers e.content))
-            (switched_ok events e (max s.moment e.moment) s.mode 0 s.blocks s.registers same all);
+        whole = refl;
       },
       record {
         sizes = registers_length (max s.moment e.moment) s.mode e.content s.blocks s.registers same;

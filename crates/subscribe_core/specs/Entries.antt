@@ -1,54 +1,29 @@
 -- The entries that a list of events has, for the blocks that are subscribed to.
-use Rattle.std.specs.Prelude.{◌≡◌, ℕ, ◌+◌, ◌⊎◌, true, false, Option, Some, None, List, [], ◌∷◌, ◌++◌, length, slice_get, if◌then◌else◌}
+use Rattle.std.specs.Prelude.{◌≡◌, ℕ, ◌+◌, ◌⊎◌, true, Some, List, [], ◌∷◌, ◌++◌, length, slice_get}
 use Rattle.block_core.specs.declared.block.Block.{Block}
-use Rattle.subscribe_core.specs.declared.entry.Reason.{Reason}
 use Rattle.subscribe_core.specs.declared.entry.Entry.{Entry}
 use Rattle.subscribe_core.specs.declared.entry.Entry.TheVariants as says
-use Rattle.subscribe_core.specs.declared.registers.Verdict.{Verdict}
-use Rattle.subscribe_core.specs.declared.registers.Verdict.TheVariants.{Act, Refreshed, Repeated, Older}
 use Rattle.list_core.specs.declared.event.Event.{Event}
-use Rattle.subscribe_core.specs.Epoch.{IsExpiry, IsVerdict}
-use Rattle.subscribe_core.specs.Matching.{is_of, reason_of, facts_of_frame}
-use Rattle.subscribe_core.specs.Reading.{FrameRead, Content, OfGoose, OfSampled, OfFault, OfClock, OfMode, EventRead, AreRead}
+use Rattle.subscribe_core.specs.Epoch.{IsExpiry}
+use Rattle.subscribe_core.specs.FrameEntry.{IsFrameEntry}
+use Rattle.subscribe_core.specs.Reading.{Content, OfGoose, OfSampled, OfFault, OfClock, OfMode, EventRead, AreRead}
 use Rattle.subscribe_core.specs.Sight.{trace_of_block}
-use Rattle.subscribe_core.specs.Simulation.{mode_at, takes_simulated, is_switched, is_against}
+use Rattle.subscribe_core.specs.Simulation.{is_switched}
 
--- the entry that says the verdict on a frame, with the frame's own numbers, time and members
-abbrev pub entry_of : {A : Type 0} → ℕ → FrameRead → Verdict → Entry A
-entry_of b f Act = says.Act b f.pdu.st_num f.pdu.sq_num f.pdu.t f.pdu.members
-entry_of b f Refreshed = says.Refreshed b f.pdu.st_num f.pdu.sq_num
-entry_of b f Repeated = says.Repeated b f.pdu.st_num f.pdu.sq_num
-entry_of b f Older = says.Older b f.pdu.st_num f.pdu.sq_num
+-- one entry for each of the blocks of which this holds, in their order, and no other; the first block has position b
+abbrev pub AreOfEach : {A : Type 0} → (Block A → Type 0) → (ℕ → Entry A) → ℕ → List (Block A) → List (Entry A) → Type 0
+AreOfEach holds entry b [] entries = entries ≡ []
+AreOfEach {A} holds entry b (block ∷ blocks) entries =
+    (holds block × ((rest : List (Entry A)) × (entries ≡ entry b ∷ rest) × AreOfEach holds entry (b + 1) blocks rest)) ⊎
+    (¬ holds block × AreOfEach holds entry (b + 1) blocks entries)
 
--- an Expired entry for each of the blocks of which i is an expiry, in their order; the first has position b
-abbrev pub AreExpired : {A : Type 0} → List EventRead → ℕ → ℕ → List (Block A) → List (Entry A) → Type 0
-AreExpired events i b [] entries = entries ≡ []
-AreExpired {A} events i b (block ∷ blocks) entries =
-    (IsExpiry (trace_of_block block events) i × ((rest : List (Entry A)) × (entries ≡ says.Expired b ∷ rest) × AreExpired events i (b + 1) blocks rest)) ⊎
-    (¬ IsExpiry (trace_of_block block events) i × AreExpired events i (b + 1) blocks entries)
+-- i is an expiry of the block
+abbrev pub ExpiresAt : {A : Type 0} → List EventRead → ℕ → Block A → Type 0
+ExpiresAt events i block = IsExpiry (trace_of_block block events) i
 
--- a Switched entry for each of the blocks that are switched at i, in their order; the first has position b
-abbrev pub switched_at : {A : Type 0} → List EventRead → ℕ → ℕ → List (Block A) → List (Entry A)
-switched_at events i b [] = []
-switched_at events i b (block ∷ blocks) =
-    if is_switched block events i then says.Switched b ∷ switched_at events i (b + 1) blocks
-    else switched_at events i (b + 1) blocks
-
--- the first reason that holds at i against a frame of the block
-abbrev pub reason_at : {A : Type 0} → Block A → List EventRead → ℕ → FrameRead → Option Reason
-reason_at block events i f = reason_of (is_against f (mode_at events i) (takes_simulated block events i)) block f
-
--- the entry of a frame of block b: why it is refused, or else the verdict on it
-abbrev pub IsBlockEntry : {A : Type 0} → List EventRead → ℕ → ℕ → Block A → FrameRead → Option Reason → Entry A → Type 0
-IsBlockEntry events i b block f (Some reason) entry = entry ≡ says.Refused b reason
-IsBlockEntry events i b block f None entry =
-    (v : Verdict) × IsVerdict (trace_of_block block events) i (facts_of_frame f) v × (entry ≡ entry_of b f v)
-
--- the entry of a frame of GOOSE: it is no block's, or it is that of its block
-abbrev pub IsFrameEntry : {A : Type 0} → List (Block A) → List EventRead → ℕ → FrameRead → Entry A → Type 0
-IsFrameEntry {A} blocks events i f entry =
-    (((b : ℕ) (block : Block A) → slice_get blocks b ≡ Some block → is_of f block ≡ false) × (entry ≡ says.NotSubscribed)) ⊎
-    ((b : ℕ) × (block : Block A) × (slice_get blocks b ≡ Some block) × (is_of f block ≡ true) × IsBlockEntry events i b block f (reason_at block events i f) entry)
+-- the block goes over to simulated frames at i, or back to real ones
+abbrev pub SwitchesAt : {A : Type 0} → List EventRead → ℕ → Block A → Type 0
+SwitchesAt events i block = is_switched block events i ≡ true
 
 -- what is said of what is read at i, after the expiries and the switches
 abbrev pub AreOfContent : {A : Type 0} → List (Block A) → List EventRead → ℕ → Content → List (Entry A) → Type 0
@@ -64,10 +39,12 @@ pub record AreReadEntriesAt {A : Type 0} (blocks : List (Block A)) (events : Lis
   pub event : EventRead
   pub at : slice_get events i ≡ Some event
   pub expired : List (Entry A)
+  pub switched : List (Entry A)
   pub said : List (Entry A)
-  pub are_expired : AreExpired events i 0 blocks expired
+  pub are_expired : AreOfEach (ExpiresAt events i) says.Expired 0 blocks expired
+  pub are_switched : AreOfEach (SwitchesAt events i) says.Switched 0 blocks switched
   pub are_said : AreOfContent blocks events i event.content said
-  pub whole : entries ≡ expired ++ (switched_at events i 0 blocks ++ said)
+  pub whole : entries ≡ expired ++ (switched ++ said)
 
 -- the entries of event i of a list of frame octets, clock moments and mode events
 abbrev pub AreEntriesAt : {A : Type 0} → List (Block A) → List (Event A) → ℕ → List (Entry A) → Type 0
@@ -78,9 +55,3 @@ AreEntriesAt blocks events i entries =
 pub record AreEntries {A : Type 0} (blocks : List (Block A)) (events : List (Event A)) (entries : List (List (Entry A))) : Type 0 where
   pub sizes : length entries ≡ length events
   pub each : (i : ℕ) (es : List (Entry A)) → slice_get entries i ≡ Some es → AreEntriesAt blocks events i es
-
--- how many of the entries are expiries
-abbrev pub expired_count : {A : Type 0} → List (Entry A) → ℕ
-expired_count [] = 0
-expired_count (says.Expired b ∷ es) = expired_count es + 1
-expired_count (e ∷ es) = expired_count es

@@ -39,8 +39,9 @@ abbrev pub IsOver : Trace → ℕ → ℕ → Type 0
 IsOver t s k = Dead t s k ⊎ ((s < k) × (t.switched k ≡ true))
 
 -- k is the least position at which what started at s is over
-abbrev pub Ends : Trace → ℕ → ℕ → Type 0
-Ends t s k = IsOver t s k × ((j : ℕ) → j < k → ¬ IsOver t s j)
+pub record Ends (t : Trace) (s k : ℕ) : Type 0 where
+  pub over : IsOver t s k
+  pub first : (j : ℕ) → j < k → ¬ IsOver t s j
 
 -- i is the first good position at or after k
 pub record IsFirstGood (t : Trace) (k i : ℕ) : Type 0 where
@@ -56,8 +57,11 @@ pub data IsStart (t : Trace) : ℕ → Type 0 where
   Next : {r k s : ℕ} → IsStart t r → Ends t r k → IsFirstGood t k s → IsStart t s
 
 -- k is an expiry of the block: an epoch ends there since its best frame is dead
-abbrev pub IsExpiry : Trace → ℕ → Type 0
-IsExpiry t k = (s : ℕ) × IsStart t s × Ends t s k × Dead t s k
+pub record IsExpiry (t : Trace) (k : ℕ) : Type 0 where
+  pub start : ℕ
+  pub is_start : IsStart t start
+  pub ends : Ends t start k
+  pub dead : Dead t start k
 
 -- s is the last start at or before i
 pub record IsLastStart (t : Trace) (i s : ℕ) : Type 0 where
@@ -74,14 +78,20 @@ pub record Acts (t : Trace) (i : ℕ) : Type 0 where
   pub above : (j : ℕ) (g : Facts) → start ≤ j → j < i → t.good j ≡ Some g → g.state < facts.state
 
 -- i, with facts f, is the best position of its epoch so far, itself included
-abbrev pub Refreshes : Trace → ℕ → Facts → Type 0
-Refreshes t i f = (s : ℕ) × IsLastStart t i s × IsBest t s (i + 1) i f
+pub record Refreshes (t : Trace) (i : ℕ) (f : Facts) : Type 0 where
+  pub start : ℕ
+  pub epoch : IsLastStart t i start
+  pub is_best : IsBest t start (i + 1) i f
 
 -- the pair at i is that of the best position of its epoch before it
-abbrev pub Repeats : Trace → ℕ → Facts → Type 0
-Repeats t i f =
-    (s : ℕ) × IsLastStart t i s ×
-    ((p : ℕ) × (g : Facts) × IsBest t s i p g × (f.state ≡ g.state) × (f.sequence ≡ g.sequence))
+pub record Repeats (t : Trace) (i : ℕ) (f : Facts) : Type 0 where
+  pub start : ℕ
+  pub epoch : IsLastStart t i start
+  pub best : ℕ
+  pub facts : Facts
+  pub is_best : IsBest t start i best facts
+  pub state : f.state ≡ facts.state
+  pub sequence : f.sequence ≡ facts.sequence
 
 -- the verdict on the good frame at i, with facts f: it is acted on; else it is the best of its epoch so far, and
 -- renews the lifetime; else it has the pair of the best one before it, and repeats that; else it is older
@@ -91,11 +101,18 @@ IsVerdict t i f Refreshed = ¬ Acts t i × Refreshes t i f
 IsVerdict t i f Repeated = ¬ Acts t i × ¬ Refreshes t i f × Repeats t i f
 IsVerdict t i f Older = ¬ Acts t i × ¬ Refreshes t i f × ¬ Repeats t i f
 
--- after the first n positions the block is idle: there is no start among them, or what started last is over
+-- what started last among the first n positions ended at one of them
+pub record HasEnded (t : Trace) (n : ℕ) : Type 0 where
+  pub start : ℕ
+  pub is_start : IsStart t start
+  pub last : (r : ℕ) → IsStart t r → r < n → r ≤ start
+  pub end : ℕ
+  pub before : end < n
+  pub ends : Ends t start end
+
+-- after the first n positions the block is idle: none of them is a start, or what started last has ended
 abbrev pub IsIdleAfter : Trace → ℕ → Type 0
-IsIdleAfter t n =
-    ((s : ℕ) → s < n → ¬ IsStart t s) ⊎
-    ((s : ℕ) × (k : ℕ) × IsStart t s × ((r : ℕ) → IsStart t r → r < n → r ≤ s) × (k < n) × Ends t s k)
+IsIdleAfter t n = ((s : ℕ) → s < n → ¬ IsStart t s) ⊎ HasEnded t n
 
 -- what started last among the first n positions isn't over: the block holds the pair of the best position since, and the
 -- moment at which its lifetime is over

@@ -8,13 +8,15 @@ use Rattle.list_core.specs.declared.event.Event.{Event}
 use Rattle.mms_data.specs.Data.{Data}
 use Rattle.mms_data.specs.declared.time.UtcTime.{UtcTime}
 use Rattle.subscribe_core.specs.declared.registers.Verdict.TheVariants.{Act}
-use Rattle.subscribe_core.specs.Entries.{AreReadEntriesAt, AreEntriesAt, AreEntries, entry_of}
+use Rattle.subscribe_core.specs.Entries.{AreReadEntriesAt, AreEntriesAt, AreEntries}
+use Rattle.subscribe_core.specs.FrameEntry.{entry_of}
 use Rattle.subscribe_core.specs.Epoch.{Trace, IsLastStart, Acts}
 use Rattle.subscribe_core.specs.Reading.{FrameRead, OfGoose, EventRead}
 use Rattle.subscribe_core.specs.Sight.{trace_of_block}
 use Rattle.subscribe_core.specs.computed.Content.{reading_of}
 use Rattle.subscribe_core.specs.Simulation.{TakesSimulated, takes_simulated}
-use Rattle.subscribe_core.specs.Standing.{AreApart, fresh_state}
+use Rattle.subscribe_core.specs.Apart.{AreApart}
+use Rattle.subscribe_core.specs.State.{fresh_state}
 use Rattle.subscribe_core.specs.computed.Steps.{run_events}
 
 -- i is a good position of the epoch that starts at s, and f are its facts
@@ -40,14 +42,20 @@ NumbersAreBelow t =
     (s i : ℕ) (f : Facts) → IsIn t s i f → (a : ℕ) × (g : Facts) × IsNewest t s i a g × (f.state ≤ g.state)
 
 -- the number is acted on in the epoch of s
-abbrev pub IsActedOn : Trace → ℕ → ℕ → Type 0
-IsActedOn t s number = (i : ℕ) × (f : Facts) × IsIn t s i f × Acts t i × (f.state ≡ number)
+pub record IsActedOn (t : Trace) (s number : ℕ) : Type 0 where
+  pub position : ℕ
+  pub facts : Facts
+  pub good : IsIn t s position facts
+  pub acts : Acts t position
+  pub numbered : facts.state ≡ number
 
 -- a good frame of the number comes in the epoch of s before any good frame of a greater one
-abbrev pub ComesInTime : Trace → ℕ → ℕ → Type 0
-ComesInTime t s number =
-    (i : ℕ) × (f : Facts) × IsIn t s i f × (f.state ≡ number) ×
-    ((j : ℕ) (g : Facts) → IsIn t s j g → j < i → g.state ≤ number)
+pub record ComesInTime (t : Trace) (s number : ℕ) : Type 0 where
+  pub position : ℕ
+  pub facts : Facts
+  pub good : IsIn t s position facts
+  pub numbered : facts.state ≡ number
+  pub before : (j : ℕ) (g : Facts) → IsIn t s j g → j < position → g.state ≤ number
 
 -- a number is acted on exactly where it comes in time
 abbrev pub ActedWhereInTime : Trace → Type 0

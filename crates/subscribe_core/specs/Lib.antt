@@ -3,8 +3,11 @@ pub mod Reading
 pub mod Matching
 pub mod Simulation
 pub mod Sight
+pub mod FrameEntry
 pub mod Entries
-pub mod Standing
+pub mod Apart
+pub mod State
+pub mod Looks
 pub mod Laws
 pub mod Faults
 pub mod Watch

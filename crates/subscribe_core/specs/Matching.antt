@@ -17,16 +17,16 @@ has_other_id None id = false
 has_other_id (Some awaited) None = true
 has_other_id (Some awaited) (Some id) = not (bytes_eq awaited id)
 
--- the reason holds against a frame of the block; the first argument says it of `Simulated`
+-- the reason holds against a frame of the block; the first argument says whether the frame is of the other kind
 abbrev pub holds : {A : Type 0} → Bool → Block A → FrameRead → Reason → Bool
-holds simulated b f DatSet = not (bytes_eq b.dat_set f.pdu.dat_set)
-holds simulated b f GoId = has_other_id b.go_id f.pdu.go_id
-holds simulated b f ConfRev = not (b.conf_rev == f.pdu.conf_rev)
-holds simulated b f Commissioning = f.pdu.nds_com
-holds simulated b f Simulated = simulated
-holds simulated b f Entries = not (b.entries == length f.pdu.members)
-holds simulated b f StateZero = f.pdu.st_num == 0
-holds simulated b f LiveZero = f.pdu.live == 0
+holds other_kind b f DatSet = not (bytes_eq b.dat_set f.pdu.dat_set)
+holds other_kind b f GoId = has_other_id b.go_id f.pdu.go_id
+holds other_kind b f ConfRev = not (b.conf_rev == f.pdu.conf_rev)
+holds other_kind b f Commissioning = f.pdu.nds_com
+holds other_kind b f Simulated = other_kind
+holds other_kind b f Entries = not (b.entries == length f.pdu.members)
+holds other_kind b f StateZero = f.pdu.st_num == 0
+holds other_kind b f LiveZero = f.pdu.live == 0
 
 -- the reasons in the order in which they are told
 abbrev pub reasons : List Reason
@@ -39,7 +39,7 @@ first_of p (r ∷ rs) = if p r then Some r else first_of p rs
 
 -- the first reason that holds against a frame of the block
 abbrev pub reason_of : {A : Type 0} → Bool → Block A → FrameRead → Option Reason
-reason_of simulated b f = first_of (holds simulated b f) reasons
+reason_of other_kind b f = first_of (holds other_kind b f) reasons
 
 -- no reason holds
 abbrev pub is_clear : Option Reason → Bool

@@ -5,13 +5,13 @@ use Rattle.subscribe_core.specs.declared.registers.Facts.{Facts}
 use Rattle.subscribe_core.specs.Epoch.{Trace}
 use Rattle.subscribe_core.specs.Matching.{is_of, reason_of, facts_of_frame, facts_unless_refused}
 use Rattle.subscribe_core.specs.Reading.{Content, OfGoose, OfSampled, OfFault, OfClock, OfMode, EventRead}
-use Rattle.subscribe_core.specs.Simulation.{mode_at, takes_simulated, is_switched, is_against}
+use Rattle.subscribe_core.specs.Simulation.{mode_at, takes_simulated, is_switched, is_other_kind}
 
 -- the facts of what is read, where it is a good frame of the block: one of the block against which no reason holds, by the
 -- mode and by what the block takes
 abbrev pub facts_of : {A : Type 0} → Block A → Bool → Bool → Content → Option Facts
 facts_of b mode taken (OfGoose f) =
-    if is_of f b then facts_unless_refused (reason_of (is_against f mode taken) b f) (facts_of_frame f) else None
+    if is_of f b then facts_unless_refused (reason_of (is_other_kind f mode taken) b f) (facts_of_frame f) else None
 facts_of b mode taken OfSampled = None
 facts_of b mode taken (OfFault fault) = None
 facts_of b mode taken OfClock = None

@@ -73,6 +73,7 @@ abbrev pub is_switched : {A : Type 0} → Block A → List EventRead → ℕ →
 is_switched b events i =
     (invites b events i && not (takes_simulated b events i)) || (sets_off events i && takes_simulated b events i)
 
--- `Simulated` holds: the frame is simulated and the mode is off, or it is real and the block takes simulated frames
-abbrev pub is_against : FrameRead → Bool → Bool → Bool
-is_against f mode taken = if f.pdu.simulation then not mode else taken
+-- the frame is of the kind that isn't taken, so that `Simulated` holds: it is simulated and the mode is off, or it is real and
+-- the block takes simulated frames
+abbrev pub is_other_kind : FrameRead → Bool → Bool → Bool
+is_other_kind f mode taken = if f.pdu.simulation then not mode else taken

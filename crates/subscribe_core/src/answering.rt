@@ -1,7 +1,7 @@
 // The entries of a good frame, and what it gives its block to hold.
 
 ghost use Rattle.std.specs.Prelude.{◌≡◌, ◌++◌, Some, None, IfOk, OnOk};
-ghost use Rattle.subscribe_core.specs.Entries.{entry_of};
+ghost use Rattle.subscribe_core.specs.FrameEntry.{entry_of};
 ghost use Rattle.subscribe_core.specs.computed.Indexed.{good_entries, good_renewal};
 ghost use Rattle.subscribe_core.specs.computed.Received.{received_frame};
 ghost use Rattle.subscribe_core.specs.computed.Steps.{held_after_frame};

@@ -3,14 +3,15 @@
 ghost use Rattle.std.specs.Prelude.{◌≡◌, ◌<◌, ◌≤◌, ◌+◌, ◌-◌, ◌++◌, [], ℕ, false, ◌⊎◌, None, Some, IfOk, OnOk, OnErr, IfErr, IsOk, length, max, position, replicate, slice_get, slice_set};
 ghost use Rattle.subscribe_core.specs.computed.Content.{content_by, content_of, reading_of};
 ghost use Rattle.subscribe_core.specs.computed.Deadlines.{due_count, helds};
-ghost use Rattle.subscribe_core.specs.Entries.{expired_count};
+ghost use Rattle.subscribe_core.specs.Looks.{expired_count};
 ghost use Rattle.subscribe_core.specs.Faults.{IsFaultOf};
 ghost use Rattle.subscribe_core.specs.computed.Indexed.{registers_after_clock, flagged_entries, switched_off};
 ghost use Rattle.subscribe_core.specs.Matching.{is_of};
 ghost use Rattle.subscribe_core.specs.Reading.{IsFrame, IsMode, OfGoose, OfMode};
 ghost use Rattle.subscribe_core.specs.computed.Received.{received_frame};
 ghost use Rattle.subscribe_core.specs.Simulation.{mode_by};
-ghost use Rattle.subscribe_core.specs.Standing.{AreApart, fresh_state, idle};
+ghost use Rattle.subscribe_core.specs.Apart.{AreApart};
+ghost use Rattle.subscribe_core.specs.State.{fresh_state, idle};
 ghost use Rattle.subscribe_core.specs.computed.Steps.{expired_entries, said_of, step_entries, step_state, switched_entries, registers_by};
 ghost use Rattle.frame_core.specs.computed.FrameReading.{frame_at};
 ghost use Rattle.subscribe_core.specs.declared.registers.Register.{Register as SpecRegister};
@@ -19,7 +20,7 @@ use crate::answering::push_good;
 use crate::deadlines;
 use crate::entry::Entry;
 use crate::fault::SubscribeFault;
-use crate::matching::{Received, first_reason, is_against};
+use crate::matching::{Received, first_reason, is_other_kind};
 use crate::names::{self, Name};
 use crate::registers::{Held, Register};
 use crate::rows::{Reach, Rows};
@@ -43,10 +44,10 @@ pub struct Keeper<A: Allocator> {
 }
 
 impl<A: Allocator> Model for Keeper<A> {
-    ghost use Rattle.subscribe_core.specs.Standing.{Counted};
+    ghost use Rattle.subscribe_core.specs.State.{StateAndReaches};
     ghost use Rattle.subscribe_core.specs.computed.Indexed.{IsIndexed};
 
-    ghost Value = { Counted A };
+    ghost Value = { StateAndReaches A };
 
     ghost view = { λ s. record { state = record { blocks = s.rows.blocks.items; registers = s.rows.registers.items; mode = s.mode; moment = s.moment }; looks = s.looks; reaches = s.rows.reaches } };
 
@@ -203,6 +204,13 @@ impl<A: Allocator + Copy> Keeper<A> {
         self.alloc
     }
 
+    // There is a register for each block; nothing is computed.
+    fn know_sizes(&self)
+        ensures { length self.now.state.registers ≡ length self.now.state.blocks }
+    {
+        let _ = self.alloc();
+    }
+
     // Takes a frame of GOOSE: its entries, and what its block then holds.
     fn take_goose(
         &mut self,
@@ -227,8 +235,8 @@ impl<A: Allocator + Copy> Keeper<A> {
         let mode = self.is_simulating();
         let reach = self.reach(at);
         let (block, old) = self.look(reach);
-        let is_against = is_against(frame, mode, old.simulated);
-        if let Some(reason) = first_reason(block, frame, is_against) {
+        let is_other_kind = is_other_kind(frame, mode, old.simulated);
+        if let Some(reason) = first_reason(block, frame, is_other_kind) {
             entries.push(Entry::Refused { block: at, reason })?;
             return Ok(());
         }
@@ -257,7 +265,7 @@ impl<A: Allocator + Copy> Keeper<A> {
         ensures err { OnErr result (self.new.state ≡ self.old.state) }
         ensures err_looks { OnErr result (self.new.looks ≡ self.old.looks) }
     {
-        let _ = self.alloc();
+        self.know_sizes();
         match view_frame(octets) {
             Err(fault) => {
                 entries.push(Entry::Faulty(fault))?;
@@ -367,7 +375,7 @@ impl<A: Allocator + Copy> Keeper<A> {
         ensures err { OnErr result (self.new.state ≡ self.old.state) }
         ensures err_looks { OnErr result (self.new.looks ≡ self.old.looks) }
     {
-        let _ = self.alloc();
+        self.know_sizes();
         match kind {
             EventKind::Frame(octets) => self.take_octets(now, octets.as_slice(), entries),
             EventKind::Clock => Ok(()),

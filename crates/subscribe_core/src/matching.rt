@@ -4,7 +4,7 @@ ghost use Rattle.std.specs.Prelude.{◌≡◌};
 ghost use Rattle.subscribe_core.specs.Matching.{facts_of_frame, has_other_id, reason_of};
 ghost use Rattle.pdu_core.specs.Views.{octets_if};
 ghost use Rattle.subscribe_core.specs.computed.Received.{received_frame};
-ghost use Rattle.subscribe_core.specs.Simulation.{is_against as holds_against};
+ghost use Rattle.subscribe_core.specs.Simulation.{is_other_kind as means_other_kind};
 
 use crate::entry::Reason;
 use crate::registers::Facts;
@@ -32,8 +32,8 @@ fn is_other_id<A: Allocator>(awaited: &Option<Octets<A>>, id: Option<&[u8]>) -> 
 }
 
 // Whether the frame's simulation is against it, by the mode and by what its block takes.
-pub(crate) fn is_against(frame: &Received<'_>, mode: bool, simulated: bool) -> bool
-    ensures { result ≡ holds_against (received_frame frame.now) mode simulated }
+pub(crate) fn is_other_kind(frame: &Received<'_>, mode: bool, simulated: bool) -> bool
+    ensures { result ≡ means_other_kind (received_frame frame.now) mode simulated }
 {
     if frame.goose.simulation {
         !mode
@@ -46,9 +46,9 @@ pub(crate) fn is_against(frame: &Received<'_>, mode: bool, simulated: bool) -> b
 pub(crate) fn first_reason<A: Allocator>(
     block: &Block<A>,
     frame: &Received<'_>,
-    is_against: bool,
+    is_other_kind: bool,
 ) -> Option<Reason>
-    ensures { result ≡ reason_of is_against block.now (received_frame frame.now) }
+    ensures { result ≡ reason_of is_other_kind block.now (received_frame frame.now) }
 {
     let goose = &frame.goose;
     if block.dat_set.as_slice() != goose.dat_set {
@@ -59,7 +59,7 @@ pub(crate) fn first_reason<A: Allocator>(
         Some(Reason::ConfRev)
     } else if goose.nds_com {
         Some(Reason::Commissioning)
-    } else if is_against {
+    } else if is_other_kind {
         Some(Reason::Simulated)
     } else if block.entries as usize != goose.entries {
         Some(Reason::Entries)

@@ -2,10 +2,12 @@
 
 ghost use Rattle.std.specs.Prelude.{◌≡◌, ◌≤◌, ◌+◌, ◌∷◌, ◌++◌, [], List, ◌⊎◌, IfOk, OnOk, OnErr, IfErr, IsOk, length};
 ghost use Rattle.subscribe_core.specs.computed.Content.{reading_of};
-ghost use Rattle.subscribe_core.specs.Entries.{AreEntriesAt, expired_count};
+ghost use Rattle.subscribe_core.specs.Entries.{AreEntriesAt};
+ghost use Rattle.subscribe_core.specs.Looks.{expired_count};
 ghost use Rattle.subscribe_core.specs.Faults.{IsFaultOf};
 ghost use Rattle.subscribe_core.specs.Reading.{IsMode};
-ghost use Rattle.subscribe_core.specs.Standing.{AreApart, StandsAfter, fresh_state};
+ghost use Rattle.subscribe_core.specs.Apart.{AreApart};
+ghost use Rattle.subscribe_core.specs.State.{StandsAfter, fresh_state};
 ghost use Rattle.subscribe_core.specs.computed.Steps.{step_entries, step_state};
 ghost use Rattle.list_core.specs.declared.event.Event.{Event as SpecEvent};
 
@@ -24,9 +26,9 @@ pub struct Subscriber<A: Allocator> {
 }
 
 impl<A: Allocator> Model for Subscriber<A> {
-    ghost use Rattle.subscribe_core.specs.Standing.{Standing};
+    ghost use Rattle.subscribe_core.specs.State.{StateAndLooks};
 
-    ghost Value = { Standing A };
+    ghost Value = { StateAndLooks A };
 
     ghost view = { λ s. record { state = s.keeper.state; looks = s.keeper.looks } };
 }

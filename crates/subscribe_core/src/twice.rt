@@ -1,7 +1,8 @@
-// Blocks that are given twice.
+// Blocks that are given twice. Each block is compared with those before it, n (n - 1) / 2 times for n blocks, once, when a
+// subscriber is made.
 
 ghost use Rattle.std.specs.Prelude.{◌<◌, IsTrue, ◌↔◌, MatchOption, length};
-ghost use Rattle.subscribe_core.specs.Standing.{AreApart, HasNameOf, IsTwice, IsFirstTwice};
+ghost use Rattle.subscribe_core.specs.Apart.{AreApart, HasNameOf, IsTwice, IsFirstTwice};
 
 use block_core::Block;
 use std::alloc::Allocator;

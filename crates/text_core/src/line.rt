@@ -6,6 +6,7 @@ ghost use Rattle.text_core.specs.Pieces.{AppendsText};
 
 use crate::names::{cause_name, list_cause_name};
 use crate::pieces::put_decimal;
+use crate::short::ShortText;
 use ber_core::Fault;
 use list_core::ListFault;
 use std::alloc::{AllocError, Allocator};
@@ -32,12 +33,14 @@ pub fn put_fault_line<A: Allocator>(
 ) -> Result<(), AllocError>
     ensures { AppendsText result out.old.items out.new.items (fault_line number fault) }
 {
-    put_decimal(out, number)?;
-    out.extend_from_slice(b" fault ")?;
-    put_decimal(out, fault.place as u64)?;
-    out.extend_from_slice(b" ")?;
-    out.extend_from_slice(cause_name(fault.cause))?;
-    out.extend_from_slice(b"\n")
+    let mut text = ShortText::new();
+    text.put(b"\n");
+    text.put(cause_name(fault.cause));
+    text.put(b" ");
+    text.put_decimal(fault.place as u64);
+    text.put(b" fault ");
+    text.put_decimal(number);
+    text.append_to(out)
 }
 
 /// Appends the last line, on a fault of the list.

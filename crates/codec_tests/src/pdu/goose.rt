@@ -5,7 +5,7 @@ use ber_core::{Cause, Fault};
 use mms_data::{Octets, PutFault, ReadFault, UtcTime, Value, View};
 use pdu_core::{
     GoosePdu, GooseView, are_spellable_parts, is_spellable, laws, put_goose, put_goose_parts,
-    put_goose_view, read_goose, slice_if, view_goose,
+    put_goose_view, read_goose, see_goose, slice_if, view_goose,
 };
 use std::alloc::Global;
 use std::test::Fail;
@@ -85,6 +85,16 @@ fn the_recorded_pdu_stands(rt: HostRuntime) -> Result<(), Fail> {
 }
 
 #[test]
+fn a_pdu_in_its_written_form_is_noted(rt: HostRuntime) -> Result<(), Fail> {
+    assert!(rt; see_goose(&FRAME, 22, 67, true)?.written);
+    assert!(rt; see_goose(&NESTED, 0, 58, true)?.written);
+    assert!(rt; see_goose(&TIGHT, 0, 106, true)?.written);
+    assert!(rt; !see_goose(&LONG, 0, 50, true)?.written);
+    assert!(rt; !see_goose(&SHORT, 0, 39, true)?.written);
+    Ok(())
+}
+
+#[test]
 fn each_field_stands(rt: HostRuntime) -> Result<(), Fail> {
     let view = view_goose(&NESTED, 0, 58)?;
     assert!(rt; view.gocb_ref == b"A".as_slice() && view.dat_set.is_empty());
@@ -150,10 +160,10 @@ fn the_element_fills_the_region(rt: HostRuntime) {
     assert!(rt; matches!(answer, Err(ReadFault::Fault(fault)) if fault == wanted));
 }
 
-// The written form of the APDU that the octets spell, from where it stands.
-fn form_of_view(octets: &[u8]) -> Result<ArrayVec<u8, 128>, Fail> {
+// The written form of the APDU that the octets spell, from where it stands, noted or not.
+fn form_of_view(octets: &[u8], notes: bool) -> Result<ArrayVec<u8, 128>, Fail> {
     let mut out = ArrayVec::new();
-    put_goose_view(&mut out, &view_goose(octets, 0, octets.len())?)?;
+    put_goose_view(&mut out, &see_goose(octets, 0, octets.len(), notes)?)?;
     Ok(out)
 }
 
@@ -181,7 +191,14 @@ fn each_pdu_has_its_written_form(rt: HostRuntime) -> Result<(), Fail> {
         (&NESTED, &NESTED),
         (&LOOSE, &TIGHT),
     ] {
-        assert!(rt; form_of_view(octets)?.as_slice() == form, "{octets:?}");
+        assert!(rt;
+            form_of_view(octets, false)?.as_slice() == form,
+            "{octets:?}"
+        );
+        assert!(rt;
+            form_of_view(octets, true)?.as_slice() == form,
+            "{octets:?}"
+        );
         assert!(rt;
             form_of_value(rt.alloc(), octets)?.as_slice() == form,
             "{octets:?}"

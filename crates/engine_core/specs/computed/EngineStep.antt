@@ -11,7 +11,8 @@ use Rattle.engine_core.specs.declared.ending.Ending.{Ending}
 use Rattle.engine_core.specs.declared.ending.Ending.TheVariants.{WriteFault, Memory}
 use Rattle.engine_core.specs.declared.running.Next.{Next}
 use Rattle.engine_core.specs.declared.running.Next.TheVariants as next
-use Rattle.engine_core.specs.EngineText.{Text, ending_at, step_text}
+use Rattle.engine_core.specs.Ending.{ending_at}
+use Rattle.engine_core.specs.EngineText.{Text, step_text}
 
 -- What an engine answers for an item after others, and appends to a line: its text, and then it stands after this item too; a refusal; or want of memory, where there is something to write.
 abbrev pub Takes : {X C : Type 0} → Text X C → (List (ℕ × X) → Type 0) → List (ℕ × X) → ℕ × X → Result Bool (LineError C) → List ℕ → List ℕ → Type 0

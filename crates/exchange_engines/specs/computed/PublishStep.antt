@@ -9,7 +9,7 @@ use Rattle.publish_core.specs.Frames.{Setup, change, setup}
 use Rattle.publish_core.specs.computed.Judgement.{refusal}
 use Rattle.publish_core.specs.Refusal.{next_state}
 use Rattle.publish_core.specs.Run.{Request, Call, Changed, Polled, call, greatest_call_moment}
-use Rattle.publish_core.specs.Standing.{PublisherStanding, PublisherStandsAfter}
+use Rattle.publish_core.specs.State.{PublisherState, PublisherStandsAfter}
 use Rattle.publish_core.specs.computed.Step.{request_frame, request_state, fresh_publisher}
 use Rattle.exchange_engines.specs.declared.engines.publish.Stage.{Stage}
 use Rattle.exchange_engines.specs.declared.engines.publish.Stage.TheVariants as stage
@@ -57,7 +57,7 @@ abbrev pub progress_after : {A : Type 0} → List (ℕ × ScriptItem A) → Prog
 progress_after items = progress_from nothing (items_of_lines items)
 
 -- what a publisher holds after these calls
-abbrev pub standing_from : {A : Type 0} → PublisherStanding A → List Call → PublisherStanding A
+abbrev pub standing_from : {A : Type 0} → PublisherState A → List Call → PublisherState A
 standing_from s [] = s
 standing_from s (c ∷ calls) = standing_from (request_state s c.request c.moment) calls
 
@@ -72,8 +72,8 @@ text_unless_refused None text = Ok (text, false)
 text_unless_refused (Some why) text = Err (script_cause why)
 
 -- the text of a call behind others
-abbrev pub call_step : {A : Type 0} → Setup A → List Call → Call → Result (List ℕ × Bool) ScriptCause
-call_step p calls c = text_unless_refused (call_refusal p calls c.request) (answer_text (greatest_call_moment (calls ++ c ∷ [])) (request_frame (standing_from (fresh_publisher p) calls) c.request c.moment))
+abbrev pub call_written : {A : Type 0} → Setup A → List Call → Call → Result (List ℕ × Bool) ScriptCause
+call_written p calls c = text_unless_refused (call_refusal p calls c.request) (answer_text (greatest_call_moment (calls ++ c ∷ [])) (request_frame (standing_from (fresh_publisher p) calls) c.request c.moment))
 
 -- the step waits, and its frame lives longer than that
 abbrev pub is_good : Step → Bool
@@ -93,24 +93,24 @@ unless_unsound (Some why) said = Err why
 
 abbrev pub call_at : {A : Type 0} → Progress A → Call → Result (List ℕ × Bool) ScriptCause
 call_at nothing c = Err cause.ScriptForm
-call_at (setting_up p) c = unless_unsound (setup_cause p) (call_step p [] c)
-call_at (calling p calls) c = call_step p calls c
+call_at (setting_up p) c = unless_unsound (setup_cause p) (call_written p [] c)
+call_at (calling p calls) c = call_written p calls c
 
 -- what an item writes
-abbrev pub item_step : {A : Type 0} → ScriptItem A → Progress A → Result (List ℕ × Bool) ScriptCause
-item_step (item.Control control first) nothing = Ok ([], false)
-item_step (item.Control control first) (setting_up p) = Err cause.ScriptForm
-item_step (item.Control control first) (calling p calls) = Err cause.ScriptForm
-item_step (item.Step s) nothing = Err cause.ScriptForm
-item_step (item.Step s) (setting_up p) = if nat_lt (length p.table) 16 then Ok ([], false) else Err cause.StepCount
-item_step (item.Step s) (calling p calls) = Err cause.ScriptForm
-item_step (item.Change moment t values) g = call_at g (call moment (Changed (change t values)))
-item_step (item.Poll moment) g = call_at g (call moment Polled)
+abbrev pub item_written : {A : Type 0} → ScriptItem A → Progress A → Result (List ℕ × Bool) ScriptCause
+item_written (item.Control control first) nothing = Ok ([], false)
+item_written (item.Control control first) (setting_up p) = Err cause.ScriptForm
+item_written (item.Control control first) (calling p calls) = Err cause.ScriptForm
+item_written (item.Step s) nothing = Err cause.ScriptForm
+item_written (item.Step s) (setting_up p) = if nat_lt (length p.table) 16 then Ok ([], false) else Err cause.StepCount
+item_written (item.Step s) (calling p calls) = Err cause.ScriptForm
+item_written (item.Change moment t values) g = call_at g (call moment (Changed (change t values)))
+item_written (item.Poll moment) g = call_at g (call moment Polled)
 
 abbrev pub publish_text : {A : Type 0} → Text (ScriptItem A) ScriptCause
 publish_text = record {
   first = codes "V2\n";
-  step = λ before e. item_step e.1 (progress_after before);
+  step = λ before e. item_written e.1 (progress_after before);
   last = script_line;
 }
 
@@ -125,18 +125,18 @@ Holds _ _ = ⊥
 
 -- an item was taken after this, or refused
 abbrev pub TakesItem : {A : Type 0} → Progress A → ScriptItem A → Result (Stage A) (LineError ScriptCause) → List ℕ → List ℕ → Type 0
-TakesItem g i (Ok s) old new = (text : List ℕ) × (item_step i g ≡ Ok (text, false)) × (new ≡ old ++ text) × Holds s (next_progress i g)
-TakesItem g i (Err (line.Cause why)) old new = item_step i g ≡ Err why
-TakesItem {A} g i (Err (line.Memory e)) old new = (n : ℕ) → step_text (publish_text {A = A}) n (item_step i g) ≡ [] → ⊥
+TakesItem g i (Ok s) old new = (text : List ℕ) × (item_written i g ≡ Ok (text, false)) × (new ≡ old ++ text) × Holds s (next_progress i g)
+TakesItem g i (Err (line.Cause why)) old new = item_written i g ≡ Err why
+TakesItem {A} g i (Err (line.Memory e)) old new = (n : ℕ) → step_text (publish_text {A = A}) n (item_written i g) ≡ [] → ⊥
 
 -- a call was taken after these, or refused
-abbrev pub TakesCall : {A : Type 0} → Setup A → List Call → Call → Result (Unit {0}) (LineError ScriptCause) → List ℕ → List ℕ → PublisherStanding A → Type 0
-TakesCall p calls c (Ok u) old new s = (text : List ℕ) × (call_step p calls c ≡ Ok (text, false)) × (new ≡ old ++ text) × PublisherStandsAfter p (calls ++ c ∷ []) s
-TakesCall p calls c (Err (line.Cause why)) old new s = call_step p calls c ≡ Err why
-TakesCall {A} p calls c (Err (line.Memory e)) old new s = (n : ℕ) → step_text (publish_text {A = A}) n (call_step p calls c) ≡ [] → ⊥
+abbrev pub TakesCall : {A : Type 0} → Setup A → List Call → Call → Result (Unit {0}) (LineError ScriptCause) → List ℕ → List ℕ → PublisherState A → Type 0
+TakesCall p calls c (Ok u) old new s = (text : List ℕ) × (call_written p calls c ≡ Ok (text, false)) × (new ≡ old ++ text) × PublisherStandsAfter p (calls ++ c ∷ []) s
+TakesCall p calls c (Err (line.Cause why)) old new s = call_written p calls c ≡ Err why
+TakesCall {A} p calls c (Err (line.Memory e)) old new s = (n : ℕ) → step_text (publish_text {A = A}) n (call_written p calls c) ≡ [] → ⊥
 
 -- the publisher that runs after this, or why none does
-abbrev pub Runs : {A : Type 0} → Progress A → Result (PublisherStanding A) ScriptCause → Type 0
+abbrev pub Runs : {A : Type 0} → Progress A → Result (PublisherState A) ScriptCause → Type 0
 Runs {A} g (Ok s) = (p : Setup A) × (calls : List Call) × IsScriptSound p × PublisherStandsAfter p calls s
-    × ((c : Call) → (call_at g c ≡ call_step p calls c) × (called g c ≡ calling p (calls ++ c ∷ [])))
+    × ((c : Call) → (call_at g c ≡ call_written p calls c) × (called g c ≡ calling p (calls ++ c ∷ [])))
 Runs g (Err why) = (c : Call) → call_at g c ≡ Err why

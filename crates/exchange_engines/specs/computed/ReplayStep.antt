@@ -5,7 +5,7 @@ use Rattle.list_core.specs.declared.list_fault.ListCause.{ListCause}
 use Rattle.list_core.specs.ListReader.{list_fault_of}
 use Rattle.block_core.specs.declared.block.Block.{Block}
 use Rattle.subscribe_core.specs.computed.Content.{reading_of}
-use Rattle.subscribe_core.specs.Standing.{State, fresh_state}
+use Rattle.subscribe_core.specs.State.{State, fresh_state}
 use Rattle.subscribe_core.specs.computed.Steps.{step_entries, step_state}
 use Rattle.engine_core.specs.EngineText.{Text}
 use Rattle.exchange_engines.specs.EntryText.{entry_lines}

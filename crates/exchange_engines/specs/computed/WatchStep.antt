@@ -8,6 +8,7 @@ use Rattle.subscribe_core.specs.Watch.{seen_after}
 use Rattle.subscribe_core.specs.computed.WatchAnswers.{last_by, seen_all}
 use Rattle.engine_core.specs.EngineText.{Text}
 use Rattle.text_core.specs.LineText.{list_line}
+use Rattle.exchange_engines.specs.SampleLine.{Sample}
 use Rattle.exchange_engines.specs.WatchText.{counts, counts_of, is_unexpected, sample_lines, samples_of, watched}
 
 -- the last count after these
@@ -23,8 +24,8 @@ watch_text period id = record {
 }
 
 -- the lines of samples were appended, it is known whether one is unexpected, and the last count is kept
-abbrev pub SamplesSaid : ℕ → ℕ → Option ℕ → List (ℕ × ℕ) → List ℕ → List ℕ → Bool → Option ℕ → Type 0
-SamplesSaid period n last samples old new found after =
+abbrev pub SamplesAppended : ℕ → ℕ → Option ℕ → List Sample → List ℕ → List ℕ → Bool → Option ℕ → Type 0
+SamplesAppended period n last samples old new found after =
     (new ≡ old ++ sample_lines n samples (seen_all period last (counts samples)))
     × (found ≡ list_any is_unexpected (seen_all period last (counts samples)))
     × (after ≡ last_of period last (counts samples))

@@ -4,11 +4,11 @@ ghost use Rattle.list_core.specs.declared.device.InputEnd.{InputEnd};
 ghost use Rattle.list_core.specs.Device.{GivesOctets};
 ghost use Rattle.publish_core.specs.Frames.{Setup, change, setup};
 ghost use Rattle.publish_core.specs.Run.{Call, Changed, Polled, call};
-ghost use Rattle.publish_core.specs.Standing.{PublisherStandsAfter};
-ghost use Rattle.script_core.specs.declared.script.ScriptCause.{ScriptCause as SpecCause};
+ghost use Rattle.publish_core.specs.State.{PublisherStandsAfter};
 ghost use Rattle.script_core.specs.declared.script.ScriptItem.{ScriptItem as SpecItem};
 ghost use Rattle.script_core.specs.declared.script.ScriptLines.TheVariants.{First};
-ghost use Rattle.engine_core.specs.EngineText.{Text, Writes, is_write_fault};
+ghost use Rattle.engine_core.specs.Ending.{is_write_fault};
+ghost use Rattle.engine_core.specs.Run.{WritesSome};
 ghost use Rattle.exchange_engines.specs.PublishText.{IsPublishText, IsScriptSound, script_cause};
 ghost use Rattle.exchange_engines.specs.computed.PublishStep.{Holds, Progress, Runs, TakesCall, TakesItem, progress_after, publish_text, setup_cause};
 ghost use Rattle.script_core.specs.Script.{script_rules};
@@ -263,7 +263,7 @@ pub fn publish<A: Allocator + Copy, R: Source, W: Sink>(
     requires open { R.ending reader ≡ InputEnd.Open }
     requires works { W.failed writer.old ≡ false }
     ensures text { (given : List ℕ) × GivesOctets (R.left reader) (R.left result.1) given
-        × ((t : Text (SpecItem A) SpecCause) × IsPublishText t × Writes script_rules First t result.0 (R.ending result.1) given (W.contents writer.old) (W.contents writer.new)) }
+        × WritesSome (IsPublishText {A = A}) script_rules First result.0 (R.ending result.1) given (W.contents writer.old) (W.contents writer.new) }
     ensures read_fault { result.0 ≡ Ending.ReadFault → R.ending result.1 ≡ InputEnd.Failed }
     ensures fault { W.failed writer.new ≡ is_write_fault result.0 }
 {

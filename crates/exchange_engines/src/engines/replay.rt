@@ -3,7 +3,7 @@ ghost use Rattle.std.specs.Prelude.{◌≡◌, ◌++◌, ℕ, List, false, codes
 ghost use Rattle.std.specs.Fmt.{decimal};
 ghost use Rattle.list_core.specs.declared.device.InputEnd.{InputEnd};
 ghost use Rattle.list_core.specs.Device.{GivesOctets};
-ghost use Rattle.engine_core.specs.EngineText.{is_write_fault};
+ghost use Rattle.engine_core.specs.Ending.{is_write_fault};
 ghost use Rattle.text_core.specs.Pieces.{AppendsText};
 ghost use Rattle.exchange_engines.specs.ReplayText.{ReplayWrites};
 ghost use Rattle.exchange_engines.specs.computed.ReplayStep.{kept_after, replay_text};

@@ -1,17 +1,16 @@
 //! `watch`: what the counter of a stream of samples does.
 ghost use Rattle.std.specs.Prelude.{◌≡◌, ◌++◌, [], ℕ, List, None, false, length, take, IsOk, MatchResult};
 ghost use Rattle.list_core.specs.declared.device.InputEnd.{InputEnd};
-ghost use Rattle.list_core.specs.declared.event.Event.{Event as SpecEvent};
 ghost use Rattle.list_core.specs.declared.event_lines.EventLines.TheVariants.{First};
-ghost use Rattle.list_core.specs.declared.list_fault.ListCause.{ListCause as SpecCause};
 ghost use Rattle.list_core.specs.Device.{GivesOctets};
 ghost use Rattle.list_core.specs.EventLine.{event_rules};
 ghost use Rattle.pdu_core.specs.SampledViews.{asdu_of, asdus_left};
 ghost use Rattle.block_core.specs.Period.{IsPeriod};
 ghost use Rattle.subscribe_core.specs.computed.WatchAnswers.{seen_all};
-ghost use Rattle.engine_core.specs.EngineText.{Text, Writes, is_write_fault};
+ghost use Rattle.engine_core.specs.Ending.{is_write_fault};
+ghost use Rattle.engine_core.specs.Run.{WritesSome};
 ghost use Rattle.exchange_engines.specs.WatchText.{IsWatchText, counts, counts_of, is_unexpected as unexpected, sample_at, samples_from, samples_of, watched};
-ghost use Rattle.exchange_engines.specs.computed.WatchStep.{SamplesSaid, last_of, watch_text};
+ghost use Rattle.exchange_engines.specs.computed.WatchStep.{SamplesAppended, last_of, watch_text};
 
 use crate::texts::watched::put_sample;
 use engine_core::{Ending, Engine, run};
@@ -43,8 +42,8 @@ fn put_asdu<A: Allocator>(
     position: u64,
     asdu: &AsduView<'_>,
 ) -> Result<bool, AllocError>
-    ensures said { MatchResult result
-        (λ found. SamplesSaid watch.old.period number watch.old.last (sample_at position id.now (asdu_of {A = Unit {0}} asdu.now)) line.old.items line.new.items found watch.new.last)
+    ensures written { MatchResult result
+        (λ found. SamplesAppended watch.old.period number watch.old.last (sample_at position id.now (asdu_of {A = Unit {0}} asdu.now)) line.old.items line.new.items found watch.new.last)
         (λ _. take (length line.old.items) line.new.items ≡ line.old.items) }
     ensures quiet { sample_at position id.now (asdu_of {A = Unit {0}} asdu.now) ≡ [] → IsOk result }
     ensures period { watch.new.period ≡ watch.old.period }
@@ -65,8 +64,8 @@ fn put_asdus<A: Allocator>(
     number: u64,
     sampled: &SvView<'_>,
 ) -> Result<bool, AllocError>
-    ensures said { MatchResult result
-        (λ found. SamplesSaid watch.old.period number watch.old.last (samples_from 0 id.now (asdus_left {A = Unit {0}} sampled.now.asdus)) line.old.items line.new.items found watch.new.last)
+    ensures written { MatchResult result
+        (λ found. SamplesAppended watch.old.period number watch.old.last (samples_from 0 id.now (asdus_left {A = Unit {0}} sampled.now.asdus)) line.old.items line.new.items found watch.new.last)
         (λ _. take (length line.old.items) line.new.items ≡ line.old.items) }
     ensures quiet { samples_from 0 id.now (asdus_left {A = Unit {0}} sampled.now.asdus) ≡ [] → IsOk result }
     ensures period { watch.new.period ≡ watch.old.period }
@@ -89,7 +88,7 @@ fn put_event<A: Allocator>(
     number: u64,
     kind: &EventKind<A>,
 ) -> Result<bool, AllocError>
-    ensures said { MatchResult result
+    ensures written { MatchResult result
         (λ found. (line.new.items ≡ line.old.items ++ (watched number id.now kind.now (seen_all watch.old.period watch.old.last (counts (samples_of id.now kind.now)))).0)
         × (found ≡ (watched number id.now kind.now (seen_all watch.old.period watch.old.last (counts (samples_of id.now kind.now)))).1)
         × (watch.new.last ≡ last_of watch.old.period watch.old.last (counts (samples_of id.now kind.now))))
@@ -174,7 +173,7 @@ pub fn watch<A: Allocator + Copy, R: Source, W: Sink>(
     requires works { W.failed writer.old ≡ false }
     requires period { IsPeriod period }
     ensures text { (given : List ℕ) × GivesOctets (R.left reader) (R.left result.1) given
-        × ((t : Text (SpecEvent A) SpecCause) × IsWatchText period id.now t × Writes event_rules First t result.0 (R.ending result.1) given (W.contents writer.old) (W.contents writer.new)) }
+        × WritesSome (IsWatchText {A = A} period id.now) event_rules First result.0 (R.ending result.1) given (W.contents writer.old) (W.contents writer.new) }
     ensures read_fault { result.0 ≡ Ending.ReadFault → R.ending result.1 ≡ InputEnd.Failed }
     ensures fault { W.failed writer.new ≡ is_write_fault result.0 }
 {

@@ -1,4 +1,5 @@
 //! The lines of a subscriber's entries.
+ghost use Rattle.std.specs.Fmt.{decimal};
 ghost use Rattle.std.specs.Prelude.{◌≡◌, ◌≤◌, ◌++◌, [], length, IsOk, codes};
 ghost use Rattle.subscribe_core.specs.declared.entry.Entry.TheVariants.{Refused};
 ghost use Rattle.exchange_engines.specs.EntryText.{entry_head, entry_line, entry_lines, pair_line, pair_text};
@@ -27,7 +28,8 @@ fn put_head<A: Allocator>(
 {
     put_decimal(out, number)?;
     out.extend_from_slice(word)?;
-    put_decimal(out, block as u64)
+    put_decimal(out, block as u64)?;
+    Ok(())
 }
 
 // Appends a line of a word and the position of a block.
@@ -48,7 +50,8 @@ fn put_pair<A: Allocator>(out: &mut Vec<u8, A>, state: u32, sequence: u32) -> Re
     ensures { AppendsText result out.old.items out.new.items (pair_text state sequence) }
 {
     put_number(out, b" st=", state)?;
-    put_number(out, b" sq=", sequence)
+    put_number(out, b" sq=", sequence)?;
+    Ok(())
 }
 
 // Appends a line about a frame's numbers.
@@ -75,18 +78,40 @@ fn put_pair_line<A: Allocator>(
     text.append_to(out)
 }
 
-// Appends what was published with a state: its time and its members.
-fn put_data<A: Allocator>(
-    out: &mut Vec<u8, A>,
-    t: UtcTime,
-    members: &ValueList<A>,
-) -> Result<(), AllocError>
-    ensures { AppendsText result out.old.items out.new.items ((codes " t=" ++ time_text t) ++ (codes " " ++ members_text members.now) ++ codes "\n") }
+// Appends the time at which a state was published first.
+fn put_time<A: Allocator>(out: &mut Vec<u8, A>, t: UtcTime) -> Result<(), AllocError>
+    ensures { AppendsText result out.old.items out.new.items (codes " t=" ++ time_text t) }
 {
     out.extend_from_slice(b" t=")?;
     put_utc(out, t)?;
+    Ok(())
+}
+
+// Appends the members that were published with it.
+fn put_members<A: Allocator>(out: &mut Vec<u8, A>, members: &ValueList<A>) -> Result<(), AllocError>
+    ensures { AppendsText result out.old.items out.new.items (codes " " ++ members_text members.now) }
+{
     out.extend_from_slice(b" ")?;
     put_values(out, members)?;
+    Ok(())
+}
+
+// Appends the line of an action.
+fn put_act<A: Allocator>(
+    out: &mut Vec<u8, A>,
+    number: u64,
+    block: usize,
+    state: u32,
+    sequence: u32,
+    t: UtcTime,
+    members: &ValueList<A>,
+) -> Result<(), AllocError>
+    ensures { AppendsText result out.old.items out.new.items (entry_head number (codes " act ") block ++ pair_text state sequence ++ (codes " t=" ++ time_text t) ++ (codes " " ++ members_text members.now) ++ codes "\n") }
+{
+    put_head(out, number, b" act ", block)?;
+    put_pair(out, state, sequence)?;
+    put_time(out, t)?;
+    put_members(out, members)?;
     out.extend_from_slice(b"\n")
 }
 
@@ -103,6 +128,14 @@ fn put_refused<A: Allocator>(
     out.extend_from_slice(b" ")?;
     out.extend_from_slice(reason_name(reason))?;
     out.extend_from_slice(b"\n")
+}
+
+// Appends the number of a line and what follows it.
+fn put_alone<A: Allocator>(out: &mut Vec<u8, A>, number: u64, text: &[u8]) -> Result<(), AllocError>
+    ensures { AppendsText result out.old.items out.new.items (decimal number ++ text.now) }
+{
+    put_decimal(out, number)?;
+    out.extend_from_slice(text)
 }
 
 // Appends the line of an entry.
@@ -122,11 +155,7 @@ fn put_entry<A: Allocator>(
             sequence,
             t,
             members,
-        } => {
-            put_head(out, number, b" act ", *block)?;
-            put_pair(out, *state, *sequence)?;
-            put_data(out, *t, members)
-        }
+        } => put_act(out, number, *block, *state, *sequence, *t, members),
         Entry::Refreshed {
             block,
             state,
@@ -143,14 +172,8 @@ fn put_entry<A: Allocator>(
             sequence,
         } => put_pair_line(out, number, b" old ", *block, *state, *sequence),
         Entry::Refused { block, reason } => put_refused(out, number, *block, *reason),
-        Entry::NotSubscribed => {
-            put_decimal(out, number)?;
-            out.extend_from_slice(b" not-subscribed\n")
-        }
-        Entry::Sampled => {
-            put_decimal(out, number)?;
-            out.extend_from_slice(b" sampled\n")
-        }
+        Entry::NotSubscribed => put_alone(out, number, b" not-subscribed\n"),
+        Entry::Sampled => put_alone(out, number, b" sampled\n"),
         Entry::Faulty(fault) => put_fault_line(out, number, *fault),
     }
 }

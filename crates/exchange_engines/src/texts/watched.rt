@@ -1,25 +1,29 @@
 //! The lines of the samples of a stream.
+ghost use Rattle.std.specs.Prelude.{◌≡◌, ◌+◌, ◌≤◌, ◌++◌, length};
 ghost use Rattle.text_core.specs.Pieces.{AppendsText};
 ghost use Rattle.exchange_engines.specs.SampleLine.{sample_line, seen_word};
 
 use std::alloc::{AllocError, Allocator};
 use subscribe_core::Seen;
-use text_core::pieces::put_decimal;
+use text_core::short::ShortText;
 
-// Appends what a count is after those before it.
-fn put_seen<A: Allocator>(out: &mut Vec<u8, A>, seen: Seen) -> Result<(), AllocError>
-    ensures { AppendsText result out.old.items out.new.items (seen_word seen) }
+// Puts what a count is after those before it in front.
+#[inline(always)]
+fn put_seen(text: &mut ShortText, seen: Seen)
+    requires { length text.old + 29 ≤ 160 }
+    ensures text { text.new ≡ seen_word seen ++ text.old }
+    ensures size { length text.new ≤ length text.old + 29 }
 {
     match seen {
-        Seen::First => out.extend_from_slice(b" first"),
-        Seen::Next => out.extend_from_slice(b" next"),
+        Seen::First => text.put(b" first"),
+        Seen::Next => text.put(b" next"),
         Seen::Skipped(missing) => {
-            out.extend_from_slice(b" skipped ")?;
-            put_decimal(out, missing as u64)
+            text.put_decimal(missing as u64);
+            text.put(b" skipped ");
         }
-        Seen::Same => out.extend_from_slice(b" same"),
-        Seen::Late => out.extend_from_slice(b" late"),
-        Seen::OutOfRange => out.extend_from_slice(b" out-of-range"),
+        Seen::Same => text.put(b" same"),
+        Seen::Late => text.put(b" late"),
+        Seen::OutOfRange => text.put(b" out-of-range"),
     }
 }
 
@@ -32,13 +36,15 @@ pub fn put_sample<A: Allocator>(
     count: u16,
     seen: Seen,
 ) -> Result<(), AllocError>
-    ensures { AppendsText result out.old.items out.new.items (sample_line number (position, count) seen) }
+    ensures { AppendsText result out.old.items out.new.items (sample_line number (record { position = position; count = count }) seen) }
 {
-    put_decimal(out, number)?;
-    out.extend_from_slice(b" ")?;
-    put_decimal(out, position)?;
-    out.extend_from_slice(b" ")?;
-    put_decimal(out, count as u64)?;
-    put_seen(out, seen)?;
-    out.extend_from_slice(b"\n")
+    let mut text = ShortText::new();
+    text.put(b"\n");
+    put_seen(&mut text, seen);
+    text.put_decimal(count as u64);
+    text.put(b" ");
+    text.put_decimal(position);
+    text.put(b" ");
+    text.put_decimal(number);
+    text.append_to(out)
 }

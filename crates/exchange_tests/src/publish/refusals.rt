@@ -23,7 +23,7 @@ fn steps_that_make_no_table(rt: HostRuntime) {
     assert!(rt; fault_of(&[good, good, bad, bad]) == Some(PublishFault::StepTimes(2)));
 }
 
-// A moment of change whose fraction of a second has no spelling.
+// A time of change whose fraction of a second has no spelling.
 pub const WIDE: UtcTime = UtcTime {
     seconds: 0,
     fraction: 16_777_216,

@@ -9,7 +9,8 @@ ghost use Rattle.frame_core.specs.Written.{ApduIsSpellable, written_frame};
 ghost use Rattle.frame_core.specs.computed.WrittenTest.{fits};
 ghost use Rattle.text_core.specs.Pieces.{AppendsText};
 ghost use Rattle.frame_engines.specs.CheckText.{check_text, goes_where_recommended, has_text, is_form, note_unless, notes, octets_notes};
-ghost use Rattle.engine_core.specs.EngineText.{Writes, is_write_fault};
+ghost use Rattle.engine_core.specs.Ending.{is_write_fault};
+ghost use Rattle.engine_core.specs.Run.{Writes};
 ghost use Rattle.frame_engines.specs.WrittenForm.{fitting_form};
 
 use arrayvec::ArrayVec;
@@ -17,7 +18,7 @@ use byteorder::{BigEndian, ByteOrder};
 use engine_core::{Ending, Engine, run};
 use frame_core::{
     ApduView, Event, EventKind, EventLines, FrameView, ItemFault, LineError, ListCause, Sink,
-    Source, encode_view, fault_of_list, view_frame,
+    Source, encode_view, fault_of_list, see_frame,
 };
 use std::alloc::{AllocError, Allocator};
 use text_core::line::{put_fault_line, put_list_line};
@@ -30,6 +31,7 @@ const GOOSE_DESTINATIONS: (u64, u64) = (0x010C_CD01_0000, 0x010C_CD01_01FF);
 const SAMPLED_DESTINATIONS: (u64, u64) = (0x010C_CD04_0000, 0x010C_CD04_01FF);
 
 // Whether octets are those of the written form of the frame that they spell, and this form fits.
+#[inline(never)]
 fn is_in_written_form(view: &FrameView<'_>, octets: &[u8]) -> bool
     requires { ApduIsSpellable (frame_of {A = Unit {0}} view.now).apdu }
     ensures { result ≡ is_form (fitting_form (Ok (frame_of {A = Unit {0}} view.now))) octets.now }
@@ -91,18 +93,19 @@ fn put_notes<A: Allocator>(
     ensures text { AppendsText result line.old.items line.new.items (octets_notes number octets.now) }
     ensures quiet { octets_notes number octets.now ≡ [] → IsOk result }
 {
-    match view_frame(octets) {
-        Err(fault) => put_fault_line(line, number, fault),
+    let viewed = see_frame(octets, true);
+    match &viewed {
+        Err(fault) => put_fault_line(line, number, *fault),
         Ok(view) => {
             put_note(
                 line,
-                stands_in_written_form(&view, octets),
+                stands_in_written_form(view, octets),
                 number,
                 b" not-written\n",
             )?;
             put_note(
                 line,
-                has_recommended_destination(&view),
+                has_recommended_destination(view),
                 number,
                 b" destination\n",
             )

@@ -6,7 +6,7 @@ ghost use Rattle.capture_core.specs.Capture.{CaptureRecord};
 ghost use Rattle.capture_core.specs.Reading.{ReadsRecord};
 ghost use Rattle.capture_core.specs.declared.capture_fault.CaptureFault as fault;
 ghost use Rattle.engine_core.specs.computed.EngineStep.{stops_by};
-ghost use Rattle.engine_core.specs.EngineText.{is_write_fault};
+ghost use Rattle.engine_core.specs.Ending.{is_write_fault};
 ghost use Rattle.frame_engines.specs.computed.ImportStep.{FaultWrites, ImportWrites};
 ghost use Rattle.frame_engines.specs.ImportText.{Imports, capture_line, ending_of_capture, left_out_line};
 

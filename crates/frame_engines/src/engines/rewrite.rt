@@ -1,12 +1,17 @@
 //! `rewrite`: the list again, each grammatical frame in its written form.
-ghost use Rattle.std.specs.Prelude.{◌≡◌, ◌++◌, ℕ, List, true, false, not, is_some, length, take, Some, None, ⊤, IfOk, MatchResult, codes, if◌then◌else◌};
+ghost use Rattle.std.specs.Prelude.{◌≡◌, ◌++◌, ℕ, List, true, false, not, is_some, length, take, Some, None, Ok, ⊤, IfOk, MatchResult, codes, if◌then◌else◌};
 ghost use Rattle.std.specs.Fmt.{decimal};
 ghost use Rattle.hex.specs.Hex.{encode_lower};
+ghost use Rattle.ber_core.specs.computed.Reading.{Gives};
+ghost use Rattle.frame_core.specs.FrameViews.{frame_of};
+ghost use Rattle.frame_core.specs.Written.{ApduIsSpellable};
+ghost use Rattle.frame_core.specs.computed.FrameReading.{frame_at};
 ghost use Rattle.list_core.specs.declared.device.InputEnd.{InputEnd};
 ghost use Rattle.list_core.specs.Device.{GivesOctets};
 ghost use Rattle.list_core.specs.EventLine.{event_rules, kind_text, mode_text};
 ghost use Rattle.list_core.specs.declared.event_lines.EventLines.TheVariants.{First};
-ghost use Rattle.engine_core.specs.EngineText.{Writes, is_write_fault};
+ghost use Rattle.engine_core.specs.Ending.{is_write_fault};
+ghost use Rattle.engine_core.specs.Run.{Writes};
 ghost use Rattle.text_core.specs.Pieces.{AppendsText};
 ghost use Rattle.frame_engines.specs.RewriteText.{form_or, is_kept, rewritten, rewrite_text};
 ghost use Rattle.frame_engines.specs.WrittenForm.{written_form};
@@ -14,8 +19,8 @@ ghost use Rattle.frame_engines.specs.WrittenForm.{written_form};
 use arrayvec::ArrayVec;
 use engine_core::{Ending, Engine, run};
 use frame_core::{
-    Event, EventKind, EventLines, ItemFault, LineError, ListCause, Sink, Source, encode_view,
-    fault_of_list, view_frame,
+    Event, EventKind, EventLines, FrameView, ItemFault, LineError, ListCause, Sink, Source,
+    encode_view, fault_of_list, see_frame,
 };
 use std::alloc::{AllocError, Allocator};
 use text_core::event::put_frame_event;
@@ -46,6 +51,29 @@ fn put_own<A: Allocator>(
     Ok(kept)
 }
 
+// Appends the line of the frame that the view stands for in its written form, or else of its own octets, and answers
+// whether it keeps these. Never inlined, so that room for the form is made only where one is written.
+#[inline(never)]
+fn put_form<A: Allocator>(
+    line: &mut Vec<u8, A>,
+    moment: u64,
+    octets: &[u8],
+    view: &FrameView<'_>,
+) -> Result<bool, AllocError>
+    requires read { Gives (λ v. frame_of {A = Unit {0}} v) (Ok view.now) (frame_at octets.now) }
+    requires spellable { ApduIsSpellable (frame_of {A = Unit {0}} view.now).apdu }
+    ensures text { AppendsText result line.old.items line.new.items
+        (codes "F " ++ decimal moment ++ codes " " ++ encode_lower (form_or (written_form octets.now) octets.now) ++ codes "\n") }
+    ensures kept { IfOk result (λ kept. kept ≡ not (is_some (written_form octets.now))) }
+{
+    let mut form = ArrayVec::new();
+    if encode_view(view, &mut form).is_err() {
+        return put_own(line, moment, octets, true);
+    }
+    put_frame_event(line, moment, form.as_slice())?;
+    Ok(false)
+}
+
 // Appends the line of a frame in its written form, or else of its own octets, and answers whether
 // it keeps these. A frame that stands in its written form is not written anew.
 fn put_rewritten<A: Allocator>(
@@ -57,18 +85,13 @@ fn put_rewritten<A: Allocator>(
         (codes "F " ++ decimal moment ++ codes " " ++ encode_lower (form_or (written_form octets.now) octets.now) ++ codes "\n") }
     ensures kept { IfOk result (λ kept. kept ≡ not (is_some (written_form octets.now))) }
 {
-    let Ok(view) = view_frame(octets) else {
+    let Ok(view) = see_frame(octets, true) else {
         return put_own(line, moment, octets, true);
     };
     if view.apdu.is_written() {
         return put_own(line, moment, octets, false);
     }
-    let mut form = ArrayVec::new();
-    if encode_view(&view, &mut form).is_err() {
-        return put_own(line, moment, octets, true);
-    }
-    put_frame_event(line, moment, form.as_slice())?;
-    Ok(false)
+    put_form(line, moment, octets, &view)
 }
 
 // Appends the line of a mode in a list.

@@ -5,7 +5,8 @@ ghost use Rattle.list_core.specs.EventLine.{event_rules, mode_text};
 ghost use Rattle.list_core.specs.declared.event_lines.EventLines.TheVariants.{First};
 ghost use Rattle.list_core.specs.declared.device.InputEnd.{InputEnd};
 ghost use Rattle.list_core.specs.Device.{GivesOctets};
-ghost use Rattle.engine_core.specs.EngineText.{Writes, is_write_fault};
+ghost use Rattle.engine_core.specs.Ending.{is_write_fault};
+ghost use Rattle.engine_core.specs.Run.{Writes};
 ghost use Rattle.text_core.specs.Pieces.{AppendsText};
 ghost use Rattle.frame_engines.specs.ShowText.{octets_line, show_text};
 
@@ -27,9 +28,10 @@ fn put_octets<A: Allocator>(
 ) -> Result<(), AllocError>
     ensures { AppendsText result line.old.items line.new.items (octets_line number octets.now) }
 {
-    match view_frame(octets) {
-        Ok(frame) => put_frame(line, number, &frame),
-        Err(fault) => put_fault_line(line, number, fault),
+    let viewed = view_frame(octets);
+    match &viewed {
+        Ok(frame) => put_frame(line, number, frame),
+        Err(fault) => put_fault_line(line, number, *fault),
     }
 }
 

@@ -25,14 +25,14 @@ lines_by n earlier [] = []
 lines_by n earlier (s ∷ seen) = line_after n s (newest earlier (key_of s)) ∷ lines_by n (earlier ++ s ∷ []) seen
 
 -- what is written of them
-abbrev pub said : ℕ → List Sighting → List Sighting → List ℕ
-said n earlier seen = concat (lines_by n earlier seen)
+abbrev pub written_of : ℕ → List Sighting → List Sighting → List ℕ
+written_of n earlier seen = concat (lines_by n earlier seen)
 
 -- the text as it is computed
 abbrev pub blocks_text : {A : Type 0} → Text (Event A) ListCause
 blocks_text = record {
   first = [];
-  step = λ before e. Ok (said e.0 (sightings_in before) (sightings_of e.1.kind), false);
+  step = λ before e. Ok (written_of e.0 (sightings_in before) (sightings_of e.1.kind), false);
   last = λ f. list_line (list_fault_of f);
 }
 
@@ -42,9 +42,9 @@ pub record Keeps {A : Type 0} (known : List (Known A)) (seen : List Sighting) : 
   pub same : (key : Key) → text_by known_key known_text known key ≡ newest seen key
 
 -- what is written of sightings was appended, and what they show is held
-abbrev pub Said : {A : Type 0} → ℕ → List Sighting → List (Known A) → List (Known A) → List ℕ → List ℕ → Type 0
-Said n seen known after old new = (earlier : List Sighting) → Keeps known earlier → (new ≡ old ++ said n earlier seen) × Keeps after (earlier ++ seen)
+abbrev pub AppendsLines : {A : Type 0} → ℕ → List Sighting → List (Known A) → List (Known A) → List ℕ → List ℕ → Type 0
+AppendsLines n seen known after old new = (earlier : List Sighting) → Keeps known earlier → (new ≡ old ++ written_of n earlier seen) × Keeps after (earlier ++ seen)
 
 -- there is something to write of sightings
-abbrev pub Wanted : {A : Type 0} → ℕ → List Sighting → List (Known A) → Type 0
-Wanted n seen known = (earlier : List Sighting) → Keeps known earlier → said n earlier seen ≡ [] → ⊥
+abbrev pub HasLines : {A : Type 0} → ℕ → List Sighting → List (Known A) → Type 0
+HasLines n seen known = (earlier : List Sighting) → Keeps known earlier → written_of n earlier seen ≡ [] → ⊥

@@ -1,5 +1,5 @@
 -- What reading a line for its event answers.
-use Rattle.std.specs.Prelude.{◌≡◌, ℕ, Bool, true, List, Option, Result, Ok, Err}
+use Rattle.std.specs.Prelude.{◌≡◌, ℕ, Bool, true, List, Option, Some, is_some, Result, Ok, Err}
 use Rattle.std.specs.Borrow.{Bor}
 use Rattle.list_core.specs.declared.event.Event.{Event}
 use Rattle.list_core.specs.declared.list_fault.ListCause.{ListCause}
@@ -12,6 +12,11 @@ abbrev pub Answers : {A : Type 0} → Result (Option (Event A)) (LineError ListC
 Answers (Ok event) said keeps = said ≡ Ok event
 Answers (Err (line.Cause why)) said keeps = said ≡ Err why
 Answers (Err (line.Memory e)) said keeps = keeps ≡ true
+
+-- these octets were read where they are written; or memory was wanted, where some are
+abbrev pub IsRead : {E : Type 0} → Result (List ℕ) E → Option (List ℕ) → Type 0
+IsRead (Ok octets) written = written ≡ Some octets
+IsRead (Err e) written = is_some written ≡ true
 
 -- the fields after a first one, where a space follows it
 abbrev pub fields_after : Option (Bor (List ℕ)) → List (List ℕ)

@@ -5,7 +5,8 @@ use crate::frame::sampled_frames::{TAGGED_SAMPLED, of_eight};
 use arrayvec::ArrayVec;
 use ber_core::Full;
 use frame_core::{
-    Apdu, EncodeFault, Frame, GooseFrame, decode, encode, encode_goose, encode_view, view_frame,
+    Apdu, EncodeFault, Frame, GooseFrame, decode, encode, encode_goose, encode_view, see_frame,
+    view_frame,
 };
 use mms_data::Octets;
 use pdu_core::{AsduList, SvPdu};
@@ -23,6 +24,14 @@ fn has_view_form(octets: &[u8], form: &[u8]) -> bool {
     encode_view(&view, &mut written) == Ok(()) && written.as_slice() == form
 }
 
+/// Whether it is noted that these octets are their frame's written form.
+fn is_noted(octets: &[u8]) -> bool {
+    let Ok(view) = see_frame(octets, true) else {
+        return false;
+    };
+    view.apdu.is_written()
+}
+
 /// Whether these octets have this written form, as a frame and as a view.
 fn have_form(alloc: Global, octets: &[u8], form: &[u8]) -> bool {
     has_form(alloc, octets, form) && has_view_form(octets, form)
@@ -31,9 +40,12 @@ fn have_form(alloc: Global, octets: &[u8], form: &[u8]) -> bool {
 #[test]
 fn a_frame_has_one_written_form(rt: HostRuntime) {
     let eight = of_eight();
-    assert!(rt; have_form(rt.alloc(), &LONG, &FRAME));
+    assert!(rt; have_form(rt.alloc(), &LONG, &FRAME) && !is_noted(&LONG));
     for octets in [FRAME.as_slice(), &TAGGED, &SAMPLED, &TAGGED_SAMPLED, &eight] {
-        assert!(rt; have_form(rt.alloc(), octets, octets), "{octets:?}");
+        assert!(rt;
+            have_form(rt.alloc(), octets, octets) && is_noted(octets),
+            "{octets:?}"
+        );
     }
 }
 

@@ -19,10 +19,10 @@ use ber_core::Fault;
 use ber_core::fields::{check_end, required};
 use mms_data::standing::has_short_length;
 
-/// The ASDU that stands at `at`, in a region that ends at `end`, the place behind it, and whether it is known to stand in its
-/// written form.
+/// The ASDU that stands at `at`, in a region that ends at `end`, the place behind it, and where `NOTES` is true, whether it is
+/// known to stand in its written form.
 #[tactic(auto, unfolding(crate::specs::computed::SampledReading::asdu_at))]
-pub fn asdu<'a>(
+pub fn asdu<'a, const NOTES: bool>(
     octets: &'a [u8],
     at: usize,
     end: usize,
@@ -36,7 +36,7 @@ pub fn asdu<'a>(
 {
     let header = required(octets, at, end, 0x30)?;
     let to = header.contents_to;
-    let written = has_short_length(&header);
+    let written = NOTES & has_short_length(&header);
     let (sv_id, place, written) = text_field(octets, header.contents_from, to, 0x80, written)?;
     let (dat_set, place, written) = text_if_there(octets, place, to, 0x81, written)?;
     let (smp_cnt, place, written) = two_octets_field(octets, place, to, 0x82, written)?;
@@ -63,18 +63,24 @@ pub fn asdu<'a>(
     Ok((view, to, written))
 }
 
-/// How many ASDUs fill the octets from `at` to `end`, and whether they are known to stand in their written form.
-pub fn check_asdus(octets: &[u8], at: usize, end: usize) -> Result<(usize, bool), Fault>
+/// How many ASDUs fill the octets from `at` to `end`, and where `NOTES` is true, whether they are known to stand in their
+/// written form.
+#[inline(always)]
+pub fn check_asdus<const NOTES: bool>(
+    octets: &[u8],
+    at: usize,
+    end: usize,
+) -> Result<(usize, bool), Fault>
     requires ordered { at ≤ end }
     requires inside { end ≤ length octets.now }
     ensures found { IfOk result (λ n. (xs : List (Asdu (Unit {0}))) × (asdus_at octets.now at end ≡ Ok (items_of_each xs)) × (length xs ≡ n.0) × (n.1 ≡ true → slice_range octets.now at end ≡ written_asdus xs)) }
     ensures fault { IfErr result (λ f. asdus_at octets.now at end ≡ Err f) }
 {
     let mut count = 0;
-    let mut written = true;
+    let mut written = NOTES;
     let mut place = at;
     'asdus: while place < end {
-        let (_, next, stands) = asdu(octets, place, end)?;
+        let (_, next, stands) = asdu::<NOTES>(octets, place, end)?;
         place = next;
         written &= stands;
         count += 1;

@@ -22,6 +22,7 @@ use mms_data::standing::has_short_length;
 use mms_data::utc::utc_time;
 
 // The number of two octets behind a header.
+#[inline(always)]
 #[tactic(auto, unfolding(crate::specs::computed::ContentsReading::fixed_in))]
 fn two_octets(octets: &[u8], header: &Header) -> Result<u16, Fault>
     requires behind { header.now.at < header.now.contents_from }
@@ -33,6 +34,7 @@ fn two_octets(octets: &[u8], header: &Header) -> Result<u16, Fault>
 }
 
 // The number of four octets behind a header.
+#[inline(always)]
 #[tactic(auto, unfolding(crate::specs::computed::ContentsReading::fixed_in))]
 fn four_octets(octets: &[u8], header: &Header) -> Result<u32, Fault>
     requires behind { header.now.at < header.now.contents_from }
@@ -44,6 +46,7 @@ fn four_octets(octets: &[u8], header: &Header) -> Result<u32, Fault>
 }
 
 // The number of one octet behind a header.
+#[inline(always)]
 #[tactic(auto, unfolding(crate::specs::computed::ContentsReading::fixed_in))]
 fn one_octet(octets: &[u8], header: &Header) -> Result<u8, Fault>
     requires behind { header.now.at < header.now.contents_from }
@@ -55,6 +58,7 @@ fn one_octet(octets: &[u8], header: &Header) -> Result<u8, Fault>
 }
 
 // The one to sixteen octets behind a header.
+#[inline(always)]
 #[tactic(auto, unfolding(crate::specs::computed::ContentsReading::few_at))]
 fn few_octets<'a>(octets: &'a [u8], header: &Header) -> Result<&'a [u8], Fault>
     requires behind { header.now.at < header.now.contents_from }

@@ -73,6 +73,7 @@ impl<'a> Asdus<'a> {
     }
 
     // The first ASDU, and those behind it.
+    #[inline(always)]
     fn split(self) -> (AsduView<'a>, Asdus<'a>)
         requires { self.at < self.end }
         ensures first { asdus_left {A = Unit {0}} self.entry ≡ asdu_of result.0 ∷ asdus_left result.1 }
@@ -80,7 +81,7 @@ impl<'a> Asdus<'a> {
         ensures source { asdus_source result.1 ≡ asdus_source self.entry }
     {
         let (octets, end) = (self.octets, self.end);
-        let Ok((view, at, _)) = asdu(octets, self.at, end) else {
+        let Ok((view, at, _)) = asdu::<false>(octets, self.at, end) else {
             unreachable!()
         };
         (view, Asdus { octets, at, end })
@@ -97,6 +98,7 @@ impl<'a> Iterator for Asdus<'a> {
 
     ghost remaining = { item_count (asdus_left {A = Unit {0}}) };
 
+    #[inline(always)]
     fn next(&mut self) -> Option<AsduView<'a>> {
         if self.at == self.end {
             return None;

@@ -28,6 +28,7 @@ struct CountedAsdus<'a> {
 }
 
 // The count behind a header.
+#[inline(always)]
 #[tactic(auto, unfolding(crate::specs::computed::SampledReading::count_in))]
 fn count(octets: &[u8], header: &Header) -> Result<u16, Fault>
     requires behind { header.now.at < header.now.contents_from }
@@ -39,6 +40,7 @@ fn count(octets: &[u8], header: &Header) -> Result<u16, Fault>
 }
 
 // The count of ASDUs, which is always there, and the place behind it.
+#[inline(always)]
 fn count_field(
     octets: &[u8],
     at: usize,
@@ -60,7 +62,12 @@ fn count_field(
 }
 
 // The ASDUs that fill the octets from `at` to `end`, and their count.
-fn asdus_from<'a>(octets: &'a [u8], at: usize, end: usize) -> Result<CountedAsdus<'a>, Fault>
+#[inline(always)]
+fn asdus_from<'a, const NOTES: bool>(
+    octets: &'a [u8],
+    at: usize,
+    end: usize,
+) -> Result<CountedAsdus<'a>, Fault>
     requires ordered { at ≤ end }
     requires inside { end ≤ length octets.now }
     ensures exact { Gives (λ x. items_of_each (asdus_left {A = Unit {0}} x.asdus)) result (asdus_at octets.now at end) }
@@ -68,7 +75,7 @@ fn asdus_from<'a>(octets: &'a [u8], at: usize, end: usize) -> Result<CountedAsdu
     ensures count { IfOk result (λ x. x.count ≡ length (asdus_left {A = Unit {0}} x.asdus)) }
     ensures written { IfOk result (λ x. x.written ≡ true → slice_range octets.now at end ≡ written_asdus (asdus_left {A = Unit {0}} x.asdus)) }
 {
-    let (count, written) = check_asdus(octets, at, end)?;
+    let (count, written) = check_asdus::<NOTES>(octets, at, end)?;
     Ok(CountedAsdus {
         count,
         written,
@@ -77,7 +84,8 @@ fn asdus_from<'a>(octets: &'a [u8], at: usize, end: usize) -> Result<CountedAsdu
 }
 
 // The ASDUs, which are always there, and the place behind them.
-fn asdus_field<'a>(
+#[inline(always)]
+fn asdus_field<'a, const NOTES: bool>(
     octets: &'a [u8],
     at: usize,
     end: usize,
@@ -93,12 +101,13 @@ fn asdus_field<'a>(
     ensures stands { IfOk result (λ x. x.2 ≡ true → (written ≡ true) × (slice_range octets.now at x.1 ≡ written_element identifier (written_asdus (asdus_left {A = Unit {0}} x.0.asdus)))) }
 {
     let header = required(octets, at, end, identifier)?;
-    let asdus = asdus_from(octets, header.contents_from, header.contents_to)?;
+    let asdus = asdus_from::<NOTES>(octets, header.contents_from, header.contents_to)?;
     let written = written & has_short_length(&header) & asdus.written;
     Ok((asdus, header.contents_to, written))
 }
 
 // Whether the count at this place is that of the ASDUs.
+#[inline(always)]
 #[tactic(auto, using(crate::proofs::SvLaws::each_count))]
 fn check_count(place: usize, count: u16, asdus: &CountedAsdus<'_>) -> Result<(), Fault>
     requires { asdus.now.count ≡ length (asdus_left {A = Unit {0}} asdus.now.asdus) }
@@ -112,9 +121,11 @@ fn check_count(place: usize, count: u16, asdus: &CountedAsdus<'_>) -> Result<(),
     }
 }
 
-// The APDU that fills the octets from `at` to `end`, as reading from left to right gives it.
+// The APDU that fills the octets from `at` to `end`, as reading from left to right gives it, and where `NOTES` is true,
+// whether it is known to stand in its written form. Never inlined, so that the view is put together once.
+#[inline(never)]
 #[tactic(auto, unfolding(crate::specs::computed::SampledReading::sv_at))]
-fn sv<'a>(octets: &'a [u8], at: usize, end: usize) -> Result<SvView<'a>, Fault>
+fn sv<'a, const NOTES: bool>(octets: &'a [u8], at: usize, end: usize) -> Result<SvView<'a>, Fault>
     requires ordered { at ≤ end }
     requires inside { end ≤ length octets.now }
     ensures exact { Gives (λ v. items_of_each (asdus_left {A = Unit {0}} v.asdus)) result (sv_at octets.now at end) }
@@ -124,9 +135,9 @@ fn sv<'a>(octets: &'a [u8], at: usize, end: usize) -> Result<SvView<'a>, Fault>
 {
     let header = required(octets, at, end, 0x60)?;
     let to = header.contents_to;
-    let written = has_short_length(&header);
+    let written = NOTES & has_short_length(&header);
     let (count, place, written) = count_field(octets, header.contents_from, to, 0x80, written)?;
-    let (asdus, place, written) = asdus_field(octets, place, to, 0xa2, written)?;
+    let (asdus, place, written) = asdus_field::<NOTES>(octets, place, to, 0xa2, written)?;
     check_end(place, to)?;
     check_end(to, end)?;
     check_count(header.contents_from, count, &asdus)?;
@@ -135,6 +146,55 @@ fn sv<'a>(octets: &'a [u8], at: usize, end: usize) -> Result<SvView<'a>, Fault>
         asdus: asdus.asdus,
         written,
     })
+}
+
+// The same, noted or not.
+#[inline(always)]
+fn noted_sv<'a>(octets: &'a [u8], at: usize, end: usize, notes: bool) -> Result<SvView<'a>, Fault>
+    requires ordered { at ≤ end }
+    requires inside { end ≤ length octets.now }
+    ensures exact { Gives (λ v. items_of_each (asdus_left {A = Unit {0}} v.asdus)) result (sv_at octets.now at end) }
+    ensures source { IfOk result (λ v. asdus_source v.asdus ≡ octets.entry) }
+    ensures count { IfOk result (λ v. v.count ≡ length (asdus_left {A = Unit {0}} v.asdus)) }
+    ensures written { IfOk result (λ v. v.written ≡ true → slice_range octets.now at end ≡ written_sv (sv_of {A = Unit {0}} v)) }
+{
+    if notes {
+        sv::<true>(octets, at, end)
+    } else {
+        sv::<false>(octets, at, end)
+    }
+}
+
+/// What `view_sv` answers, and where `notes` is true, whether the octets are known to be the written form of the APDU.
+/// Inlined, so that who does not ask for this does not pay for it.
+///
+/// # Errors
+///
+/// Those of `view_sv`.
+#[inline(always)]
+pub fn see_sv<'a>(octets: &'a [u8], at: usize, end: usize, notes: bool) -> Result<SvView<'a>, Fault>
+    requires ordered { at ≤ end }
+    requires inside { end ≤ length octets.now }
+
+    // What is seen is spelled so, and what is spelled so is seen.
+    ensures found { IfOk result (λ v. SpellsSv {A = Unit {0}} (sv_of v) (slice_range octets.now at end)) }
+    ensures only { (p : SvPdu (Unit {0})) → SpellsSv p (slice_range octets.now at end) → ShowsSv result p }
+
+    // The fault that is answered is there, and the fault that is there is answered.
+    ensures fault { IfErr result (λ f. SvFault f at (slice_range octets.now at end)) }
+    ensures fault_only { (f : Fault) → SvFault f at (slice_range octets.now at end) → result ≡ Err f }
+
+    // The ASDUs are read from the octets themselves, and are counted.
+    ensures source { IfOk result (λ v. asdus_source v.asdus ≡ octets.entry) }
+    ensures count { IfOk result (λ v. v.count ≡ length (asdus_left {A = Unit {0}} v.asdus)) }
+
+    // The octets are the written form of the APDU, where the view says so.
+    ensures written { IfOk result (λ v. v.written ≡ true → slice_range octets.now at end ≡ written_sv (sv_of {A = Unit {0}} v)) }
+
+    // For callers: the function on octets that it computes.
+    ensures exact { Gives (λ v. items_of_each (asdus_left {A = Unit {0}} v.asdus)) result (sv_at octets.now at end) }
+{
+    noted_sv(octets, at, end, notes)
 }
 
 /// The APDU whose one element fills the octets from `at` to `end` (IEC 61850-9-2, savPdu).
@@ -165,5 +225,5 @@ pub fn view_sv<'a>(octets: &'a [u8], at: usize, end: usize) -> Result<SvView<'a>
     // For callers: the function on octets that it computes.
     ensures exact { Gives (λ v. items_of_each (asdus_left {A = Unit {0}} v.asdus)) result (sv_at octets.now at end) }
 {
-    sv(octets, at, end)
+    see_sv(octets, at, end, false)
 }

@@ -13,7 +13,7 @@ use Rattle.publish_core.specs.Refusal.{IsAccepted, IsRefusal}
 use Rattle.publish_core.specs.computed.Step.{judged_frame}
 use Rattle.publish_core.specs.Table.{AreSteps}
 
--- the texts of the control, the moment of the change and each value have a spelling
+-- the texts of the control, the time of the change and each value have a spelling
 abbrev pub is_change_spellable : {A : Type 0} → Control A → Change → Bool
 is_change_spellable control change = are_texts control.gocb_ref control.dat_set control.go_id && (is_time change.t && all_are_spellable change.values 1)
 

@@ -11,7 +11,7 @@ use Rattle.publish_core.specs.Table.{step_at, step_of}
 use Rattle.publish_core.specs.Frames.{Setup, Change, frame_with}
 use Rattle.publish_core.specs.Run.{Request, Changed, Polled, Call}
 use Rattle.publish_core.specs.Refusal.{IsAccepted}
-use Rattle.publish_core.specs.Standing.{PublisherStanding, change_of}
+use Rattle.publish_core.specs.State.{PublisherState, change_of}
 
 -- the wait behind the frame that was given last is over
 abbrev pub is_due : {A : Type 0} → List Step → Last A → ℕ → Bool
@@ -35,20 +35,20 @@ abbrev pub polled_frame : {A : Type 0} → Control A → List Step → Option (L
 polled_frame control table None now = None
 polled_frame control table (Some l) now = if is_due table l now then Some (last_frame control table (next_last table l now)) else None
 
-abbrev pub poll_frame : {A : Type 0} → PublisherStanding A → ℕ → Option (Frame A)
+abbrev pub poll_frame : {A : Type 0} → PublisherState A → ℕ → Option (Frame A)
 poll_frame s now = polled_frame s.control s.table s.last (max s.moment now)
 
-abbrev pub poll_state : {A : Type 0} → PublisherStanding A → ℕ → PublisherStanding A
+abbrev pub poll_state : {A : Type 0} → PublisherState A → ℕ → PublisherState A
 poll_state s now = record s { moment = max s.moment now; last = polled s.table s.last (max s.moment now) }
 
 -- the first frame of a state
 abbrev pub first_last : {A : Type 0} → ℕ → Change → ℕ → Last A
 first_last state change now = record { t = change.t; values = change.values; state = state; sequence = 0; step = 0; given = now }
 
-abbrev pub change_frame : {A : Type 0} → PublisherStanding A → Change → ℕ → Frame A
+abbrev pub change_frame : {A : Type 0} → PublisherState A → Change → ℕ → Frame A
 change_frame s change now = last_frame s.control s.table (first_last s.next change (max s.moment now))
 
-abbrev pub change_state : {A : Type 0} → PublisherStanding A → Change → ℕ → PublisherStanding A
+abbrev pub change_state : {A : Type 0} → PublisherState A → Change → ℕ → PublisherState A
 change_state s change now = record s {
   next = number_behind s.next;
   moment = max s.moment now;
@@ -75,24 +75,24 @@ pub record IsFrameOf {A : Type 0} (control : Control A) (table : List Step) (l :
   pub step : l.step ≡ step_of table k
   pub accepted : IsAccepted control table l.state (change_of l)
 
-abbrev pub IsStandingSound : {A : Type 0} → Control A → List Step → Option (Last A) → Type 0
-IsStandingSound control table None = Unit {0}
-IsStandingSound control table (Some l) = IsFrameOf control table l
+abbrev pub IsLastSound : {A : Type 0} → Control A → List Step → Option (Last A) → Type 0
+IsLastSound control table None = Unit {0}
+IsLastSound control table (Some l) = IsFrameOf control table l
 
 -- what a call gives and leaves
-abbrev pub request_frame : {A : Type 0} → PublisherStanding A → Request → ℕ → Option (Frame A)
+abbrev pub request_frame : {A : Type 0} → PublisherState A → Request → ℕ → Option (Frame A)
 request_frame s (Changed change) now = Some (change_frame s change now)
 request_frame s Polled now = poll_frame s now
 
-abbrev pub request_state : {A : Type 0} → PublisherStanding A → Request → ℕ → PublisherStanding A
+abbrev pub request_state : {A : Type 0} → PublisherState A → Request → ℕ → PublisherState A
 request_state s (Changed change) now = change_state s change now
 request_state s Polled now = poll_state s now
 
 -- the answers of calls, one behind the other
-abbrev pub run_calls : {A : Type 0} → PublisherStanding A → List Call → List (Option (Frame A))
+abbrev pub run_calls : {A : Type 0} → PublisherState A → List Call → List (Option (Frame A))
 run_calls s [] = []
 run_calls s (c ∷ cs) = request_frame s c.request c.moment ∷ run_calls (request_state s c.request c.moment) cs
 
 -- what a publisher holds before any call
-abbrev pub fresh_publisher : {A : Type 0} → Setup A → PublisherStanding A
+abbrev pub fresh_publisher : {A : Type 0} → Setup A → PublisherState A
 fresh_publisher p = record { control = p.control; table = p.table; next = p.first; moment = 0; last = None }

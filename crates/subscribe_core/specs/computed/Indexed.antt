@@ -8,11 +8,12 @@ use Rattle.subscribe_core.specs.declared.names.Name.{Name}
 use Rattle.subscribe_core.specs.declared.registers.Held.{Held}
 use Rattle.subscribe_core.specs.declared.registers.Register.{Register}
 use Rattle.subscribe_core.specs.computed.Deadlines.{AreDeadlinesOf, helds}
-use Rattle.subscribe_core.specs.Entries.{entry_of}
+use Rattle.subscribe_core.specs.FrameEntry.{entry_of}
 use Rattle.subscribe_core.specs.Matching.{facts_of_frame}
 use Rattle.subscribe_core.specs.computed.Names.{AreSorted, AreNamesOf}
 use Rattle.subscribe_core.specs.Reading.{FrameRead}
-use Rattle.subscribe_core.specs.Standing.{AreApart, idle}
+use Rattle.subscribe_core.specs.Apart.{AreApart}
+use Rattle.subscribe_core.specs.State.{idle}
 use Rattle.subscribe_core.specs.computed.Steps.{after_clock, after_switch, verdict_on, held_after_frame}
 
 -- What the private fields of a subscriber keep to: a register for each block, no two blocks of one name, the names of

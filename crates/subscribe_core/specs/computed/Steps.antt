@@ -9,11 +9,11 @@ use Rattle.subscribe_core.specs.declared.registers.Held.{Held}
 use Rattle.subscribe_core.specs.declared.registers.Register.{Register}
 use Rattle.subscribe_core.specs.declared.registers.Verdict.{Verdict}
 use Rattle.subscribe_core.specs.declared.registers.Verdict.TheVariants.{Act, Refreshed, Repeated, Older}
-use Rattle.subscribe_core.specs.Entries.{entry_of}
+use Rattle.subscribe_core.specs.FrameEntry.{entry_of}
 use Rattle.subscribe_core.specs.Matching.{is_of, reason_of, facts_of_frame}
 use Rattle.subscribe_core.specs.Reading.{FrameRead, Content, OfGoose, OfSampled, OfFault, OfClock, OfMode, EventRead}
-use Rattle.subscribe_core.specs.Simulation.{is_against, is_plain_simulated, is_off, mode_by}
-use Rattle.subscribe_core.specs.Standing.{State}
+use Rattle.subscribe_core.specs.Simulation.{is_other_kind, is_plain_simulated, is_off, mode_by}
+use Rattle.subscribe_core.specs.State.{State}
 
 -- the lifetime of what is held is over at the moment
 abbrev pub is_dead : Option Held → ℕ → Bool
@@ -85,7 +85,7 @@ block_held now f None held = held_after_frame (verdict_on held (facts_of_frame f
 -- what a block holds after an event
 abbrev pub held_by : {A : Type 0} → ℕ → Bool → Block A → Register → Content → Option Held → Option Held
 held_by now mode x r (OfGoose f) held =
-    if is_of f x then block_held now f (reason_of (is_against f mode r.simulated) x f) held else held
+    if is_of f x then block_held now f (reason_of (is_other_kind f mode r.simulated) x f) held else held
 held_by now mode x r OfSampled held = held
 held_by now mode x r (OfFault fault) held = held
 held_by now mode x r OfClock held = held
@@ -105,7 +105,7 @@ registers_by now mode k (x ∷ xs) (r ∷ rs) = register_by now mode k x r ∷ r
 -- the entry of a frame of GOOSE, by the block that was found and what is kept of it
 abbrev pub found_entry : {A : Type 0} → ℕ → Bool → FrameRead → ℕ → Option (Block A) → Option Register → Entry A
 found_entry now mode f b (Some x) (Some r) =
-    block_entry b f (reason_of (is_against f mode r.simulated) x f) (turned now mode (OfGoose f) x r)
+    block_entry b f (reason_of (is_other_kind f mode r.simulated) x f) (turned now mode (OfGoose f) x r)
 found_entry now mode f b (Some x) None = says.NotSubscribed
 found_entry now mode f b None r = says.NotSubscribed
 

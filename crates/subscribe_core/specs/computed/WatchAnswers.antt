@@ -1,5 +1,5 @@
 -- The answers to counts one after another, as a function, and what a watch keeps after each.
-use Rattle.std.specs.Prelude.{ℕ, ◌-◌, ◌<◌, Option, Some, None, List, [], ◌∷◌}
+use Rattle.std.specs.Prelude.{ℕ, ◌<◌, Option, Some, None, List, [], ◌∷◌}
 use Rattle.subscribe_core.specs.declared.watch.Seen.{Seen}
 use Rattle.subscribe_core.specs.declared.watch.Seen.TheVariants as seen
 use Rattle.subscribe_core.specs.Watch.{seen_after}

@@ -31,21 +31,21 @@ returns-in-Ended-clause-text g c =
     let s = c.in-Ended.ensures.step in
     let w = s.2 p.0 p.1 in
     let q = rw w.0 at s.1 in
-    let r = ended _ _ _ _ _ p.0 _ _ _ _ _ (rw c.requires.first at c.in-Ok.ensures.written) p.2 q w.1 in
-    rw (c.into_reader.ensures.left, c.into_reader.ensures.ending, c.ending_where.ensures) (rw (c.new-items.ensures.left, c.new-items.ensures.taken, c.new-items.ensures.held, c.new-items.ensures.settled) at r)
+    let r = ended _ _ _ _ _ p.0 _ _ _ _ _ c.new-items.ensures.taken c.new-items.ensures.held (rw c.requires.first at c.in-Ok.ensures.written) p.2 q w.1 in
+    rw (c.into_reader.ensures.left, c.into_reader.ensures.ending, c.ending_where.ensures) (rw (c.new-items.ensures.left, c.new-items.ensures.settled) at r)
 
 pub returns-in-Stop-clause-text : goal.returns-in-Stop-clause-text
 returns-in-Stop-clause-text g c =
     let p = c.answers.invariant.so_far in
     let s = c.in-Stop.ensures.step in
     let w = rw c.answers.invariant.same at (s.2 p.0 p.1) in
-    let r = stopped _ _ _ _ _ p.0 _ _ _ _ _ (rw c.requires.first at c.in-Ok.ensures.written) p.2 s.0 s.1 _ w in
-    rw (c.into_reader-in-Stop.ensures.left, c.into_reader-in-Stop.ensures.ending) (rw (c.new-items.ensures.left, c.new-items.ensures.taken, c.new-items.ensures.held, c.new-items.ensures.settled) at r)
+    let r = stopped _ _ _ _ _ p.0 _ _ _ _ _ c.new-items.ensures.taken c.new-items.ensures.held (rw c.requires.first at c.in-Ok.ensures.written) p.2 s.0 s.1 _ w in
+    rw (c.into_reader-in-Stop.ensures.left, c.into_reader-in-Stop.ensures.ending) (rw (c.new-items.ensures.left, c.new-items.ensures.settled) at r)
 
 pub returns-in-Stop-clause-read_fault : goal.returns-in-Stop-clause-read_fault
 returns-in-Stop-clause-read_fault g c = λ e.
     let p = c.answers.invariant.so_far in
     let s = c.in-Stop.ensures.step in
     let w = rw c.answers.invariant.same at (s.2 p.0 p.1) in
-    let r = stopped _ _ _ _ _ p.0 _ _ _ _ _ (rw c.requires.first at c.in-Ok.ensures.written) p.2 s.0 s.1 _ w in
-    c.into_reader-in-Stop.ensures.ending ∙ only_failed _ _ _ _ _ _ _ _ _ r.2 e
+    let r = stopped _ _ _ _ _ p.0 _ _ _ _ _ c.new-items.ensures.taken c.new-items.ensures.held (rw c.requires.first at c.in-Ok.ensures.written) p.2 s.0 s.1 _ w in
+    c.into_reader-in-Stop.ensures.ending ∙ only_failed _ _ _ _ _ _ _ _ r.2 e

@@ -5,4 +5,4 @@ use Rattle.inventory_engine.proofs.engine.blocks.Goals as goal
 pub returns-clause-text : goal.returns-clause-text
 returns-clause-text g c =
     let r = c.run.ensures.text in
-    (r.0, r.1, (blocks_text, blocks_is, r.2))
+    (r.0, r.1, record { text = blocks_text; is_text = blocks_is; run = r.2 })

@@ -1,16 +1,16 @@
 use Rattle.std.proofs.Common.{[], ◌∷◌, List, ℕ, None, ap}
 use Rattle.pdu_core.specs.SampledViews.{asdu_of}
 use Rattle.inventory_engine.specs.Sightings.{Sighting, stream_seen}
-use Rattle.inventory_engine.proofs.Saying.{said_as}
+use Rattle.inventory_engine.proofs.Appending.{appends_as}
 use Rattle.inventory_engine.proofs.sighting.put_stream.Goals as goal
 
 -- a sighting of this text
 seen : List ℕ → List ℕ → List Sighting
 seen name text = record { app_id = None; name = name; text = text } ∷ []
 
-pub returns-clause-said : goal.returns-clause-said
+pub returns-clause-written : goal.returns-clause-written
 unfolding seen
-returns-clause-said g c =
+returns-clause-written g c =
     let a = asdu_of {A = Unit {0}} c.args.asdu.now in
-    said_as c.put_sighting.result c.args.number _ (stream_seen a ∷ []) c.args.known.now.items c.put_sighting.new.known.items c.args.line.now.items c.put_sighting.new.line.items
-    (ap (seen a.sv_id) c.stream_pieces-pieces.ensures) c.put_sighting.ensures.said
+    appends_as c.put_sighting.result c.args.number _ (stream_seen a ∷ []) c.args.known.now.items c.put_sighting.new.known.items c.args.line.now.items c.put_sighting.new.line.items
+    (ap (seen a.sv_id) c.stream_pieces-pieces.ensures) c.put_sighting.ensures.written

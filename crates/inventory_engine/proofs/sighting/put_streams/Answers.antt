@@ -3,9 +3,9 @@ use Rattle.std.proofs.lemmas.List.{append-nil}
 use Rattle.pdu_core.specs.SampledViews.{asdu_of, asdus_left}
 use Rattle.pdu_core.specs.declared.sampled.asdu.Asdu.{Asdu}
 use Rattle.inventory_engine.specs.Sightings.{streams_seen}
-use Rattle.inventory_engine.specs.computed.BlocksStep.{Said}
+use Rattle.inventory_engine.specs.computed.BlocksStep.{AppendsLines}
 use Rattle.text_core.proofs.Fronts.{front_twice}
-use Rattle.inventory_engine.proofs.Saying.{on_error, stream_more, streams_wanted}
+use Rattle.inventory_engine.proofs.Appending.{on_error, stream_more, streams_wanted}
 use Rattle.inventory_engine.proofs.sighting.put_streams.Goals as goal
 
 pub loop-asdu-preserved : goal.loop-asdu-preserved
@@ -13,7 +13,7 @@ loop-asdu-preserved g c =
     let i = c.loop-asdu.invariant in
     let more = stream_more c.args.number c.loop-asdu.yielded c.in-Some.asdu (asdus_left c.args.sampled.now.asdus) (asdus_left c.loop-asdu.asdu-iterator) (asdus_left c.next.new.self)
     c.args.known.now.items c.loop-asdu.known.items c.put_stream.new.known.items c.args.line.now.items c.loop-asdu.line.items c.put_stream.new.line.items
-    i.2 c.in-Some.ensures.steps.0 i.3 c.in_ok-put_stream.ensures.said in
+    i.2 c.in-Some.ensures.steps.0 i.3 c.in_ok-put_stream.ensures.written in
     (tt, tt, more.0, more.1, front_twice c.args.line.now.items c.loop-asdu.line.items c.put_stream.new.line.items i.4 c.put_stream.ensures.front)
 
 pub returns-in_err-put_stream-clause-wants : goal.returns-in_err-put_stream-clause-wants
@@ -22,9 +22,9 @@ returns-in_err-put_stream-clause-wants g c =
     on_error _ _ (streams_wanted c.args.number c.loop-asdu.yielded c.in-Some.asdu (asdus_left c.args.sampled.now.asdus) (asdus_left c.loop-asdu.asdu-iterator) (asdus_left c.next.new.self)
     c.args.known.now.items c.loop-asdu.known.items c.args.line.now.items c.loop-asdu.line.items i.2 c.in-Some.ensures.steps.0 i.3 c.in_err-put_stream.ensures.wants)
 
-pub returns-clause-said : goal.returns-clause-said
-returns-clause-said g c =
+pub returns-clause-written : goal.returns-clause-written
+returns-clause-written g c =
     let i = c.loop-asdu.invariant in
     let seen = map (asdu_of {A = Unit {0}}) c.loop-asdu.yielded in
     let all = sym (append-nil seen) ∙ ap (λ (l : List (Asdu (Unit {0}))). seen ++ l) (sym c.in-None.ensures.steps.0.0) ∙ i.2 in
-    subst (λ (l : List (Asdu (Unit {0}))). Said c.args.number (streams_seen l) c.args.known.now.items c.loop-asdu.known.items c.args.line.now.items c.loop-asdu.line.items) all i.3
+    subst (λ (l : List (Asdu (Unit {0}))). AppendsLines c.args.number (streams_seen l) c.args.known.now.items c.loop-asdu.known.items c.args.line.now.items c.loop-asdu.line.items) all i.3

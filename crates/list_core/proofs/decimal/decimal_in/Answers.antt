@@ -1,4 +1,4 @@
-use Rattle.std.proofs.Common.{arith, true, ℕ, get_or, length, take, ◌≡◌, ◌+◌, ◌-◌, ◌*◌, ◌<◌, ◌≤◌, ◌^◌, ◌%◌, ap, sym, subst, refl, ◌∙◌}
+use Rattle.std.proofs.Common.{arith, true, ℕ, get_or, take, ◌≡◌, ◌+◌, ◌-◌, ◌*◌, ◌<◌, ◌≤◌, ◌^◌, ◌%◌, ap, sym, subst, refl, ◌∙◌}
 use Rattle.std.specs.List.{list_all}
 use Rattle.std.specs.Char.{is_ascii_digit}
 use Rattle.std.specs.Str.Parse.{digits_value}

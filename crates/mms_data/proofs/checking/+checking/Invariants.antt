@@ -3,16 +3,16 @@ use Rattle.mms_data.proofs.Checked.{Counts}
 use Rattle.mms_data.proofs.checking.+checking.Given as goal
 
 abbrev pub decreases-count_members : goal.decreases-count_members
-decreases-count_members l = 3 * l.depth + 2
+decreases-count_members g l = 3 * l.depth + 2
 
 abbrev pub decreases-pass_member : goal.decreases-pass_member
-decreases-pass_member l = 3 * l.depth + 1
+decreases-pass_member g l = 3 * l.depth + 1
 
 abbrev pub decreases-check_contents : goal.decreases-check_contents
-decreases-check_contents l = 3 * l.depth + 3
+decreases-check_contents g l = 3 * l.depth + 3
 
 abbrev pub invariant-count_members-members : goal.invariant-count_members-members
-invariant-count_members-members l = Counts l.depth l.at l.octets l.end l.place l.count l.written
+invariant-count_members-members g l = Counts l.depth l.at l.octets l.end l.place l.count l.written
 
 abbrev pub decreases-count_members-members : goal.decreases-count_members-members
-decreases-count_members-members l = l.end - l.place
+decreases-count_members-members g l = l.end - l.place

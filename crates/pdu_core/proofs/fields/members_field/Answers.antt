@@ -7,7 +7,7 @@ use Rattle.pdu_core.proofs.Standing.{field_stands_if}
 use Rattle.pdu_core.proofs.fields.members_field.Goals as goal
 
 pub returns-clause-stands : goal.returns-clause-stands
-returns-clause-stands c =
+returns-clause-stands g c =
     let o = c.args.octets.now in
     let small : AreOctets o = λ i. search rules in
     let e = c.in_ok-header.ensures in

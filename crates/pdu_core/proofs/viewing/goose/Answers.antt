@@ -1,4 +1,5 @@
 use Rattle.std.proofs.Common.{◌≡◌, Some, sym, ap, ap₂, ◌∙◌, rules, arith}
+use Rattle.std.proofs.lemmas.Bool.{and_parts}
 use Rattle.std.specs.Prelude.{slice_range}
 use Rattle.ber_core.specs.Length.{AreOctets}
 use Rattle.ber_core.specs.Written.{written_element}
@@ -9,7 +10,7 @@ use Rattle.pdu_core.proofs.Standing.{join, nothing}
 use Rattle.pdu_core.proofs.viewing.goose.Goals as goal
 
 pub returns-clause-written : goal.returns-clause-written
-returns-clause-written c = λ told.
+returns-clause-written g c = λ told.
     let o = c.args.octets.now in
     let small : AreOctets o = λ i. search rules in
     let h = c.in_ok-header.header in
@@ -27,7 +28,7 @@ returns-clause-written c = λ told.
     let m_dat_set = c.in_ok-dat_set.ensures.stands m_go_id.0 in
     let m_live = c.in_ok-live.ensures.stands m_dat_set.0 in
     let m_gocb_ref = c.in_ok-gocb_ref.ensures.stands m_live.0 in
-    let short = c.has_short_length-written.ensures m_gocb_ref.0 in
+    let short = c.has_short_length.ensures (and_parts _ _ m_gocb_ref.0).1 in
     let count = ap (λ n. written_field 0x8a (Some (a_number n))) c.in_ok-check_count.ensures.same in
     let whole : to ≡ c.args.end = omega (arith, c.in_ok-check_end-2.ensures.found, e.places.within) in
     let contents = (join o h.contents_from c.in_ok-gocb_ref.place to c.in_ok-gocb_ref.ensures.next.0 c.in_ok-gocb_ref.ensures.next.1 m_gocb_ref.1

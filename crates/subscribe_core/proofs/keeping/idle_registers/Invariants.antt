@@ -1,5 +1,5 @@
 use Rattle.std.proofs.Common.{◌≡◌, replicate}
-use Rattle.subscribe_core.specs.Standing.{idle}
+use Rattle.subscribe_core.specs.State.{idle}
 use Rattle.subscribe_core.proofs.keeping.idle_registers.Given as goal
 
 abbrev pub invariant-loop : goal.invariant-loop

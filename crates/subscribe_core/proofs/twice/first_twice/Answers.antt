@@ -1,6 +1,6 @@
 use Rattle.std.proofs.Common.{arith, below_more, refl}
 use Rattle.std.proofs.lemmas.Bool.{false≢true}
-use Rattle.subscribe_core.specs.Standing.{IsTwice}
+use Rattle.subscribe_core.specs.Apart.{IsTwice}
 use Rattle.subscribe_core.proofs.Fresh.{apart_from}
 use Rattle.subscribe_core.proofs.twice.first_twice.Goals as goal
 

@@ -1,5 +1,5 @@
 use Rattle.std.proofs.Common.{ℕ, ◌<◌}
-use Rattle.subscribe_core.specs.Standing.{IsTwice}
+use Rattle.subscribe_core.specs.Apart.{IsTwice}
 use Rattle.subscribe_core.proofs.twice.first_twice.Given as goal
 
 -- none so far is one

@@ -2,7 +2,7 @@ use Rattle.std.proofs.Common.{◌≡◌, slice_get, arith, refl, sym, ap, ◌∙
 use Rattle.std.proofs.lemmas.Bool.{false≢true, cases_lt}
 use Rattle.std.proofs.lemmas.Option.{slice_get_read, same_Some}
 use Rattle.block_core.specs.declared.block.Block.{Block}
-use Rattle.subscribe_core.specs.Standing.{HasNameOf}
+use Rattle.subscribe_core.specs.Apart.{HasNameOf}
 use Rattle.subscribe_core.proofs.twice.is_twice.Goals as goal
 
 pub returns-then-have_one_name : goal.returns-then-have_one_name

@@ -1,6 +1,6 @@
 use Rattle.std.proofs.Common.{◌≡◌, ℕ, ◌<◌, Some, slice_get}
 use Rattle.block_core.specs.declared.block.Block.{Block}
-use Rattle.subscribe_core.specs.Standing.{HasNameOf}
+use Rattle.subscribe_core.specs.Apart.{HasNameOf}
 use Rattle.subscribe_core.proofs.twice.is_twice.Given as goal
 
 -- no block so far has the name

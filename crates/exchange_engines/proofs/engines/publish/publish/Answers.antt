@@ -3,4 +3,4 @@ use Rattle.exchange_engines.proofs.PublishLemmas.{publish_is}
 use Rattle.exchange_engines.proofs.engines.publish.publish.Goals as goal
 
 pub returns-clause-text : goal.returns-clause-text
-returns-clause-text g c = let r = c.run.ensures.text in (r.0, r.1, (publish_text, publish_is, r.2))
+returns-clause-text g c = let r = c.run.ensures.text in (r.0, r.1, record { text = publish_text; is_text = publish_is; run = r.2 })

@@ -1,28 +1,27 @@
-use Rattle.std.proofs.Common.{◌++◌, refl}
+use Rattle.std.proofs.Common.{◌≡◌, ℕ, List, ◌++◌, ap, subst, sym, ◌∙◌, append_assoc}
 use Rattle.std.specs.Prelude.{codes}
 use Rattle.std.specs.Fmt.{decimal}
-use Rattle.text_core.proofs.Fronts.{appended, then_appended}
-use Rattle.text_core.proofs.PieceLemmas.{then_text}
+use Rattle.text_core.specs.Pieces.{AppendsText}
+use Rattle.text_core.proofs.PieceLemmas.{before}
 use Rattle.exchange_engines.specs.SampleLine.{seen_word}
 use Rattle.exchange_engines.proofs.texts.watched.put_sample.Goals as goal
 
+parts : (a b c d e f g : List ℕ) → a ++ (b ++ c) ++ (d ++ e) ++ f ++ g ≡ a ++ (b ++ (c ++ (d ++ (e ++ (f ++ g)))))
+parts a b c d e f g =
+    append_assoc (a ++ (b ++ c) ++ (d ++ e)) f g ∙ append_assoc (a ++ (b ++ c)) (d ++ e) (f ++ g) ∙ append_assoc a (b ++ c) ((d ++ e) ++ (f ++ g))
+    ∙ ap (λ (l : List ℕ). a ++ l) (append_assoc b c ((d ++ e) ++ (f ++ g)) ∙ ap (λ (l : List ℕ). b ++ (c ++ l)) (append_assoc d e (f ++ g)))
+
 pub returns : goal.returns
 returns g c =
-    let old = c.args.out.now.items in
-    let number = decimal c.args.number in
-    let place = decimal c.args.position in
-    let count = decimal c.args.count in
-    let word = seen_word c.args.seen in
-    let two = number ++ (codes " " ++ place) in
-    let three = two ++ (codes " " ++ count) in
-    let a = c.put_decimal.new.out.items in
-    let b = c.put_decimal-2.new.out.items in
-    let d = c.put_decimal-3.new.out.items in
-    let e = c.put_seen.new.out.items in
-    let r = c.extend_from_slice-3.result in
-    let new = c.extend_from_slice-3.new.self.items in
-    let placed = then_text a (codes " ") place (codes " " ++ place) _ b c.in_ok-extend_from_slice.ensures.items c.in_ok-put_decimal-2.ensures refl in
-    let counted = then_text b (codes " ") count (codes " " ++ count) _ d c.in_ok-extend_from_slice-2.ensures.items c.in_ok-put_decimal-3.ensures refl in
-    let so_far = then_text old two (codes " " ++ count) three b d (then_text old number (codes " " ++ place) two a b c.in_ok-put_decimal.ensures placed refl) counted refl in
-    then_appended r old e new (three ++ word) (codes "\n") (three ++ word ++ codes "\n") (then_text old three word (three ++ word) d e so_far c.in_ok-put_seen.ensures refl)
-    (appended r e new (codes "\n") (codes "\n") c.extend_from_slice-3.ensures.items refl) refl
+    let args = c.args in
+    let word = seen_word args.seen in
+    let text =
+    before (decimal args.number) c.put_decimal-3.ensures.text (
+    before (codes " ") c.put-3.ensures.text (
+    before (decimal args.position) c.put_decimal-2.ensures.text (
+    before (codes " ") c.put-2.ensures.text (
+    before (decimal args.count) c.put_decimal.ensures.text (
+    before word c.put_seen.ensures.text (
+    before (codes "\n") c.put.ensures.text c.new-text.ensures)))))) in
+    subst (λ (t : List ℕ). AppendsText c.append_to.result args.out.now.items c.append_to.new.out.items t)
+    (text ∙ sym (parts (decimal args.number) (codes " ") (decimal args.position) (codes " ") (decimal args.count) word (codes "\n"))) c.append_to.ensures

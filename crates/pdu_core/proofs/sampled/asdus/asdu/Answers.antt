@@ -1,4 +1,5 @@
 use Rattle.std.proofs.Common.{ap₂, ◌∙◌, rules, arith}
+use Rattle.std.proofs.lemmas.Bool.{and_parts}
 use Rattle.ber_core.specs.Length.{AreOctets}
 use Rattle.ber_core.specs.Written.{written_element}
 use Rattle.mms_data.proofs.AsWritten.{header_one}
@@ -6,7 +7,7 @@ use Rattle.pdu_core.proofs.Standing.{join, nothing}
 use Rattle.pdu_core.proofs.sampled.asdus.asdu.Goals as goal
 
 pub returns-clause-written : goal.returns-clause-written
-returns-clause-written c = λ told.
+returns-clause-written g c = λ told.
     let o = c.args.octets.now in
     let small : AreOctets o = λ i. search rules in
     let h = c.in_ok-header.header in
@@ -22,7 +23,7 @@ returns-clause-written c = λ told.
     let m_smp_cnt = c.in_ok-smp_cnt.ensures.stands m_conf_rev.0 in
     let m_dat_set = c.in_ok-dat_set.ensures.stands m_smp_cnt.0 in
     let m_sv_id = c.in_ok-sv_id.ensures.stands m_dat_set.0 in
-    let short = c.has_short_length-written.ensures m_sv_id.0 in
+    let short = c.has_short_length.ensures (and_parts _ _ m_sv_id.0).1 in
     let contents = (join o h.contents_from c.in_ok-sv_id.place to c.in_ok-sv_id.ensures.next.0 c.in_ok-sv_id.ensures.next.1 m_sv_id.1
     (join o c.in_ok-sv_id.place c.in_ok-dat_set.place to c.in_ok-dat_set.ensures.next.0 c.in_ok-dat_set.ensures.next.1 m_dat_set.1
     (join o c.in_ok-dat_set.place c.in_ok-smp_cnt.place to c.in_ok-smp_cnt.ensures.next.0 c.in_ok-smp_cnt.ensures.next.1 m_smp_cnt.1

@@ -4,13 +4,13 @@ use Rattle.pdu_core.proofs.AsdusRead.{counts_all, counts_on, counts_stop}
 use Rattle.pdu_core.proofs.sampled.asdus.check_asdus.Goals as goal
 
 pub returns-in_err-next-clause-fault : goal.returns-in_err-next-clause-fault
-returns-in_err-next-clause-fault c =
+returns-in_err-next-clause-fault g c =
     let p = err_from_is_err_and c.from_residual.result c.from_residual.ensures.1 in
     rw (p.1, p.2) (counts_stop c.args.octets.now c.args.at c.args.end c.requires.inside c.asdus.place c.asdus.count c.asdus.written c.in_err-next.field-0.0 c.asdus-test.true c.in_err-next.ensures.exact c.asdus.invariant)
 
 pub asdus-preserved : goal.asdus-preserved
-asdus-preserved c =
+asdus-preserved g c =
     counts_on c.args.octets.now c.args.at c.args.end c.requires.inside c.asdus.place c.in_ok-next.next c.asdus.count c.asdus.written c.in_ok-next.stands (asdu_of c.in_ok-next.field-0-0) c.asdus-test.true c.in_ok-next.ensures.next.0 c.in_ok-next.ensures.next.1 c.in_ok-next.ensures.exact c.in_ok-next.ensures.written c.asdus.invariant
 
 pub returns-clause-found : goal.returns-clause-found
-returns-clause-found c = counts_all c.args.octets.now c.args.at c.args.end c.requires.inside c.asdus.place c.asdus.count c.asdus.written c.asdus-test.false c.asdus.invariant
+returns-clause-found g c = counts_all c.args.octets.now c.args.at c.args.end c.requires.inside c.asdus.place c.asdus.count c.asdus.written c.asdus-test.false c.asdus.invariant

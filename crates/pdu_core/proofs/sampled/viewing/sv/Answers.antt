@@ -1,4 +1,5 @@
 use Rattle.std.proofs.Common.{◌≡◌, pos, sym, ap, ap₂, ◌∙◌, rules, arith}
+use Rattle.std.proofs.lemmas.Bool.{and_parts}
 use Rattle.std.specs.Prelude.{slice_range}
 use Rattle.ber_core.specs.Length.{AreOctets}
 use Rattle.ber_core.specs.Written.{written_element}
@@ -8,7 +9,7 @@ use Rattle.pdu_core.proofs.Standing.{join}
 use Rattle.pdu_core.proofs.sampled.viewing.sv.Goals as goal
 
 pub returns-clause-written : goal.returns-clause-written
-returns-clause-written c = λ told.
+returns-clause-written g c = λ told.
     let o = c.args.octets.now in
     let small : AreOctets o = λ i. search rules in
     let h = c.in_ok-header.header in
@@ -16,7 +17,7 @@ returns-clause-written c = λ told.
     let to = h.contents_to in
     let m_asdus = c.in_ok-asdus.ensures.stands told in
     let m_count = c.in_ok-count.ensures.stands m_asdus.0 in
-    let short = c.has_short_length-written.ensures m_count.0 in
+    let short = c.has_short_length.ensures (and_parts _ _ m_count.0).1 in
     let count = ap (λ n. written_element 0x80 (short_integer (pos n))) c.in_ok-check_count.ensures.same in
     let inner : c.in_ok-asdus.place ≡ to = omega (arith, c.in_ok-check_end.ensures.found, c.in_ok-asdus.ensures.next.1) in
     let outer : to ≡ c.args.end = omega (arith, c.in_ok-check_end-2.ensures.found, e.places.within) in

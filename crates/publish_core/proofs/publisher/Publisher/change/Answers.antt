@@ -2,7 +2,7 @@ use Rattle.std.proofs.Common.{◌++◌, ◌∷◌, [], sym, subst}
 use Rattle.std.proofs.lemmas.Result.{IfErr-weaker, IfOk-weaker, on_ok_weaker}
 use Rattle.publish_core.specs.Frames.{change}
 use Rattle.publish_core.specs.Run.{Changed, call}
-use Rattle.publish_core.specs.Standing.{PublisherStandsAfter}
+use Rattle.publish_core.specs.State.{PublisherStandsAfter}
 use Rattle.publish_core.specs.computed.Step.{change_frame}
 use Rattle.publish_core.proofs.Whole.{accepts_behind, change_ok, refuses_behind}
 use Rattle.publish_core.proofs.publisher.Publisher.change.Goals as goal

@@ -1,6 +1,6 @@
 use Rattle.std.proofs.Common.{◌++◌, ◌∷◌, [], sym, subst}
 use Rattle.publish_core.specs.Run.{Polled, call}
-use Rattle.publish_core.specs.Standing.{PublisherStandsAfter}
+use Rattle.publish_core.specs.State.{PublisherStandsAfter}
 use Rattle.publish_core.proofs.PollLaws.{poll_given}
 use Rattle.publish_core.proofs.Whole.{poll_ok}
 use Rattle.publish_core.proofs.publisher.Publisher.poll.Goals as goal

@@ -2,7 +2,7 @@ use Rattle.std.proofs.Common.{List, ap, sym, ◌∙◌, arith}
 use Rattle.subscribe_core.specs.declared.registers.Register.{Register}
 use Rattle.subscribe_core.specs.computed.Deadlines.{due_count, helds}
 use Rattle.subscribe_core.specs.computed.Indexed.{registers_after_clock}
-use Rattle.subscribe_core.specs.Standing.{Counted}
+use Rattle.subscribe_core.specs.State.{StateAndReaches}
 use Rattle.subscribe_core.proofs.Clearing.{cleared_set, count_set, cleared_none, due_within, helds_set, held_of, indexed_write, let_go, register_of}
 use Rattle.subscribe_core.proofs.keeping.Keeper.expire.Goals as goal
 
@@ -35,4 +35,4 @@ pub returns-clause-registers : goal.returns-clause-registers
 returns-clause-registers g c =
     let registers = c.loop-at.self-inside.rows.registers.items in
     let none = cleared_none registers c.args.now (λ at. c.in_default.ensures.none (helds registers) at c.loop-at.invariant.indexed.timed) in
-    sym none ∙ (c.loop-at.invariant.same ∙ ap (λ (s : Counted _). registers_after_clock c.args.now s.state.registers) c.self.view_is)
+    sym none ∙ (c.loop-at.invariant.same ∙ ap (λ (s : StateAndReaches _). registers_after_clock c.args.now s.state.registers) c.self.view_is)

@@ -1,7 +1,8 @@
 use Rattle.std.proofs.Common.{ap, ◌∙◌, subst, position}
 use Rattle.subscribe_core.specs.Matching.{is_of}
 use Rattle.subscribe_core.specs.computed.Received.{received_frame}
-use Rattle.subscribe_core.specs.Standing.{AreApart, Counted}
+use Rattle.subscribe_core.specs.Apart.{AreApart}
+use Rattle.subscribe_core.specs.State.{StateAndReaches}
 use Rattle.subscribe_core.proofs.NameLemmas.{find_is}
 use Rattle.subscribe_core.proofs.keeping.Keeper.find.Goals as goal
 
@@ -9,7 +10,7 @@ pub returns-clause-found : goal.returns-clause-found
 returns-clause-found g c =
     let found = find_is c.self.inside.names.items c.self.inside.rows.blocks.items (received_frame c.args.frame.now) c.find.result c.self.invariant.named c.self.invariant.apart
     (rw c.deref.ensures.value at c.find.ensures) in
-    found ∙ ap (λ (s : Counted _). position (is_of (received_frame c.args.frame.now)) s.state.blocks) c.self.view_is
+    found ∙ ap (λ (s : StateAndReaches _). position (is_of (received_frame c.args.frame.now)) s.state.blocks) c.self.view_is
 
 pub returns-clause-apart : goal.returns-clause-apart
-returns-clause-apart g c = subst (λ (s : Counted _). AreApart s.state.blocks) c.self.view_is c.self.invariant.apart
+returns-clause-apart g c = subst (λ (s : StateAndReaches _). AreApart s.state.blocks) c.self.view_is c.self.invariant.apart

@@ -3,7 +3,7 @@ use Rattle.std.proofs.lemmas.List.{length-map}
 use Rattle.std.proofs.lemmas.Option.{slice_get_within}
 use Rattle.subscribe_core.specs.declared.registers.Register.{Register}
 use Rattle.subscribe_core.specs.computed.Deadlines.{helds}
-use Rattle.subscribe_core.specs.Standing.{Counted}
+use Rattle.subscribe_core.specs.State.{StateAndReaches}
 use Rattle.subscribe_core.proofs.Clearing.{held_of, indexed_keys, indexed_write}
 use Rattle.subscribe_core.proofs.keeping.Keeper.hold.Goals as goal
 
@@ -12,13 +12,13 @@ invariant_of-self g c = indexed_keys _ _ _ _ _ c.in_err-swap.ensures.err c.self.
 
 pub write-requires : goal.write-requires
 write-requires g c =
-    let here = subst (λ (s : Counted _). slice_get s.state.registers c.args.at ≡ Some c.requires.was.0) (sym c.self.view_is) c.requires.was.1 in
+    let here = subst (λ (s : StateAndReaches _). slice_get s.state.registers c.args.at ≡ Some c.requires.was.0) (sym c.self.view_is) c.requires.was.1 in
     record { within = slice_get_within c.self.inside.rows.registers.items c.args.at c.requires.was.0 here }
 
 pub invariant_of-self-2 : goal.invariant_of-self-2
 invariant_of-self-2 g c =
     let registers = c.self.inside.rows.registers.items in
-    let here = subst (λ (s : Counted _). slice_get s.state.registers c.args.at ≡ Some c.requires.was.0) (sym c.self.view_is) c.requires.was.1 in
+    let here = subst (λ (s : StateAndReaches _). slice_get s.state.registers c.args.at ≡ Some c.requires.was.0) (sym c.self.view_is) c.requires.was.1 in
     let lt = slice_get_within registers c.args.at c.requires.was.0 here in
     let size = length-map registers (λ (r : Register). r.held) in
     let new : Register = record { held = Some c.args.held; simulated = c.args.simulated } in

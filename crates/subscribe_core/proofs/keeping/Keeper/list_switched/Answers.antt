@@ -4,7 +4,7 @@ use Rattle.subscribe_core.specs.declared.entry.Entry.{Entry}
 use Rattle.subscribe_core.specs.declared.entry.Entry.TheVariants as says
 use Rattle.subscribe_core.specs.declared.registers.Register.{Register}
 use Rattle.subscribe_core.specs.computed.Indexed.{flagged_entries}
-use Rattle.subscribe_core.specs.Standing.{Counted}
+use Rattle.subscribe_core.specs.State.{StateAndReaches}
 use Rattle.subscribe_core.proofs.Switching.{left_entries, left_more, left_same}
 use Rattle.subscribe_core.proofs.keeping.Keeper.list_switched.Goals.{then-register+in_ok-push, else-register}
 use Rattle.subscribe_core.proofs.keeping.Keeper.list_switched.Goals as goal
@@ -13,7 +13,7 @@ pub returns-in_err-push-clause-quiet : goal.returns-in_err-push-clause-quiet
 returns-in_err-push-clause-quiet g c = λ none.
     let registers = c.self.inside.rows.registers.items in
     let at = c.loop-at.at in
-    let empty = ap (λ (s : Counted _). length (flagged_entries {A = g.row.A.Denot} 0 s.state.registers)) c.self.view_is ∙ ap length none in
+    let empty = ap (λ (s : StateAndReaches _). length (flagged_entries {A = g.row.A.Denot} 0 s.state.registers)) c.self.view_is ∙ ap length none in
     let same = ap (λ v. v.items) (c.reach-reach.ensures.registers ∙ c.loop-at.invariant.registers) in
     let here = sym (ap₂ (λ (rs : List Register) (n : ℕ). slice_get rs n) same c.reach-reach.ensures.at) ∙ c.look.ensures.register in
     let more = ap length (left_more g.row.A.Denot at registers c.look.result.1 here c.if-register.true) in

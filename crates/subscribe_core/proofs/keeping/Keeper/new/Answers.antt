@@ -1,6 +1,6 @@
 use Rattle.std.proofs.Common.{ap, ◌∙◌, length, replicate}
 use Rattle.std.proofs.lemmas.Bool.{false≢true}
-use Rattle.subscribe_core.specs.Standing.{idle}
+use Rattle.subscribe_core.specs.State.{idle}
 use Rattle.subscribe_core.proofs.Fresh.{fresh_indexed}
 use Rattle.subscribe_core.proofs.keeping.Keeper.new.Goals as goal
 

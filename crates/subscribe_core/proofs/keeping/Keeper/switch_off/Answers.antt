@@ -2,7 +2,7 @@ use Rattle.std.proofs.Common.{ℕ, ◌≤◌, false, None, List, set, slice_get,
 use Rattle.subscribe_core.specs.declared.registers.Register.{Register}
 use Rattle.subscribe_core.specs.computed.Deadlines.{helds}
 use Rattle.subscribe_core.specs.computed.Indexed.{switched_off}
-use Rattle.subscribe_core.specs.Standing.{Counted}
+use Rattle.subscribe_core.specs.State.{StateAndReaches}
 use Rattle.subscribe_core.proofs.Clearing.{held_of, indexed_write}
 use Rattle.subscribe_core.proofs.Switching.{off_all, off_more, off_same}
 use Rattle.subscribe_core.proofs.keeping.Keeper.switch_off.Goals.{then-old, else-old}
@@ -44,4 +44,4 @@ pub returns-clause-registers : goal.returns-clause-registers
 returns-clause-registers g c =
     let first = c.self.inside.rows.registers.items in
     let le : length first ≤ c.loop-at.at = omega (arith, c.self.invariant.sizes, c.count-at-end.ensures, c.loop-at-test.false) in
-    c.loop-at.invariant.off ∙ (off_all c.loop-at.at first le ∙ ap (λ (s : Counted _). switched_off s.state.registers) c.self.view_is)
+    c.loop-at.invariant.off ∙ (off_all c.loop-at.at first le ∙ ap (λ (s : StateAndReaches _). switched_off s.state.registers) c.self.view_is)

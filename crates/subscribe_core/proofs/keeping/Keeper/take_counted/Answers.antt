@@ -2,8 +2,9 @@ use Rattle.std.proofs.Common.{◌≡◌, ◌≤◌, ◌++◌, List, max, inl, in
 use Rattle.std.proofs.lemmas.Bool.{false≢true}
 use Rattle.subscribe_core.specs.declared.entry.Entry.{Entry}
 use Rattle.subscribe_core.specs.computed.Deadlines.{due_count, helds}
-use Rattle.subscribe_core.specs.Entries.{expired_count}
-use Rattle.subscribe_core.specs.Standing.{AreApart, Counted}
+use Rattle.subscribe_core.specs.Looks.{expired_count}
+use Rattle.subscribe_core.specs.Apart.{AreApart}
+use Rattle.subscribe_core.specs.State.{StateAndReaches}
 use Rattle.subscribe_core.specs.computed.Steps.{expired_entries, said_of, switched_entries}
 use Rattle.subscribe_core.specs.computed.Content.{content_of}
 use Rattle.subscribe_core.proofs.Due.{expired_counted}
@@ -13,11 +14,11 @@ use Rattle.subscribe_core.proofs.keeping.Keeper.take_counted.Goals as goal
 pub returns-in_err-entries-clause-quiet : goal.returns-in_err-entries-clause-quiet
 returns-in_err-entries-clause-quiet g c =
     let s = c.args.self.now.state in
-    let now_is = c.max-now.ensures ∙ ap (λ (s : Counted _). max s.state.moment c.args.event.now.moment) c.self.view_is in
+    let now_is = c.max-now.ensures ∙ ap (λ (s : StateAndReaches _). max s.state.moment c.args.event.now.moment) c.self.view_is in
     inr (λ none. absurd (false≢true (c.in_err-entries.ensures.quiet (ap (λ n. expired_entries n 0 s.registers) now_is ∙ front_nil _ _ none))))
 
 pub returns-in_err-entries-clause-apart : goal.returns-in_err-entries-clause-apart
-returns-in_err-entries-clause-apart g c = subst (λ (s : Counted _). AreApart s.state.blocks) c.self.view_is c.self.invariant.apart
+returns-in_err-entries-clause-apart g c = subst (λ (s : StateAndReaches _). AreApart s.state.blocks) c.self.view_is c.self.invariant.apart
 
 pub returns-in_err-take_kind-clause-quiet : goal.returns-in_err-take_kind-clause-quiet
 returns-in_err-take_kind-clause-quiet g c =
@@ -27,7 +28,7 @@ returns-in_err-take_kind-clause-quiet g c =
     ]
 
 pub returns-in_err-take_kind-clause-apart : goal.returns-in_err-take_kind-clause-apart
-returns-in_err-take_kind-clause-apart g c = subst (λ (s : Counted _). AreApart s.state.blocks) c.self.view_is c.self.invariant.apart
+returns-in_err-take_kind-clause-apart g c = subst (λ (s : StateAndReaches _). AreApart s.state.blocks) c.self.view_is c.self.invariant.apart
 
 pub returns-clause-count : goal.returns-clause-count
 returns-clause-count g c =
@@ -35,8 +36,8 @@ returns-clause-count g c =
     let now = c.max-now.result in
     let kind = content_of c.args.event.now.kind in
     let spent = c.expire.ensures.count in
-    let first = ap (λ (t : Counted _). t.reaches) c.self.view_is in
-    let last = ap (λ (t : Counted _). t.reaches) c.self-2.view_is in
+    let first = ap (λ (t : StateAndReaches _). t.reaches) c.self.view_is in
+    let last = ap (λ (t : StateAndReaches _). t.reaches) c.self-2.view_is in
     let rest : List (Entry g.row.A.Denot) = switched_entries s.mode kind 0 s.blocks s.registers ++ said_of now s.mode s.blocks s.registers kind in
     let items : c.take_kind.new.entries.items ≡ expired_entries now 0 s.registers ++ rest =
     c.in_ok-take_kind.ensures.entries ∙ ap (λ (es : List (Entry g.row.A.Denot)). es ++ rest) c.in_ok-entries.ensures.entries in
@@ -47,4 +48,4 @@ returns-clause-count g c =
     ]
 
 pub returns-clause-apart : goal.returns-clause-apart
-returns-clause-apart g c = subst (λ (s : Counted _). AreApart s.state.blocks) c.self.view_is c.self.invariant.apart
+returns-clause-apart g c = subst (λ (s : StateAndReaches _). AreApart s.state.blocks) c.self.view_is c.self.invariant.apart

@@ -6,7 +6,7 @@ use Rattle.subscribe_core.specs.declared.registers.Register.{Register}
 use Rattle.subscribe_core.specs.computed.Deadlines.{due_count, helds}
 use Rattle.subscribe_core.specs.computed.Indexed.{registers_after_clock}
 use Rattle.subscribe_core.specs.computed.Received.{received_frame}
-use Rattle.subscribe_core.specs.Standing.{State}
+use Rattle.subscribe_core.specs.State.{State}
 use Rattle.subscribe_core.proofs.Frames.{answer_good, answer_none, answer_refused, new_lives, reason_told, registers_good, registers_kept, registers_refused, written_fewer, written_new, written_none}
 use Rattle.subscribe_core.proofs.keeping.Keeper.take_goose.Goals.{then-old, else-old}
 use Rattle.subscribe_core.proofs.keeping.Keeper.take_goose.Goals as goal
@@ -34,7 +34,7 @@ returns-in-Some-first_reason-clause-entries g c =
     let r = c.look.result.1 in
     let block = sym (ap₂ (λ (t : State _) (n : ℕ). slice_get t.blocks n) c.reach-reach.ensures.state c.reach-reach.ensures.at) ∙ c.look.ensures.block in
     let register_is = sym (ap₂ (λ (t : State _) (n : ℕ). slice_get t.registers n) c.reach-reach.ensures.state c.reach-reach.ensures.at) ∙ c.look.ensures.register in
-    let told = reason_told x f c.is_against-is_against.result s.mode c.is_simulating-mode.result r.simulated (Some c.in-Some-first_reason.reason) c.is_against-is_against.ensures c.is_simulating-mode.ensures c.in-Some-first_reason.ensures in
+    let told = reason_told x f c.is_other_kind-is_other_kind.result s.mode c.is_simulating-mode.result r.simulated (Some c.in-Some-first_reason.reason) c.is_other_kind-is_other_kind.ensures c.is_simulating-mode.ensures c.in-Some-first_reason.ensures in
     c.in_ok-push-2.ensures.items
     ∙ ap (λ (es : List (Entry _)). c.args.entries.now.items ++ es)
     (answer_refused c.args.now s.mode s.blocks s.registers f c.in-Some.at x r c.in-Some-first_reason.reason c.find.ensures.apart (sym c.in-Some.ensures.found) block register_is told)
@@ -47,7 +47,7 @@ returns-in-Some-first_reason-clause-registers g c =
     let r = c.look.result.1 in
     let block = sym (ap₂ (λ (t : State _) (n : ℕ). slice_get t.blocks n) c.reach-reach.ensures.state c.reach-reach.ensures.at) ∙ c.look.ensures.block in
     let register_is = sym (ap₂ (λ (t : State _) (n : ℕ). slice_get t.registers n) c.reach-reach.ensures.state c.reach-reach.ensures.at) ∙ c.look.ensures.register in
-    let told = reason_told x f c.is_against-is_against.result s.mode c.is_simulating-mode.result r.simulated (Some c.in-Some-first_reason.reason) c.is_against-is_against.ensures c.is_simulating-mode.ensures c.in-Some-first_reason.ensures in
+    let told = reason_told x f c.is_other_kind-is_other_kind.result s.mode c.is_simulating-mode.result r.simulated (Some c.in-Some-first_reason.reason) c.is_other_kind-is_other_kind.ensures c.is_simulating-mode.ensures c.in-Some-first_reason.ensures in
     ap (λ (t : State _). registers_after_clock c.args.now t.registers) c.reach-reach.ensures.state
     ∙ registers_refused c.args.now s.mode s.blocks s.registers f c.in-Some.at x r c.in-Some-first_reason.reason c.find.ensures.sizes c.find.ensures.apart (sym c.in-Some.ensures.found) block register_is told
 
@@ -59,7 +59,7 @@ returns-in-None-clause-entries g c =
     let r = c.look.result.1 in
     let block = sym (ap₂ (λ (t : State _) (n : ℕ). slice_get t.blocks n) c.reach-reach.ensures.state c.reach-reach.ensures.at) ∙ c.look.ensures.block in
     let register_is = sym (ap₂ (λ (t : State _) (n : ℕ). slice_get t.registers n) c.reach-reach.ensures.state c.reach-reach.ensures.at) ∙ c.look.ensures.register in
-    let told = reason_told x f c.is_against-is_against.result s.mode c.is_simulating-mode.result r.simulated None c.is_against-is_against.ensures c.is_simulating-mode.ensures c.in_default-first_reason.ensures in
+    let told = reason_told x f c.is_other_kind-is_other_kind.result s.mode c.is_simulating-mode.result r.simulated None c.is_other_kind-is_other_kind.ensures c.is_simulating-mode.ensures c.in_default-first_reason.ensures in
     c.in_ok-push_good.ensures.entries
     ∙ ap (λ (es : List (Entry _)). c.args.entries.now.items ++ es)
     (answer_good c.args.now s.mode s.blocks s.registers f c.in-Some.at x r c.find.ensures.apart (sym c.in-Some.ensures.found) block register_is told)
@@ -72,7 +72,7 @@ returns-in-None-clause-registers g c =
     let r = c.look.result.1 in
     let block = sym (ap₂ (λ (t : State _) (n : ℕ). slice_get t.blocks n) c.reach-reach.ensures.state c.reach-reach.ensures.at) ∙ c.look.ensures.block in
     let register_is = sym (ap₂ (λ (t : State _) (n : ℕ). slice_get t.registers n) c.reach-reach.ensures.state c.reach-reach.ensures.at) ∙ c.look.ensures.register in
-    let told = reason_told x f c.is_against-is_against.result s.mode c.is_simulating-mode.result r.simulated None c.is_against-is_against.ensures c.is_simulating-mode.ensures c.in_default-first_reason.ensures in
+    let told = reason_told x f c.is_other_kind-is_other_kind.result s.mode c.is_simulating-mode.result r.simulated None c.is_other_kind-is_other_kind.ensures c.is_simulating-mode.ensures c.in_default-first_reason.ensures in
     let renewal = sym c.in_ok-push_good.ensures.held ∙ c.in-None.is in
     ap (λ (t : State _). registers_after_clock c.args.now t.registers) c.reach-reach.ensures.state
     ∙ (written_none c.args.now s.registers c.in-Some.at r f register_is renewal
@@ -86,7 +86,7 @@ returns-after-old-clause-entries g c =
     let r = c.look.result.1 in
     let block = sym (ap₂ (λ (t : State _) (n : ℕ). slice_get t.blocks n) c.reach-reach.ensures.state c.reach-reach.ensures.at) ∙ c.look.ensures.block in
     let register_is = sym (ap₂ (λ (t : State _) (n : ℕ). slice_get t.registers n) c.reach-reach.ensures.state c.reach-reach.ensures.at) ∙ c.look.ensures.register in
-    let told = reason_told x f c.is_against-is_against.result s.mode c.is_simulating-mode.result r.simulated None c.is_against-is_against.ensures c.is_simulating-mode.ensures c.in_default-first_reason.ensures in
+    let told = reason_told x f c.is_other_kind-is_other_kind.result s.mode c.is_simulating-mode.result r.simulated None c.is_other_kind-is_other_kind.ensures c.is_simulating-mode.ensures c.in_default-first_reason.ensures in
     let entries =
     c.in_ok-push_good.ensures.entries
     ∙ ap (λ (es : List (Entry _)). c.args.entries.now.items ++ es)
@@ -102,7 +102,7 @@ returns-after-old-clause-registers g c =
     let block = sym (ap₂ (λ (t : State _) (n : ℕ). slice_get t.blocks n) c.reach-reach.ensures.state c.reach-reach.ensures.at) ∙ c.look.ensures.block in
     let register_is = sym (ap₂ (λ (t : State _) (n : ℕ). slice_get t.registers n) c.reach-reach.ensures.state c.reach-reach.ensures.at) ∙ c.look.ensures.register in
     let new = c.in-Some-2.held in
-    let told = reason_told x f c.is_against-is_against.result s.mode c.is_simulating-mode.result r.simulated None c.is_against-is_against.ensures c.is_simulating-mode.ensures c.in_default-first_reason.ensures in
+    let told = reason_told x f c.is_other_kind-is_other_kind.result s.mode c.is_simulating-mode.result r.simulated None c.is_other_kind-is_other_kind.ensures c.is_simulating-mode.ensures c.in_default-first_reason.ensures in
     let renewal = sym c.in_ok-push_good.ensures.held ∙ c.in-Some-2.is in
     let flag : c.if-old.simulated ≡ (r.simulated || f.pdu.simulation) =
     elim c.if-old.branch [
@@ -126,7 +126,7 @@ returns-after-old-clause-count g c =
     let block = sym (ap₂ (λ (t : State _) (n : ℕ). slice_get t.blocks n) c.reach-reach.ensures.state c.reach-reach.ensures.at) ∙ c.look.ensures.block in
     let register_is = sym (ap₂ (λ (t : State _) (n : ℕ). slice_get t.registers n) c.reach-reach.ensures.state c.reach-reach.ensures.at) ∙ c.look.ensures.register in
     let new = c.in-Some-2.held in
-    let told = reason_told x f c.is_against-is_against.result s.mode c.is_simulating-mode.result r.simulated None c.is_against-is_against.ensures c.is_simulating-mode.ensures c.in_default-first_reason.ensures in
+    let told = reason_told x f c.is_other_kind-is_other_kind.result s.mode c.is_simulating-mode.result r.simulated None c.is_other_kind-is_other_kind.ensures c.is_simulating-mode.ensures c.in_default-first_reason.ensures in
     let renewal = sym c.in_ok-push_good.ensures.held ∙ c.in-Some-2.is in
     let register : Register = record { held = Some new; simulated = c.if-old.simulated } in
     let fewer = written_fewer c.args.now s.registers c.in-Some.at register (new_lives c.args.now x r f _ new told renewal) in

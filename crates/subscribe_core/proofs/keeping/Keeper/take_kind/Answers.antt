@@ -16,5 +16,5 @@ returns-in-Clock-clause-entries g c =
 pub returns-in-Clock-clause-registers : goal.returns-in-Clock-clause-registers
 returns-in-Clock-clause-registers g c =
     let s = c.args.self.now.state in
-    registers_clock c.args.now s.mode s.blocks s.registers c.alloc.ensures
+    registers_clock c.args.now s.mode s.blocks s.registers c.know_sizes.ensures
     ∙ sym (ap (λ (k : EventKind _). registers_by c.args.now s.mode (content_of k) s.blocks s.registers) c.in-Clock.is)

@@ -20,7 +20,7 @@ returns-in_ok-push-in-Err-clause-entries g c =
 pub returns-in_ok-push-in-Err-clause-registers : goal.returns-in_ok-push-in-Err-clause-registers
 returns-in_ok-push-in-Err-clause-registers g c =
     let s = c.args.self.now.state in
-    registers_fault c.args.now s.mode s.blocks s.registers c.in-Err.fault c.alloc.ensures
+    registers_fault c.args.now s.mode s.blocks s.registers c.in-Err.fault c.know_sizes.ensures
     ∙ ap (λ (k : Content). registers_by c.args.now s.mode k s.blocks s.registers) (sym (ap content_by c.in-Err.ensures.exact))
 
 pub returns-in_ok-push-in-Sampled-clause-entries : goal.returns-in_ok-push-in-Sampled-clause-entries
@@ -36,5 +36,5 @@ pub returns-in_ok-push-in-Sampled-clause-registers : goal.returns-in_ok-push-in-
 returns-in_ok-push-in-Sampled-clause-registers g c =
     let s = c.args.self.now.state in
     let read = ap content_by c.in-Ok.ensures.exact ∙ ap (λ (a : ApduView). content_with c.in-Ok.view.app_id (apdu_of a)) c.in-Sampled.is in
-    registers_sampled c.args.now s.mode s.blocks s.registers c.alloc.ensures
+    registers_sampled c.args.now s.mode s.blocks s.registers c.know_sizes.ensures
     ∙ ap (λ (k : Content). registers_by c.args.now s.mode k s.blocks s.registers) (sym read)

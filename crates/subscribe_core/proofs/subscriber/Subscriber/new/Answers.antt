@@ -1,5 +1,5 @@
 use Rattle.std.proofs.Common.{[], sym, subst}
-use Rattle.subscribe_core.specs.Standing.{State, StandsAfter}
+use Rattle.subscribe_core.specs.State.{State, StandsAfter}
 use Rattle.subscribe_core.proofs.Runs.{fresh_stands}
 use Rattle.subscribe_core.proofs.subscriber.Subscriber.new.Goals as goal
 
