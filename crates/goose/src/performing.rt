@@ -33,6 +33,7 @@ pub fn perform<R: Source, W: Sink>(
     ensures read_fault { result.0 ≡ Ending.ReadFault → R.ending result.1 ≡ InputEnd.Failed }
     ensures fault { W.failed writer.new ≡ is_write_fault result.0 }
 {
+    // No engine is inlined here, so that each takes its room on the stack only where it runs.
     match task {
         Task::Show => show(alloc, reader, writer),
         Task::Check => check(alloc, reader, writer),

@@ -66,6 +66,7 @@ impl<A: Allocator + Copy> Engine<A> for Listing<A> {
 /// `Memory`, which is for a frame or a line to be written, never for a frame's control block or stream that is
 /// configured as before. What is held grows with the control blocks and streams alone; a frame is looked up in so many
 /// steps as their number has binary digits.
+#[inline(never)]
 pub fn blocks<A: Allocator + Copy, R: Source, W: Sink>(
     alloc: A,
     reader: R,

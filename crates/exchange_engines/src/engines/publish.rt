@@ -255,6 +255,7 @@ impl<A: Allocator> Engine<A> for Publishing<A> {
 /// of the octets given stand from the start of the line on at which the run stopped. `Memory` is for
 /// a control line, a change or a line to be written, never for a step, for a poll that gives no frame
 /// or for the script's end.
+#[inline(never)]
 pub fn publish<A: Allocator + Copy, R: Source, W: Sink>(
     alloc: A,
     reader: R,

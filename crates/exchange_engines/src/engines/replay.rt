@@ -82,6 +82,7 @@ fn put_position<A: Allocator>(
 /// from the start of the line on at which the run stopped. `Memory` is for a frame or a line to be
 /// written, never for a clock moment or a mode without entries or for the list's end; or it is for what the
 /// subscriber keeps of its blocks, and then nothing was read.
+#[inline(never)]
 pub fn replay<A: Allocator + Copy, R: Source, W: Sink>(
     alloc: A,
     reader: R,

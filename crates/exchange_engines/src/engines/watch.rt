@@ -162,6 +162,7 @@ impl<A: Allocator> Engine<A> for Watching<'_> {
 /// whole lines of the earlier events at `Memory`. At `Memory` and `WriteFault` at most 8,192 of the
 /// octets given stand from the start of the line on at which the run stopped. `Memory` is for a frame or a
 /// line to be written, never for the clock, a mode or the list's end.
+#[inline(never)]
 pub fn watch<A: Allocator + Copy, R: Source, W: Sink>(
     alloc: A,
     reader: R,

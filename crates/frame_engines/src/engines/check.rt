@@ -182,6 +182,7 @@ impl<A: Allocator> Engine<A> for CheckText {
 /// lines of all earlier events stand written. Then, and at a fault, at most 8,192 of the octets given
 /// stand from the start of the line on at which the run stopped. `Memory` is for a frame or a line to
 /// be written, never for the clock, a mode or the list's end.
+#[inline(never)]
 pub fn check<A: Allocator + Copy, R: Source, W: Sink>(
     alloc: A,
     reader: R,

@@ -155,6 +155,7 @@ fn import_all<R: Source, W: Sink>(reader: &mut R, writer: &mut W) -> Ending
 /// `Done`, `Findings`, `InputFault` and `ReadFault`, a front of it at `WriteFault`. `Findings` is answered where a record
 /// was left out. The line of a record is written before the next one is read, and nothing is read behind a fault's record.
 /// One record is held at a time, on the stack: no memory is taken of the allocator, and `Memory` is never answered.
+#[inline(never)]
 pub fn import<A: Allocator + Copy, R: Source, W: Sink>(
     _alloc: A,
     mut reader: R,

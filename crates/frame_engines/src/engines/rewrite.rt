@@ -175,6 +175,7 @@ impl<A: Allocator> Engine<A> for RewriteText {
 /// gave: whole at `Done`, `Findings`, `InputFault` and `ReadFault`, a front of it at `WriteFault`,
 /// and the line `V2` with the lines of the earlier events at `Memory`, which is for an event or a fault's line,
 /// never for the list's end.
+#[inline(never)]
 pub fn rewrite<A: Allocator + Copy, R: Source, W: Sink>(
     alloc: A,
     reader: R,

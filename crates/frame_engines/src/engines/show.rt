@@ -99,6 +99,7 @@ impl<A: Allocator> Engine<A> for ShowText {
 /// gave: whole at `Done`, `InputFault` and `ReadFault`, a front of it at `WriteFault`, and whole
 /// lines of the earlier events at `Memory`, which is for an event or a fault's line, never for the list's end.
 /// One line of the list and one event are held at a time.
+#[inline(never)]
 pub fn show<A: Allocator + Copy, R: Source, W: Sink>(
     alloc: A,
     reader: R,
