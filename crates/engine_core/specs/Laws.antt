@@ -19,7 +19,7 @@ pub record LeavesWhole {X C : Type 0} (t : Text X C) (found : Bool) (l : Listing
   pub finds : (told t l).found ≡ found
   pub written : Appends old new (whole_text t l)
 
--- the whole text of a list stands written, which ends by a fault
+-- the whole text of a list stands written, which ends by a fault of this ending
 pub record LeavesFaulty {X C : Type 0} (t : Text X C) (ending : Ending) (l : Listing X C) (old new : Option (List ℕ)) : Type 0 where
   pub why : ItemFault C
   pub ends : (told t l).stop ≡ faulty why

@@ -1,4 +1,4 @@
--- A run of an engine: what it read, what it wrote of each item, where it ended and why. Its exit status is that of its ending.
+-- A run of an engine: what it read, what it wrote of each item, where it ended and why.
 use Rattle.std.specs.Prelude.{◌≡◌, ◌≤◌, ◌⊎◌, ℕ, ◌+◌, Bool, true, false, List, [], ◌++◌, length, Option, None, Err}
 use Rattle.std.specs.Io.KnownBytes.{Appends}
 use Rattle.list_core.specs.declared.device.InputEnd.{InputEnd}

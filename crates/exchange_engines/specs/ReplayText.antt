@@ -30,8 +30,8 @@ pub record KeepsAfter {A : Type 0} (blocks : List (Block A)) (events : List (Eve
   pub of_blocks : s.blocks ≡ blocks
   pub stands : StandsAfter events s
 
--- What is written of an event after others. A subscriber that keeps one state before the event answers it by its entries, and
--- keeps another state then; the lines of the entries are written. No event is a finding.
+-- What is written of an event after others: the lines of its entries. What a subscriber keeps before the event, and then, is
+-- what it keeps after the events up to there. No event is a finding.
 pub record ReplaysEvent {A : Type 0} (blocks : List (Block A)) (before : List (ℕ × Event A)) (e : ℕ × Event A) (written : Result (List ℕ × Bool) ListCause) : Type 0 where
   pub old : State A
   pub kept : KeepsAfter blocks (events_of before) old
@@ -51,7 +51,7 @@ pub record IsReplayText {A : Type 0} (blocks : List (Block A)) (t : Text (Event 
 abbrev pub twice_line : ℕ → List ℕ
 twice_line i = codes "blocks SameBlockTwice " ++ decimal i ++ codes "\n"
 
--- A block is given twice: the reader is untouched, and the line that says so is written, unless memory is refused for it.
+-- A block is given twice, the first one at this position: the reader is untouched, and the line that says so is written, unless memory is refused for it.
 pub record RefusesTwice {A : Type 0} (blocks : List (Block A)) (ending : Ending) (z : InputEnd) (read : List ℕ) (old new : Option (List ℕ)) : Type 0 where
   pub position : ℕ
   pub is_twice : IsFirstTwice blocks position

@@ -80,7 +80,8 @@ watched n id (kinds.Frame octets) answers = frame_watched {A = Unit {0}} n id (f
 watched n id kinds.Clock answers = ([], false)
 watched n id (kinds.Mode on) answers = ([], false)
 
--- What is written of an event after others. Each count of the stream in it is answered after all its counts before; the answers are written, and a finding is one that is unexpected.
+-- What is written of an event after others. Each count of the stream in it is answered after all its counts before, and the answers
+-- are written; so is a frame's fault. A fault is a finding, and so is a count that is neither the first nor the next.
 pub record WatchesEvent {A : Type 0} (period : ℕ) (id : List ℕ) (before : List (ℕ × Event A)) (e : ℕ × Event A) (written : Result (List ℕ × Bool) ListCause) : Type 0 where
   pub earlier : List Seen
   pub answers : List Seen

@@ -25,7 +25,8 @@ abbrev pub PublishedIsOne : Type 0 → Type 0
 PublishedIsOne A =
     (p : Setup A) (calls : List Call) (number : ℕ) (x y : Change) → IsPublishedUnder p calls number x → IsPublishedUnder p calls number y → x ≡ y
 
--- An epoch of a block among those that are subscribed to, whose good frames stem from one publisher's run without a wrap.
+-- A block among those that are subscribed to, and a position from which on, if an epoch starts there, its good frames stem from one
+-- publisher's run without a wrap.
 pub record EpochOfRun (A B : Type 0) : Type 0 where
   -- the blocks, no two of one name, and the one whose epoch it is
   pub blocks : List (Block B)

@@ -5,7 +5,7 @@ ghost use Rattle.exchange_laws.specs.Laws.{ActionsCarryWhatWasPublished, Changes
 use std::alloc::Allocator;
 
 /// Where the good frames of an epoch of a block stem from one publisher's run without a wrap, however repeated, lost or
-/// reordered, each action of that epoch carries the data set that was published under its status number: the moment and
+/// reordered, each action of that epoch carries the data set that was published under its status number: the time of change and
 /// the members that change number minus first handed in. One data set is published under a number.
 pub fn actions_carry_what_was_published<P: Allocator, S: Allocator>()
     ensures carried { ActionsCarryWhatWasPublished P S }

@@ -27,7 +27,7 @@ WrittenListsReplay A =
     (blocks : List (Block A)) (events : List (Event A)) (entries : List (List (Entry A))) (t : Text (Event A) ListCause) →
     CanBeWritten blocks events entries → IsReplayText blocks t → ReplayGives t (list_text events) entries
 
--- What a publisher sends in a whole run can be written as a list.
+-- A publisher's whole run, which its own block hears without a wrap and in time, can be written as a list.
 pub record CanBeSent {A B : Type 0} (p : Setup A) (block : Block B) (calls : List Call) (answers : List (Option (Frame A))) : Type 0 where
   pub is_run : IsWholeRun p block calls answers
   pub moments_are_short : MomentsAreShort calls

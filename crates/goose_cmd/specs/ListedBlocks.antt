@@ -30,7 +30,7 @@ lines_at [] entries = []
 lines_at (e ∷ es) [] = []
 lines_at (e ∷ es) (now ∷ rest) = entry_lines e.0 now ++ lines_at es rest
 
--- a text of a list is the lines of these entries and the line of the list's fault, if it has one
+-- a text of a list, which refuses no item, is the lines of these entries and the line of the list's fault, if it has one
 pub record WritesEntries {A : Type 0} (t : Text (Event A) ListCause) (l : Listing (Event A) ListCause) (entries : List (List (Entry A))) : Type 0 where
   pub writes : whole_text t l ≡ lines_at l.items entries ++ last_text t l.stop
   pub stops : (told t l).stop ≡ l.stop
@@ -96,7 +96,8 @@ abbrev pub AreAsConfigured : {A : Type 0} → List (Entry A) → Type 0
 AreAsConfigured [] = ⊤
 AreAsConfigured (e ∷ es) = IsAsConfigured e × AreAsConfigured es
 
--- These blocks are apart, the text of the list under `blocks` tells them and no change, and its events have these entries for them.
+-- These blocks are apart, the text of the list under `blocks` tells none but them and no change, and its events have these entries
+-- for them.
 pub record IsListedReplay {A : Type 0} (l : Listing (Event A) ListCause) (blocks : List (Block A)) (entries : List (List (Entry A))) (t : Text (Event A) ListCause) : Type 0 where
   pub are_apart : AreApart blocks
   pub is_text : IsBlocksText t
@@ -109,7 +110,7 @@ ListedBlocksFit A =
     (z : InputEnd) (list : List ℕ) (blocks : List (Block A)) (entries : List (List (Entry A))) (t : Text (Event A) ListCause) →
     IsListedReplay (listing event_rules First z 0 list) blocks entries t → (i : ℕ) (es : List (Entry A)) → slice_get entries i ≡ Some es → AreAsConfigured es
 
--- a line that comes first for its key, at this position, says the block
+-- a sighting that comes first for its key, at this position, says the block
 pub record SaysFirst {A : Type 0} (seen : List Sighting) (i : ℕ) (block : Block A) : Type 0 where
   pub key : Key
   pub first : IsFirst seen key i

@@ -17,7 +17,7 @@ pub record HasKeyAt (seen : List Sighting) (key : Key) (i : ℕ) : Type 0 where
   pub there : slice_get seen i ≡ Some sighting
   pub has_key : key_of sighting ≡ key
 
--- a sighting with this key and this text stands there, and none with the key after it
+-- a sighting with this key has this text, and none with the key comes after it
 pub record IsNewestText (seen : List Sighting) (key : Key) (text : List ℕ) : Type 0 where
   pub position : ℕ
   pub is : HasKeyAt seen key position

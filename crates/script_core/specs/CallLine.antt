@@ -53,17 +53,17 @@ abbrev pub poll_said : {A : Type 0} → MomentUnit → ScriptPart → List (List
 poll_said unit p (moment ∷ []) = call_said (too_early p) (poll_of (moment_of unit moment))
 poll_said unit p _ = Err cause.ScriptForm
 
--- the octets of members that are good, if there are any
+-- whether something of these octets is kept in memory: they are the members of a change, and there are some
 abbrev pub octets_keep : List ℕ → Bool
 octets_keep [] = false
 octets_keep (o ∷ os) = is_ok (members_at 16 0 (o ∷ os))
 
--- the members of a change whose moments are good
+-- whether the members of a change are kept: its moment and its time of change say something
 abbrev pub members_keep : Option ℕ → Option UtcTime → Option (List ℕ) → Bool
 members_keep (Some moment) (Some t) (Some octets) = octets_keep octets
 members_keep _ _ _ = false
 
--- a change that may stand here, and whose members are good
+-- whether something of a change is kept: it may stand here, and its members are
 abbrev pub change_keeps : MomentUnit → ScriptPart → List (List ℕ) → Bool
 change_keeps unit p (moment ∷ t ∷ members ∷ []) = is_none (too_early p) && members_keep (moment_of unit moment) (time_in t) (all_octets_in members)
 change_keeps unit p _ = false

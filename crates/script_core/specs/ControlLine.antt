@@ -70,7 +70,7 @@ abbrev pub control_said : {A : Type 0} → ScriptPart → Option ControlLine →
 control_said part.Control (Some l) = if l.numbers.first == 0 then Err cause.FirstState else Ok (Some (item.Control (block_of_line l) l.numbers.first), part.Steps 0)
 control_said _ _ = Err cause.ScriptForm
 
--- a control line that is good
+-- whether something of a control line is kept in memory: it is accepted, and one of its texts is not empty
 abbrev pub control_keeps : ScriptPart → Option ControlLine → Bool
 control_keeps part.Control (Some l) = if l.numbers.first == 0 then false else texts_keep l.gocb_ref l.dat_set l.go_id
 control_keeps _ _ = false

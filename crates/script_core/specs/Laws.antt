@@ -6,7 +6,7 @@ use Rattle.script_core.specs.declared.script.ScriptPart.{ScriptPart}
 use Rattle.script_core.specs.Lines.{IsLine}
 use Rattle.script_core.specs.Script.{fields_said}
 
--- a line is taken for an item exactly where it says that, by the relation of its kind
+-- a name and fields are taken for an item exactly where they say that, by the relation of its kind
 abbrev pub LinesSayItems : Type 0 → Type 0
 LinesSayItems A =
     (unit : MomentUnit) (p next : ScriptPart) (name : List ℕ) (fields : List (List ℕ)) (x : ScriptItem A) →

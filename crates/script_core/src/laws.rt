@@ -4,8 +4,8 @@ ghost use Rattle.script_core.specs.Laws.{LinesSayItems};
 
 use std::alloc::Allocator;
 
-/// A line is taken for a control line, a step, a change or a poll exactly where it has the name and the fields of one, and
-/// stands where one may stand.
+/// A name and fields are taken for a control line, a step, a change or a poll exactly where the relation of that kind holds
+/// of them, and the line stands where one may stand.
 pub fn lines_say_items<A: Allocator>()
     ensures { LinesSayItems A }
 {}

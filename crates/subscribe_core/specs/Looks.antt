@@ -1,4 +1,4 @@
--- How often an event may have a block or its register reached, by the entries that it has.
+-- How many blocks expire at an event, by which a subscriber's reaches are bounded.
 use Rattle.std.specs.Prelude.{ℕ, ◌+◌, List, [], ◌∷◌}
 use Rattle.subscribe_core.specs.declared.entry.Entry.{Entry}
 use Rattle.subscribe_core.specs.declared.entry.Entry.TheVariants as says

@@ -31,7 +31,7 @@ fn is_other_id<A: Allocator>(awaited: &Option<Octets<A>>, id: Option<&[u8]>) -> 
     }
 }
 
-// Whether the frame's simulation is against it, by the mode and by what its block takes.
+// Whether the frame is simulated where its block takes real ones, or the other way round.
 pub(crate) fn is_other_kind(frame: &Received<'_>, mode: bool, simulated: bool) -> bool
     ensures { result ≡ means_other_kind (received_frame frame.now) mode simulated }
 {
