@@ -36,7 +36,7 @@ pub(crate) fn fill<R: Source>(reader: &mut R, into: &mut [u8]) -> Filled
 const PIECE: usize = 4096;
 
 // Reads over so many octets, a piece at a time, and answers whether they were there.
-pub(crate) fn pass<R: Source>(reader: &mut R, size: usize) -> bool
+pub(crate) fn skip<R: Source>(reader: &mut R, size: usize) -> bool
     ensures { Passes (R.left reader.old) (R.ending reader.old) size result (R.left reader.new) (R.ending reader.new) }
 {
     let mut piece = [0u8; PIECE];

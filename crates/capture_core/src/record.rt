@@ -7,7 +7,7 @@ ghost use Rattle.capture_core.specs.declared.capture_fault.CaptureFault as fault
 ghost use Rattle.capture_core.specs.declared.capture_fault.CaptureCause.TheVariants as cause;
 
 use crate::capture_fault::{CaptureCause, CaptureFault, cut_in};
-use crate::filling::{Filled, fill, pass};
+use crate::filling::{Filled, fill, skip};
 use crate::form::{CaptureForm, FractionUnit};
 use crate::numbers::long_at;
 use list_core::{InputEnd, Source};
@@ -99,7 +99,7 @@ fn read_octets<R: Source>(
         return Err(CaptureCause::RecordLength.in_record(before + 1));
     }
     if size == 0 || size > LONGEST_FRAME {
-        if pass(reader, size) {
+        if skip(reader, size) {
             return Ok(Some(Captured::LeftOut { size }));
         }
         return Err(cut_in(before + 1, reader.ending()));

@@ -11,12 +11,12 @@ use Rattle.list_core.specs.declared.list_fault.ListCause.{ListCause}
 use Rattle.list_core.specs.declared.list_fault.ListCause.TheVariants.{LineTooLong, LineForm, Moment, Hex, ListTooLong, ReadFailed}
 use Rattle.list_core.specs.declared.line_rules.ItemFault.{ItemFault}
 use Rattle.list_core.specs.declared.line_rules.ItemFault.TheVariants as fault
-use Rattle.list_core.specs.Device.{AppendsFront, GivesOctets}
+use Rattle.list_core.specs.Device.{AppendsPrefix, GivesOctets}
 use Rattle.list_core.specs.Lines.{faulty}
 use Rattle.list_core.specs.Items.{Rules, Listing, listing, put_item, put_items, stops}
-use Rattle.list_core.specs.ItemReader.{Place, Answer, AnswersItem, CountsTo, OnlyKept, TakesItems, Tells, line_of, lines_before}
+use Rattle.list_core.specs.ItemReader.{ReaderState, Answer, AnswersItem, CountsTo, OnlyKept, TakesItems, Tells, line_of, lines_before}
 use Rattle.list_core.specs.Reader.{IsWanting}
-use Rattle.list_core.proofs.Devices.{Appends-append, Appends-none, AppendsFront-more, Consumes-none, Gives-from_Consumes}
+use Rattle.list_core.proofs.Devices.{Appends-append, Appends-none, AppendsPrefix-more, Consumes-none, Gives-from_Consumes}
 use Rattle.list_core.proofs.Readers.{CanFollow-none, off_after, starts_after}
 use Rattle.list_core.proofs.ItemReaders.{TakesItems-push, TakesItems-none, gives_both, list_whole}
 use Rattle.engine_core.specs.declared.ending.Ending.{Ending}
@@ -29,7 +29,7 @@ use Rattle.engine_core.proofs.ItemTexts.{AreNext, are_texts, next_push, or_false
 use Rattle.engine_core.proofs.Wanted.{wanted_behind, wanted_rest}
 
 -- what a run has done before a call: it took these items, none of which was refused, and wrote their texts
-pub record Ran {S X C : Type 0} (r : Rules S X C) (t : Text X C) (a b : Place S) (es : List (ℕ × X)) (old mid : Option (List ℕ)) (found : Bool) : Type 0 where
+pub record Ran {S X C : Type 0} (r : Rules S X C) (t : Text X C) (a b : ReaderState S) (es : List (ℕ × X)) (old mid : Option (List ℕ)) (found : Bool) : Type 0 where
   pub took : TakesItems r a es b
   pub wanted : (b.ending ≡ Open) ⊎ IsWanting b.held
   pub texts : List ItemText
@@ -38,8 +38,8 @@ pub record Ran {S X C : Type 0} (r : Rules S X C) (t : Text X C) (a b : Place S)
   pub finds : has_finding texts ≡ found
 
 -- an item more
-pub go_on : {S X C : Type 0} (r : Rules S X C) (t : Text X C) (a b c : Place S) (es : List (ℕ × X)) (old mid new : Option (List ℕ)) (found : Bool) → Ran r t a b es old mid found →
-    (e : ℕ × X) (q : AnswersItem r b (Ok (Some e)) c) (text : List ℕ) (is_finding : Bool) → t.step es e ≡ Ok (text, is_finding) → Appends mid new text →
+pub go_on : {S X C : Type 0} (r : Rules S X C) (t : Text X C) (a b c : ReaderState S) (es : List (ℕ × X)) (old mid new : Option (List ℕ)) (found : Bool) → Ran r t a b es old mid found →
+    (e : ℕ × X) (q : AnswersItem r b (Ok (Some e)) c) (text : List ℕ) (is_finding : Bool) → t.of_item es e ≡ Ok (text, is_finding) → Appends mid new text →
     Ran r t a c (es ++ e ∷ []) old new (found || is_finding)
 go_on r t a b c es old mid new found p e q text is_finding s w =
     let last : ItemText = record { text = text; is_finding = is_finding } in
@@ -53,7 +53,7 @@ go_on r t a b c es old mid new found p e q text is_finding s w =
     }
 
 -- nothing was taken yet
-pub ran_none : {S X C : Type 0} (r : Rules S X C) (t : Text X C) (a : Place S) (old : Option (List ℕ)) → a.ending ≡ Open → Ran r t a a [] old old false
+pub ran_none : {S X C : Type 0} (r : Rules S X C) (t : Text X C) (a : ReaderState S) (old : Option (List ℕ)) → a.ending ≡ Open → Ran r t a a [] old old false
 ran_none r t a old is = record {
   took = TakesItems-none r a;
   wanted = inl is;
@@ -74,12 +74,12 @@ module _ {X C : Type 0} (t : Text X C) (es : List (ℕ × X)) where
   due_none : (answer : Answer X C) (onward rest : Listing X C) → Tells answer onward rest → next_text t es onward.items onward.stop ≡ [] → due t es answer ≡ []
   due_none answer onward rest h none = elim (due_next answer onward rest h) [ inl same ↦ sym same ∙ none | inr none_due ↦ none_due ]
 
-  due_front : (answer : Answer X C) (onward rest : Listing X C) → Tells answer onward rest → (old new : Option (List ℕ)) → AppendsFront old new (due t es answer) →
-      AppendsFront old new (next_text t es onward.items onward.stop)
+  due_front : (answer : Answer X C) (onward rest : Listing X C) → Tells answer onward rest → (old new : Option (List ℕ)) → AppendsPrefix old new (due t es answer) →
+      AppendsPrefix old new (next_text t es onward.items onward.stop)
   due_front answer onward rest h old new w =
       elim (due_next answer onward rest h) [
-        | inl same ↦ subst (λ l. AppendsFront old new l) (sym same) w
-        | inr none_due ↦ AppendsFront-more old new [] _ (subst (λ l. AppendsFront old new l) none_due w)
+        | inl same ↦ subst (λ l. AppendsPrefix old new l) (sym same) w
+        | inr none_due ↦ AppendsPrefix-more old new [] _ (subst (λ l. AppendsPrefix old new l) none_due w)
       ]
 
   -- an item that is refused
@@ -91,7 +91,7 @@ module _ {X C : Type 0} (t : Text X C) (es : List (ℕ × X)) where
   ends_by : (ending : Ending) (answer : Answer X C) (onward rest : Listing X C) (taken n : ℕ) → Tells answer onward rest → CountsTo answer taken n → (f : ItemFault C) → closes t es answer ≡ Some f →
       ending_at f ≡ ending → (old new : Option (List ℕ)) → Appends old new (due t es answer) → EndsByFault t ending es (lines_before answer n) onward old new
   ends_by ending (Ok (Some e)) onward rest taken n h counted f x is old new w =
-      let s = step_refused e.0 (t.step es e) f x in
+      let s = step_refused e.0 (t.of_item es e) f x in
       record {
         why = f;
         is_next = inr (record { item = e; others = rest; cause = s.0; is_next = h; refused = s.1; in_line = s.2 });
@@ -130,7 +130,7 @@ module _ {S X C : Type 0} {r : Rules S X C} {s : S} {z : InputEnd} {read : List 
   by_end false w = w
 
 -- a run that began with no line and no octet held
-module _ {S X C : Type 0} (r : Rules S X C) (t : Text X C) (a b c : Place S) (es : List (ℕ × X)) (old start mid new : Option (List ℕ)) (found : Bool)
+module _ {S X C : Type 0} (r : Rules S X C) (t : Text X C) (a b c : ReaderState S) (es : List (ℕ × X)) (old start mid new : Option (List ℕ)) (found : Bool)
     (no_line : a.taken ≡ 0) (no_octet : a.held ≡ []) (first : Appends old start t.first) (p : Ran r t a b es start mid found) where
   abbrev Leaves : Ending → Type 0
   Leaves ending = (given : List ℕ) × GivesOctets a.left c.left given × Writes r a.settled t ending c.ending given old new
@@ -140,15 +140,15 @@ module _ {S X C : Type 0} (r : Rules S X C) (t : Text X C) (a b c : Place S) (es
     octets : List ℕ
     octets = p.took.given ++ q.given
 
-    onward_same : listing r b.settled c.ending b.taken (b.held ++ q.given ++ []) ≡ listing r q.at c.ending (lines_before answer c.taken) q.rest
-    onward_same = q.skips [] c.ending (CanFollow-none c.ending) ∙ ap (listing r q.at c.ending (lines_before answer c.taken)) (append-nil q.rest)
+    onward_same : listing r b.settled c.ending b.taken (b.held ++ q.given ++ []) ≡ listing r q.settled c.ending (lines_before answer c.taken) q.rest
+    onward_same = q.skips [] c.ending (CanFollow-none c.ending) ∙ ap (listing r q.settled c.ending (lines_before answer c.taken)) (append-nil q.rest)
 
     -- the line before which all is written
     line : AtLine r a.settled c.ending octets es
     unfolding octets
     line = record {
       lines_before = lines_before answer c.taken;
-      settled = q.at;
+      settled = q.settled;
       earlier = p.took.lines ++ q.skipped;
       onward = q.rest;
       whole = rw no_octet at (off_after a.held p.took.given p.took.lines b.held q.given q.skipped q.rest p.took.off q.lines.off);
@@ -183,7 +183,7 @@ module _ {S X C : Type 0} (r : Rules S X C) (t : Text X C) (a b c : Place S) (es
     unfolding line
     stopped ending (inl x) = rw x.0 (leaves _ (record {
       wanted = elim x.1 [
-        | inl e ↦ inl (subst (λ o. OnlyKept r q.at c.ending (lines_before answer c.taken) q.rest o) e q.kept)
+        | inl e ↦ inl (subst (λ o. OnlyKept r q.settled c.ending (lines_before answer c.taken) q.rest o) e q.kept)
         | inr due_some ↦ inr (λ none. due_some (due_none t es answer _ _ tells none))
       ];
       no_more = x.2;
@@ -196,6 +196,6 @@ module _ {S X C : Type 0} (r : Rules S X C) (t : Text X C) (a b c : Place S) (es
   ended q x = leaves (Ok None) q _ (by_end t p.texts (line (Ok None) q) mid new found (record { list_ends = (tells (Ok None) q).0; finds = p.finds; no_more = x }))
 
 -- the first text was not written whole, and the reader is untouched
-pub not_begun : {S X C : Type 0} (r : Rules S X C) (s : S) (t : Text X C) (z : InputEnd) (left old new : Option (List ℕ)) → z ≡ Open → AppendsFront old new t.first →
+pub not_begun : {S X C : Type 0} (r : Rules S X C) (s : S) (t : Text X C) (z : InputEnd) (left old new : Option (List ℕ)) → z ≡ Open → AppendsPrefix old new t.first →
     (given : List ℕ) × GivesOctets left left given × Writes r s t WriteFault z given old new
 not_begun r s t z left old new is w = ([], Gives-from_Consumes left left [] (Consumes-none left), inl (record { write_fault = refl; untouched = (is, refl); written = w }))

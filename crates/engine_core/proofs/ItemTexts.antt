@@ -26,16 +26,16 @@ module _ {X C : Type 0} (t : Text X C) where
   -- what is written of items that follow others
   abbrev pub AreNext : List (ℕ × X) → List (ℕ × X) → List ItemText → Type 0
   AreNext before [] [] = ⊤
-  AreNext before (e ∷ es) (w ∷ ws) = (t.step before e ≡ Ok (w.text, w.is_finding)) × AreNext (before ++ e ∷ []) es ws
+  AreNext before (e ∷ es) (w ∷ ws) = (t.of_item before e ≡ Ok (w.text, w.is_finding)) × AreNext (before ++ e ∷ []) es ws
   AreNext before [] (w ∷ ws) = ⊥
   AreNext before (e ∷ es) [] = ⊥
 
   -- an item more
-  pub next_push : (before es : List (ℕ × X)) (ws : List ItemText) (e : ℕ × X) (w : ItemText) → AreNext before es ws → t.step (before ++ es) e ≡ Ok (w.text, w.is_finding) →
+  pub next_push : (before es : List (ℕ × X)) (ws : List ItemText) (e : ℕ × X) (w : ItemText) → AreNext before es ws → t.of_item (before ++ es) e ≡ Ok (w.text, w.is_finding) →
       AreNext before (es ++ e ∷ []) (ws ++ w ∷ [])
-  next_push before [] [] e w are s = (subst (λ b. t.step b e ≡ Ok (w.text, w.is_finding)) (append-nil before) s, tt)
+  next_push before [] [] e w are s = (subst (λ b. t.of_item b e ≡ Ok (w.text, w.is_finding)) (append-nil before) s, tt)
   next_push before (x ∷ es) (v ∷ ws) e w are s =
-      (are.0, next_push (before ++ x ∷ []) es ws e w are.1 (subst (λ b. t.step b e ≡ Ok (w.text, w.is_finding)) (sym (append_assoc before (x ∷ []) es)) s))
+      (are.0, next_push (before ++ x ∷ []) es ws e w are.1 (subst (λ b. t.of_item b e ≡ Ok (w.text, w.is_finding)) (sym (append_assoc before (x ∷ []) es)) s))
   next_push before [] (v ∷ ws) e w are s = absurd are
   next_push before (x ∷ es) [] e w are s = absurd are
 
@@ -46,7 +46,7 @@ module _ {X C : Type 0} (t : Text X C) where
   sizes before (x ∷ es) [] are = absurd are
 
   each_next : (before es : List (ℕ × X)) (ws : List ItemText) → AreNext before es ws → (i : ℕ) (e : ℕ × X) (w : ItemText) → slice_get es i ≡ Some e → slice_get ws i ≡ Some w →
-      t.step (before ++ take i es) e ≡ Ok (w.text, w.is_finding)
+      t.of_item (before ++ take i es) e ≡ Ok (w.text, w.is_finding)
   each_next before [] ws are i e w h g = absurd (cc)
   each_next before (x ∷ es) [] are i e w h g = absurd are
   each_next before (x ∷ es) (v ∷ ws) are zero e w h g =
@@ -54,18 +54,18 @@ module _ {X C : Type 0} (t : Text X C) where
       let text : v ≡ w = cc in
       rw (append-nil before, sym item, sym text) are.0
   each_next before (x ∷ es) (v ∷ ws) are (suc i) e w h g =
-      subst (λ b. t.step b e ≡ Ok (w.text, w.is_finding)) (append_assoc before (x ∷ []) (take i es)) (each_next (before ++ x ∷ []) es ws are.1 i e w h g)
+      subst (λ b. t.of_item b e ≡ Ok (w.text, w.is_finding)) (append_assoc before (x ∷ []) (take i es)) (each_next (before ++ x ∷ []) es ws are.1 i e w h g)
 
   pub are_texts : (es : List (ℕ × X)) (ws : List ItemText) → AreNext [] es ws → AreItemTexts t es ws
   are_texts es ws are = record { one_each = sizes [] es ws are; each = each_next [] es ws are }
 
   are_next : (before es : List (ℕ × X)) (ws : List ItemText) → length ws ≡ length es →
-      ((i : ℕ) (e : ℕ × X) (w : ItemText) → slice_get es i ≡ Some e → slice_get ws i ≡ Some w → t.step (before ++ take i es) e ≡ Ok (w.text, w.is_finding)) → AreNext before es ws
+      ((i : ℕ) (e : ℕ × X) (w : ItemText) → slice_get es i ≡ Some e → slice_get ws i ≡ Some w → t.of_item (before ++ take i es) e ≡ Ok (w.text, w.is_finding)) → AreNext before es ws
   are_next before [] [] same each = tt
   are_next before (x ∷ es) (v ∷ ws) same each = (
-    subst (λ b. t.step b x ≡ Ok (v.text, v.is_finding)) (append-nil before) (each 0 x v refl refl),
+    subst (λ b. t.of_item b x ≡ Ok (v.text, v.is_finding)) (append-nil before) (each 0 x v refl refl),
     are_next (before ++ x ∷ []) es ws (omega (arith, same))
-        (λ i e w h g. subst (λ b. t.step b e ≡ Ok (w.text, w.is_finding)) (sym (append_assoc before (x ∷ []) (take i es))) (each (suc i) e w h g)),
+        (λ i e w h g. subst (λ b. t.of_item b e ≡ Ok (w.text, w.is_finding)) (sym (append_assoc before (x ∷ []) (take i es))) (each (suc i) e w h g)),
   )
   are_next before [] (v ∷ ws) same each = absurd (omega (arith, same))
   are_next before (x ∷ es) [] same each = absurd (omega (arith, same))

@@ -5,7 +5,7 @@ use Rattle.list_core.specs.declared.device.InputEnd.{InputEnd}
 use Rattle.list_core.specs.declared.device.InputEnd.TheVariants.{Open}
 use Rattle.list_core.specs.Cuts.{HasNo}
 use Rattle.list_core.specs.Device.{OnlyOpen}
-use Rattle.list_core.specs.ItemReader.{Place, OnlyPassed}
+use Rattle.list_core.specs.ItemReader.{ReaderState, OnlySkipped}
 use Rattle.list_core.specs.Reader.{IsWanting}
 
 -- octets in front of others, which are then the same
@@ -32,7 +32,7 @@ wanted_still y held given skipped rest n e w =
     inr (wanting_behind skipped rest (subst IsWanting same w))
 
 -- where a source has ended after an answer, no whole line stands from its line on
-pub wanted_rest : {S : Type 0} (b c : Place S) (given skipped rest : List ℕ) → (b.ending ≡ Open) ⊎ IsWanting b.held → OnlyOpen b.ending given c.ending → OnlyPassed b.left b.ending b.held given skipped c.left c.ending → b.held ++ given ≡ skipped ++ rest →
+pub wanted_rest : {S : Type 0} (b c : ReaderState S) (given skipped rest : List ℕ) → (b.ending ≡ Open) ⊎ IsWanting b.held → OnlyOpen b.ending given c.ending → OnlySkipped b.left b.ending b.held given skipped c.left c.ending → b.held ++ given ≡ skipped ++ rest →
     (c.ending ≡ Open) ⊎ IsWanting rest
 wanted_rest b c given skipped rest (inl h) o (inl p) e = inl (p.2 ∙ h)
 wanted_rest b c given skipped rest (inr h) o (inl p) e = wanted_still c.ending b.held given skipped rest p.0 e h

@@ -6,10 +6,10 @@ use Rattle.std.specs.Io.KnownBytes.{Appends}
 use Rattle.list_core.specs.declared.device.InputEnd.{InputEnd}
 use Rattle.list_core.specs.declared.line_rules.ItemFault.{ItemFault}
 use Rattle.list_core.specs.declared.line_rules.ItemFault.TheVariants as fault
-use Rattle.list_core.specs.Device.{AppendsFront}
+use Rattle.list_core.specs.Device.{AppendsPrefix}
 use Rattle.list_core.specs.Lines.{Stop, finished, faulty}
 use Rattle.list_core.specs.Items.{Rules, Listing, listing, put_items}
-use Rattle.list_core.proofs.Devices.{Appends-append, Appends-none, AppendsFront-append, AppendsFront-more}
+use Rattle.list_core.proofs.Devices.{Appends-append, Appends-none, AppendsPrefix-append, AppendsPrefix-more}
 use Rattle.engine_core.specs.declared.ending.Ending.{Ending}
 use Rattle.engine_core.specs.declared.ending.Ending.TheVariants.{Done, Findings, InputFault, ReadFault, WriteFault, Memory}
 use Rattle.engine_core.specs.EngineText.{Text, has_finding, joined_texts, next_text, step_text}
@@ -24,7 +24,7 @@ module _ {X C : Type 0} (t : Text X C) (es : List (ℕ × X)) where
   unfolding told_after
   told_end onward stop h = ap (told_rest t es) h
 
-  told_first : (e : ℕ × X) (rest : List (ℕ × X)) (stop : Stop (ItemFault C)) → told_after t es (e ∷ rest) stop ≡ put_step t e.0 (t.step es e) (told_after t (es ++ e ∷ []) rest stop)
+  told_first : (e : ℕ × X) (rest : List (ℕ × X)) (stop : Stop (ItemFault C)) → told_after t es (e ∷ rest) stop ≡ put_step t e.0 (t.of_item es e) (told_after t (es ++ e ∷ []) rest stop)
   unfolding told_after
   told_first e rest stop = refl
 
@@ -44,7 +44,7 @@ module _ {X C : Type 0} (t : Text X C) (es : List (ℕ × X)) where
   next_first : (items : List (ℕ × X)) (stop : Stop (ItemFault C)) → (more : List ℕ) × ((told_after t es items stop).text ≡ next_text t es items stop ++ more)
   next_first [] stop = ([], ap (λ o. o.text) (told_end _ stop refl) ∙ sym (append-nil _))
   next_first (e ∷ rest) stop =
-      let f = step_first e.0 (t.step es e) (told_after t (es ++ e ∷ []) rest stop) in
+      let f = step_first e.0 (t.of_item es e) (told_after t (es ++ e ∷ []) rest stop) in
       (f.0, ap (λ o. o.text) (told_first e rest stop) ∙ f.1)
 
 module _ {S X C : Type 0} (r : Rules S X C) (s : S) (t : Text X C) (ending : Ending) (z : InputEnd) (read : List ℕ) (old new : Option (List ℕ)) (run : Run r s t ending z read old new) where
@@ -64,8 +64,8 @@ module _ {S X C : Type 0} (r : Rules S X C) (s : S) (t : Text X C) (ending : End
   appends : Appends run.held new rest.text → Appends old new (whole_text t list)
   appends w = subst (λ l. Appends old new l) whole_is (Appends-append old run.held new _ rest.text run.written w)
 
-  appends_front : AppendsFront run.held new rest.text → AppendsFront old new (whole_text t list)
-  appends_front w = subst (λ l. AppendsFront old new l) whole_is (AppendsFront-append old run.held new _ rest.text run.written w)
+  appends_front : AppendsPrefix run.held new rest.text → AppendsPrefix old new (whole_text t list)
+  appends_front w = subst (λ l. AppendsPrefix old new l) whole_is (AppendsPrefix-append old run.held new _ rest.text run.written w)
 
   by_end : (found : Bool) → EndsWell found run.texts (said_onward z run.line) run.held new → LeavesWhole t found list old new
   by_end found w =
@@ -86,18 +86,18 @@ module _ {S X C : Type 0} (r : Rules S X C) (s : S) (t : Text X C) (ending : End
         written = appends (subst (λ o. Appends run.held new o.text) (sym end) w.told);
       }
 
-  by_front : AppendsFront run.held new (next_text t run.items (said_onward z run.line).items (said_onward z run.line).stop) → AppendsFront old new (whole_text t list)
+  by_front : AppendsPrefix run.held new (next_text t run.items (said_onward z run.line).items (said_onward z run.line).stop) → AppendsPrefix old new (whole_text t list)
   by_front w =
       let next = next_first t run.items (said_onward z run.line).items (said_onward z run.line).stop in
-      appends_front (rw next.1 (AppendsFront-more run.held new _ next.0 w))
+      appends_front (rw next.1 (AppendsPrefix-more run.held new _ next.0 w))
 
 -- nothing is a front of any text
-front_none : (a : Option (List ℕ)) (text : List ℕ) → AppendsFront a a text
+front_none : (a : Option (List ℕ)) (text : List ℕ) → AppendsPrefix a a text
 front_none None text = tt
 front_none (Some os) text = ([], text, refl, sym (append-nil os))
 
 pub runs_write : {S X C : Type 0} → RunsWriteWholeTexts S X C
-runs_write r s t ending z read old new (inl w) = rw w.write_fault (AppendsFront-more old new t.first _ w.written)
+runs_write r s t ending z read old new (inl w) = rw w.write_fault (AppendsPrefix-more old new t.first _ w.written)
 runs_write r s t Done z read old new (inr run) = by_end r s t Done z read old new run false run.ends
 runs_write r s t Findings z read old new (inr run) = by_end r s t Findings z read old new run true run.ends
 runs_write r s t InputFault z read old new (inr run) = by_fault r s t InputFault z read old new run InputFault run.ends

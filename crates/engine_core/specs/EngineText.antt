@@ -13,7 +13,7 @@ pub record Text (X C : Type 0) : Type 0 where
   -- before anything is read
   pub first : List ℕ
   -- after these items, for this one: its text, and whether it is a finding; or why it is refused
-  pub step : List (ℕ × X) → ℕ × X → Result (List ℕ × Bool) C
+  pub of_item : List (ℕ × X) → ℕ × X → Result (List ℕ × Bool) C
   -- last, on a fault
   pub last : ItemFault C → List ℕ
 
@@ -25,7 +25,7 @@ pub record ItemText : Type 0 where
 -- What is written of each of these items, after those before it. None of them is refused.
 pub record AreItemTexts {X C : Type 0} (t : Text X C) (items : List (ℕ × X)) (texts : List ItemText) : Type 0 where
   pub one_each : length texts ≡ length items
-  pub each : (i : ℕ) (e : ℕ × X) (w : ItemText) → slice_get items i ≡ Some e → slice_get texts i ≡ Some w → t.step (take i items) e ≡ Ok (w.text, w.is_finding)
+  pub each : (i : ℕ) (e : ℕ × X) (w : ItemText) → slice_get items i ≡ Some e → slice_get texts i ≡ Some w → t.of_item (take i items) e ≡ Ok (w.text, w.is_finding)
 
 -- their texts, one after another
 abbrev pub joined_texts : List ItemText → List ℕ
@@ -49,8 +49,8 @@ step_text t n (Err why) = t.last (fault.Line n why)
 -- what is written next, after these items: the text of the first of those that follow, or the last one
 abbrev pub next_text : {X C : Type 0} → Text X C → List (ℕ × X) → List (ℕ × X) → Stop (ItemFault C) → List ℕ
 next_text t before [] stop = last_text t stop
-next_text t before (e ∷ es) stop = step_text t e.0 (t.step before e)
+next_text t before (e ∷ es) stop = step_text t e.0 (t.of_item before e)
 
 -- a text that speaks of each item alone, and refuses none
 abbrev pub IsPlain : {X C : Type 0} → Text X C → (ℕ × X → List ℕ) → (ℕ × X → Bool) → Type 0
-IsPlain {X = X} t line finds = (before : List (ℕ × X)) (e : ℕ × X) → t.step before e ≡ Ok (line e, finds e)
+IsPlain {X = X} t line finds = (before : List (ℕ × X)) (e : ℕ × X) → t.of_item before e ≡ Ok (line e, finds e)

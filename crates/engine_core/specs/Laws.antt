@@ -3,7 +3,7 @@ use Rattle.std.specs.Prelude.{◌≡◌, Bool, true, false, List, ℕ, Option}
 use Rattle.std.specs.Io.KnownBytes.{Appends}
 use Rattle.list_core.specs.declared.device.InputEnd.{InputEnd}
 use Rattle.list_core.specs.declared.line_rules.ItemFault.{ItemFault}
-use Rattle.list_core.specs.Device.{AppendsFront}
+use Rattle.list_core.specs.Device.{AppendsPrefix}
 use Rattle.list_core.specs.Items.{Rules, Listing, listing}
 use Rattle.list_core.specs.Lines.{finished, faulty}
 use Rattle.engine_core.specs.declared.ending.Ending.{Ending}
@@ -32,8 +32,8 @@ LeavesOfWhole t Done l old new = LeavesWhole t false l old new
 LeavesOfWhole t Findings l old new = LeavesWhole t true l old new
 LeavesOfWhole t InputFault l old new = LeavesFaulty t InputFault l old new
 LeavesOfWhole t ReadFault l old new = LeavesFaulty t ReadFault l old new
-LeavesOfWhole t WriteFault l old new = AppendsFront old new (whole_text t l)
-LeavesOfWhole t Memory l old new = AppendsFront old new (whole_text t l)
+LeavesOfWhole t WriteFault l old new = AppendsPrefix old new (whole_text t l)
+LeavesOfWhole t Memory l old new = AppendsPrefix old new (whole_text t l)
 
 -- of the whole text of the list that was read, a run leaves all where it ends at the end or by a fault of it, and else a front
 abbrev pub RunsWriteWholeTexts : Type 0 → Type 0 → Type 0 → Type 0

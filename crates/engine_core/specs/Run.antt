@@ -5,7 +5,7 @@ use Rattle.list_core.specs.declared.device.InputEnd.{InputEnd}
 use Rattle.list_core.specs.declared.device.InputEnd.TheVariants.{Open}
 use Rattle.list_core.specs.declared.line_rules.ItemFault.{ItemFault}
 use Rattle.list_core.specs.declared.line_rules.ItemFault.TheVariants as fault
-use Rattle.list_core.specs.Device.{AppendsFront}
+use Rattle.list_core.specs.Device.{AppendsPrefix}
 use Rattle.list_core.specs.Lines.{StartsLine, finished, faulty}
 use Rattle.list_core.specs.Items.{Rules, Listing, listing, put_item, put_items, stops}
 use Rattle.list_core.specs.ItemReader.{OnlyKept, line_of}
@@ -51,7 +51,7 @@ pub record RefusesNext {X C : Type 0} (t : Text X C) (items : List (ℕ × X)) (
   pub others : Listing X C
   pub cause : C
   pub is_next : onward ≡ put_item item others
-  pub refused : t.step items item ≡ Err cause
+  pub refused : t.of_item items item ≡ Err cause
   pub in_line : f ≡ fault.Line item.0 cause
 
 -- There is a fault in the line, of the list itself or of an item that is refused. The last text tells it, and the run has its ending.
@@ -81,7 +81,7 @@ EndsAt t Done z texts line held new = EndsWell false texts (said_onward z line) 
 EndsAt t Findings z texts line held new = EndsWell true texts (said_onward z line) held new
 EndsAt {items = items} t InputFault z texts line held new = EndsByFault t InputFault items line.lines_before (said_onward z line) held new
 EndsAt {items = items} t ReadFault z texts line held new = EndsByFault t ReadFault items line.lines_before (said_onward z line) held new
-EndsAt t WriteFault z texts line held new = AppendsFront held new (next_written t z line)
+EndsAt t WriteFault z texts line held new = AppendsPrefix held new (next_written t z line)
 EndsAt t Memory z texts line held new = WantsMemory t z line held new
 
 -- ---- the run
@@ -105,7 +105,7 @@ IsUntouched before after read = (after ≡ before) × (read ≡ [])
 pub record FailsAtFirst {X C : Type 0} (t : Text X C) (ending : Ending) (z : InputEnd) (read : List ℕ) (old new : Option (List ℕ)) : Type 0 where
   pub write_fault : ending ≡ WriteFault
   pub untouched : IsUntouched Open z read
-  pub written : AppendsFront old new t.first
+  pub written : AppendsPrefix old new t.first
 
 -- what a run of an open reader leaves written of what was read, with the ending that the reader tells then
 abbrev pub Writes : {S X C : Type 0} → Rules S X C → S → Text X C → Ending → InputEnd → List ℕ → Option (List ℕ) → Option (List ℕ) → Type 0
@@ -119,4 +119,4 @@ pub record WritesSome {S X C : Type 0} (Is : Text X C → Type 0) (r : Rules S X
 
 -- a run that is refused before it reads: its one text was written, or the writer failed at a front of it
 abbrev pub LeavesRefused : List ℕ → Ending → Option (List ℕ) → Option (List ℕ) → Type 0
-LeavesRefused text ending old new = ((ending ≡ InputFault) × Appends old new text) ⊎ ((ending ≡ WriteFault) × AppendsFront old new text)
+LeavesRefused text ending old new = ((ending ≡ InputFault) × Appends old new text) ⊎ ((ending ≡ WriteFault) × AppendsPrefix old new text)

@@ -3,7 +3,7 @@
 ghost use Rattle.std.specs.Prelude.{◌≡◌, ◌++◌, ℕ, List, [], Some, None, Ok, false, IsOk, OnErr, OnOk, length, take, if◌then◌else◌};
 ghost use Rattle.list_core.specs.declared.device.InputEnd.{InputEnd};
 ghost use Rattle.list_core.specs.Device.{GivesOctets};
-ghost use Rattle.list_core.specs.ItemReader.{Answer, AnswersItem, item_place};
+ghost use Rattle.list_core.specs.ItemReader.{Answer, AnswersItem, item_state};
 ghost use Rattle.engine_core.specs.Ending.{ending_at, ending_of, is_write_fault};
 ghost use Rattle.engine_core.specs.EngineText.{Text};
 ghost use Rattle.engine_core.specs.Run.{LeavesRefused, Writes};
@@ -41,7 +41,7 @@ pub trait Engine<A: Allocator> {
         ensures same { text self.new ≡ text self.old }
         ensures step { (before : List (ℕ × Self.Item)) → stands self.old before →
             Takes (text self.old) (stands self.new) before (number, item) result line.old.items line.new.items }
-        ensures front { OnErr result (take (length line.old.items) line.new.items ≡ line.old.items) };
+        ensures kept { OnErr result (take (length line.old.items) line.new.items ≡ line.old.items) };
 
     /// Appends the last text on a fault. Where memory is refused, what stood in the line before still stands in front.
     fn put_last(
@@ -50,7 +50,7 @@ pub trait Engine<A: Allocator> {
         fault: &ItemFault<Self::Cause>,
     ) -> Result<(), AllocError>
         ensures text { OnOk result (line.new.items ≡ line.old.items ++ (text self.now).last fault.now) }
-        ensures front { OnErr result (take (length line.old.items) line.new.items ≡ line.old.items) }
+        ensures kept { OnErr result (take (length line.old.items) line.new.items ≡ line.old.items) }
         ensures quiet { (text self.now).last fault.now ≡ [] → IsOk result };
 }
 
@@ -149,7 +149,7 @@ fn answer_next<
 ) -> Next
     requires { W.failed writer.old ≡ false }
     ensures same { E.text engine.new ≡ E.text engine.old }
-    ensures step { (answer : Answer G.Item G.Cause) × AnswersItem G.rules (item_place R.left R.ending items.old) answer (item_place R.left R.ending items.new)
+    ensures step { (answer : Answer G.Item G.Cause) × AnswersItem G.rules (item_state R.left R.ending items.old) answer (item_state R.left R.ending items.new)
         × ((before : List (ℕ × G.Item)) → E.stands engine.old before →
         StepWrites (E.text engine.old) (E.stands engine.new) before answer result (W.contents writer.old) (W.contents writer.new)) }
     ensures fails { W.failed writer.new ≡ stops_by is_write_fault result }

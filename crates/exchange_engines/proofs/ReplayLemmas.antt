@@ -55,7 +55,7 @@ kept_keeps blocks items = keeps_all blocks (events_of items) [] (fresh_state blo
 pub replay_is : {A : Type 0} (blocks : List (Block A)) → IsReplayText blocks (replay_text blocks)
 replay_is blocks = record {
   first = refl;
-  step = λ before e.
+  each_item = λ before e.
       let k = kept_keeps blocks before in
       let s = kept_after blocks before in record {
         old = s;

@@ -92,9 +92,9 @@ IsCallText p calls c written = IsCallTaken p calls c written ⊎ IsCallRefused p
 -- What `publish` writes: a list of version 2. The control line and the steps write nothing; each call behind them writes what it gives. No line is a finding.
 pub record IsPublishText {A : Type 0} (t : Text (ScriptItem A) ScriptCause) : Type 0 where
   pub first : t.first ≡ codes "V2\n"
-  pub control_line : (n first : ℕ) (control : Control A) → t.step [] (n, item.Control control first) ≡ Ok ([], false)
+  pub control_line : (n first : ℕ) (control : Control A) → t.of_item [] (n, item.Control control first) ≡ Ok ([], false)
   pub table_step : (p : Setup A) (before : List (ℕ × ScriptItem A)) → items_of_lines before ≡ script_of p [] → length p.table < 16 →
-      (n : ℕ) (s : Step) → t.step before (n, item.Step s) ≡ Ok ([], false)
+      (n : ℕ) (s : Step) → t.of_item before (n, item.Step s) ≡ Ok ([], false)
   pub call : (p : Setup A) (calls : List Call) (before : List (ℕ × ScriptItem A)) → items_of_lines before ≡ script_of p calls → IsScriptSound p →
-      (n : ℕ) (c : Call) → IsCallText p calls c (t.step before (n, item_of_call c))
+      (n : ℕ) (c : Call) → IsCallText p calls c (t.of_item before (n, item_of_call c))
   pub last : (f : ItemFault ScriptCause) → t.last f ≡ script_line f

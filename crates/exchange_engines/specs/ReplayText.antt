@@ -44,7 +44,7 @@ pub record ReplaysEvent {A : Type 0} (blocks : List (Block A)) (before : List (�
 -- What `replay` writes for these blocks: of each event what a subscriber of them answers it after the events before.
 pub record IsReplayText {A : Type 0} (blocks : List (Block A)) (t : Text (Event A) ListCause) : Type 0 where
   pub first : t.first ≡ []
-  pub step : (before : List (ℕ × Event A)) (e : ℕ × Event A) → ReplaysEvent blocks before e (t.step before e)
+  pub each_item : (before : List (ℕ × Event A)) (e : ℕ × Event A) → ReplaysEvent blocks before e (t.of_item before e)
   pub last : (f : ItemFault ListCause) → t.last f ≡ list_line (list_fault_of f)
 
 -- the one line for a block given twice, at its position

@@ -92,5 +92,5 @@ pub record WatchesEvent {A : Type 0} (period : ℕ) (id : List ℕ) (before : Li
 -- What `watch` writes of the stream with this svID: for each of its ASDUs what its count is, over all counts of the stream up to it.
 pub record IsWatchText {A : Type 0} (period : ℕ) (id : List ℕ) (t : Text (Event A) ListCause) : Type 0 where
   pub first : t.first ≡ []
-  pub step : (before : List (ℕ × Event A)) (e : ℕ × Event A) → WatchesEvent period id before e (t.step before e)
+  pub each_item : (before : List (ℕ × Event A)) (e : ℕ × Event A) → WatchesEvent period id before e (t.of_item before e)
   pub last : (f : ItemFault ListCause) → t.last f ≡ list_line (list_fault_of f)

@@ -7,7 +7,7 @@ use Rattle.subscribe_core.specs.declared.entry.Entry.{Entry}
 use Rattle.subscribe_core.specs.declared.entry.Entry.TheVariants as says
 use Rattle.subscribe_core.specs.declared.entry.Reason.{Reason}
 use Rattle.subscribe_core.specs.declared.registers.Facts.{Facts}
-use Rattle.subscribe_core.specs.declared.registers.Held.{Held}
+use Rattle.subscribe_core.specs.declared.registers.LiveState.{LiveState}
 use Rattle.subscribe_core.specs.declared.registers.Register.{Register}
 use Rattle.subscribe_core.specs.declared.registers.Verdict.{Verdict}
 use Rattle.subscribe_core.specs.declared.registers.Verdict.TheVariants.{Act, Refreshed, Repeated, Older}
@@ -23,8 +23,8 @@ use Rattle.subscribe_core.proofs.Frames.{answer_good, registers_good}
 
 -- a subscriber of one block with the mode off, and a frame at a moment
 
-abbrev pub alone : {B : Type 0} → Block B → Option Held → ℕ → State B
-alone block h moment = record { blocks = block ∷ []; registers = record { held = h; simulated = false } ∷ []; mode = false; moment = moment }
+abbrev pub alone : {B : Type 0} → Block B → Option LiveState → ℕ → State B
+alone block h moment = record { blocks = block ∷ []; registers = record { held = h; takes_simulated = false } ∷ []; mode = false; moment = moment }
 
 abbrev pub comes : ℕ → FrameRead → EventRead
 comes now x = record { moment = now; content = OfGoose x }
@@ -60,30 +60,30 @@ module _ {B : Type 0} (block : Block B) (x : FrameRead) where
   here good = rw good.own refl
 
   -- its entry
-  one_entry : (h : Option Held) (moment now : ℕ) → IsPlain → is_dead h now ≡ false → moment ≤ now → step_entries (alone block h moment) (comes now x) ≡ entry_of 0 x (verdict_on h (facts_of_frame x)) ∷ []
+  one_entry : (h : Option LiveState) (moment now : ℕ) → IsPlain → is_dead h now ≡ false → moment ≤ now → step_entries (alone block h moment) (comes now x) ≡ entry_of 0 x (verdict_on h (facts_of_frame x)) ∷ []
   one_entry h moment now good alive le =
-      let r : Register = record { held = h; simulated = false } in
+      let r : Register = record { held = h; takes_simulated = false } in
       let m : max moment now ≡ now = omega arith in
       let rest : List (Entry B) = switched_entries false (OfGoose x) 0 (block ∷ []) (r ∷ []) ++ said_of now false (block ∷ []) (r ∷ []) (OfGoose x) in
       ap (λ (n : ℕ). expired_entries n 0 (r ∷ []) ++ (switched_entries false (OfGoose x) 0 (block ∷ []) (r ∷ []) ++ said_of n false (block ∷ []) (r ∷ []) (OfGoose x))) m ∙
       (ap (λ (b : Bool). (if b then says.Expired 0 ∷ [] else []) ++ rest) alive ∙
       (sym (answer_good now false (block ∷ []) (r ∷ []) x 0 block r (one_apart block) (here good) refl refl (clear_here good)) ∙
       (ap (λ (s : Bool). (if s && not false then says.Switched 0 ∷ [] else []) ++ entry_of 0 x (verdict_on (after_switch (s && not false) (after_clock h now)) (facts_of_frame x)) ∷ []) good.real ∙
-      ap (λ (o : Option Held). entry_of 0 x (verdict_on o (facts_of_frame x)) ∷ []) (not_due_stays h now alive))))
+      ap (λ (o : Option LiveState). entry_of 0 x (verdict_on o (facts_of_frame x)) ∷ []) (not_due_stays h now alive))))
 
   -- and what is kept then
-  one_state : (h : Option Held) (moment now : ℕ) → IsPlain → is_dead h now ≡ false → moment ≤ now → step_state (alone block h moment) (comes now x) ≡ alone block (held_after_frame (verdict_on h (facts_of_frame x)) h now (facts_of_frame x)) now
+  one_state : (h : Option LiveState) (moment now : ℕ) → IsPlain → is_dead h now ≡ false → moment ≤ now → step_state (alone block h moment) (comes now x) ≡ alone block (held_after_frame (verdict_on h (facts_of_frame x)) h now (facts_of_frame x)) now
   one_state h moment now good alive le =
-      let r : Register = record { held = h; simulated = false } in
+      let r : Register = record { held = h; takes_simulated = false } in
       let m : max moment now ≡ now = omega arith in
-      let kept : registers_by now false (OfGoose x) (block ∷ []) (r ∷ []) ≡ record { held = held_after_frame (verdict_on h (facts_of_frame x)) h now (facts_of_frame x); simulated = false } ∷ [] =
+      let kept : registers_by now false (OfGoose x) (block ∷ []) (r ∷ []) ≡ record { held = held_after_frame (verdict_on h (facts_of_frame x)) h now (facts_of_frame x); takes_simulated = false } ∷ [] =
       sym (registers_good now false (block ∷ []) (r ∷ []) x 0 block r refl (one_apart block) (here good) refl refl (clear_here good)) ∙
-      (ap (λ (s : Bool). record { held = held_after_frame (verdict_on (after_switch (s && not false) (after_clock h now)) (facts_of_frame x)) (after_switch (s && not false) (after_clock h now)) now (facts_of_frame x); simulated = false || s } ∷ []) good.real ∙
-      ap (λ (o : Option Held). record { held = held_after_frame (verdict_on o (facts_of_frame x)) o now (facts_of_frame x); simulated = false } ∷ []) (not_due_stays h now alive)) in
+      (ap (λ (s : Bool). record { held = held_after_frame (verdict_on (after_switch (s && not false) (after_clock h now)) (facts_of_frame x)) (after_switch (s && not false) (after_clock h now)) now (facts_of_frame x); takes_simulated = false || s } ∷ []) good.real ∙
+      ap (λ (o : Option LiveState). record { held = held_after_frame (verdict_on o (facts_of_frame x)) o now (facts_of_frame x); takes_simulated = false } ∷ []) (not_due_stays h now alive)) in
       ap (λ (n : ℕ). record { blocks = block ∷ []; registers = registers_by n false (OfGoose x) (block ∷ []) (r ∷ []); mode = false; moment = n }) m ∙
       ap (λ (rs : List Register). record { blocks = block ∷ []; registers = rs; mode = false; moment = now }) kept
 
-  pub one_run : (h : Option Held) (moment now : ℕ) (v : Verdict) → IsPlain → is_dead h now ≡ false → moment ≤ now → verdict_on h (facts_of_frame x) ≡ v → (es : List EventRead) (rest : List (List (Entry B))) → run_events (alone block (held_after_frame v h now (facts_of_frame x)) now) es ≡ rest → run_events (alone block h moment) (comes now x ∷ es) ≡ (entry_of 0 x v ∷ []) ∷ rest
+  pub one_run : (h : Option LiveState) (moment now : ℕ) (v : Verdict) → IsPlain → is_dead h now ≡ false → moment ≤ now → verdict_on h (facts_of_frame x) ≡ v → (es : List EventRead) (rest : List (List (Entry B))) → run_events (alone block (held_after_frame v h now (facts_of_frame x)) now) es ≡ rest → run_events (alone block h moment) (comes now x ∷ es) ≡ (entry_of 0 x v ∷ []) ∷ rest
   one_run h moment now v good alive le judged es rest next =
       ap (λ (w : List (Entry B)). w ∷ run_events (step_state (alone block h moment) (comes now x)) es) (one_entry h moment now good alive le ∙ ap (λ (w : Verdict). entry_of 0 x w ∷ []) judged) ∙
       (ap (λ (z : State B). (entry_of 0 x v ∷ []) ∷ run_events z es) (one_state h moment now good alive le ∙ ap (λ (w : Verdict). alone block (held_after_frame w h now (facts_of_frame x)) now) judged) ∙
@@ -91,12 +91,12 @@ module _ {B : Type 0} (block : Block B) (x : FrameRead) where
 
 -- verdicts
 
-pub verdict_above : (h : Held) (f : Facts) → h.state < f.state → verdict_on (Some h) f ≡ Act
+pub verdict_above : (h : LiveState) (f : Facts) → h.state < f.state → verdict_on (Some h) f ≡ Act
 verdict_above h f lt =
     ap (λ (b : Bool). if b then Act else if h.state == f.state && nat_lt h.sequence f.sequence then Refreshed else if h.state == f.state && h.sequence == f.sequence then Repeated else Older)
     (lt-ltb h.state f.state lt)
 
-pub verdict_next : (h : Held) (f : Facts) → h.state ≡ f.state → h.sequence < f.sequence → verdict_on (Some h) f ≡ Refreshed
+pub verdict_next : (h : LiveState) (f : Facts) → h.state ≡ f.state → h.sequence < f.sequence → verdict_on (Some h) f ≡ Refreshed
 verdict_next h f same lt =
     ap (λ (b : Bool). if b then Act else if h.state == f.state && nat_lt h.sequence f.sequence then Refreshed else if h.state == f.state && h.sequence == f.sequence then Repeated else Older)
     (le-ltb h.state f.state (omega arith)) ∙

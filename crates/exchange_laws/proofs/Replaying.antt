@@ -11,7 +11,7 @@ use Rattle.publish_core.specs.State.{PublisherState, change_of}
 use Rattle.publish_core.specs.computed.Step.{first_last, is_due as is_poll_due, last_frame, next_last, run_calls as run_publisher}
 use Rattle.publish_core.specs.Table.{AreSteps, step_at}
 use Rattle.block_core.specs.declared.block.Block.{Block}
-use Rattle.subscribe_core.specs.declared.registers.Held.{Held}
+use Rattle.subscribe_core.specs.declared.registers.LiveState.{LiveState}
 use Rattle.subscribe_core.specs.declared.registers.Verdict.TheVariants as verdicts
 use Rattle.subscribe_core.specs.Matching.{facts_of_frame, has_other_id, holds, reasons}
 use Rattle.subscribe_core.specs.Reading.{FrameRead}
@@ -61,7 +61,7 @@ module _ {A B : Type 0} (p : Setup A) (block : Block B) (own : IsOwnBlock p bloc
   abbrev live_at : Last A → ℕ
   live_at l = (step_at p.table l.step).live_ms
 
-  abbrev held_of : Last A → Held
+  abbrev held_of : Last A → LiveState
   held_of l = record { state = l.state; sequence = l.sequence; deadline = l.given + 1000 * live_at l }
 
   -- the frame that was given last, as it is read

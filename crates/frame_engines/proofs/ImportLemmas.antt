@@ -7,9 +7,9 @@ use Rattle.std.proofs.lemmas.Grind.{flat_map-append}
 use Rattle.std.proofs.lemmas.List.Folds.{list_any-append}
 use Rattle.std.specs.Io.KnownBytes.{Appends, Consumes}
 use Rattle.list_core.specs.declared.device.InputEnd.{InputEnd}
-use Rattle.list_core.specs.Device.{AppendsFront, GivesOctets, OnlyOpen}
+use Rattle.list_core.specs.Device.{AppendsPrefix, GivesOctets, OnlyOpen}
 use Rattle.list_core.specs.Lines.{CanFollow, finished, faulty}
-use Rattle.list_core.proofs.Devices.{Appends-append, Appends-none, AppendsFront-append, AppendsFront-more, Consumes-append, Gives-append, Gives-from_Consumes}
+use Rattle.list_core.proofs.Devices.{Appends-append, Appends-none, AppendsPrefix-append, AppendsPrefix-more, Consumes-append, Gives-append, Gives-from_Consumes}
 use Rattle.list_core.proofs.Readers.{CanFollow-given, CanFollow-none, OnlyOpen-append}
 use Rattle.capture_core.specs.declared.form.CaptureForm.{CaptureForm}
 use Rattle.capture_core.specs.declared.capture_fault.CaptureFault.{CaptureFault}
@@ -121,8 +121,8 @@ abbrev Imported : InputEnd → Ending → Option (List ℕ) → Option (List ℕ
 Imported z ending a c v old new = (given : List ℕ) × GivesOctets a c given × Imports z ending v given old new
 
 -- the first line was not written whole, and the reader is untouched
-pub not_begun : (a : Option (List ℕ)) (z : InputEnd) (old new : Option (List ℕ)) → AppendsFront old new (codes "V2\n") → Imported z WriteFault a a z old new
-not_begun a z old new w = ([], no_more a, (AppendsFront-more old new (codes "V2\n") (text_behind (capture z [])) w, inl (refl, refl)))
+pub not_begun : (a : Option (List ℕ)) (z : InputEnd) (old new : Option (List ℕ)) → AppendsPrefix old new (codes "V2\n") → Imported z WriteFault a a z old new
+not_begun a z old new w = ([], no_more a, (AppendsPrefix-more old new (codes "V2\n") (text_behind (capture z [])) w, inl (refl, refl)))
 
 module _ (z v : InputEnd) (given : List ℕ) (start held new : Option (List ℕ)) (first : Appends start held (codes "V2\n")) where
   well : (found : Bool) → (capture v given).stop ≡ finished → list_any is_left_out (capture v given).records ≡ found → Appends held new (text_behind (capture v given)) → Imports z (if found then Findings else Done) v given start new
@@ -139,11 +139,11 @@ module _ (z v : InputEnd) (given : List ℕ) (start held new : Option (List ℕ)
   badly : (f : CaptureFault) → (capture v given).stop ≡ faulty f → Appends held new (text_behind (capture v given)) → EndsBehind v given (capture v given).records → Imports z (ending_of_capture f.cause) v given start new
   badly f s w i = by_cause f.cause (f, s, refl, Appends-append start held new (codes "V2\n") (text_behind (capture v given)) first w, i)
 
-  in_part : (rs : List (ℕ × CaptureRecord)) (others : Capture) (mid : Option (List ℕ)) → EndsBehind v given rs → capture v given ≡ put_records rs others → Appends held mid (text_to rs) → AppendsFront mid new (text_behind others) → Imports z WriteFault v given start new
+  in_part : (rs : List (ℕ × CaptureRecord)) (others : Capture) (mid : Option (List ℕ)) → EndsBehind v given rs → capture v given ≡ put_records rs others → Appends held mid (text_to rs) → AppendsPrefix mid new (text_behind others) → Imports z WriteFault v given start new
   in_part rs others mid i e w p =
       let text : text_behind (capture v given) ≡ text_to rs ++ text_behind others = ap text_behind e ∙ text_parts rs others in
-      let front : AppendsFront held new (text_behind (capture v given)) = subst (AppendsFront held new) (sym text) (AppendsFront-append held mid new (text_to rs) (text_behind others) w p) in
-      (AppendsFront-append start held new (codes "V2\n") (text_behind (capture v given)) first front, inr (rs, (mid, others, i, e, Appends-append start held mid (codes "V2\n") (text_to rs) first w, p)))
+      let front : AppendsPrefix held new (text_behind (capture v given)) = subst (AppendsPrefix held new) (sym text) (AppendsPrefix-append held mid new (text_to rs) (text_behind others) w p) in
+      (AppendsPrefix-append start held new (codes "V2\n") (text_behind (capture v given)) first front, inr (rs, (mid, others, i, e, Appends-append start held mid (codes "V2\n") (text_to rs) first w, p)))
 
 -- a fault ends the text behind these records
 faulted : (rs : List (ℕ × CaptureRecord)) (z v : InputEnd) (given : List ℕ) (f : CaptureFault) (ending : Ending) (start held mid new : Option (List ℕ)) → Appends start held (codes "V2\n") →
@@ -170,11 +170,11 @@ module _ (form : CaptureForm) (a b c : Option (List ℕ)) (z w v : InputEnd) (rs
 
   -- the run stops at an answer
   pub import_stopped : (answer : Result (Option CaptureRecord) CaptureFault) (ending : Ending) → ReadsRecord form n [] b w answer c v →
-      (((ending ≡ WriteFault) × AppendsFront mid new (import_due n answer)) ⊎ ((f : CaptureFault) × (answer ≡ Err f) × FaultWrites f ending mid new)) → Imported z ending a c v start new
+      (((ending ≡ WriteFault) × AppendsPrefix mid new (import_due n answer)) ⊎ ((f : CaptureFault) × (answer ≡ Err f) × FaultWrites f ending mid new)) → Imported z ending a c v start new
   import_stopped answer ending q (inl s) =
       let g = given_all form a b c z w v rs n answer p q in
       let d = due_first form n v answer in
-      let front : AppendsFront mid new (text_behind (behind_record form n answer v [])) = subst (AppendsFront mid new) (sym d.1) (AppendsFront-more mid new (import_due n answer) d.0 s.1) in
+      let front : AppendsPrefix mid new (text_behind (behind_record form n answer v [])) = subst (AppendsPrefix mid new) (sym d.1) (AppendsPrefix-more mid new (import_due n answer) d.0 s.1) in
       (g.given, g.gives, rw s.0 (in_part z v g.given start held new first rs (behind_record form n answer v []) mid (inr g.at_record) g.is so_far front))
   import_stopped answer ending q (inr s) =
       let g = given_all form a b c z w v rs n answer p q in

@@ -65,6 +65,6 @@ has_text (c ∷ text) = true
 abbrev pub check_text : {A : Type 0} → Text (Event A) ListCause
 check_text = record {
   first = [];
-  step = λ before e. Ok (notes e.0 e.1.kind, has_text (notes e.0 e.1.kind));
+  of_item = λ before e. Ok (notes e.0 e.1.kind, has_text (notes e.0 e.1.kind));
   last = λ f. list_line (list_fault_of f);
 }

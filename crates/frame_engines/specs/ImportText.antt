@@ -4,7 +4,7 @@ use Rattle.std.specs.List.{flat_map, list_any}
 use Rattle.std.specs.Fmt.{decimal}
 use Rattle.std.specs.Io.KnownBytes.{Appends}
 use Rattle.list_core.specs.declared.device.InputEnd.{InputEnd}
-use Rattle.list_core.specs.Device.{AppendsFront}
+use Rattle.list_core.specs.Device.{AppendsPrefix}
 use Rattle.list_core.specs.EventLine.{event_text}
 use Rattle.list_core.specs.Lines.{Stop, finished, unfinished, faulty}
 use Rattle.list_core.specs.declared.event.EventKind.TheVariants.{Frame}
@@ -90,11 +90,11 @@ ImportsToEnd found c old new = (c.stop ≡ finished) × (list_any is_left_out c.
 -- The writer failed behind the lines of these records, at the next one: what was read ends with its record.
 abbrev pub StopsBehind : InputEnd → List ℕ → List (ℕ × CaptureRecord) → Option (List ℕ) → Option (List ℕ) → Type 0
 StopsBehind z given records old new = (held : Option (List ℕ)) × (others : Capture) × EndsBehind z given records × (capture z given ≡ put_records records others)
-    × Appends old held (codes "V2\n" ++ flat_map record_line records) × AppendsFront held new (text_behind others)
+    × Appends old held (codes "V2\n" ++ flat_map record_line records) × AppendsPrefix held new (text_behind others)
 
 -- a front of the text of these octets was written; the reader, which told such an ending before, is untouched, or the first line and those of some records had been written whole
 abbrev pub ImportsFront : InputEnd → InputEnd → List ℕ → Option (List ℕ) → Option (List ℕ) → Type 0
-ImportsFront before z given old new = AppendsFront old new (import_text (capture z given))
+ImportsFront before z given old new = AppendsPrefix old new (import_text (capture z given))
     × (IsUntouched before z given ⊎ ((records : List (ℕ × CaptureRecord)) × StopsBehind z given records old new))
 
 -- What `import` leaves written of the octets that a reader gave, with the endings that it told before and tells after: the whole text at Done and Findings, and at InputFault and ReadFault, where nothing is read behind the record of the fault; a front of it at WriteFault. It never wants memory.

@@ -32,6 +32,6 @@ is_kept (Frame octets) = not (is_some (written_form octets))
 abbrev pub rewrite_text : {A : Type 0} → Text (Event A) ListCause
 rewrite_text = record {
   first = codes "V2\n";
-  step = λ before e. Ok (kind_text (decimal e.1.moment) (rewritten e.1.kind), is_kept e.1.kind);
+  of_item = λ before e. Ok (kind_text (decimal e.1.moment) (rewritten e.1.kind), is_kept e.1.kind);
   last = λ f. codes "# " ++ list_line (list_fault_of f);
 }

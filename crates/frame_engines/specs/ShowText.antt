@@ -33,6 +33,6 @@ kind_line n moment (Mode on) = decimal n ++ codes " mode " ++ decimal moment ++ 
 abbrev pub show_text : {A : Type 0} → Text (Event A) ListCause
 show_text = record {
   first = [];
-  step = λ before e. Ok (kind_line e.0 e.1.moment e.1.kind, false);
+  of_item = λ before e. Ok (kind_line e.0 e.1.moment e.1.kind, false);
   last = λ f. list_line (list_fault_of f);
 }

@@ -54,21 +54,21 @@ module _ {X C : Type 0} (t u : Text X C) (lasts : (f : ItemFault C) → t.last f
 
   -- the texts agree on each item where it stands
   abbrev Agree : List (ℕ × X) → List (ℕ × X) → Type 0
-  Agree before es = (xs more : List (ℕ × X)) (e : ℕ × X) → es ≡ xs ++ e ∷ more → t.step (before ++ xs) e ≡ u.step (before ++ xs) e
+  Agree before es = (xs more : List (ℕ × X)) (e : ℕ × X) → es ≡ xs ++ e ∷ more → t.of_item (before ++ xs) e ≡ u.of_item (before ++ xs) e
 
-  agree_here : (before es : List (ℕ × X)) (e : ℕ × X) → Agree before (e ∷ es) → t.step before e ≡ u.step before e
-  agree_here before es e agree = subst (λ (b : List (ℕ × X)). t.step b e ≡ u.step b e) (append-nil before) (agree [] es e refl)
+  agree_here : (before es : List (ℕ × X)) (e : ℕ × X) → Agree before (e ∷ es) → t.of_item before e ≡ u.of_item before e
+  agree_here before es e agree = subst (λ (b : List (ℕ × X)). t.of_item b e ≡ u.of_item b e) (append-nil before) (agree [] es e refl)
 
   agree_behind : (before es : List (ℕ × X)) (e : ℕ × X) → Agree before (e ∷ es) → Agree (before ++ e ∷ []) es
   agree_behind before es e agree xs more i is =
-      subst (λ (b : List (ℕ × X)). t.step b i ≡ u.step b i) (sym (append_assoc before (e ∷ []) xs)) (agree (e ∷ xs) more i (ap (λ (l : List (ℕ × X)). e ∷ l) is))
+      subst (λ (b : List (ℕ × X)). t.of_item b i ≡ u.of_item b i) (sym (append_assoc before (e ∷ []) xs)) (agree (e ∷ xs) more i (ap (λ (l : List (ℕ × X)). e ∷ l) is))
 
   told_same : (before es : List (ℕ × X)) → Agree before es → (stop : Stop (ItemFault C)) → told_after t before es stop ≡ told_after u before es stop
   unfolding told_after
   told_same before [] agree stop = stop_same stop
   told_same before (e ∷ es) agree stop =
       ap (λ (r : Result (List ℕ × Bool) C). put_step t e.0 r (told_after t (before ++ e ∷ []) es stop)) (agree_here before es e agree) ∙
-      put_same e.0 (u.step before e) (told_after t (before ++ e ∷ []) es stop) (told_after u (before ++ e ∷ []) es stop) (told_same (before ++ e ∷ []) es (agree_behind before es e agree) stop)
+      put_same e.0 (u.of_item before e) (told_after t (before ++ e ∷ []) es stop) (told_after u (before ++ e ∷ []) es stop) (told_same (before ++ e ∷ []) es (agree_behind before es e agree) stop)
 
   say_same : t.first ≡ u.first → (l : Listing X C) → Agree [] l.items → SaySame t u l
   say_same firsts l agree = record { same_text = ap₂ (λ (a : List ℕ) (o : Account C). a ++ o.text) firsts same; same_account = same }
@@ -79,10 +79,10 @@ module _ {X C : Type 0} (t u : Text X C) (lasts : (f : ItemFault C) → t.last f
 -- ---- replay
 
 -- the entries of an event are one, so its lines are
-entries_same : {A : Type 0} (blocks : List (Block A)) (t u : Text (Event A) ListCause) → AreApart blocks → IsReplayText blocks t → IsReplayText blocks u → (before : List (ℕ × Event A)) (e : ℕ × Event A) → t.step before e ≡ u.step before e
+entries_same : {A : Type 0} (blocks : List (Block A)) (t u : Text (Event A) ListCause) → AreApart blocks → IsReplayText blocks t → IsReplayText blocks u → (before : List (ℕ × Event A)) (e : ℕ × Event A) → t.of_item before e ≡ u.of_item before e
 entries_same {A} blocks t u apart is other before e =
-    let a = is.step before e in
-    let b = other.step before e in
+    let a = is.each_item before e in
+    let b = other.each_item before e in
     a.lines ∙ (ap (λ (es : List (Entry A)). Ok (entry_lines e.0 es, false)) (entries_are_one blocks (events_of before ++ e.1 ∷ []) (length (events_of before)) a.entries b.entries apart a.are_entries b.are_entries) ∙ sym b.lines)
 
 pub replay_texts_are_one : {A : Type 0} → ReplayTextsAreOne A
@@ -99,10 +99,10 @@ end_same (x ∷ a) b [] d sizes is = let whole = ap length is in absurd (omega (
 end_same (x ∷ a) b (y ∷ c) d sizes is = end_same a b c d sizes (cc)
 
 -- the answers to the counts of a stream are one, so those of an event are
-seen_same : {A : Type 0} (period : ℕ) (id : List ℕ) (t u : Text (Event A) ListCause) → IsWatchText period id t → IsWatchText period id u → (before : List (ℕ × Event A)) (e : ℕ × Event A) → t.step before e ≡ u.step before e
+seen_same : {A : Type 0} (period : ℕ) (id : List ℕ) (t u : Text (Event A) ListCause) → IsWatchText period id t → IsWatchText period id u → (before : List (ℕ × Event A)) (e : ℕ × Event A) → t.of_item before e ≡ u.of_item before e
 seen_same {A} period id t u is other before e =
-    let a = is.step before e in
-    let b = other.step before e in
+    let a = is.each_item before e in
+    let b = other.each_item before e in
     let all : a.earlier ++ a.answers ≡ b.earlier ++ b.answers =
     (answers_are_one period (counts_of id before ++ counts (samples_of id e.1.kind))).1 (a.earlier ++ a.answers) (b.earlier ++ b.answers) a.are_seen b.are_seen in
     let same : a.answers ≡ b.answers = end_same a.earlier a.answers b.earlier b.answers (a.one_each ∙ sym b.one_each) all in
@@ -115,10 +115,10 @@ watch_texts_are_one period id t u l is other =
 -- ---- blocks
 
 -- the lines of what an event shows are one
-seen_alike : {A : Type 0} (t u : Text (Event A) ListCause) → IsBlocksText t → IsBlocksText u → (before : List (ℕ × Event A)) (e : ℕ × Event A) → t.step before e ≡ u.step before e
+seen_alike : {A : Type 0} (t u : Text (Event A) ListCause) → IsBlocksText t → IsBlocksText u → (before : List (ℕ × Event A)) (e : ℕ × Event A) → t.of_item before e ≡ u.of_item before e
 seen_alike t u is other before e =
-    let a = is.step before e in
-    let b = other.step before e in
+    let a = is.each_item before e in
+    let b = other.each_item before e in
     a.text ∙ (ap (λ (lines : List (List ℕ)). Ok (concat lines, false)) (lines_one e.0 (sightings_in before) (sightings_of e.1.kind) a.lines b.lines a.are_lines b.are_lines) ∙ sym b.text)
 
 pub blocks_texts_are_one : {A : Type 0} → BlocksTextsAreOne A
@@ -152,7 +152,7 @@ module _ {A : Type 0} (p : Setup A) (calls : List Call) (steps : AreSteps p.tabl
 
 module _ {A : Type 0} (t u : Text (ScriptItem A) ScriptCause) (is : IsPublishText t) (other : IsPublishText u) where
   -- where an item stands as in a script, the texts agree on it
-  item_same : (before : List (ℕ × ScriptItem A)) (n : ℕ) (i : ScriptItem A) → StandsBefore (items_of_lines before) i → t.step before (n, i) ≡ u.step before (n, i)
+  item_same : (before : List (ℕ × ScriptItem A)) (n : ℕ) (i : ScriptItem A) → StandsBefore (items_of_lines before) i → t.of_item before (n, i) ≡ u.of_item before (n, i)
   item_same [] n (item.Control control first) none = is.control_line n first control ∙ sym (other.control_line n first control)
   item_same (x ∷ before) n (item.Control control first) none = absurd (cc)
   item_same before n (item.Step s) stands =

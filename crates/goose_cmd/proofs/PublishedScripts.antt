@@ -98,8 +98,8 @@ module _ {A : Type 0} (B : Type 0) (p : Setup A) (t : Text (ScriptItem A) Script
       room : length done < 16
       room = let all : length (done ++ s ∷ todo) ≡ length p.table = ap length table in omega (arith, all, few, length-append done (s ∷ todo))
 
-      step : t.step before e ≡ Ok ([], false)
-      step = ap (λ (x : ScriptItem A). t.step before (e.0, x)) here ∙ is.table_step (setup p.control done p.first) before stands room e.0 s
+      step : t.of_item before e ≡ Ok ([], false)
+      step = ap (λ (x : ScriptItem A). t.of_item before (e.0, x)) here ∙ is.table_step (setup p.control done p.first) before stands room e.0 s
 
       next : items_of_lines (before ++ e ∷ []) ≡ script_of (setup p.control (done ++ s ∷ []) p.first) []
       next =
@@ -123,8 +123,8 @@ module _ {A : Type 0} (B : Type 0) (p : Setup A) (t : Text (ScriptItem A) Script
       others : items_of_lines es ≡ map item.Step p.table ++ map item_of_call calls
       others = cc
 
-      step : t.step [] e ≡ Ok ([], false)
-      step = ap (λ (x : ScriptItem A). t.step [] (e.0, x)) here ∙ is.control_line e.0 p.first p.control
+      step : t.of_item [] e ≡ Ok ([], false)
+      step = ap (λ (x : ScriptItem A). t.of_item [] (e.0, x)) here ∙ is.control_line e.0 p.first p.control
 
   -- the first call that is left is refused, or none is
   stops_told : (done left : List Call) (before es : List (ℕ × ScriptItem A)) (script : Listing (ScriptItem A) ScriptCause) → IsScriptSound p → before ++ es ≡ script.items → items_of_lines before ≡ script_of p done → items_of_lines es ≡ map item_of_call left → StopsBehind p done left → Stops done left before es script []
@@ -143,20 +143,20 @@ module _ {A : Type 0} (B : Type 0) (p : Setup A) (t : Text (ScriptItem A) Script
       line : slice_get script.items (length (script_of p done)) ≡ Some (e.0, item_of_call c)
       line = ap₂ slice_get (sym parts) (sym place) ∙ (get_middle before e es ∙ ap (λ (x : ScriptItem A). Some (e.0, x)) here)
 
-      by_call : IsCallText p done c (t.step before (e.0, item_of_call c)) →
-          (stop : Stop (ItemFault ScriptCause)) × (put_step t e.0 (t.step before e) (told_after t (before ++ e ∷ []) es script.stop) ≡ sent_told B t [] stop) × TellsStop p done (c ∷ more) script stop
+      by_call : IsCallText p done c (t.of_item before (e.0, item_of_call c)) →
+          (stop : Stop (ItemFault ScriptCause)) × (put_step t e.0 (t.of_item before e) (told_after t (before ++ e ∷ []) es script.stop) ≡ sent_told B t [] stop) × TellsStop p done (c ∷ more) script stop
       by_call (inl w) = absurd (not_both p done sound.steps c.request stops.0 w.taken stops.1)
       by_call (inr w) = (
         faulty (fault.Line e.0 (script_cause w.why)),
-        ap (λ s. put_step t e.0 s (told_after t (before ++ e ∷ []) es script.stop)) (ap (λ (x : ScriptItem A). t.step before (e.0, x)) here ∙ w.ends),
+        ap (λ s. put_step t e.0 s (told_after t (before ++ e ∷ []) es script.stop)) (ap (λ (x : ScriptItem A). t.of_item before (e.0, x)) here ∙ w.ends),
         record { line = e.0; why = w.why; there = line; refused = w.refused; stops = refl },
       )
 
   -- a call behind others writes what it gives
-  call_is : (done more : List Call) (c : Call) (a : Option (Frame A)) (before : List (ℕ × ScriptItem A)) (n : ℕ) → IsScriptSound p → items_of_lines before ≡ script_of p done → AreAccepted p (done ++ c ∷ more) → IsAnswer p (trace_of_calls (done ++ c ∷ more)) (length done) a → t.step before (n, item_of_call c) ≡ Ok (answer_text (max (greatest_call_moment done) c.moment) a, false)
+  call_is : (done more : List Call) (c : Call) (a : Option (Frame A)) (before : List (ℕ × ScriptItem A)) (n : ℕ) → IsScriptSound p → items_of_lines before ≡ script_of p done → AreAccepted p (done ++ c ∷ more) → IsAnswer p (trace_of_calls (done ++ c ∷ more)) (length done) a → t.of_item before (n, item_of_call c) ≡ Ok (answer_text (max (greatest_call_moment done) c.moment) a, false)
   call_is done more c a before n sound stands accepted gives = go (is.call p done before stands sound n c)
     where
-      go : IsCallText p done c (t.step before (n, item_of_call c)) → t.step before (n, item_of_call c) ≡ Ok (answer_text (max (greatest_call_moment done) c.moment) a, false)
+      go : IsCallText p done c (t.of_item before (n, item_of_call c)) → t.of_item before (n, item_of_call c) ≡ Ok (answer_text (max (greatest_call_moment done) c.moment) a, false)
       go (inl w) =
           let size : length (done ++ c ∷ []) ≡ length done + 1 = length_push done c in
           let stay = answers_stay p (done ++ c ∷ []) more (length done) w.answer (omega arith) w.is_answer in
@@ -197,8 +197,8 @@ module _ {A : Type 0} (B : Type 0) (p : Setup A) (t : Text (ScriptItem A) Script
       first : IsAnswer p (trace_of_calls (done ++ c ∷ cs)) (length done) a
       first = let none : length done + 0 ≡ length done = omega arith in subst (λ (i : ℕ). IsAnswer p (trace_of_calls (done ++ c ∷ cs)) i a) none (gives 0 a refl)
 
-      step : t.step before e ≡ Ok (answer_text now a, false)
-      step = ap (λ (x : ScriptItem A). t.step before (e.0, x)) here ∙ call_is done cs c a before e.0 sound stands accepted first
+      step : t.of_item before e ≡ Ok (answer_text now a, false)
+      step = ap (λ (x : ScriptItem A). t.of_item before (e.0, x)) here ∙ call_is done cs c a before e.0 sound stands accepted first
 
       same : done ++ c ∷ cs ≡ (done ++ c ∷ []) ++ cs
       same = sym (append_assoc done (c ∷ []) cs)

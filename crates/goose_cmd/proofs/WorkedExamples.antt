@@ -172,6 +172,6 @@ run_to_a_fault = record {
 }
   where
     each : (i : ℕ) (e : ℕ × Event (Unit {0})) (w : ItemText) → slice_get ((1, record { moment = 7000; kind = Clock }) ∷ []) i ≡ Some e → slice_get (shown_clock ∷ []) i ≡ Some w →
-        (show_text {A = Unit {0}}).step (take i ((1, record { moment = 7000; kind = Clock }) ∷ [])) e ≡ Ok (w.text, w.is_finding)
+        (show_text {A = Unit {0}}).of_item (take i ((1, record { moment = 7000; kind = Clock }) ∷ [])) e ≡ Ok (w.text, w.is_finding)
     each zero e w here there = rw (← same_Some _ e here, ← same_Some _ w there) refl
     each (suc i) e w here there = absurd (none-some e here)

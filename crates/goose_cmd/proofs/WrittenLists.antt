@@ -65,9 +65,9 @@ list_is : {A : Type 0} (events : List (Event A)) (end : List ℕ) → CanBeListe
 list_is {A} events end w room ends = version-first A End (flat_map event_text events ++ end) ∙ all_listed 1 events end w (omega arith) ends
 
 -- the step of an event is the lines of the entries that the whole list has there
-pub step_is : {A : Type 0} (blocks : List (Block A)) (t : Text (Event A) ListCause) → AreApart blocks → IsReplayText blocks t → (before : List (ℕ × Event A)) (n : ℕ) (e : Event A) (es : List (Event A)) (x : List (Entry A)) → AreEntriesAt blocks (events_of before ++ e ∷ es) (length (events_of before)) x → t.step before (n, e) ≡ Ok (entry_lines n x, false)
+pub step_is : {A : Type 0} (blocks : List (Block A)) (t : Text (Event A) ListCause) → AreApart blocks → IsReplayText blocks t → (before : List (ℕ × Event A)) (n : ℕ) (e : Event A) (es : List (Event A)) (x : List (Entry A)) → AreEntriesAt blocks (events_of before ++ e ∷ es) (length (events_of before)) x → t.of_item before (n, e) ≡ Ok (entry_lines n x, false)
 step_is {A} blocks t apart is before n e es x at =
-    let w = is.step before (n, e) in
+    let w = is.each_item before (n, e) in
     let stay : AreEntriesAt blocks (events_of before ++ e ∷ es) (length (events_of before)) w.entries =
     subst (λ (l : List (Event A)). AreEntriesAt blocks l (length (events_of before)) w.entries) (append_assoc (events_of before) (e ∷ []) es)
     (entries_stay blocks (events_of before ++ e ∷ []) es (length (events_of before)) w.entries w.are_entries) in

@@ -94,7 +94,7 @@ lines_are n earlier seen = record { sizes = sizes earlier seen; each = each earl
 pub blocks_is : {A : Type 0} → IsBlocksText {A = A} blocks_text
 blocks_is = record {
   first = refl;
-  step = λ before e. record {
+  each_item = λ before e. record {
     lines = lines_by e.0 (sightings_in before) (sightings_of e.1.kind);
     are_lines = lines_are e.0 (sightings_in before) (sightings_of e.1.kind);
     text = refl;

@@ -68,5 +68,5 @@ pub record ShowsEvent {A : Type 0} (before : List (ℕ × Event A)) (e : ℕ × 
 -- what `blocks` writes: of each event the lines of what it shows
 pub record IsBlocksText {A : Type 0} (t : Text (Event A) ListCause) : Type 0 where
   pub first : t.first ≡ []
-  pub step : (before : List (ℕ × Event A)) (e : ℕ × Event A) → ShowsEvent before e (t.step before e)
+  pub each_item : (before : List (ℕ × Event A)) (e : ℕ × Event A) → ShowsEvent before e (t.of_item before e)
   pub last : (f : ItemFault ListCause) → t.last f ≡ list_line (list_fault_of f)

@@ -66,7 +66,7 @@ fn put_sighting<A: Allocator + Copy>(
 ) -> Result<(), AllocError>
     ensures written { OnOk result (AppendsLines number (record { app_id = app_id; name = name.now; text = flat_map piece_text pieces.now } ∷ []) known.old.items known.new.items line.old.items line.new.items) }
     ensures wants { OnErr result (HasLines number (record { app_id = app_id; name = name.now; text = flat_map piece_text pieces.now } ∷ []) known.old.items) }
-    ensures front { take (length line.old.items) line.new.items ≡ line.old.items }
+    ensures kept { take (length line.old.items) line.new.items ≡ line.old.items }
 {
     match find(known.as_slice(), app_id, name) {
         Ok(at) => {
@@ -180,7 +180,7 @@ fn put_block<A: Allocator + Copy>(
 ) -> Result<(), AllocError>
     ensures written { OnOk result (AppendsLines number (block_seen app_id (pdu_of {A = Unit {0}} goose.now) ∷ []) known.old.items known.new.items line.old.items line.new.items) }
     ensures wants { OnErr result (HasLines number (block_seen app_id (pdu_of {A = Unit {0}} goose.now) ∷ []) known.old.items) }
-    ensures front { take (length line.old.items) line.new.items ≡ line.old.items }
+    ensures kept { take (length line.old.items) line.new.items ≡ line.old.items }
 {
     let name = goose.gocb_ref;
     if has_fields(goose) {
@@ -202,7 +202,7 @@ fn put_stream<A: Allocator + Copy>(
 ) -> Result<(), AllocError>
     ensures written { OnOk result (AppendsLines number (stream_seen (asdu_of {A = Unit {0}} asdu.now) ∷ []) known.old.items known.new.items line.old.items line.new.items) }
     ensures wants { OnErr result (HasLines number (stream_seen (asdu_of {A = Unit {0}} asdu.now) ∷ []) known.old.items) }
-    ensures front { take (length line.old.items) line.new.items ≡ line.old.items }
+    ensures kept { take (length line.old.items) line.new.items ≡ line.old.items }
 {
     let pieces = stream_pieces(asdu);
     put_sighting(alloc, known, line, number, None, asdu.sv_id, &pieces)
@@ -218,7 +218,7 @@ fn put_streams<A: Allocator + Copy>(
 ) -> Result<(), AllocError>
     ensures written { OnOk result (AppendsLines number (streams_seen (asdus_left {A = Unit {0}} sampled.now.asdus)) known.old.items known.new.items line.old.items line.new.items) }
     ensures wants { OnErr result (HasLines number (streams_seen (asdus_left {A = Unit {0}} sampled.now.asdus)) known.old.items) }
-    ensures front { take (length line.old.items) line.new.items ≡ line.old.items }
+    ensures kept { take (length line.old.items) line.new.items ≡ line.old.items }
 {
     for asdu in sampled.asdus {
         put_stream(alloc, known, line, number, &asdu)?;
@@ -236,7 +236,7 @@ pub fn put_event<A: Allocator + Copy>(
 ) -> Result<(), AllocError>
     ensures written { OnOk result (AppendsLines number (sightings_of kind.now) known.old.items known.new.items line.old.items line.new.items) }
     ensures wants { OnErr result (HasLines number (sightings_of kind.now) known.old.items) }
-    ensures front { take (length line.old.items) line.new.items ≡ line.old.items }
+    ensures kept { take (length line.old.items) line.new.items ≡ line.old.items }
 {
     let EventKind::Frame(octets) = kind else {
         return Ok(());

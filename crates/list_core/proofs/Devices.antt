@@ -2,7 +2,7 @@
 use Rattle.std.proofs.Common.{◌≡◌, ℕ, ◌+◌, List, [], ◌++◌, Option, Some, None, take, drop, ap, sym, ◌∙◌, refl, arith}
 use Rattle.std.proofs.lemmas.List.{append_assoc, append-nil, take-append-drop, drop-take, take-take}
 use Rattle.std.specs.Io.KnownBytes.{Appends, Consumes}
-use Rattle.list_core.specs.Device.{AppendsFront, GivesOctets, KeepsOrForgets}
+use Rattle.list_core.specs.Device.{AppendsPrefix, GivesOctets, KeepsOrForgets}
 
 -- one write after another
 pub Appends-append : (a b c : Option (List ℕ)) (xs ys : List ℕ) → Appends a b xs → Appends b c ys → Appends a c (xs ++ ys)
@@ -12,24 +12,24 @@ Appends-append (Some os) (Some ps) None xs ys p q = absurd q
 Appends-append (Some os) (Some ps) (Some qs) xs ys p q = q ∙ ap (λ l. l ++ ys) p ∙ append_assoc os xs ys
 
 -- a write of a front, after whole ones
-pub AppendsFront-append : (a b c : Option (List ℕ)) (xs ys : List ℕ) → Appends a b xs → AppendsFront b c ys → AppendsFront a c (xs ++ ys)
-AppendsFront-append None b c xs ys p q = tt
-AppendsFront-append (Some os) None c xs ys p q = absurd p
-AppendsFront-append (Some os) (Some ps) None xs ys p q = tt
-AppendsFront-append (Some os) (Some ps) (Some qs) xs ys p q =
+pub AppendsPrefix-append : (a b c : Option (List ℕ)) (xs ys : List ℕ) → Appends a b xs → AppendsPrefix b c ys → AppendsPrefix a c (xs ++ ys)
+AppendsPrefix-append None b c xs ys p q = tt
+AppendsPrefix-append (Some os) None c xs ys p q = absurd p
+AppendsPrefix-append (Some os) (Some ps) None xs ys p q = tt
+AppendsPrefix-append (Some os) (Some ps) (Some qs) xs ys p q =
     (xs ++ q.0, q.1, ap (λ l. xs ++ l) q.2 ∙ sym (append_assoc xs q.0 q.1), q.3 ∙ ap (λ l. l ++ q.0) p ∙ append_assoc os xs q.0)
 
 -- nothing was written of ys
-pub AppendsFront-none : (a b : Option (List ℕ)) (ys : List ℕ) → KeepsOrForgets a b → AppendsFront a b ys
-AppendsFront-none None b ys p = tt
-AppendsFront-none (Some os) None ys p = tt
-AppendsFront-none (Some os) (Some ps) ys p = ([], ys, refl, p ∙ sym (append-nil os))
+pub AppendsPrefix-none : (a b : Option (List ℕ)) (ys : List ℕ) → KeepsOrForgets a b → AppendsPrefix a b ys
+AppendsPrefix-none None b ys p = tt
+AppendsPrefix-none (Some os) None ys p = tt
+AppendsPrefix-none (Some os) (Some ps) ys p = ([], ys, refl, p ∙ sym (append-nil os))
 
 -- what follows was not written
-pub AppendsFront-more : (a b : Option (List ℕ)) (xs ys : List ℕ) → AppendsFront a b xs → AppendsFront a b (xs ++ ys)
-AppendsFront-more None b xs ys p = tt
-AppendsFront-more (Some os) None xs ys p = tt
-AppendsFront-more (Some os) (Some ps) xs ys p = (p.0, p.1 ++ ys, ap (λ l. l ++ ys) p.2 ∙ append_assoc p.0 p.1 ys, p.3)
+pub AppendsPrefix-more : (a b : Option (List ℕ)) (xs ys : List ℕ) → AppendsPrefix a b xs → AppendsPrefix a b (xs ++ ys)
+AppendsPrefix-more None b xs ys p = tt
+AppendsPrefix-more (Some os) None xs ys p = tt
+AppendsPrefix-more (Some os) (Some ps) xs ys p = (p.0, p.1 ++ ys, ap (λ l. l ++ ys) p.2 ∙ append_assoc p.0 p.1 ys, p.3)
 
 pub take-add : (m n : ℕ) (s : List ℕ) → take (m + n) s ≡ take m s ++ take n (drop m s)
 take-add m n s =

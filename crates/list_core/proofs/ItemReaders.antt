@@ -9,7 +9,7 @@ use Rattle.list_core.specs.Device.{GivesOctets, OnlyOpen}
 use Rattle.list_core.specs.Lines.{Reading, reading, put_line, fault_at, finished, faulty, CanFollow, Stop, StartsLine}
 use Rattle.list_core.specs.FirstLine.{TextReadsAs}
 use Rattle.list_core.specs.Items.{Rules, Listing, put_item, put_items, stops, close, missing, put_said, items_said, items_in, listing}
-use Rattle.list_core.specs.ItemReader.{Place, Answer, TakesItems, Tells, CountsTo, GivesFor, lines_before, TakesOff, OnlyKept, AnswersItem, SkipsLines}
+use Rattle.list_core.specs.ItemReader.{ReaderState, Answer, TakesItems, Tells, CountsTo, GivesFor, lines_before, TakesOff, OnlyKept, AnswersItem, SkipsLines}
 use Rattle.list_core.proofs.Devices.{Consumes-append, Gives-append, Consumes-none, Gives-from_Consumes}
 use Rattle.list_core.specs.Reader.{OnlyWanting}
 use Rattle.list_core.proofs.Readers.{asked_by, passed_none, passed_after, OnlyOpen-append, off_after, starts_after, OnlyOpen-none, CanFollow-given, CanFollow-none, regroup}
@@ -50,7 +50,7 @@ items_in-line r s n line l = refl
 
 module _ {S X C : Type 0} (r : Rules S X C) where
   -- what is held after a read stands for what was held before it, and what was given
-  pub tells : (old mid new : Place S) (answer : Answer X C) (given : List ℕ) → mid.held ≡ old.held ++ given → mid.taken ≡ old.taken → mid.settled ≡ old.settled →
+  pub tells : (old mid new : ReaderState S) (answer : Answer X C) (given : List ℕ) → mid.held ≡ old.held ++ given → mid.taken ≡ old.taken → mid.settled ≡ old.settled →
       OnlyOpen old.ending given mid.ending → GivesFor answer old.left mid.left given → OnlyWanting old.left old.ending old.held given mid.left mid.ending →
       new.left ≡ mid.left → new.ending ≡ mid.ending → length mid.held ≤ 8192 → CountsTo answer mid.taken new.taken →
       lines_before answer new.taken ≡ mid.taken → TakesOff answer mid.ending mid.held new.held → OnlyKept r mid.settled mid.ending mid.taken mid.held answer →
@@ -62,13 +62,13 @@ module _ {S X C : Type 0} (r : Rules S X C) where
     rest = mid.held;
     source = record { took = rw l k; only_open = rw e o; asked = passed_none _ _ _ _ _ _ _ (asked_by _ _ _ _ _ _ _ _ l e a) };
     lines = record { off = sym h; starts = inl refl; bounded = b; takes_off = rw e x; counted = rw (← t) n };
-    at = old.settled;
+    settled = old.settled;
     kept = rw (e, p, ← s) w;
     skips = λ more z _. ap (λ (k : ℕ). listing r old.settled z k (old.held ++ given ++ more)) (sym t ∙ sym p) ∙ ap (λ (l : List ℕ). listing r old.settled z (lines_before answer new.taken) (l ++ more)) (sym h);
     reads = λ more z c. rw (← h, ← t, ← s) (f more z (rw e at c));
   }
 
-  pub skips : (old mid new : Place S) (given : List ℕ) → mid.held ≡ old.held ++ given → mid.taken ≡ old.taken → mid.settled ≡ old.settled →
+  pub skips : (old mid new : ReaderState S) (given : List ℕ) → mid.held ≡ old.held ++ given → mid.taken ≡ old.taken → mid.settled ≡ old.settled →
       OnlyOpen old.ending given mid.ending → Consumes old.left mid.left given → OnlyWanting old.left old.ending old.held given mid.left mid.ending → new.left ≡ mid.left → new.ending ≡ mid.ending →
       new.taken ≡ mid.taken + 1 → (line : List ℕ) → mid.held ≡ line ++ new.held → StartsLine mid.ending line new.held →
       ((more : List ℕ) (z : InputEnd) → CanFollow mid.ending more z → listing r mid.settled z mid.taken (mid.held ++ more) ≡ listing r new.settled z new.taken (new.held ++ more)) →
@@ -102,13 +102,13 @@ module _ {S X C : Type 0} (r : Rules S X C) where
       ap (items_in r s n) (f more z c) ∙ items_in-line r s n line (reading z (n + 1) (rest ++ more)) ∙ ap (λ x. put_said n x (λ t. listing r t z (n + 1) (rest ++ more))) e
 
   -- what is listed after lines without items
-  before : (a b c : Place S) (p : SkipsLines r a b) (g : List ℕ) → OnlyOpen b.ending g c.ending → (more : List ℕ) (z : InputEnd) → CanFollow c.ending more z →
+  before : (a b c : ReaderState S) (p : SkipsLines r a b) (g : List ℕ) → OnlyOpen b.ending g c.ending → (more : List ℕ) (z : InputEnd) → CanFollow c.ending more z →
       listing r a.settled z a.taken (a.held ++ (p.given ++ g) ++ more) ≡ listing r b.settled z b.taken (b.held ++ g ++ more)
   before a b c p g o more z f =
       ap (listing r a.settled z a.taken) (regroup a.held p.given g more) ∙ p.reads (g ++ more) z (CanFollow-given _ _ _ more z o f)
       ∙ ap (listing r b.settled z b.taken) (sym (append_assoc b.held g more))
 
-  pub skips-then : (a b c : Place S) (answer : Answer X C) → SkipsLines r a b → AnswersItem r b answer c → AnswersItem r a answer c
+  pub skips-then : (a b c : ReaderState S) (answer : Answer X C) → SkipsLines r a b → AnswersItem r b answer c → AnswersItem r a answer c
   skips-then a b c answer p q = record {
     given = p.given ++ q.given;
     skipped = p.skipped ++ q.skipped;
@@ -125,13 +125,13 @@ module _ {S X C : Type 0} (r : Rules S X C) where
       takes_off = q.lines.takes_off;
       counted = counts_after answer _ _ _ p.counted q.lines.counted;
     };
-    at = q.at;
+    settled = q.settled;
     kept = q.kept;
     skips = λ more z f. before a b c p q.given q.source.only_open more z f ∙ q.skips more z f;
     reads = λ more z f. Tells-from answer _ _ _ (before a b c p q.given q.source.only_open more z f) (q.reads more z f);
   }
 
-  pub skips-skips : (a b c : Place S) → SkipsLines r a b → SkipsLines r b c → SkipsLines r a c
+  pub skips-skips : (a b c : ReaderState S) → SkipsLines r a b → SkipsLines r b c → SkipsLines r a c
   skips-skips a b c p q = record {
     given = p.given ++ q.given;
     took = Consumes-append _ _ _ _ _ p.took q.took;
@@ -144,7 +144,7 @@ module _ {S X C : Type 0} (r : Rules S X C) where
     reads = λ more z f. before a b c p q.given q.only_open more z f ∙ q.reads more z f;
   }
 
-  pub skips-none : (s : Place S) → SkipsLines r s s
+  pub skips-none : (s : ReaderState S) → SkipsLines r s s
   skips-none s = record {
     given = [];
     took = Consumes-none s.left;
@@ -158,7 +158,7 @@ module _ {S X C : Type 0} (r : Rules S X C) where
   }
 
   -- no item yet
-  pub TakesItems-none : (s : Place S) → TakesItems r s [] s
+  pub TakesItems-none : (s : ReaderState S) → TakesItems r s [] s
   TakesItems-none s = record {
     given = [];
     took = Consumes-none s.left;
@@ -171,21 +171,21 @@ module _ {S X C : Type 0} (r : Rules S X C) where
   }
 
   -- what is listed after several items
-  after_items : (a b c : Place S) (es : List (ℕ × X)) (p : TakesItems r a es b) (g : List ℕ) → OnlyOpen b.ending g c.ending → (more : List ℕ) (z : InputEnd) → CanFollow c.ending more z →
+  after_items : (a b c : ReaderState S) (es : List (ℕ × X)) (p : TakesItems r a es b) (g : List ℕ) → OnlyOpen b.ending g c.ending → (more : List ℕ) (z : InputEnd) → CanFollow c.ending more z →
       listing r a.settled z a.taken (a.held ++ (p.given ++ g) ++ more) ≡ put_items es (listing r b.settled z b.taken (b.held ++ g ++ more))
   after_items a b c es p g o more z f =
       ap (listing r a.settled z a.taken) (regroup a.held p.given g more) ∙ p.reads (g ++ more) z (CanFollow-given _ _ _ more z o f)
       ∙ ap (λ l. put_items es (listing r b.settled z b.taken l)) (sym (append_assoc b.held g more))
 
   -- the octets that an answer takes off with its item
-  item_off : (b c : Place S) (e : ℕ × X) (q : AnswersItem r b (Ok (Some e)) c) → b.held ++ q.given ≡ (q.skipped ++ q.lines.takes_off.0) ++ c.held
+  item_off : (b c : ReaderState S) (e : ℕ × X) (q : AnswersItem r b (Ok (Some e)) c) → b.held ++ q.given ≡ (q.skipped ++ q.lines.takes_off.0) ++ c.held
   item_off b c e q = q.lines.off ∙ ap (λ l. q.skipped ++ l) q.lines.takes_off.1 ∙ sym (append_assoc q.skipped q.lines.takes_off.0 c.held)
 
-  item_starts : (b c : Place S) (e : ℕ × X) (q : AnswersItem r b (Ok (Some e)) c) → StartsLine c.ending (q.skipped ++ q.lines.takes_off.0) c.held
+  item_starts : (b c : ReaderState S) (e : ℕ × X) (q : AnswersItem r b (Ok (Some e)) c) → StartsLine c.ending (q.skipped ++ q.lines.takes_off.0) c.held
   item_starts b c e q = starts_after c.ending c.ending q.skipped q.rest [] q.lines.takes_off.0 c.held q.lines.starts (OnlyOpen-none c.ending) (append-nil q.rest ∙ q.lines.takes_off.1) q.lines.takes_off.2
 
   -- an item more
-  pub TakesItems-push : (a b c : Place S) (es : List (ℕ × X)) (e : ℕ × X) → TakesItems r a es b → AnswersItem r b (Ok (Some e)) c → TakesItems r a (es ++ e ∷ []) c
+  pub TakesItems-push : (a b c : ReaderState S) (es : List (ℕ × X)) (e : ℕ × X) → TakesItems r a es b → AnswersItem r b (Ok (Some e)) c → TakesItems r a (es ++ e ∷ []) c
   TakesItems-push a b c es e p q = record {
     given = p.given ++ q.given;
     took = Consumes-append _ _ _ _ _ p.took q.source.took;
@@ -199,12 +199,12 @@ module _ {S X C : Type 0} (r : Rules S X C) where
   }
 
   -- what the octets given so far list
-  pub list_whole : (a b c : Place S) (es : List (ℕ × X)) (p : TakesItems r a es b) (g : List ℕ) → OnlyOpen b.ending g c.ending → (l : Listing X C) →
+  pub list_whole : (a b c : ReaderState S) (es : List (ℕ × X)) (p : TakesItems r a es b) (g : List ℕ) → OnlyOpen b.ending g c.ending → (l : Listing X C) →
       listing r b.settled c.ending b.taken (b.held ++ g ++ []) ≡ l → listing r a.settled c.ending a.taken (a.held ++ (p.given ++ g)) ≡ put_items es l
   list_whole a b c es p g o l h =
       ap (listing r a.settled c.ending a.taken) (sym (append-nil (a.held ++ (p.given ++ g))))
       ∙ after_items a b c es p g o [] c.ending (CanFollow-none c.ending) ∙ ap (put_items es) h
 
   -- the octets that were given for several items and an answer
-  pub gives_both : (a b c : Place S) (es : List (ℕ × X)) (answer : Answer X C) (p : TakesItems r a es b) (q : AnswersItem r b answer c) → GivesOctets a.left c.left (p.given ++ q.given)
+  pub gives_both : (a b c : ReaderState S) (es : List (ℕ × X)) (answer : Answer X C) (p : TakesItems r a es b) (q : AnswersItem r b answer c) → GivesOctets a.left c.left (p.given ++ q.given)
   gives_both a b c es answer p q = Gives-append _ _ _ _ _ p.took (gives_of answer _ _ _ q.source.took)

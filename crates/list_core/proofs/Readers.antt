@@ -9,7 +9,7 @@ use Rattle.list_core.specs.Lines.{CanFollow, StartsLine, without_cr}
 use Rattle.list_core.specs.Device.{OnlyOpen}
 use Rattle.list_core.specs.FirstLine.{IsFront}
 use Rattle.list_core.specs.Reader.{Stream, AnswersLine, OnlyWanting}
-use Rattle.list_core.specs.ItemReader.{OnlyPassed, WantsBehind}
+use Rattle.list_core.specs.ItemReader.{OnlySkipped, WantsBehind}
 
 pub CanFollow-none : (z : InputEnd) → CanFollow z [] z
 CanFollow-none Open = tt
@@ -62,7 +62,7 @@ asked_by a b c x y z held given l e (inr (p, inl q)) = inr (p, inl (e ∙ q))
 asked_by a b c x y z held given l e (inr (p, inr q)) = inr (p, inr q)
 
 -- nothing is passed over, and these octets are given from where the first line stands
-pub passed_none : (a b : Option (List ℕ)) (x y : InputEnd) (held given skipped : List ℕ) → OnlyWanting a x held given b y → OnlyPassed a x held given skipped b y
+pub passed_none : (a b : Option (List ℕ)) (x y : InputEnd) (held given skipped : List ℕ) → OnlyWanting a x held given b y → OnlySkipped a x held given skipped b y
 passed_none a b x y held given skipped (inl p) = inl p
 passed_none a b x y held given skipped (inr (p, inl e)) = inr (([], held, skipped, refl, p, refl), inl e)
 passed_none a b x y held given skipped (inr (p, inr q)) = inr (([], held, skipped, refl, p, refl), inr ([], held ++ given, skipped, refl, q, refl))
@@ -92,7 +92,7 @@ wanting_after x y z h g s k f t o (inl m) (inr n) (inr p) (inl q) =
     inr (wants_more (h ++ (g ++ f)) s t (subst (λ l. WantsBehind l s) (sym same) p))
 
 -- what was asked for two answers
-pub passed_after : (a b c : Option (List ℕ)) (x y z : InputEnd) (h g s k f t : List ℕ) → h ++ g ≡ s ++ k → OnlyOpen x g y → OnlyOpen y f z → OnlyPassed a x h g s b y → OnlyPassed b y k f t c z → OnlyPassed a x h (g ++ f) (s ++ t) c z
+pub passed_after : (a b c : Option (List ℕ)) (x y z : InputEnd) (h g s k f t : List ℕ) → h ++ g ≡ s ++ k → OnlyOpen x g y → OnlyOpen y f z → OnlySkipped a x h g s b y → OnlySkipped b y k f t c z → OnlySkipped a x h (g ++ f) (s ++ t) c z
 passed_after a b c x y z h g s k f t o m n (inr (p, i)) (inl q) = inr (wants_more h s t p, wanting_after x y z h g s k f t o m n i (inl q.2))
 passed_after a b c x y z h g s k f t o m n (inr (p, i)) (inr (q, j)) = inr (wants_more h s t p, wanting_after x y z h g s k f t o m n i j)
 passed_after a b c x y z h g s k f t o m n (inl p) (inl q) = inl (ap (λ l. l ++ f) p.0 ∙ q.0, q.1 ∙ p.1, q.2 ∙ p.2)

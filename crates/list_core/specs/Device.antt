@@ -25,11 +25,11 @@ GivesOctets None new bs = ⊤
 GivesOctets (Some xs) None bs = (ys : List ℕ) × (xs ≡ bs ++ ys)
 GivesOctets (Some xs) (Some ys) bs = xs ≡ bs ++ ys
 
--- a front of these octets was appended, or what is held is no longer told
-abbrev pub AppendsFront : Option (List ℕ) → Option (List ℕ) → List ℕ → Type 0
-AppendsFront None new bs = ⊤
-AppendsFront (Some xs) None bs = ⊤
-AppendsFront (Some xs) (Some ys) bs = (front : List ℕ) × (rest : List ℕ) × (bs ≡ front ++ rest) × (ys ≡ xs ++ front)
+-- a prefix of these octets was appended, or what is held is no longer told
+abbrev pub AppendsPrefix : Option (List ℕ) → Option (List ℕ) → List ℕ → Type 0
+AppendsPrefix None new bs = ⊤
+AppendsPrefix (Some xs) None bs = ⊤
+AppendsPrefix (Some xs) (Some ys) bs = (prefix : List ℕ) × (rest : List ℕ) × (bs ≡ prefix ++ rest) × (ys ≡ xs ++ prefix)
 
 -- these octets were taken, after which the source tells this ending
 abbrev pub TakesTo : InputEnd → Option (List ℕ) → Option (List ℕ) → List ℕ → Type 0

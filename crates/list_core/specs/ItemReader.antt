@@ -16,7 +16,7 @@ use Rattle.list_core.specs.Items.{Rules, Listing, put_item, put_items, stops, li
 use Rattle.list_core.specs.Reader.{IsWanting, Stream, stream}
 
 -- a text that is being read: what the source has left and how it ends, the octets that are held and not answered, the count of lines taken before, and what they settled
-pub record Place (S : Type 0) : Type 0 where
+pub record ReaderState (S : Type 0) : Type 0 where
   pub left : Option (List ℕ)
   pub ending : InputEnd
   pub held : List ℕ
@@ -24,12 +24,12 @@ pub record Place (S : Type 0) : Type 0 where
   pub settled : S
 
 -- a text whose lines settled s
-abbrev pub place : {S : Type 0} → Stream → S → Place S
-place t s = record { left = t.left; ending = t.ending; held = t.held; taken = t.taken; settled = s }
+abbrev pub reader_state : {S : Type 0} → Stream → S → ReaderState S
+reader_state t s = record { left = t.left; ending = t.ending; held = t.held; taken = t.taken; settled = s }
 
 -- what a reader of items stands for
-abbrev pub item_place : {R G : Type 0} → (R → Option (List ℕ)) → (R → InputEnd) → ItemReader R G → Place G
-item_place left ending r = place (stream left ending r.lines) r.rules
+abbrev pub item_state : {R G : Type 0} → (R → Option (List ℕ)) → (R → InputEnd) → ItemReader R G → ReaderState G
+item_state left ending r = reader_state (stream left ending r.lines) r.rules
 
 -- the number of the line last answered or refused, 0 before the first
 abbrev pub item_number : {R G : Type 0} → ItemReader R G → ℕ
@@ -95,8 +95,8 @@ abbrev pub WantsBehind : List ℕ → List ℕ → Type 0
 WantsBehind octets skipped = (lines rest more : List ℕ) × (octets ≡ lines ++ rest) × IsWanting rest × (skipped ≡ lines ++ more)
 
 -- The source was asked for octets only once the whole lines that were held were passed over, and where what followed them was wanting: of what was held at first; and of what was held in the end, where the last read gave none and told another ending.
-abbrev pub OnlyPassed : Option (List ℕ) → InputEnd → List ℕ → List ℕ → List ℕ → Option (List ℕ) → InputEnd → Type 0
-OnlyPassed old z held given skipped new w = ((given ≡ []) × (new ≡ old) × (w ≡ z))
+abbrev pub OnlySkipped : Option (List ℕ) → InputEnd → List ℕ → List ℕ → List ℕ → Option (List ℕ) → InputEnd → Type 0
+OnlySkipped old z held given skipped new w = ((given ≡ []) × (new ≡ old) × (w ≡ z))
     ⊎ (WantsBehind held skipped × ((w ≡ z) ⊎ WantsBehind (held ++ given) skipped))
 
 -- memory is wanted only where the first line has something to keep
@@ -106,13 +106,13 @@ OnlyKept r s z n rest (Err (Some f)) = Unit {0}
 OnlyKept r s z n rest (Err None) = (size : ℕ) × IsFront z n rest (Ok (Some size)) × (r.keeps s (without_cr (take size rest)) ≡ true)
 
 -- Octets that the source gave for an answer: while it was open, and only once the lines before the answered one were passed over.
-pub record IsGiven {S X C : Type 0} (old : Place S) (answer : Answer X C) (new : Place S) (given skipped : List ℕ) : Type 0 where
+pub record IsGiven {S X C : Type 0} (old : ReaderState S) (answer : Answer X C) (new : ReaderState S) (given skipped : List ℕ) : Type 0 where
   pub took : GivesFor answer old.left new.left given
   pub only_open : OnlyOpen old.ending given new.ending
-  pub asked : OnlyPassed old.left old.ending old.held given skipped new.left new.ending
+  pub asked : OnlySkipped old.left old.ending old.held given skipped new.left new.ending
 
 -- What was held and what was given is whole lines that were passed over, and the rest, which is short. The answer takes its line off that rest.
-pub record CutsLines {S X C : Type 0} (old : Place S) (answer : Answer X C) (new : Place S) (given skipped rest : List ℕ) : Type 0 where
+pub record CutsLines {S X C : Type 0} (old : ReaderState S) (answer : Answer X C) (new : ReaderState S) (given skipped rest : List ℕ) : Type 0 where
   pub off : old.held ++ given ≡ skipped ++ rest
   pub starts : StartsLine new.ending skipped rest
   pub bounded : length rest ≤ 8192
@@ -120,7 +120,7 @@ pub record CutsLines {S X C : Type 0} (old : Place S) (answer : Answer X C) (new
   pub counted : CountsTo answer old.taken new.taken
 
 -- An answer takes its line, and those without items before it, off the front of the text. The end, a fault and want of memory stay.
-pub record AnswersItem {S X C : Type 0} (r : Rules S X C) (old : Place S) (answer : Answer X C) (new : Place S) : Type 0 where
+pub record AnswersItem {S X C : Type 0} (r : Rules S X C) (old : ReaderState S) (answer : Answer X C) (new : ReaderState S) : Type 0 where
   -- the octets that were read, those before the answered line, and those from its start on
   pub given : List ℕ
   pub skipped : List ℕ
@@ -128,30 +128,30 @@ pub record AnswersItem {S X C : Type 0} (r : Rules S X C) (old : Place S) (answe
   pub source : IsGiven old answer new given skipped
   pub lines : CutsLines old answer new given skipped rest
   -- what is settled before the line
-  pub at : S
-  pub kept : OnlyKept r at new.ending (lines_before answer new.taken) rest answer
+  pub settled : S
+  pub kept : OnlyKept r settled new.ending (lines_before answer new.taken) rest answer
   -- whatever still comes, the octets before the line have no item
   pub skips : (more : List ℕ) (z : InputEnd) → CanFollow new.ending more z →
-      listing r old.settled z old.taken (old.held ++ given ++ more) ≡ listing r at z (lines_before answer new.taken) (rest ++ more)
+      listing r old.settled z old.taken (old.held ++ given ++ more) ≡ listing r settled z (lines_before answer new.taken) (rest ++ more)
   -- whatever still comes, the answer is what the text lists first
   pub reads : (more : List ℕ) (z : InputEnd) → CanFollow new.ending more z →
       Tells answer (listing r old.settled z old.taken (old.held ++ given ++ more)) (listing r new.settled z new.taken (new.held ++ more))
 
 -- lines without items were taken off
-pub record SkipsLines {S X C : Type 0} (r : Rules S X C) (old new : Place S) : Type 0 where
+pub record SkipsLines {S X C : Type 0} (r : Rules S X C) (old new : ReaderState S) : Type 0 where
   pub given : List ℕ
   pub took : Consumes old.left new.left given
   pub only_open : OnlyOpen old.ending given new.ending
   pub counted : old.taken ≤ new.taken
   pub skipped : List ℕ
   pub off : old.held ++ given ≡ skipped ++ new.held
-  pub asked : OnlyPassed old.left old.ending old.held given skipped new.left new.ending
+  pub asked : OnlySkipped old.left old.ending old.held given skipped new.left new.ending
   pub starts : StartsLine new.ending skipped new.held
   pub reads : (more : List ℕ) (z : InputEnd) → CanFollow new.ending more z →
       listing r old.settled z old.taken (old.held ++ given ++ more) ≡ listing r new.settled z new.taken (new.held ++ more)
 
 -- several answers took these items off, with their lines
-pub record TakesItems {S X C : Type 0} (r : Rules S X C) (old : Place S) (items : List (ℕ × X)) (new : Place S) : Type 0 where
+pub record TakesItems {S X C : Type 0} (r : Rules S X C) (old : ReaderState S) (items : List (ℕ × X)) (new : ReaderState S) : Type 0 where
   pub given : List ℕ
   pub took : Consumes old.left new.left given
   pub only_open : OnlyOpen old.ending given new.ending
@@ -163,6 +163,6 @@ pub record TakesItems {S X C : Type 0} (r : Rules S X C) (old : Place S) (items 
       listing r old.settled z old.taken (old.held ++ given ++ more) ≡ put_items items (listing r new.settled z new.taken (new.held ++ more))
 
 -- what one line gives: nothing, and then it was taken off, or an answer
-abbrev pub Tries : {S X C : Type 0} → Rules S X C → Place S → ℕ → Tried X C → Place S → ℕ → Type 0
+abbrev pub Tries : {S X C : Type 0} → Rules S X C → ReaderState S → ℕ → Tried X C → ReaderState S → ℕ → Type 0
 Tries r old m tried.Skipped new n = SkipsLines r old new × (new.taken ≡ old.taken + 1) × (new.taken ≤ 1000000) × (n ≡ m)
 Tries r old m (tried.Answered a) new n = AnswersItem r old (answer_of n a) new × (n ≡ item_number_told (answer_of n a) m)

@@ -10,11 +10,11 @@ use Rattle.list_core.specs.declared.list_fault.ListFault.{ListFault}
 use Rattle.list_core.specs.declared.list_reader.ListReader.{ListReader}
 use Rattle.list_core.specs.declared.list_reader.ListError.{ListError}
 use Rattle.list_core.specs.declared.list_reader.ListError.TheVariants as error
-use Rattle.list_core.specs.ItemReader.{Answer, Place, item_number, item_place}
+use Rattle.list_core.specs.ItemReader.{Answer, ReaderState, item_number, item_state}
 
 -- the text that is being read, and what its lines settled
-abbrev pub list_place : {R : Type 0} → (R → Option (List ℕ)) → (R → InputEnd) → ListReader R → Place EventLines
-list_place left ending r = item_place left ending r.items
+abbrev pub list_state : {R : Type 0} → (R → Option (List ℕ)) → (R → InputEnd) → ListReader R → ReaderState EventLines
+list_state left ending r = item_state left ending r.items
 
 -- the number of the line last answered or refused, 0 before the first
 abbrev pub list_number : {R : Type 0} → ListReader R → ℕ

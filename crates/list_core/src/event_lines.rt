@@ -33,7 +33,7 @@ impl<A: Allocator + Copy> LineRules<A> for EventLines {
     ghost rules = { event_rules };
 
     #[inline(always)]
-    fn say(&mut self, alloc: A, line: &[u8]) -> Result<Option<Event<A>>, LineError<ListCause>> {
+    fn item_in(&mut self, alloc: A, line: &[u8]) -> Result<Option<Event<A>>, LineError<ListCause>> {
         let unit = match *self {
             EventLines::After(unit) => unit,
             EventLines::First => match line {

@@ -33,15 +33,15 @@ pub struct ItemReader<R, G> {
 }
 
 impl<R: Source, G> ItemReader<R, G> {
-    ghost use Rattle.list_core.specs.ItemReader.{AnswersItem, Tries, answer_of, item_number, item_place, item_number_told};
+    ghost use Rattle.list_core.specs.ItemReader.{AnswersItem, Tries, answer_of, item_number, item_state, item_number_told};
 
     /// A reader of the list that the source gives.
     pub fn new(reader: R, rules: G) -> Self
-        ensures left { (item_place R.left R.ending result).left ≡ R.left reader }
-        ensures ending { (item_place R.left R.ending result).ending ≡ R.ending reader }
-        ensures held { (item_place R.left R.ending result).held ≡ [] }
-        ensures taken { (item_place R.left R.ending result).taken ≡ 0 }
-        ensures settled { (item_place R.left R.ending result).settled ≡ rules }
+        ensures left { (item_state R.left R.ending result).left ≡ R.left reader }
+        ensures ending { (item_state R.left R.ending result).ending ≡ R.ending reader }
+        ensures held { (item_state R.left R.ending result).held ≡ [] }
+        ensures taken { (item_state R.left R.ending result).taken ≡ 0 }
+        ensures settled { (item_state R.left R.ending result).settled ≡ rules }
         ensures number { item_number result ≡ 0 }
     {
         ItemReader {
@@ -63,7 +63,7 @@ impl<R: Source, G> ItemReader<R, G> {
     fn try_line<A: Allocator + Copy>(&mut self, alloc: A) -> Tried<G::Item, G::Cause>
     where
         G: LineRules<A>,
-        ensures { Tries G.rules (item_place R.left R.ending self.old) (item_number self.old) result (item_place R.left R.ending self.new) (item_number self.new) }
+        ensures { Tries G.rules (item_state R.left R.ending self.old) (item_number self.old) result (item_state R.left R.ending self.new) (item_number self.new) }
     {
         match self.lines.fill() {
             Err(fault) => {
@@ -77,7 +77,7 @@ impl<R: Source, G> ItemReader<R, G> {
                     Tried::Answered(Err(ItemError::Fault(ItemFault::Line(self.number, cause))))
                 }
             },
-            Ok(Some(size)) => match self.rules.say(alloc, self.lines.front(size)) {
+            Ok(Some(size)) => match self.rules.item_in(alloc, self.lines.front(size)) {
                 Ok(None) => {
                     self.lines.take(size);
                     Tried::Skipped
@@ -106,7 +106,7 @@ impl<R: Source, G> ItemReader<R, G> {
     ) -> Result<Option<G::Item>, ItemError<G::Cause>>
     where
         G: LineRules<A>,
-        ensures item { AnswersItem G.rules (item_place R.left R.ending self.old) (answer_of (item_number self.new) result) (item_place R.left R.ending self.new) }
+        ensures item { AnswersItem G.rules (item_state R.left R.ending self.old) (answer_of (item_number self.new) result) (item_state R.left R.ending self.new) }
         ensures number { item_number self.new ≡ item_number_told (answer_of (item_number self.new) result) (item_number self.old) }
     {
         'tries: loop {
@@ -119,12 +119,12 @@ impl<R: Source, G> ItemReader<R, G> {
 }
 
 impl<R: Source, G: Drop> ItemReader<R, G> {
-    ghost use Rattle.list_core.specs.ItemReader.{item_place};
+    ghost use Rattle.list_core.specs.ItemReader.{item_state};
 
     /// The source as it stands.
     pub fn into_reader(self) -> R
-        ensures left { R.left result ≡ (item_place R.left R.ending self).left }
-        ensures ending { R.ending result ≡ (item_place R.left R.ending self).ending }
+        ensures left { R.left result ≡ (item_state R.left R.ending self).left }
+        ensures ending { R.ending result ≡ (item_state R.left R.ending self).ending }
     {
         let ItemReader {
             lines,

@@ -36,7 +36,11 @@ pub trait LineRules<A: Allocator> {
     ghost rules: { Rules Self Self.Item Self.Cause };
 
     /// Reads a line, of at most 4,096 octets. Nothing is settled by a line that is refused, and none for want of memory.
-    fn say(&mut self, alloc: A, line: &[u8]) -> Result<Option<Self::Item>, LineError<Self::Cause>>
+    fn item_in(
+        &mut self,
+        alloc: A,
+        line: &[u8],
+    ) -> Result<Option<Self::Item>, LineError<Self::Cause>>
         requires { length line.now ≤ 4096 }
         ensures { Says rules self.old line.now result self.new };
 

@@ -48,15 +48,15 @@ pub fn fault_of_list(fault: &ItemFault<ListCause>) -> ListFault
 
 impl<R: Source> ListReader<R> {
     ghost use Rattle.list_core.specs.ItemReader.{AnswersItem, item_number_told};
-    ghost use Rattle.list_core.specs.ListReader.{list_place, list_number, IsToldAs};
+    ghost use Rattle.list_core.specs.ListReader.{list_state, list_number, IsToldAs};
 
     /// A reader of the list that the source gives.
     pub fn new(reader: R) -> Self
-        ensures left { (list_place R.left R.ending result).left ≡ R.left reader }
-        ensures ending { (list_place R.left R.ending result).ending ≡ R.ending reader }
-        ensures held { (list_place R.left R.ending result).held ≡ [] }
-        ensures taken { (list_place R.left R.ending result).taken ≡ 0 }
-        ensures settled { (list_place R.left R.ending result).settled ≡ First }
+        ensures left { (list_state R.left R.ending result).left ≡ R.left reader }
+        ensures ending { (list_state R.left R.ending result).ending ≡ R.ending reader }
+        ensures held { (list_state R.left R.ending result).held ≡ [] }
+        ensures taken { (list_state R.left R.ending result).taken ≡ 0 }
+        ensures settled { (list_state R.left R.ending result).settled ≡ First }
         ensures number { list_number result ≡ 0 }
     {
         ListReader {
@@ -66,8 +66,8 @@ impl<R: Source> ListReader<R> {
 
     /// The source as it stands.
     pub fn into_reader(self) -> R
-        ensures left { R.left result ≡ (list_place R.left R.ending self).left }
-        ensures ending { R.ending result ≡ (list_place R.left R.ending self).ending }
+        ensures left { R.left result ≡ (list_state R.left R.ending self).left }
+        ensures ending { R.ending result ≡ (list_state R.left R.ending self).ending }
     {
         let ListReader { items } = self;
         items.into_reader()
@@ -84,7 +84,7 @@ impl<R: Source> ListReader<R> {
     /// fault every later call answers the same fault, and after None it answers None. After want
     /// of memory the next call tries the same line again.
     pub fn next<A: Allocator + Copy>(&mut self, alloc: A) -> Result<Option<Event<A>>, ListError>
-        ensures event { (answer : Answer (SpecEvent A) SpecCause) × AnswersItem event_rules (list_place R.left R.ending self.old) answer (list_place R.left R.ending self.new)
+        ensures event { (answer : Answer (SpecEvent A) SpecCause) × AnswersItem event_rules (list_state R.left R.ending self.old) answer (list_state R.left R.ending self.new)
             × IsToldAs (list_number self.new) answer result × (list_number self.new ≡ item_number_told answer (list_number self.old)) }
     {
         match self.items.next(alloc) {

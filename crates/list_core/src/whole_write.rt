@@ -2,7 +2,7 @@
 ghost use Rattle.std.specs.Prelude.{◌≡◌, false, MatchResult};
 ghost use Rattle.std.specs.Result.{is_err};
 ghost use Rattle.std.specs.Io.KnownBytes.{Appends};
-ghost use Rattle.list_core.specs.Device.{AppendsFront};
+ghost use Rattle.list_core.specs.Device.{AppendsPrefix};
 
 use crate::device::Sink;
 use thiserror::Error;
@@ -24,7 +24,7 @@ pub fn put_all<W: Sink>(writer: &mut W, octets: &[u8]) -> Result<(), WriteFault>
     requires { W.failed writer.old ≡ false }
     ensures written { MatchResult result
         (λ _. Appends (W.contents writer.old) (W.contents writer.new) octets.now)
-        (λ e. (e ≡ WriteFault.WriteFailed) × AppendsFront (W.contents writer.old) (W.contents writer.new) octets.now) }
+        (λ e. (e ≡ WriteFault.WriteFailed) × AppendsPrefix (W.contents writer.old) (W.contents writer.new) octets.now) }
     ensures fault { W.failed writer.new ≡ is_err result }
 {
     let mut at = 0;

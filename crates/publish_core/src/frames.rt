@@ -102,7 +102,7 @@ pub fn is_too_long<A: Allocator>(
 }
 
 // The octets of the frame with these numbers.
-pub fn write_frame<A: Allocator>(
+pub fn encode_state<A: Allocator>(
     control: &Control<A>,
     t: UtcTime,
     values: &ValueList<A>,

@@ -14,7 +14,7 @@ ghost use Rattle.publish_core.specs.Table.{AreSteps};
 use crate::control::Control;
 use crate::fault::PublishFault;
 use crate::fitting::every_frame_fits;
-use crate::frames::{FrameNumbers, can_be_spelled, write_frame};
+use crate::frames::{FrameNumbers, can_be_spelled, encode_state};
 use crate::table::Table;
 use arrayvec::ArrayVec;
 use mms_data::{UtcTime, ValueList};
@@ -96,7 +96,7 @@ fn write_last<A: Allocator>(
         sequence: last.sequence,
         live_ms: table.at(last.step).live_ms,
     };
-    write_frame(control, last.t, &last.values, numbers)
+    encode_state(control, last.t, &last.values, numbers)
 }
 
 impl<A: Allocator> Publisher<A> {

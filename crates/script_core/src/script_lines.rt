@@ -13,7 +13,7 @@ impl<A: Allocator + Copy> LineRules<A> for ScriptLines {
 
     ghost rules = { script_rules };
 
-    fn say(
+    fn item_in(
         &mut self,
         alloc: A,
         line: &[u8],

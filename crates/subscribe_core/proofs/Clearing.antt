@@ -6,7 +6,7 @@ use Rattle.std.proofs.lemmas.Option.{none-some, same_Some, slice_get-get_or}
 use Rattle.std.specs.BTreeSet.{BTreeSet, contains}
 use Rattle.block_core.specs.declared.block.Block.{Block}
 use Rattle.subscribe_core.specs.declared.names.Name.{Name}
-use Rattle.subscribe_core.specs.declared.registers.Held.{Held}
+use Rattle.subscribe_core.specs.declared.registers.LiveState.{LiveState}
 use Rattle.subscribe_core.specs.declared.registers.Register.{Register}
 use Rattle.subscribe_core.specs.computed.Deadlines.{AreDeadlinesOf, due_count, helds, pair_cmp}
 use Rattle.subscribe_core.specs.computed.Indexed.{IsIndexed, registers_after_clock, register_after_clock}
@@ -14,21 +14,21 @@ use Rattle.subscribe_core.specs.State.{idle}
 use Rattle.subscribe_core.specs.computed.Steps.{is_dead, after_clock}
 
 -- what is due isn't held after
-pub due_clears : (o : Option Held) (now : ℕ) → is_dead o now ≡ true → after_clock o now ≡ None
+pub due_clears : (o : Option LiveState) (now : ℕ) → is_dead o now ≡ true → after_clock o now ≡ None
 due_clears None now e = refl
 due_clears (Some h) now e = cond-true _ None (Some h) e
 
 -- what isn't due stays
-pub not_due_stays : (o : Option Held) (now : ℕ) → is_dead o now ≡ false → after_clock o now ≡ o
+pub not_due_stays : (o : Option LiveState) (now : ℕ) → is_dead o now ≡ false → after_clock o now ≡ o
 not_due_stays None now e = refl
 not_due_stays (Some h) now e = cond-false _ None (Some h) e
 
 -- a register that holds nothing
 abbrev pub let_go : Register → Register
-let_go r = record { held = None; simulated = r.simulated }
+let_go r = record { held = None; takes_simulated = r.takes_simulated }
 
 let_go_cleared : (r : Register) (now : ℕ) → is_dead r.held now ≡ true → let_go r ≡ register_after_clock now r
-let_go_cleared r now e = ap (λ (o : Option Held). record { held = o; simulated = r.simulated }) (sym (due_clears r.held now e))
+let_go_cleared r now e = ap (λ (o : Option LiveState). record { held = o; takes_simulated = r.takes_simulated }) (sym (due_clears r.held now e))
 
 -- what is due is cleared, so to clear it first is the same
 pub cleared_set : (rs : List Register) (at now : ℕ) (r : Register) → slice_get rs at ≡ Some r → is_dead r.held now ≡ true → registers_after_clock now (set rs at (let_go r)) ≡ registers_after_clock now rs
@@ -38,7 +38,7 @@ cleared_set (x ∷ xs) zero now r is e =
 cleared_set (x ∷ xs) (suc at) now r is e = ap (λ (ys : List Register). register_after_clock now x ∷ ys) (cleared_set xs at now r is e)
 
 -- and one block less is due
-pub count_set : (held : List (Option Held)) (at now : ℕ) → is_dead (get_or held at None) now ≡ true → due_count now (set held at None) + 1 ≡ due_count now held
+pub count_set : (held : List (Option LiveState)) (at now : ℕ) → is_dead (get_or held at None) now ≡ true → due_count now (set held at None) + 1 ≡ due_count now held
 count_set [] at now e = absurd (false≢true e)
 count_set (h ∷ hs) zero now e = sym (cond-true _ (due_count now hs + 1) (due_count now hs) e)
 count_set (h ∷ hs) (suc at) now e =
@@ -70,7 +70,7 @@ register_of rs at lt = (get_or rs at idle, slice_get-get_or rs at idle lt)
 pub cleared_none : (rs : List Register) (now : ℕ) → ((at : ℕ) → is_dead (get_or (helds rs) at None) now ≡ false) → registers_after_clock now rs ≡ rs
 cleared_none [] now none = refl
 cleared_none (r ∷ rs) now none =
-    let first : register_after_clock now r ≡ r = ap (λ (o : Option Held). record { held = o; simulated = r.simulated }) (not_due_stays r.held now (none 0)) in
+    let first : register_after_clock now r ≡ r = ap (λ (o : Option LiveState). record { held = o; takes_simulated = r.takes_simulated }) (not_due_stays r.held now (none 0)) in
     let rest : registers_after_clock now rs ≡ rs = cleared_none rs now (λ at. none (suc at)) in
     cc
 
@@ -99,7 +99,7 @@ indexed_write {A} blocks blocks' registers registers' names at r deadlines deadl
       apart = i.apart;
       sorted = i.sorted;
       named = i.named;
-      timed = subst (λ (hs : List (Option Held)). AreDeadlinesOf deadlines' hs) (sym (helds_set registers at r)) t;
+      timed = subst (λ (hs : List (Option LiveState)). AreDeadlinesOf deadlines' hs) (sym (helds_set registers at r)) t;
     }))
 
 pub due_within : (rs : List Register) (at now : ℕ) → is_dead (get_or (helds rs) at None) now ≡ true → at < length rs
@@ -108,7 +108,7 @@ due_within rs at now e =
       | inl lt ↦ lt
       | inr past ↦
           let size : length (helds rs) ≡ length rs = length-map rs (λ (r : Register). r.held) in
-          absurd (false≢true (sym (ap (λ (h : Option Held). is_dead h now) (get_or_past (helds rs) at None (omega arith))) ∙ e))
+          absurd (false≢true (sym (ap (λ (h : Option LiveState). is_dead h now) (get_or_past (helds rs) at None (omega arith))) ∙ e))
     ]
 
 -- a set with the same keys

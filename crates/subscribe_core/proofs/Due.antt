@@ -17,7 +17,7 @@ use Rattle.std.specs.declared.cmp.Ordering.TheVariants.{Less, Equal}
 use Rattle.std.specs.Ordering.{nat_cmp, is_eq, is_lt, ordering_then}
 use Rattle.std.specs.List.{Contains, AllByRecursion, list_any, IsDistinct}
 use Rattle.std.specs.List.Sorted.{IsPermutation, IsSorted, IsStrictlySortedBy}
-use Rattle.subscribe_core.specs.declared.registers.Held.{Held}
+use Rattle.subscribe_core.specs.declared.registers.LiveState.{LiveState}
 use Rattle.subscribe_core.specs.declared.entry.Entry.{Entry}
 use Rattle.subscribe_core.specs.declared.entry.Entry.TheVariants as says
 use Rattle.subscribe_core.specs.declared.registers.Register.{Register}
@@ -36,7 +36,7 @@ nat_at_itself : (q : ℕ) → is_at (nat_cmp q) q ≡ true
 nat_at_itself q = ap is_eq (tied_itself nat_cmp_total q)
 
 -- none is below the first number
-no_lower : (now b : ℕ) (held : List (Option Held)) (q : ℕ) → q < b → list_any (is_at (nat_cmp q)) (due_positions now b held) ≡ false
+no_lower : (now b : ℕ) (held : List (Option LiveState)) (q : ℕ) → q < b → list_any (is_at (nat_cmp q)) (due_positions now b held) ≡ false
 no_lower now b [] q lt = refl
 no_lower now b (h ∷ hs) q lt =
     let rest : list_any (is_at (nat_cmp q)) (due_positions now (b + 1) hs) ≡ false = no_lower now (b + 1) hs q (omega arith) in
@@ -45,7 +45,7 @@ no_lower now b (h ∷ hs) q lt =
       | inr d ↦ rw d rest
     ]
 
-pub due_member : (now b : ℕ) (held : List (Option Held)) (k : ℕ)
+pub due_member : (now b : ℕ) (held : List (Option LiveState)) (k : ℕ)
     → list_any (is_at (nat_cmp (b + k))) (due_positions now b held) ≡ is_dead (get_or held k None) now
 due_member now b [] k = refl
 due_member now b (h ∷ hs) zero =
@@ -63,7 +63,7 @@ due_member now b (h ∷ hs) (suc k) =
     ]
 
 -- each is at least the first number
-due_above : (now b c : ℕ) (held : List (Option Held)) → c < b → AllByRecursion (λ y. nat_cmp c y ≡ Less) (due_positions now b held)
+due_above : (now b c : ℕ) (held : List (Option LiveState)) → c < b → AllByRecursion (λ y. nat_cmp c y ≡ Less) (due_positions now b held)
 due_above now b c [] lt = tt
 due_above now b c (h ∷ hs) lt =
     let rest : AllByRecursion (λ y. nat_cmp c y ≡ Less) (due_positions now (b + 1) hs) = due_above now (b + 1) c hs (omega arith) in
@@ -72,7 +72,7 @@ due_above now b c (h ∷ hs) lt =
       | inr d ↦ rw d rest
     ]
 
-pub due_sorted : (now b : ℕ) (held : List (Option Held)) → IsStrictlySortedBy nat_cmp (due_positions now b held)
+pub due_sorted : (now b : ℕ) (held : List (Option LiveState)) → IsStrictlySortedBy nat_cmp (due_positions now b held)
 unfolding IsStrictlySortedBy
 due_sorted now b [] = tt
 due_sorted now b (h ∷ hs) =
@@ -154,14 +154,14 @@ pair_exact : (x y : ℕ × ℕ) → pair_cmp x y ≡ Equal → x ≡ y
 pair_exact x y e = at_same x y (ap is_eq e)
 
 -- what a pair that is due says
-due_pair : (now : ℕ) (set : BTreeSet (ℕ × ℕ)) (held : List (Option Held)) (q : ℕ × ℕ) → AreDeadlinesOf set held → Contains (due_pairs now set) q
+due_pair : (now : ℕ) (set : BTreeSet (ℕ × ℕ)) (held : List (Option LiveState)) (q : ℕ × ℕ) → AreDeadlinesOf set held → Contains (due_pairs now set) q
     → (q.0 ≤ now) × (has_deadline (get_or held q.1 None) q.0 ≡ true)
 due_pair now set held q agree c =
     let has : contains pair_cmp (due_set now set) q ≡ true = (btree_set_contains_iff pair_total pair_exact (due_set now set) q).1 c in
     let parts = and_parts (in_range now q) (contains pair_cmp set q) (sym (due_set_has now set q) ∙ has) in
     (range_first now q parts.0, sym (agree q) ∙ parts.1)
 
-due_sound : (now : ℕ) (set : BTreeSet (ℕ × ℕ)) (held : List (Option Held)) (p : ℕ) → AreDeadlinesOf set held
+due_sound : (now : ℕ) (set : BTreeSet (ℕ × ℕ)) (held : List (Option LiveState)) (p : ℕ) → AreDeadlinesOf set held
     → Contains (map second (due_pairs now set)) p → is_dead (get_or held p None) now ≡ true
 due_sound now set held p agree c =
     let lt : c.0 < length (due_pairs now set) = subst (λ (n : ℕ). c.0 < n) (length-map (due_pairs now set) second) c.1 in
@@ -170,7 +170,7 @@ due_sound now set held p agree c =
     let at : q.1 ≡ p = sym (get_or-map second (due_pairs now set) c.0 (0, 0) p lt) ∙ c.2 in
     subst (λ (i : ℕ). is_dead (get_or held i None) now ≡ true) at (due_from (get_or held q.1 None) q.0 now w.1 w.0)
 
-due_complete : (now : ℕ) (set : BTreeSet (ℕ × ℕ)) (held : List (Option Held)) (p : ℕ) → AreDeadlinesOf set held → length held < 2 ^ 64
+due_complete : (now : ℕ) (set : BTreeSet (ℕ × ℕ)) (held : List (Option LiveState)) (p : ℕ) → AreDeadlinesOf set held → length held < 2 ^ 64
     → is_dead (get_or held p None) now ≡ true → Contains (map second (due_pairs now set)) p
 due_complete now set held p agree small e =
     let w = due_has (get_or held p None) now e in
@@ -185,11 +185,11 @@ due_complete now set held p agree small e =
     )
 
 -- one block has one deadline
-has_same : (o : Option Held) (d e : ℕ) → has_deadline o d ≡ true → has_deadline o e ≡ true → d ≡ e
+has_same : (o : Option LiveState) (d e : ℕ) → has_deadline o d ≡ true → has_deadline o e ≡ true → d ≡ e
 has_same None d e x y = absurd (false≢true x)
 has_same (Some h) d e x y = sym (eqb-true h.deadline d x) ∙ eqb-true h.deadline e y
 
-due_distinct : (now : ℕ) (set : BTreeSet (ℕ × ℕ)) (held : List (Option Held)) → AreDeadlinesOf set held → IsOrdered pair_cmp set
+due_distinct : (now : ℕ) (set : BTreeSet (ℕ × ℕ)) (held : List (Option LiveState)) → AreDeadlinesOf set held → IsOrdered pair_cmp set
     → IsDistinct nat_eq (map second (due_pairs now set))
 due_distinct now set held agree up =
     let pairs : List (ℕ × ℕ) = due_pairs now set in
@@ -211,7 +211,7 @@ due_distinct now set held agree up =
     less_equal (sym less ∙ equal)))
 
 -- the positions, once sorted, are those of the blocks that are due, in block order
-pub due_is : (now : ℕ) (set : BTreeSet (ℕ × ℕ)) (held : List (Option Held)) (sorted : List ℕ)
+pub due_is : (now : ℕ) (set : BTreeSet (ℕ × ℕ)) (held : List (Option LiveState)) (sorted : List ℕ)
     → AreDeadlinesOf set held → IsOrdered pair_cmp set → length held < 2 ^ 64
     → IsPermutation (map second (due_pairs now set)) sorted → IsSorted nat_cmp sorted
     → sorted ≡ due_positions now 0 held

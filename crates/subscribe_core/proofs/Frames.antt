@@ -10,7 +10,7 @@ use Rattle.subscribe_core.specs.declared.entry.Entry.TheVariants as says
 use Rattle.subscribe_core.specs.declared.entry.Reason.{Reason}
 use Rattle.subscribe_core.specs.declared.entry.Reason.TheVariants.{DatSet, GoId, ConfRev, Commissioning, Simulated, Entries, StateZero, LiveZero}
 use Rattle.subscribe_core.specs.declared.registers.Facts.{Facts}
-use Rattle.subscribe_core.specs.declared.registers.Held.{Held}
+use Rattle.subscribe_core.specs.declared.registers.LiveState.{LiveState}
 use Rattle.subscribe_core.specs.declared.registers.Register.{Register}
 use Rattle.subscribe_core.specs.declared.registers.Verdict.{Verdict}
 use Rattle.subscribe_core.specs.declared.registers.Verdict.TheVariants.{Act, Refreshed, Repeated, Older}
@@ -116,11 +116,11 @@ quiet_other mode flag x f no_of = quiet_from mode flag x f (and_left (is_plain_s
 -- a register of another block
 register_other : {A : Type 0} (now : ℕ) (mode : Bool) (x : Block A) (r : Register) (f : FrameRead) → is_of f x ≡ false → register_by now mode (OfGoose f) x r ≡ register_after_clock now r
 register_other now mode x r f no_of =
-    let q = quiet_other mode r.simulated x f no_of in
+    let q = quiet_other mode r.takes_simulated x f no_of in
     let held : turned now mode (OfGoose f) x r ≡ after_clock r.held now = ap (λ (y : Bool). after_switch y (after_clock r.held now)) q.switch_is in
-    let stays : (if is_of f x then block_held now f (reason_of (is_other_kind f mode r.simulated) x f) (turned now mode (OfGoose f) x r) else turned now mode (OfGoose f) x r) ≡ turned now mode (OfGoose f) x r =
-    ap (λ (y : Bool). if y then block_held now f (reason_of (is_other_kind f mode r.simulated) x f) (turned now mode (OfGoose f) x r) else turned now mode (OfGoose f) x r) no_of in
-    ap₂ (λ (o : Option Held) (b : Bool). record { held = o; simulated = b }) (stays ∙ held) q.flag_is
+    let stays : (if is_of f x then block_held now f (reason_of (is_other_kind f mode r.takes_simulated) x f) (turned now mode (OfGoose f) x r) else turned now mode (OfGoose f) x r) ≡ turned now mode (OfGoose f) x r =
+    ap (λ (y : Bool). if y then block_held now f (reason_of (is_other_kind f mode r.takes_simulated) x f) (turned now mode (OfGoose f) x r) else turned now mode (OfGoose f) x r) no_of in
+    ap₂ (λ (o : Option LiveState) (b : Bool). record { held = o; takes_simulated = b }) (stays ∙ held) q.flag_is
 
 -- lists of blocks, of which the frame is none's
 
@@ -130,7 +130,7 @@ switched_none mode f b [] rs none = refl
 switched_none mode f b (x ∷ xs) [] none = refl
 switched_none {A} mode f b (x ∷ xs) (r ∷ rs) none =
     ap (λ (y : Bool). if y then says.Switched b ∷ switched_entries mode (OfGoose f) (b + 1) xs rs else switched_entries mode (OfGoose f) (b + 1) xs rs)
-    (quiet_other mode r.simulated x f (none 0 x refl)).switch_is
+    (quiet_other mode r.takes_simulated x f (none 0 x refl)).switch_is
     ∙ switched_none mode f (b + 1) xs rs (λ j. none (suc j))
 
 pub registers_none : {A : Type 0} (now : ℕ) (mode : Bool) (f : FrameRead) (xs : List (Block A)) (rs : List Register) → length rs ≡ length xs
@@ -150,21 +150,21 @@ one_switched A b y = if y then says.Switched b ∷ [] else []
 pub switched_one : {A : Type 0} (mode : Bool) (f : FrameRead) (b at : ℕ) (xs : List (Block A)) (rs : List Register) (x : Block A) (r : Register)
     → slice_get xs at ≡ Some x → slice_get rs at ≡ Some r
     → ((j : ℕ) (y : Block A) → slice_get xs j ≡ Some y → (j ≡ at → ⊥) → is_of f y ≡ false)
-    → switched_entries mode (OfGoose f) b xs rs ≡ one_switched A (b + at) (switch_by x mode r.simulated (OfGoose f))
+    → switched_entries mode (OfGoose f) b xs rs ≡ one_switched A (b + at) (switch_by x mode r.takes_simulated (OfGoose f))
 switched_one mode f b at [] rs x r p q others = absurd (none-some x p)
 switched_one mode f b at (z ∷ xs) [] x r p q others = absurd (none-some r q)
 switched_one {A} mode f b zero (z ∷ xs) (w ∷ rs) x r p q others =
     let rest : switched_entries mode (OfGoose f) (b + 1) xs rs ≡ [] = switched_none mode f (b + 1) xs rs (λ j y e. others (suc j) y e (λ c. absurd (omega arith))) in
     let here : b ≡ b + 0 = omega arith in
-    ap (λ (l : List (Entry A)). if switch_by z mode w.simulated (OfGoose f) then says.Switched b ∷ l else l) rest ∙
-    (ap₂ (λ (y : Block A) (v : Register). one_switched A b (switch_by y mode v.simulated (OfGoose f))) (same_Some z x p) (same_Some w r q) ∙
-    ap (λ (n : ℕ). one_switched A n (switch_by x mode r.simulated (OfGoose f))) here)
+    ap (λ (l : List (Entry A)). if switch_by z mode w.takes_simulated (OfGoose f) then says.Switched b ∷ l else l) rest ∙
+    (ap₂ (λ (y : Block A) (v : Register). one_switched A b (switch_by y mode v.takes_simulated (OfGoose f))) (same_Some z x p) (same_Some w r q) ∙
+    ap (λ (n : ℕ). one_switched A n (switch_by x mode r.takes_simulated (OfGoose f))) here)
 switched_one {A} mode f b (suc at) (z ∷ xs) (w ∷ rs) x r p q others =
     let next : (b + 1) + at ≡ b + suc at = omega arith in
     ap (λ (y : Bool). if y then says.Switched b ∷ switched_entries mode (OfGoose f) (b + 1) xs rs else switched_entries mode (OfGoose f) (b + 1) xs rs)
-    (quiet_other mode w.simulated z f (others 0 z refl (λ c. absurd (omega arith)))).switch_is
+    (quiet_other mode w.takes_simulated z f (others 0 z refl (λ c. absurd (omega arith)))).switch_is
     ∙ (switched_one mode f (b + 1) at xs rs x r p q (λ j y e apart. others (suc j) y e (λ c. apart (omega arith)))
-    ∙ ap (λ (n : ℕ). one_switched A n (switch_by x mode r.simulated (OfGoose f))) next)
+    ∙ ap (λ (n : ℕ). one_switched A n (switch_by x mode r.takes_simulated (OfGoose f))) next)
 
 pub registers_one : {A : Type 0} (now : ℕ) (mode : Bool) (f : FrameRead) (at : ℕ) (xs : List (Block A)) (rs : List Register) (x : Block A) (r : Register) → length rs ≡ length xs
     → slice_get xs at ≡ Some x → slice_get rs at ≡ Some r
@@ -204,7 +204,7 @@ abbrev pub Answers : {A : Type 0} → ℕ → Bool → List (Block A) → List R
 Answers now mode xs rs f es = es ≡ switched_entries mode (OfGoose f) 0 xs rs ++ said_of now mode xs rs (OfGoose f)
 
 said_at : {A : Type 0} (now : ℕ) (mode : Bool) (xs : List (Block A)) (rs : List Register) (f : FrameRead) (at : ℕ) (x : Block A) (r : Register) → position (is_of f) xs ≡ Some at → slice_get xs at ≡ Some x → slice_get rs at ≡ Some r
-    → said_of now mode xs rs (OfGoose f) ≡ block_entry at f (reason_of (is_other_kind f mode r.simulated) x f) (turned now mode (OfGoose f) x r) ∷ []
+    → said_of now mode xs rs (OfGoose f) ≡ block_entry at f (reason_of (is_other_kind f mode r.takes_simulated) x f) (turned now mode (OfGoose f) x r) ∷ []
 said_at {A} now mode xs rs f at x r e p q = rw (e, p, q) refl
 
 pub answer_none : {A : Type 0} (now : ℕ) (mode : Bool) (xs : List (Block A)) (rs : List Register) (f : FrameRead) → position (is_of f) xs ≡ None → Answers now mode xs rs f (says.NotSubscribed ∷ [])
@@ -216,11 +216,11 @@ pub registers_kept : {A : Type 0} (now : ℕ) (mode : Bool) (xs : List (Block A)
 registers_kept now mode xs rs f same e = sym (registers_none now mode f xs rs same (λ j y p. position_none (is_of f) xs e j y p))
 
 pub answer_refused : {A : Type 0} (now : ℕ) (mode : Bool) (xs : List (Block A)) (rs : List Register) (f : FrameRead) (at : ℕ) (x : Block A) (r : Register) (reason : Reason) → AreApart xs → position (is_of f) xs ≡ Some at → slice_get xs at ≡ Some x → slice_get rs at ≡ Some r
-    → reason_of (is_other_kind f mode r.simulated) x f ≡ Some reason → Answers now mode xs rs f (says.Refused at reason ∷ [])
+    → reason_of (is_other_kind f mode r.takes_simulated) x f ≡ Some reason → Answers now mode xs rs f (says.Refused at reason ∷ [])
 answer_refused {A} now mode xs rs f at x r reason apart e p q told =
     let others = is_of_others xs f at x apart p (found_is_of xs f at x e p) in
     let quiet : switched_entries mode (OfGoose f) 0 xs rs ≡ [] =
-    switched_one mode f 0 at xs rs x r p q others ∙ ap (one_switched A (0 + at)) (quiet_refused mode r.simulated x f reason told).switch_is in
+    switched_one mode f 0 at xs rs x r p q others ∙ ap (one_switched A (0 + at)) (quiet_refused mode r.takes_simulated x f reason told).switch_is in
     let said : said_of now mode xs rs (OfGoose f) ≡ says.Refused at reason ∷ [] =
     said_at now mode xs rs f at x r e p q ∙ ap (λ (o : Option Reason). block_entry at f o (turned now mode (OfGoose f) x r) ∷ []) told in
     sym (ap₂ (λ (a b : List (Entry A)). a ++ b) quiet said)
@@ -236,24 +236,24 @@ cleared_get now (x ∷ rs) zero r e = ap (λ (y : Register). Some (register_afte
 cleared_get now (x ∷ rs) (suc at) r e = cleared_get now rs at r e
 
 pub registers_refused : {A : Type 0} (now : ℕ) (mode : Bool) (xs : List (Block A)) (rs : List Register) (f : FrameRead) (at : ℕ) (x : Block A) (r : Register) (reason : Reason) → length rs ≡ length xs → AreApart xs → position (is_of f) xs ≡ Some at → slice_get xs at ≡ Some x → slice_get rs at ≡ Some r
-    → reason_of (is_other_kind f mode r.simulated) x f ≡ Some reason → registers_after_clock now rs ≡ registers_by now mode (OfGoose f) xs rs
+    → reason_of (is_other_kind f mode r.takes_simulated) x f ≡ Some reason → registers_after_clock now rs ≡ registers_by now mode (OfGoose f) xs rs
 registers_refused now mode xs rs f at x r reason same apart e p q told =
     let yes_of = found_is_of xs f at x e p in
-    let quiet = quiet_refused mode r.simulated x f reason told in
+    let quiet = quiet_refused mode r.takes_simulated x f reason told in
     let held : turned now mode (OfGoose f) x r ≡ after_clock r.held now = ap (λ (y : Bool). after_switch y (after_clock r.held now)) quiet.switch_is in
-    let stays : (if is_of f x then block_held now f (reason_of (is_other_kind f mode r.simulated) x f) (turned now mode (OfGoose f) x r) else turned now mode (OfGoose f) x r) ≡ turned now mode (OfGoose f) x r =
-    ap (λ (y : Bool). if y then block_held now f (reason_of (is_other_kind f mode r.simulated) x f) (turned now mode (OfGoose f) x r) else turned now mode (OfGoose f) x r) yes_of
+    let stays : (if is_of f x then block_held now f (reason_of (is_other_kind f mode r.takes_simulated) x f) (turned now mode (OfGoose f) x r) else turned now mode (OfGoose f) x r) ≡ turned now mode (OfGoose f) x r =
+    ap (λ (y : Bool). if y then block_held now f (reason_of (is_other_kind f mode r.takes_simulated) x f) (turned now mode (OfGoose f) x r) else turned now mode (OfGoose f) x r) yes_of
     ∙ ap (λ (o : Option Reason). block_held now f o (turned now mode (OfGoose f) x r)) told in
     let register : register_by now mode (OfGoose f) x r ≡ register_after_clock now r =
-    ap₂ (λ (o : Option Held) (b : Bool). record { held = o; simulated = b }) (stays ∙ held) quiet.flag_is in
+    ap₂ (λ (o : Option LiveState) (b : Bool). record { held = o; takes_simulated = b }) (stays ∙ held) quiet.flag_is in
     sym (registers_one now mode f at xs rs x r same p q (is_of_others xs f at x apart p yes_of)
     ∙ (ap (set (registers_after_clock now rs) at) register ∙ set_same (registers_after_clock now rs) at (register_after_clock now r) (cleared_get now rs at r q)))
 
 pub answer_good : {A : Type 0} (now : ℕ) (mode : Bool) (xs : List (Block A)) (rs : List Register) (f : FrameRead) (at : ℕ) (x : Block A) (r : Register) → AreApart xs → position (is_of f) xs ≡ Some at → slice_get xs at ≡ Some x → slice_get rs at ≡ Some r
-    → reason_of (is_other_kind f mode r.simulated) x f ≡ None → Answers now mode xs rs f (good_entries at now r f)
+    → reason_of (is_other_kind f mode r.takes_simulated) x f ≡ None → Answers now mode xs rs f (good_entries at now r f)
 answer_good {A} now mode xs rs f at x r apart e p q clear =
     let yes_of = found_is_of xs f at x e p in
-    let good = good_is mode r.simulated x f yes_of clear in
+    let good = good_is mode r.takes_simulated x f yes_of clear in
     let here : 0 + at ≡ at = omega arith in
     let switched : switched_entries mode (OfGoose f) 0 xs rs ≡ one_switched A at (switches r f) =
     switched_one mode f 0 at xs rs x r p q (is_of_others xs f at x apart p yes_of)
@@ -264,40 +264,40 @@ answer_good {A} now mode xs rs f at x r apart e p q clear =
     sym (ap₂ (λ (a b : List (Entry A)). a ++ b) switched said)
 
 pub registers_good : {A : Type 0} (now : ℕ) (mode : Bool) (xs : List (Block A)) (rs : List Register) (f : FrameRead) (at : ℕ) (x : Block A) (r : Register) → length rs ≡ length xs → AreApart xs → position (is_of f) xs ≡ Some at → slice_get xs at ≡ Some x → slice_get rs at ≡ Some r
-    → reason_of (is_other_kind f mode r.simulated) x f ≡ None → set (registers_after_clock now rs) at (good_register now r f) ≡ registers_by now mode (OfGoose f) xs rs
+    → reason_of (is_other_kind f mode r.takes_simulated) x f ≡ None → set (registers_after_clock now rs) at (good_register now r f) ≡ registers_by now mode (OfGoose f) xs rs
 registers_good now mode xs rs f at x r same apart e p q clear =
     let yes_of = found_is_of xs f at x e p in
-    let good = good_is mode r.simulated x f yes_of clear in
+    let good = good_is mode r.takes_simulated x f yes_of clear in
     let held : turned now mode (OfGoose f) x r ≡ good_held now r f = ap (λ (y : Bool). after_switch y (after_clock r.held now)) good.switch_is in
-    let stays : (if is_of f x then block_held now f (reason_of (is_other_kind f mode r.simulated) x f) (turned now mode (OfGoose f) x r) else turned now mode (OfGoose f) x r) ≡ block_held now f None (turned now mode (OfGoose f) x r) =
-    ap (λ (y : Bool). if y then block_held now f (reason_of (is_other_kind f mode r.simulated) x f) (turned now mode (OfGoose f) x r) else turned now mode (OfGoose f) x r) yes_of
+    let stays : (if is_of f x then block_held now f (reason_of (is_other_kind f mode r.takes_simulated) x f) (turned now mode (OfGoose f) x r) else turned now mode (OfGoose f) x r) ≡ block_held now f None (turned now mode (OfGoose f) x r) =
+    ap (λ (y : Bool). if y then block_held now f (reason_of (is_other_kind f mode r.takes_simulated) x f) (turned now mode (OfGoose f) x r) else turned now mode (OfGoose f) x r) yes_of
     ∙ ap (λ (o : Option Reason). block_held now f o (turned now mode (OfGoose f) x r)) clear in
     let register : register_by now mode (OfGoose f) x r ≡ good_register now r f =
-    ap₂ (λ (o : Option Held) (b : Bool). record { held = o; simulated = b }) (stays ∙ ap (block_held now f None) held) good.flag_is in
+    ap₂ (λ (o : Option LiveState) (b : Bool). record { held = o; takes_simulated = b }) (stays ∙ ap (block_held now f None) held) good.flag_is in
     sym (registers_one now mode f at xs rs x r same p q (is_of_others xs f at x apart p yes_of) ∙ ap (set (registers_after_clock now rs) at) register)
 
 -- what is written of a good frame
 
-taken_some : (v : Verdict) (held : Option Held) (now : ℕ) (f : Facts) (new : Held) → held_after_frame v None now f ≡ Some new → held_after_frame v held now f ≡ Some new
+taken_some : (v : Verdict) (held : Option LiveState) (now : ℕ) (f : Facts) (new : LiveState) → held_after_frame v None now f ≡ Some new → held_after_frame v held now f ≡ Some new
 taken_some Act held now f new e = e
 taken_some Refreshed held now f new e = e
 taken_some Repeated held now f new e = absurd (none-some new e)
 taken_some Older held now f new e = absurd (none-some new e)
 
-taken_none : (v : Verdict) (held : Option Held) (now : ℕ) (f : Facts) → held_after_frame v None now f ≡ None → held_after_frame v held now f ≡ held
+taken_none : (v : Verdict) (held : Option LiveState) (now : ℕ) (f : Facts) → held_after_frame v None now f ≡ None → held_after_frame v held now f ≡ held
 taken_none Act held now f e = absurd (none-some _ (sym e))
 taken_none Refreshed held now f e = absurd (none-some _ (sym e))
 taken_none Repeated held now f e = refl
 taken_none Older held now f e = refl
 
-taken_deadline : (v : Verdict) (now : ℕ) (f : Facts) (new : Held) → held_after_frame v None now f ≡ Some new → new.deadline ≡ now + f.lifetime
-taken_deadline Act now f new e = sym (ap (λ (h : Held). h.deadline) (same_Some _ new e))
-taken_deadline Refreshed now f new e = sym (ap (λ (h : Held). h.deadline) (same_Some _ new e))
+taken_deadline : (v : Verdict) (now : ℕ) (f : Facts) (new : LiveState) → held_after_frame v None now f ≡ Some new → new.deadline ≡ now + f.lifetime
+taken_deadline Act now f new e = sym (ap (λ (h : LiveState). h.deadline) (same_Some _ new e))
+taken_deadline Refreshed now f new e = sym (ap (λ (h : LiveState). h.deadline) (same_Some _ new e))
 taken_deadline Repeated now f new e = absurd (none-some new e)
 taken_deadline Older now f new e = absurd (none-some new e)
 
 -- an idle block takes any good frame
-taken_idle : (o : Option Held) (now : ℕ) (f : Facts) → o ≡ None → held_after_frame (verdict_on o f) None now f ≡ None → ⊥
+taken_idle : (o : Option LiveState) (now : ℕ) (f : Facts) → o ≡ None → held_after_frame (verdict_on o f) None now f ≡ None → ⊥
 taken_idle None now f is e = none-some _ (sym e)
 taken_idle (Some h) now f is e = none-some h (sym is)
 
@@ -310,19 +310,19 @@ lives b f against e =
           absurd (no_reason (holds against b f) (DatSet ∷ GoId ∷ ConfRev ∷ Commissioning ∷ Simulated ∷ Entries ∷ StateZero ∷ []) [] LiveZero (eq-eqb f.pdu.live 0 dead) e)
     ]
 
-pub new_lives : {A : Type 0} (now : ℕ) (b : Block A) (r : Register) (f : FrameRead) (against : Bool) (new : Held) → reason_of against b f ≡ None → good_renewal now r f ≡ Some new → is_dead (Some new) now ≡ false
+pub new_lives : {A : Type 0} (now : ℕ) (b : Block A) (r : Register) (f : FrameRead) (against : Bool) (new : LiveState) → reason_of against b f ≡ None → good_renewal now r f ≡ Some new → is_dead (Some new) now ≡ false
 new_lives now b r f against new clear e =
     let lt = lives b f against clear in
     let at = taken_deadline (verdict_on (good_held now r f) (facts_of_frame f)) now (facts_of_frame f) new e in
     lt-leb new.deadline now (omega arith)
 
-pub written_new : (now : ℕ) (rs : List Register) (at : ℕ) (r : Register) (f : FrameRead) (new : Held) → is_dead (Some new) now ≡ false → good_renewal now r f ≡ Some new
-    → registers_after_clock now (set rs at (record { held = Some new; simulated = r.simulated || f.pdu.simulation })) ≡ set (registers_after_clock now rs) at (good_register now r f)
+pub written_new : (now : ℕ) (rs : List Register) (at : ℕ) (r : Register) (f : FrameRead) (new : LiveState) → is_dead (Some new) now ≡ false → good_renewal now r f ≡ Some new
+    → registers_after_clock now (set rs at (record { held = Some new; takes_simulated = r.takes_simulated || f.pdu.simulation })) ≡ set (registers_after_clock now rs) at (good_register now r f)
 written_new now rs at r f new fresh e =
-    let here : register_after_clock now (record { held = Some new; simulated = r.simulated || f.pdu.simulation }) ≡ good_register now r f =
-    ap (λ (o : Option Held). record { held = o; simulated = r.simulated || f.pdu.simulation })
+    let here : register_after_clock now (record { held = Some new; takes_simulated = r.takes_simulated || f.pdu.simulation }) ≡ good_register now r f =
+    ap (λ (o : Option LiveState). record { held = o; takes_simulated = r.takes_simulated || f.pdu.simulation })
     (not_due_stays (Some new) now fresh ∙ sym (taken_some (verdict_on (good_held now r f) (facts_of_frame f)) (good_held now r f) now (facts_of_frame f) new e)) in
-    map-set (register_after_clock now) rs at (record { held = Some new; simulated = r.simulated || f.pdu.simulation }) ∙ ap (set (registers_after_clock now rs) at) here
+    map-set (register_after_clock now) rs at (record { held = Some new; takes_simulated = r.takes_simulated || f.pdu.simulation }) ∙ ap (set (registers_after_clock now rs) at) here
 
 flag_kept : (flag s : Bool) → (s && not flag) ≡ false → (flag || s) ≡ flag
 flag_kept true s e = refl
@@ -337,14 +337,14 @@ written_none now rs at r f q e =
       | inr no_switch ↦
           let held : good_held now r f ≡ after_clock r.held now = ap (λ (y : Bool). after_switch y (after_clock r.held now)) no_switch in
           let register : good_register now r f ≡ register_after_clock now r =
-          ap₂ (λ (o : Option Held) (b : Bool). record { held = o; simulated = b })
+          ap₂ (λ (o : Option LiveState) (b : Bool). record { held = o; takes_simulated = b })
           (taken_none (verdict_on (good_held now r f) (facts_of_frame f)) (good_held now r f) now (facts_of_frame f) e ∙ held)
-          (flag_kept r.simulated f.pdu.simulation no_switch) in
+          (flag_kept r.takes_simulated f.pdu.simulation no_switch) in
           sym (ap (set (registers_after_clock now rs) at) register ∙ set_same (registers_after_clock now rs) at (register_after_clock now r) (cleared_get now rs at r q))
     ]
 
 -- one block more holds what isn't due
-due_fewer : (held : List (Option Held)) (at now : ℕ) (new : Option Held) → is_dead new now ≡ false → due_count now (set held at new) ≤ due_count now held
+due_fewer : (held : List (Option LiveState)) (at now : ℕ) (new : Option LiveState) → is_dead new now ≡ false → due_count now (set held at new) ≤ due_count now held
 due_fewer [] at now new e = omega arith
 due_fewer (h ∷ hs) zero now new e =
     elim (cases_Bool (is_dead h now)) [ inl d ↦ rw (e, d) (omega arith) | inr d ↦ rw (e, d) (omega arith) ]
@@ -354,7 +354,7 @@ due_fewer (h ∷ hs) (suc at) now new e =
 
 pub written_fewer : (now : ℕ) (rs : List Register) (at : ℕ) (r : Register) → is_dead r.held now ≡ false → due_count now (helds (set rs at r)) ≤ due_count now (helds rs)
 written_fewer now rs at r e =
-    subst (λ (hs : List (Option Held)). due_count now hs ≤ due_count now (helds rs)) (sym (map-set (λ (x : Register). x.held) rs at r)) (due_fewer (helds rs) at now r.held e)
+    subst (λ (hs : List (Option LiveState)). due_count now hs ≤ due_count now (helds rs)) (sym (map-set (λ (x : Register). x.held) rs at r)) (due_fewer (helds rs) at now r.held e)
 
 -- the reason that was found
 pub reason_told : {A : Type 0} (x : Block A) (f : FrameRead) (against mode m flag : Bool) (o : Option Reason) → against ≡ is_other_kind f m flag → m ≡ mode → o ≡ reason_of against x f

@@ -3,7 +3,7 @@ use Rattle.std.proofs.Common.{◌≡◌, ℕ, zero, suc, ◌+◌, ◌-◌, ◌<�
 use Rattle.std.proofs.lemmas.Bool.{cases_order, cases_lt, ltb-true, ltb-false, leb-true, leb-false, eqb-true, eqb-false, false≢true}
 use Rattle.std.proofs.lemmas.Option.{same_Some}
 use Rattle.subscribe_core.specs.declared.registers.Facts.{Facts}
-use Rattle.subscribe_core.specs.declared.registers.Held.{Held}
+use Rattle.subscribe_core.specs.declared.registers.LiveState.{LiveState}
 use Rattle.subscribe_core.specs.declared.registers.Verdict.{Verdict}
 use Rattle.subscribe_core.specs.declared.registers.Verdict.TheVariants.{Act, Refreshed, Repeated, Older}
 use Rattle.subscribe_core.specs.Epoch.{Trace, IsBefore, IsBest, Dead, IsOver, Ends, IsFirstGood, IsStart, First, Next, IsExpiry, IsLastStart, Acts, IsIdleAfter, HoldsBest, BlockHolds, Refreshes, Repeats, IsVerdict}
@@ -90,7 +90,7 @@ idle_out t n i = go i.ready.may
           ends = w.2;
         })
 
-pub open_in : (t : Trace) (n : ℕ) (h : Held) (b : HoldsBest t n h) → Open t n b.start b.best b.facts n
+pub open_in : (t : Trace) (n : ℕ) (h : LiveState) (b : HoldsBest t n h) → Open t n b.start b.best b.facts n
 open_in t n h b =
     record { start = b.is_start; lives = λ k lt. alive (suc k) k (omega arith) lt; best = b.is_best }
   where
@@ -98,7 +98,7 @@ open_in t n h b =
     alive zero k a lt d = absurd (omega arith)
     alive (suc m) k a lt d = b.lives k lt (record { over = d; first = λ j less. alive m j (omega arith) (omega arith) })
 
-pub open_out : (t : Trace) (n s p : ℕ) (f : Facts) (h : Held) → Open t n s p f n → h.state ≡ f.state → h.sequence ≡ f.sequence → h.deadline ≡ t.now p + f.lifetime → HoldsBest t n h
+pub open_out : (t : Trace) (n s p : ℕ) (f : Facts) (h : LiveState) → Open t n s p f n → h.state ≡ f.state → h.sequence ≡ f.sequence → h.deadline ≡ t.now p + f.lifetime → HoldsBest t n h
 open_out t n s p f h o a b c =
     record {
       start = s;
@@ -358,7 +358,7 @@ open_not_repeats t n s p f g o differ w =
     differ (w.state ∙ ap (λ (x : Facts). x.state) facts) (w.sequence ∙ ap (λ (x : Facts). x.sequence) facts)
 
 -- what a block holds, while its epoch isn't over at n
-pub record Going (t : Trace) (n : ℕ) (h : Held) : Type 0 where
+pub record Going (t : Trace) (n : ℕ) (h : LiveState) : Type 0 where
   pub start : ℕ
   pub best : ℕ
   pub facts : Facts
@@ -368,12 +368,12 @@ pub record Going (t : Trace) (n : ℕ) (h : Held) : Type 0 where
   pub deadline : h.deadline ≡ t.now best + facts.lifetime
 
 -- what a block holds once the expiry at n is done
-abbrev pub HoldsAt : Trace → ℕ → Option Held → Type 0
+abbrev pub HoldsAt : Trace → ℕ → Option LiveState → Type 0
 HoldsAt t n None = Ready t n
 HoldsAt t n (Some h) = Going t n h
 
 -- the expiry at n, and then the switch, if there is one
-pub clock_step : (t : Trace) (n : ℕ) (held : Option Held) → BlockHolds t n held → ((is_dead held (t.now n) ≡ true) ↔ IsExpiry t n) × HoldsAt t n (after_switch (t.switched n) (after_clock held (t.now n)))
+pub clock_step : (t : Trace) (n : ℕ) (held : Option LiveState) → BlockHolds t n held → ((is_dead held (t.now n) ≡ true) ↔ IsExpiry t n) × HoldsAt t n (after_switch (t.switched n) (after_clock held (t.now n)))
 clock_step t n None i = go (t.switched n)
   where
     idle : Idle t n
@@ -428,7 +428,7 @@ clock_step t n (Some h) b = go (nat_le h.deadline (t.now n)) refl (t.switched n)
           },
         )
 
-pub none_step : (t : Trace) (n : ℕ) (held : Option Held) → HoldsAt t n held → t.good n ≡ None → BlockHolds t (n + 1) held
+pub none_step : (t : Trace) (n : ℕ) (held : Option LiveState) → HoldsAt t n held → t.good n ≡ None → BlockHolds t (n + 1) held
 none_step t n None r e = idle_out t (n + 1) (ready_none t n r e)
 none_step t n (Some h) g e =
     open_out t (n + 1) g.start g.best g.facts h
@@ -436,7 +436,7 @@ none_step t n (Some h) g e =
     g.state g.sequence g.deadline
 
 -- the numbers and the lifetime of a frame that is acted on or renews
-abbrev pub held_of : Facts → ℕ → Held
+abbrev pub held_of : Facts → ℕ → LiveState
 held_of f now = record { state = f.state; sequence = f.sequence; deadline = now + f.lifetime }
 
 new_held : (t : Trace) (n s p : ℕ) (f g : Facts) → Open t n s p f (n + 1) → t.good n ≡ Some g → IsBefore f g → BlockHolds t (n + 1) (Some (held_of g (t.now n)))
@@ -445,13 +445,13 @@ new_held t n s p f g o e before =
     (record { start = o.start; lives = o.lives; best = best_new t s n p f g o.best e before })
     refl refl refl
 
-kept_held : (t : Trace) (n : ℕ) (h : Held) (w : Going t n h) (g : Facts) → t.good n ≡ Some g → ¬ IsBefore w.facts g → BlockHolds t (n + 1) (Some h)
+kept_held : (t : Trace) (n : ℕ) (h : LiveState) (w : Going t n h) (g : Facts) → t.good n ≡ Some g → ¬ IsBefore w.facts g → BlockHolds t (n + 1) (Some h)
 kept_held t n h w g e past =
     open_out t (n + 1) w.start w.best w.facts h
     (record { start = w.is_open.start; lives = w.is_open.lives; best = best_kept t w.start n w.best w.facts g w.is_open.best e past })
     w.state w.sequence w.deadline
 
-pub frame_step : (t : Trace) (n : ℕ) (held : Option Held) (g : Facts) → HoldsAt t n held → t.good n ≡ Some g → IsVerdict t n g (verdict_on held g) × BlockHolds t (n + 1) (held_after_frame (verdict_on held g) held (t.now n) g)
+pub frame_step : (t : Trace) (n : ℕ) (held : Option LiveState) (g : Facts) → HoldsAt t n held → t.good n ≡ Some g → IsVerdict t n g (verdict_on held g) × BlockHolds t (n + 1) (held_after_frame (verdict_on held g) held (t.now n) g)
 frame_step t n None g r e =
     (ready_acts t n g r e, open_out t (n + 1) n n g (held_of g (t.now n)) (ready_open t n g r e) refl refl refl)
 frame_step t n (Some h) g w e =

@@ -11,7 +11,7 @@ use Rattle.std.proofs.lemmas.Option.{none-some}
 use Rattle.std.specs.Ordering.{nat_cmp, is_eq, is_gt, ordering_then}
 use Rattle.std.specs.BTreeMap.{is_at}
 use Rattle.std.specs.BTreeSet.{BTreeSet, contains}
-use Rattle.subscribe_core.specs.declared.registers.Held.{Held}
+use Rattle.subscribe_core.specs.declared.registers.LiveState.{LiveState}
 use Rattle.subscribe_core.specs.computed.Steps.{is_dead}
 use Rattle.subscribe_core.specs.computed.Deadlines.{pair_cmp, has_deadline}
 
@@ -29,7 +29,7 @@ pub at_other : (k q : ℕ × ℕ) → (k ≡ q → ⊥) → is_at (pair_cmp k) q
 at_other k q apart = elim (cases_Bool (is_at (pair_cmp k) q)) [ inl e ↦ absurd (apart (at_same k q e)) | inr e ↦ e ]
 
 -- one register is written, and the set follows
-pub timed_set : (held : List (Option Held)) (at : ℕ) (new : Option Held) (s n : ℕ × ℕ → Bool) → at < length held
+pub timed_set : (held : List (Option LiveState)) (at : ℕ) (new : Option LiveState) (s n : ℕ × ℕ → Bool) → at < length held
     → ((q : ℕ × ℕ) → s q ≡ has_deadline (get_or held q.1 None) q.0)
     → ((q : ℕ × ℕ) → (q.1 ≡ at → ⊥) → n q ≡ s q)
     → ((d : ℕ) → n (d, at) ≡ has_deadline new d)
@@ -61,7 +61,7 @@ second_apart : (k q : ℕ × ℕ) → (q.1 ≡ k.1 → ⊥) → k ≡ q → ⊥
 second_apart k q apart e = apart (sym (ap (λ (p : ℕ × ℕ). p.1) e))
 
 -- the new deadline goes in where the old one was none or the same
-pub timed_put : (held : List (Option Held)) (at : ℕ) (new : Held) (old : Option Held) (s n : ℕ × ℕ → Bool) → at < length held
+pub timed_put : (held : List (Option LiveState)) (at : ℕ) (new : LiveState) (old : Option LiveState) (s n : ℕ × ℕ → Bool) → at < length held
     → get_or held at None ≡ old
     → ((d : ℕ) → (d ≡ new.deadline → ⊥) → has_deadline old d ≡ false)
     → Puts s n (new.deadline, at) true
@@ -80,7 +80,7 @@ timed_put held at new old s n lt was gone u agree =
     ])
 
 -- and the old one is taken out where it was another
-pub timed_swap : (held : List (Option Held)) (at : ℕ) (new old : Held) (s n m : ℕ × ℕ → Bool) → at < length held
+pub timed_swap : (held : List (Option LiveState)) (at : ℕ) (new old : LiveState) (s n m : ℕ × ℕ → Bool) → at < length held
     → get_or held at None ≡ Some old
     → (old.deadline ≡ new.deadline → ⊥)
     → Puts s n (new.deadline, at) true
@@ -109,20 +109,20 @@ timed_swap held at new old s n m lt was apart u v agree =
     ])
 
 -- what has a deadline
-pub has_only : (o : Option Held) (d e : ℕ) → has_deadline o d ≡ true → (e ≡ d → ⊥) → has_deadline o e ≡ false
+pub has_only : (o : Option LiveState) (d e : ℕ) → has_deadline o d ≡ true → (e ≡ d → ⊥) → has_deadline o e ≡ false
 has_only None d e h apart = refl
 has_only (Some x) d e h apart = ne_eqb x.deadline e (λ same. apart (sym same ∙ eqb-true x.deadline d h))
 
-pub due_from : (o : Option Held) (d now : ℕ) → has_deadline o d ≡ true → d ≤ now → is_dead o now ≡ true
+pub due_from : (o : Option LiveState) (d now : ℕ) → has_deadline o d ≡ true → d ≤ now → is_dead o now ≡ true
 due_from None d now h le = absurd (false≢true h)
 due_from (Some x) d now h le = let same : x.deadline ≡ d = eqb-true x.deadline d h in le-leb x.deadline now (omega arith)
 
 -- what is due has a deadline that is at most the moment
-pub due_has : (o : Option Held) (now : ℕ) → is_dead o now ≡ true → (d : ℕ) × (has_deadline o d ≡ true) × (d ≤ now)
+pub due_has : (o : Option LiveState) (now : ℕ) → is_dead o now ≡ true → (d : ℕ) × (has_deadline o d ≡ true) × (d ≤ now)
 due_has None now e = absurd (false≢true e)
 due_has (Some x) now e = (x.deadline, eq-eqb x.deadline x.deadline refl, leb-true x.deadline now e)
 
-pub within_from : (held : List (Option Held)) (at d : ℕ) → has_deadline (get_or held at None) d ≡ true → at < length held
+pub within_from : (held : List (Option LiveState)) (at d : ℕ) → has_deadline (get_or held at None) d ≡ true → at < length held
 within_from held at d e =
     elim (cases_lt at (length held)) [
       | inl lt ↦ lt
@@ -130,7 +130,7 @@ within_from held at d e =
     ]
 
 -- a pair is taken out, and its register is cleared
-pub timed_take : (held : List (Option Held)) (k : ℕ × ℕ) (s n : ℕ × ℕ → Bool) → s k ≡ true
+pub timed_take : (held : List (Option LiveState)) (k : ℕ × ℕ) (s n : ℕ × ℕ → Bool) → s k ≡ true
     → Puts s n k false
     → ((q : ℕ × ℕ) → s q ≡ has_deadline (get_or held q.1 None) q.0)
     → (q : ℕ × ℕ) → n q ≡ has_deadline (get_or (set held k.1 None) q.1 None) q.0
@@ -146,7 +146,7 @@ timed_take held k s n has u agree =
     ])
 
 -- no pair is due, so no block is
-pub none_due : (held : List (Option Held)) (at now : ℕ) (s : ℕ × ℕ → Bool)
+pub none_due : (held : List (Option LiveState)) (at now : ℕ) (s : ℕ × ℕ → Bool)
     → ((q : ℕ × ℕ) → s q ≡ has_deadline (get_or held q.1 None) q.0)
     → ((q : ℕ × ℕ) → s q ≡ true → q.0 ≤ now → ⊥)
     → is_dead (get_or held at None) now ≡ false

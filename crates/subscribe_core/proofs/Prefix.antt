@@ -1,7 +1,7 @@
 -- What is said of the first n positions depends on these alone.
 use Rattle.std.proofs.Common.{◌≡◌, ℕ, ◌+◌, ◌<◌, ◌≤◌, inl, inr, Option, Some, None, sym, ap, ◌∙◌, arith}
 use Rattle.subscribe_core.specs.declared.registers.Facts.{Facts}
-use Rattle.subscribe_core.specs.declared.registers.Held.{Held}
+use Rattle.subscribe_core.specs.declared.registers.LiveState.{LiveState}
 use Rattle.subscribe_core.specs.declared.registers.Verdict.{Verdict}
 use Rattle.subscribe_core.specs.declared.registers.Verdict.TheVariants.{Act, Refreshed, Repeated, Older}
 use Rattle.subscribe_core.proofs.Epochs.{over_after}
@@ -124,7 +124,7 @@ verdict_same a i f Older lt w = (
   (λ x. w.2 (repeats_same (same_sym a) i f lt x)),
 )
 
-pub holds_same : {n : ℕ} {t u : Trace} → SameBelow n t u → (held : Option Held) → BlockHolds t n held → BlockHolds u n held
+pub holds_same : {n : ℕ} {t u : Trace} → SameBelow n t u → (held : Option LiveState) → BlockHolds t n held → BlockHolds u n held
 holds_same a None (inl none) = inl (λ s lt w. none s lt (start_same (same_sym a) lt w))
 holds_same {n} {t} {u} a None (inr w) =
     let after : w.start < w.end = over_after t w.start w.end w.ends.over in

@@ -34,7 +34,7 @@ fresh_stands_read blocks =
       mode = refl;
       holds = λ b block r p q.
           subst (λ (x : Register). BlockHolds (trace_of_block block []) 0 x.held) (sym (get_idle (length blocks) b r q)) (inl (λ s lt w. absurd (omega arith)));
-      flags = λ b block r p q. ap (λ (x : Register). x.simulated) (get_idle (length blocks) b r q);
+      flags = λ b block r p q. ap (λ (x : Register). x.takes_simulated) (get_idle (length blocks) b r q);
     }
 
 pub fresh_stands : {A : Type 0} (blocks : List (Block A)) → StandsAfter [] (fresh_state blocks)

@@ -19,7 +19,7 @@ pub switched_still : {A : Type 0} (mode : Bool) (k : Content) (b : ℕ) (xs : Li
 switched_still mode k b [] rs still = refl
 switched_still mode k b (x ∷ xs) [] still = refl
 switched_still mode k b (x ∷ xs) (r ∷ rs) still =
-    ap (λ (y : Bool). if y then says.Switched b ∷ switched_entries mode k (b + 1) xs rs else switched_entries mode k (b + 1) xs rs) (still x r.simulated)
+    ap (λ (y : Bool). if y then says.Switched b ∷ switched_entries mode k (b + 1) xs rs else switched_entries mode k (b + 1) xs rs) (still x r.takes_simulated)
     ∙ switched_still mode k (b + 1) xs rs still
 
 pub registers_still : {A : Type 0} (now : ℕ) (mode : Bool) (k : Content) (xs : List (Block A)) (rs : List Register) → length rs ≡ length xs
@@ -37,12 +37,12 @@ switched_off_entries mode b [] [] same = refl
 switched_off_entries mode b [] (r ∷ rs) same = absurd (omega arith)
 switched_off_entries mode b (x ∷ xs) [] same = refl
 switched_off_entries {A} mode b (x ∷ xs) (r ∷ rs) same =
-    ap (λ (l : List (Entry A)). if r.simulated then says.Switched b ∷ l else l) (switched_off_entries mode (b + 1) xs rs (omega arith))
+    ap (λ (l : List (Entry A)). if r.takes_simulated then says.Switched b ∷ l else l) (switched_off_entries mode (b + 1) xs rs (omega arith))
 
-off_one : {A : Type 0} (now : ℕ) (mode : Bool) (x : Block A) (r : Register) (flag : Bool) → r.simulated ≡ flag → register_by now mode (OfMode false) x r ≡ register_after_clock now (switched_off_one r)
+off_one : {A : Type 0} (now : ℕ) (mode : Bool) (x : Block A) (r : Register) (flag : Bool) → r.takes_simulated ≡ flag → register_by now mode (OfMode false) x r ≡ register_after_clock now (switched_off_one r)
 off_one now mode x r flag e = go flag e
   where
-    go : (y : Bool) → r.simulated ≡ y → register_by now mode (OfMode false) x r ≡ register_after_clock now (switched_off_one r)
+    go : (y : Bool) → r.takes_simulated ≡ y → register_by now mode (OfMode false) x r ≡ register_after_clock now (switched_off_one r)
     go true e = rw e refl
     go false e = rw e refl
 
@@ -51,7 +51,7 @@ registers_off now mode [] [] same = refl
 registers_off now mode [] (r ∷ rs) same = absurd (omega arith)
 registers_off now mode (x ∷ xs) [] same = refl
 registers_off now mode (x ∷ xs) (r ∷ rs) same =
-    ap₂ (λ (y : Register) (ys : List Register). y ∷ ys) (off_one now mode x r r.simulated refl) (registers_off now mode xs rs (omega arith))
+    ap₂ (λ (y : Register) (ys : List Register). y ∷ ys) (off_one now mode x r r.takes_simulated refl) (registers_off now mode xs rs (omega arith))
 
 -- one block after the other
 
@@ -72,16 +72,16 @@ set_same [] at y e = refl
 set_same (z ∷ ys) zero y e = ap (λ (w : Register). w ∷ ys) (sym (same_Some z y e))
 set_same (z ∷ ys) (suc at) y e = ap (λ (ws : List Register). z ∷ ws) (set_same ys at y e)
 
-pub off_more : (n : ℕ) (rs : List Register) (r : Register) → slice_get (off_to n rs) n ≡ Some r → r.simulated ≡ true → off_to (n + 1) rs ≡ set (off_to n rs) n (record { held = None; simulated = false })
+pub off_more : (n : ℕ) (rs : List Register) (r : Register) → slice_get (off_to n rs) n ≡ Some r → r.takes_simulated ≡ true → off_to (n + 1) rs ≡ set (off_to n rs) n (record { held = None; takes_simulated = false })
 off_more n rs r e flag =
     let next : n + 1 ≡ suc n = omega arith in
-    ap (λ (m : ℕ). off_to m rs) next ∙ (off_step n rs r e ∙ ap (λ (y : Bool). set (off_to n rs) n (if y then record { held = None; simulated = false } else r)) flag)
+    ap (λ (m : ℕ). off_to m rs) next ∙ (off_step n rs r e ∙ ap (λ (y : Bool). set (off_to n rs) n (if y then record { held = None; takes_simulated = false } else r)) flag)
 
-pub off_same : (n : ℕ) (rs : List Register) (r : Register) → slice_get (off_to n rs) n ≡ Some r → r.simulated ≡ false → off_to (n + 1) rs ≡ off_to n rs
+pub off_same : (n : ℕ) (rs : List Register) (r : Register) → slice_get (off_to n rs) n ≡ Some r → r.takes_simulated ≡ false → off_to (n + 1) rs ≡ off_to n rs
 off_same n rs r e flag =
     let next : n + 1 ≡ suc n = omega arith in
     ap (λ (m : ℕ). off_to m rs) next
-    ∙ (off_step n rs r e ∙ (ap (λ (y : Bool). set (off_to n rs) n (if y then record { held = None; simulated = false } else r)) flag ∙ set_same (off_to n rs) n r e))
+    ∙ (off_step n rs r e ∙ (ap (λ (y : Bool). set (off_to n rs) n (if y then record { held = None; takes_simulated = false } else r)) flag ∙ set_same (off_to n rs) n r e))
 
 pub off_all : (n : ℕ) (rs : List Register) → length rs ≤ n → off_to n rs ≡ switched_off rs
 off_all zero [] le = refl
@@ -105,20 +105,20 @@ pub record IsSwitching {A : Type 0} (at : ℕ) (first_blocks : List (Block A)) (
 abbrev pub left_entries : {A : Type 0} → ℕ → List Register → List (Entry A)
 left_entries n rs = flagged_entries n (drop n rs)
 
-flagged_drop : (A : Type 0) (b n : ℕ) (rs : List Register) (r : Register) → slice_get rs n ≡ Some r → flagged_entries {A = A} b (drop n rs) ≡ (if r.simulated then says.Switched b ∷ flagged_entries (b + 1) (drop (suc n) rs) else flagged_entries (b + 1) (drop (suc n) rs))
+flagged_drop : (A : Type 0) (b n : ℕ) (rs : List Register) (r : Register) → slice_get rs n ≡ Some r → flagged_entries {A = A} b (drop n rs) ≡ (if r.takes_simulated then says.Switched b ∷ flagged_entries (b + 1) (drop (suc n) rs) else flagged_entries (b + 1) (drop (suc n) rs))
 flagged_drop A b n [] r e = absurd (none-some r e)
 flagged_drop A b zero (x ∷ xs) r e =
-    ap (λ (y : Register). if y.simulated then says.Switched b ∷ flagged_entries {A = A} (b + 1) xs else flagged_entries (b + 1) xs) (same_Some x r e)
+    ap (λ (y : Register). if y.takes_simulated then says.Switched b ∷ flagged_entries {A = A} (b + 1) xs else flagged_entries (b + 1) xs) (same_Some x r e)
 flagged_drop A b (suc n) (x ∷ xs) r e = flagged_drop A b n xs r e
 
-pub left_more : (A : Type 0) (n : ℕ) (rs : List Register) (r : Register) → slice_get rs n ≡ Some r → r.simulated ≡ true → left_entries {A = A} n rs ≡ says.Switched n ∷ left_entries (n + 1) rs
+pub left_more : (A : Type 0) (n : ℕ) (rs : List Register) (r : Register) → slice_get rs n ≡ Some r → r.takes_simulated ≡ true → left_entries {A = A} n rs ≡ says.Switched n ∷ left_entries (n + 1) rs
 left_more A n rs r e flag =
     let next : n + 1 ≡ suc n = omega arith in
     flagged_drop A n n rs r e ∙
     (ap (λ (y : Bool). if y then says.Switched n ∷ flagged_entries {A = A} (n + 1) (drop (suc n) rs) else flagged_entries (n + 1) (drop (suc n) rs)) flag ∙
     ap (λ (m : ℕ). says.Switched n ∷ flagged_entries {A = A} (n + 1) (drop m rs)) (sym next))
 
-pub left_same : (A : Type 0) (n : ℕ) (rs : List Register) (r : Register) → slice_get rs n ≡ Some r → r.simulated ≡ false → left_entries {A = A} n rs ≡ left_entries (n + 1) rs
+pub left_same : (A : Type 0) (n : ℕ) (rs : List Register) (r : Register) → slice_get rs n ≡ Some r → r.takes_simulated ≡ false → left_entries {A = A} n rs ≡ left_entries (n + 1) rs
 left_same A n rs r e flag =
     let next : n + 1 ≡ suc n = omega arith in
     flagged_drop A n n rs r e ∙

@@ -8,7 +8,7 @@ use Rattle.std.proofs.lemmas.Iterator.Adapters.{position_from-zero}
 use Rattle.std.specs.List.{position_from}
 use Rattle.block_core.specs.declared.block.Block.{Block}
 use Rattle.subscribe_core.specs.Reading.{FrameRead, EventRead, Content, OfGoose, OfSampled, OfFault, OfClock, OfMode}
-use Rattle.subscribe_core.specs.declared.registers.Held.{Held}
+use Rattle.subscribe_core.specs.declared.registers.LiveState.{LiveState}
 use Rattle.subscribe_core.specs.declared.registers.Register.{Register}
 use Rattle.subscribe_core.specs.declared.entry.Reason.{Reason}
 use Rattle.subscribe_core.specs.declared.entry.Entry.{Entry}
@@ -48,19 +48,19 @@ position_none p xs e j x is = position_from_none p 0 xs j x (sym (position_from-
 -- what holds of one block at the event: its registers say what the list says
 record Agrees {A : Type 0} (events : List EventRead) (e : EventRead) (now : ℕ) (mode : Bool) (x : Block A) (r : Register) : Type 0 where
   now_is : now ≡ (trace_of_block x (events ++ e ∷ [])).now (length events)
-  switch_is : (trace_of_block x (events ++ e ∷ [])).switched (length events) ≡ switch_by x mode r.simulated e.content
-  good_is : (trace_of_block x (events ++ e ∷ [])).good (length events) ≡ facts_of x mode r.simulated e.content
-  reason_is : (f : FrameRead) → reason_of (is_other_kind f (mode_at (events ++ e ∷ []) (length events)) (takes_simulated x (events ++ e ∷ []) (length events))) x f ≡ reason_of (is_other_kind f mode r.simulated) x f
-  flag_is : flag_by x mode r.simulated e.content ≡ takes_simulated x (events ++ e ∷ []) (length events + 1)
+  switch_is : (trace_of_block x (events ++ e ∷ [])).switched (length events) ≡ switch_by x mode r.takes_simulated e.content
+  good_is : (trace_of_block x (events ++ e ∷ [])).good (length events) ≡ facts_of x mode r.takes_simulated e.content
+  reason_is : (f : FrameRead) → reason_of (is_other_kind f (mode_at (events ++ e ∷ []) (length events)) (takes_simulated x (events ++ e ∷ []) (length events))) x f ≡ reason_of (is_other_kind f mode r.takes_simulated) x f
+  flag_is : flag_by x mode r.takes_simulated e.content ≡ takes_simulated x (events ++ e ∷ []) (length events + 1)
   expiry : (is_dead r.held now ≡ true) ↔ IsExpiry (trace_of_block x (events ++ e ∷ [])) (length events)
   held : HoldsAt (trace_of_block x (events ++ e ∷ [])) (length events) (turned now mode e.content x r)
 
 agrees : {A : Type 0} → (events : List EventRead) (e : EventRead) (s : State A) → StandsAfterRead events s → (b : ℕ) (x : Block A) (r : Register) → slice_get s.blocks b ≡ Some x → slice_get s.registers b ≡ Some r → Agrees events e (max s.moment e.moment) s.mode x r
 agrees events e s w b x r p q =
-    let flag : r.simulated ≡ takes_simulated x events (length events) = w.flags b x r p q in
+    let flag : r.takes_simulated ≡ takes_simulated x events (length events) = w.flags b x r p q in
     let now : max s.moment e.moment ≡ (trace_of_block x (events ++ e ∷ [])).now (length events) =
     ap (λ m. max m e.moment) w.moment ∙ sym (trace_now x events e) in
-    let sw : (trace_of_block x (events ++ e ∷ [])).switched (length events) ≡ switch_by x s.mode r.simulated e.content =
+    let sw : (trace_of_block x (events ++ e ∷ [])).switched (length events) ≡ switch_by x s.mode r.takes_simulated e.content =
     switched_new x events e ∙ (ap (λ m. switch_by x m (takes_simulated x events (length events)) e.content) (sym w.mode) ∙ ap (λ y. switch_by x s.mode y e.content) (sym flag)) in
     let step = clock_step (trace_of_block x (events ++ e ∷ [])) (length events) r.held (holds_same (front_same x events (e ∷ [])) r.held (w.holds b x r p q)) in
     record {
@@ -72,7 +72,7 @@ agrees events e s w b x r p q =
           ap (λ y. reason_of (is_other_kind f s.mode y) x f) (takes_front x events (e ∷ []) (length events) (omega arith) ∙ sym flag);
       flag_is = sym (flag_new x events e ∙ (ap (λ m. flag_by x m (takes_simulated x events (length events)) e.content) (sym w.mode) ∙ ap (λ y. flag_by x s.mode y e.content) (sym flag)));
       expiry = subst (λ m. (is_dead r.held m ≡ true) ↔ IsExpiry (trace_of_block x (events ++ e ∷ [])) (length events)) (sym now) step.0;
-      held = subst (λ m. HoldsAt (trace_of_block x (events ++ e ∷ [])) (length events) (after_switch (switch_by x s.mode r.simulated e.content) (after_clock r.held m))) (sym now)
+      held = subst (λ m. HoldsAt (trace_of_block x (events ++ e ∷ [])) (length events) (after_switch (switch_by x s.mode r.takes_simulated e.content) (after_clock r.held m))) (sym now)
           (subst (λ y. HoldsAt (trace_of_block x (events ++ e ∷ [])) (length events) (after_switch y (after_clock r.held ((trace_of_block x (events ++ e ∷ [])).now (length events))))) sw step.1);
     }
 
@@ -82,27 +82,27 @@ of_facts f x mode flag o r a b =
     ap (λ (y : Bool). if y then facts_unless_refused (reason_of (is_other_kind f mode flag) x f) (facts_of_frame f) else None) a ∙
     ap (λ (y : Option Reason). if o then facts_unless_refused y (facts_of_frame f) else None) b
 
-block_ok : {A : Type 0} → (events : List EventRead) (e : EventRead) (now : ℕ) (mode : Bool) (x : Block A) (r : Register) (c : ℕ) (f : FrameRead) → Agrees events e now mode x r → e.content ≡ OfGoose f → is_of f x ≡ true → (held : Option Held) → HoldsAt (trace_of_block x (events ++ e ∷ [])) (length events) held → (reason : Option Reason) → reason_of (is_other_kind f mode r.simulated) x f ≡ reason → IsBlockEntry (events ++ e ∷ []) (length events) c x f reason (block_entry c f reason held) × BlockHolds (trace_of_block x (events ++ e ∷ [])) (length events + 1) (block_held now f reason held)
+block_ok : {A : Type 0} → (events : List EventRead) (e : EventRead) (now : ℕ) (mode : Bool) (x : Block A) (r : Register) (c : ℕ) (f : FrameRead) → Agrees events e now mode x r → e.content ≡ OfGoose f → is_of f x ≡ true → (held : Option LiveState) → HoldsAt (trace_of_block x (events ++ e ∷ [])) (length events) held → (reason : Option Reason) → reason_of (is_other_kind f mode r.takes_simulated) x f ≡ reason → IsBlockEntry (events ++ e ∷ []) (length events) c x f reason (block_entry c f reason held) × BlockHolds (trace_of_block x (events ++ e ∷ [])) (length events + 1) (block_held now f reason held)
 block_ok events e now mode x r c f a is yes_of held at (Some reason) ri =
-    (refl, none_step (trace_of_block x (events ++ e ∷ [])) (length events) held at (a.good_is ∙ (ap (facts_of x mode r.simulated) is ∙ of_facts f x mode r.simulated true (Some reason) yes_of ri)))
+    (refl, none_step (trace_of_block x (events ++ e ∷ [])) (length events) held at (a.good_is ∙ (ap (facts_of x mode r.takes_simulated) is ∙ of_facts f x mode r.takes_simulated true (Some reason) yes_of ri)))
 block_ok events e now mode x r c f a is yes_of held at None ri =
-    let step = frame_step (trace_of_block x (events ++ e ∷ [])) (length events) held (facts_of_frame f) at (a.good_is ∙ (ap (facts_of x mode r.simulated) is ∙ of_facts f x mode r.simulated true None yes_of ri)) in (
+    let step = frame_step (trace_of_block x (events ++ e ∷ [])) (length events) held (facts_of_frame f) at (a.good_is ∙ (ap (facts_of x mode r.takes_simulated) is ∙ of_facts f x mode r.takes_simulated true None yes_of ri)) in (
       (verdict_on held (facts_of_frame f), step.0, refl),
       subst (λ m. BlockHolds (trace_of_block x (events ++ e ∷ [])) (length events + 1) (held_after_frame (verdict_on held (facts_of_frame f)) held m (facts_of_frame f))) (sym a.now_is) step.1,
     )
 
-held_ok : {A : Type 0} → (events : List EventRead) (e : EventRead) (now : ℕ) (mode : Bool) (x : Block A) (r : Register) → Agrees events e now mode x r → (held : Option Held) → HoldsAt (trace_of_block x (events ++ e ∷ [])) (length events) held → (k : Content) → e.content ≡ k → BlockHolds (trace_of_block x (events ++ e ∷ [])) (length events + 1) (held_by now mode x r k held)
+held_ok : {A : Type 0} → (events : List EventRead) (e : EventRead) (now : ℕ) (mode : Bool) (x : Block A) (r : Register) → Agrees events e now mode x r → (held : Option LiveState) → HoldsAt (trace_of_block x (events ++ e ∷ [])) (length events) held → (k : Content) → e.content ≡ k → BlockHolds (trace_of_block x (events ++ e ∷ [])) (length events + 1) (held_by now mode x r k held)
 held_ok events e now mode x r a held at (OfGoose f) is = go (is_of f x) refl
   where
-    go : (o : Bool) → is_of f x ≡ o → BlockHolds (trace_of_block x (events ++ e ∷ [])) (length events + 1) (if o then block_held now f (reason_of (is_other_kind f mode r.simulated) x f) held else held)
-    go true o = (block_ok events e now mode x r 0 f a is o held at (reason_of (is_other_kind f mode r.simulated) x f) refl).1
+    go : (o : Bool) → is_of f x ≡ o → BlockHolds (trace_of_block x (events ++ e ∷ [])) (length events + 1) (if o then block_held now f (reason_of (is_other_kind f mode r.takes_simulated) x f) held else held)
+    go true o = (block_ok events e now mode x r 0 f a is o held at (reason_of (is_other_kind f mode r.takes_simulated) x f) refl).1
     go false o =
         none_step (trace_of_block x (events ++ e ∷ [])) (length events) held at
-        (a.good_is ∙ (ap (facts_of x mode r.simulated) is ∙ of_facts f x mode r.simulated false (reason_of (is_other_kind f mode r.simulated) x f) o refl))
-held_ok events e now mode x r a held at OfSampled is = none_step (trace_of_block x (events ++ e ∷ [])) (length events) held at (a.good_is ∙ ap (facts_of x mode r.simulated) is)
-held_ok events e now mode x r a held at (OfFault z) is = none_step (trace_of_block x (events ++ e ∷ [])) (length events) held at (a.good_is ∙ ap (facts_of x mode r.simulated) is)
-held_ok events e now mode x r a held at OfClock is = none_step (trace_of_block x (events ++ e ∷ [])) (length events) held at (a.good_is ∙ ap (facts_of x mode r.simulated) is)
-held_ok events e now mode x r a held at (OfMode on) is = none_step (trace_of_block x (events ++ e ∷ [])) (length events) held at (a.good_is ∙ ap (facts_of x mode r.simulated) is)
+        (a.good_is ∙ (ap (facts_of x mode r.takes_simulated) is ∙ of_facts f x mode r.takes_simulated false (reason_of (is_other_kind f mode r.takes_simulated) x f) o refl))
+held_ok events e now mode x r a held at OfSampled is = none_step (trace_of_block x (events ++ e ∷ [])) (length events) held at (a.good_is ∙ ap (facts_of x mode r.takes_simulated) is)
+held_ok events e now mode x r a held at (OfFault z) is = none_step (trace_of_block x (events ++ e ∷ [])) (length events) held at (a.good_is ∙ ap (facts_of x mode r.takes_simulated) is)
+held_ok events e now mode x r a held at OfClock is = none_step (trace_of_block x (events ++ e ∷ [])) (length events) held at (a.good_is ∙ ap (facts_of x mode r.takes_simulated) is)
+held_ok events e now mode x r a held at (OfMode on) is = none_step (trace_of_block x (events ++ e ∷ [])) (length events) held at (a.good_is ∙ ap (facts_of x mode r.takes_simulated) is)
 
 -- lists of blocks and registers
 
@@ -134,14 +134,14 @@ switched_ok events e now mode b [] rs same all = refl
 switched_ok events e now mode b (x ∷ xs) [] same all = absurd (omega arith)
 switched_ok events e now mode b (x ∷ xs) (r ∷ rs) same all =
     let is = (all 0 x r refl refl).switch_is in
-    each_one (SwitchesAt (events ++ e ∷ []) (length events)) says.Switched b x xs (switched_entries mode e.content (b + 1) xs rs) (switch_by x mode r.simulated e.content)
+    each_one (SwitchesAt (events ++ e ∷ []) (length events)) says.Switched b x xs (switched_entries mode e.content (b + 1) xs rs) (switch_by x mode r.takes_simulated e.content)
     ((λ on. is ∙ on), (λ on. sym is ∙ on)) (switched_ok events e now mode (b + 1) xs rs (omega arith) (λ j. all (suc j)))
 
 pub no_block : {A : Type 0} → Block A
 no_block = record { app_id = 0; gocb_ref = []; dat_set = []; go_id = None; conf_rev = 0; entries = 0 }
 
 no_register : Register
-no_register = record { held = None; simulated = false }
+no_register = record { held = None; takes_simulated = false }
 
 frame_ok : {A : Type 0} → (events : List EventRead) (e : EventRead) (now : ℕ) (mode : Bool) (xs : List (Block A)) (rs : List Register) → length rs ≡ length xs → AllAgree events e now mode xs rs → (f : FrameRead) → e.content ≡ OfGoose f → (o : Option ℕ) → position (is_of f) xs ≡ o → IsFrameEntry xs (events ++ e ∷ []) (length events) f (frame_entry now mode xs rs f o)
 frame_ok events e now mode xs rs same all f is None o =
@@ -155,7 +155,7 @@ frame_ok {A} events e now mode xs rs same all f is (Some c) o =
         let a = all c x r p q in
         let held : HoldsAt (trace_of_block x (events ++ e ∷ [])) (length events) (turned now mode (OfGoose f) x r) =
         subst (λ (k : Content). HoldsAt (trace_of_block x (events ++ e ∷ [])) (length events) (turned now mode k x r)) is a.held in
-        let entry = (block_ok events e now mode x r c f a is yes_of (turned now mode (OfGoose f) x r) held (reason_of (is_other_kind f mode r.simulated) x f) refl).0 in
+        let entry = (block_ok events e now mode x r c f a is yes_of (turned now mode (OfGoose f) x r) held (reason_of (is_other_kind f mode r.takes_simulated) x f) refl).0 in
         let whole : IsFrameEntry xs (events ++ e ∷ []) (length events) f (found_entry now mode f c (Some x) (Some r)) =
         inr (record { position = c; block = x; here = p; own = yes_of; told = subst (λ (y : Option Reason). IsBlockEntry (events ++ e ∷ []) (length events) c x f y (found_entry now mode f c (Some x) (Some r))) (sym (a.reason_is f)) entry }) in
         subst (λ (y : Option Register). IsFrameEntry xs (events ++ e ∷ []) (length events) f (found_entry now mode f c (slice_get xs c) y)) (sym q)
@@ -204,6 +204,6 @@ step_ok {A} events e s w =
         flags = λ b x y p q.
             let r = register_at (max s.moment e.moment) s.mode e.content s.blocks s.registers b x y p q in
             let a = all b x r.0 p r.1 in
-            ap (λ (z : Register). z.simulated) (sym r.2) ∙ (a.flag_is ∙ ap (takes_simulated x (events ++ e ∷ [])) (sym (length_push events e)));
+            ap (λ (z : Register). z.takes_simulated) (sym r.2) ∙ (a.flag_is ∙ ap (takes_simulated x (events ++ e ∷ [])) (sym (length_push events e)));
       },
     )

@@ -2,7 +2,7 @@
 -- acts on (profile). All is said by positions in the list, from 0.
 use Rattle.std.specs.Prelude.{◌≡◌, ℕ, ◌+◌, ◌<◌, ◌≤◌, ◌⊎◌, Option, Some, None, Bool, true}
 use Rattle.subscribe_core.specs.declared.registers.Facts.{Facts}
-use Rattle.subscribe_core.specs.declared.registers.Held.{Held}
+use Rattle.subscribe_core.specs.declared.registers.LiveState.{LiveState}
 use Rattle.subscribe_core.specs.declared.registers.Verdict.{Verdict}
 use Rattle.subscribe_core.specs.declared.registers.Verdict.TheVariants.{Act, Refreshed, Repeated, Older}
 
@@ -116,7 +116,7 @@ IsIdleAfter t n = ((s : ℕ) → s < n → ¬ IsStart t s) ⊎ HasEnded t n
 
 -- what started last among the first n positions isn't over: the block holds the pair of the best position since, and the
 -- moment at which its lifetime is over
-pub record HoldsBest (t : Trace) (n : ℕ) (h : Held) : Type 0 where
+pub record HoldsBest (t : Trace) (n : ℕ) (h : LiveState) : Type 0 where
   pub start : ℕ
   pub is_start : IsStart t start
   pub last : (r : ℕ) → IsStart t r → r < n → r ≤ start
@@ -130,6 +130,6 @@ pub record HoldsBest (t : Trace) (n : ℕ) (h : Held) : Type 0 where
 
 -- what a block holds after the first n positions of its trace: nothing, where it is idle; or the pair of the best
 -- frame since the last start, and the moment at which that frame's lifetime is over
-abbrev pub BlockHolds : Trace → ℕ → Option Held → Type 0
+abbrev pub BlockHolds : Trace → ℕ → Option LiveState → Type 0
 BlockHolds t n None = IsIdleAfter t n
 BlockHolds t n (Some h) = HoldsBest t n h

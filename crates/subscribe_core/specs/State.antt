@@ -33,7 +33,7 @@ pub record StandsAfterRead {A : Type 0} (events : List EventRead) (s : State A) 
   pub moment : s.moment ≡ greatest_event_moment events
   pub mode : s.mode ≡ last_mode false events
   pub holds : (b : ℕ) (block : Block A) (r : Register) → slice_get s.blocks b ≡ Some block → slice_get s.registers b ≡ Some r → BlockHolds (trace_of_block block events) (length events) r.held
-  pub flags : (b : ℕ) (block : Block A) (r : Register) → slice_get s.blocks b ≡ Some block → slice_get s.registers b ≡ Some r → r.simulated ≡ takes_simulated block events (length events)
+  pub flags : (b : ℕ) (block : Block A) (r : Register) → slice_get s.blocks b ≡ Some block → slice_get s.registers b ≡ Some r → r.takes_simulated ≡ takes_simulated block events (length events)
 
 -- it keeps what a list of frame octets, clock moments and mode events says
 abbrev pub StandsAfter : {A : Type 0} → List (Event A) → State A → Type 0
@@ -41,7 +41,7 @@ StandsAfter events s = (readings : List EventRead) × AreRead events readings ×
 
 -- a block's register before any event
 abbrev pub idle : Register
-idle = record { held = None; simulated = false }
+idle = record { held = None; takes_simulated = false }
 
 -- what a subscriber keeps before any event
 abbrev pub fresh_state : {A : Type 0} → List (Block A) → State A

@@ -8,7 +8,7 @@ ghost use Rattle.subscribe_core.specs.computed.Steps.{held_after_frame};
 
 use crate::entry::Entry;
 use crate::matching::{Received, facts_in};
-use crate::registers::{Facts, Held, Register, Verdict, held_at, judge};
+use crate::registers::{Facts, LiveState, Register, Verdict, held_at, judge};
 use mms_data::ValueList;
 use std::alloc::{AllocError, Allocator};
 
@@ -49,11 +49,11 @@ fn verdict_entry<A: Allocator + Copy>(
 }
 
 // What an action and a renewal give the block to hold.
-fn renewal(verdict: Verdict, now: u64, facts: &Facts) -> Option<Held>
+fn renewal(verdict: Verdict, now: u64, facts: &Facts) -> Option<LiveState>
     ensures { result ≡ held_after_frame verdict None now facts.now }
 {
     match verdict {
-        Verdict::Act | Verdict::Refreshed => Some(Held {
+        Verdict::Act | Verdict::Refreshed => Some(LiveState {
             state: facts.state,
             sequence: facts.sequence,
             deadline: u128::from(now) + u128::from(facts.lifetime),
@@ -71,12 +71,12 @@ pub(crate) fn push_good<A: Allocator + Copy>(
     old: &Register,
     frame: &Received<'_>,
     entries: &mut Vec<Entry<A>, A>,
-) -> Result<Option<Held>, AllocError>
+) -> Result<Option<LiveState>, AllocError>
     ensures entries { OnOk result (entries.new.items ≡ entries.old.items ++ good_entries block now old.now (received_frame frame.now)) }
     ensures held { IfOk result (λ held. held ≡ good_renewal now old.now (received_frame frame.now)) }
 {
     let mut held = held_at(&old.held, now);
-    if frame.goose.simulation && !old.simulated {
+    if frame.goose.simulation && !old.takes_simulated {
         entries.push(Entry::Switched { block })?;
         held = None;
     }

@@ -4,11 +4,11 @@ ghost use Rattle.std.specs.Prelude.{◌≡◌, ℕ, ◌<◌, ◌+◌, [], List, 
 ghost use Rattle.std.specs.List.Sorted.{IsPermutation, IsSorted};
 ghost use Rattle.std.specs.Ordering.{nat_cmp};
 ghost use Rattle.std.specs.BTreeSet.{btree_set_len, IsOrdered};
-ghost use Rattle.subscribe_core.specs.declared.registers.Held.{Held as SpecHeld};
+ghost use Rattle.subscribe_core.specs.declared.registers.LiveState.{LiveState as SpecLiveState};
 ghost use Rattle.subscribe_core.specs.computed.Steps.{is_dead};
 ghost use Rattle.subscribe_core.specs.computed.Deadlines.{AreDeadlinesOf, due_pairs, pair_cmp};
 
-use crate::registers::Held;
+use crate::registers::LiveState;
 use std::alloc::{AllocError, Allocator};
 use std::collections::BTreeSet;
 
@@ -49,10 +49,10 @@ pub(crate) fn due<A: Allocator + Copy>(
 pub(crate) fn swap<A: Allocator + Copy>(
     deadlines: &mut BTreeSet<(u128, usize), A>,
     at: usize,
-    old: Option<Held>,
+    old: Option<LiveState>,
     deadline: u128,
 ) -> Result<(), AllocError>
-    ensures swapped { OnOk result ((held : List (Option SpecHeld)) (new : SpecHeld) → at < length held → slice_index_or held at None ≡ old
+    ensures swapped { OnOk result ((held : List (Option SpecLiveState)) (new : SpecLiveState) → at < length held → slice_index_or held at None ≡ old
         → new.deadline ≡ deadline → AreDeadlinesOf deadlines.old held → AreDeadlinesOf deadlines.new (slice_set held at (Some new))) }
     ensures err { OnErr result (deadlines.new.keys ≡ deadlines.old.keys) }
 {
@@ -73,9 +73,9 @@ pub(crate) fn swap<A: Allocator + Copy>(
 pub(crate) fn leave<A: Allocator + Copy>(
     deadlines: &mut BTreeSet<(u128, usize), A>,
     at: usize,
-    old: Option<Held>,
+    old: Option<LiveState>,
 )
-    ensures { (held : List (Option SpecHeld)) → slice_index_or held at None ≡ old → AreDeadlinesOf deadlines.old held → AreDeadlinesOf deadlines.new (slice_set held at None) }
+    ensures { (held : List (Option SpecLiveState)) → slice_index_or held at None ≡ old → AreDeadlinesOf deadlines.old held → AreDeadlinesOf deadlines.new (slice_set held at None) }
 {
     if let Some(old) = old {
         deadlines.remove(&(old.deadline, at));
@@ -87,9 +87,9 @@ pub(crate) fn take_due<A: Allocator + Copy>(
     deadlines: &mut BTreeSet<(u128, usize), A>,
     now: u64,
 ) -> Option<usize>
-    ensures due { IfSome result (λ at. (held : List (Option SpecHeld)) → AreDeadlinesOf deadlines.old held → IsTrue (is_dead (slice_index_or held at None) now)) }
-    ensures taken { IfSome result (λ at. (held : List (Option SpecHeld)) → AreDeadlinesOf deadlines.old held → AreDeadlinesOf deadlines.new (slice_set held at None)) }
-    ensures none { IfNone result ((held : List (Option SpecHeld)) (at : ℕ) → AreDeadlinesOf deadlines.old held → is_dead (slice_index_or held at None) now ≡ false) }
+    ensures due { IfSome result (λ at. (held : List (Option SpecLiveState)) → AreDeadlinesOf deadlines.old held → IsTrue (is_dead (slice_index_or held at None) now)) }
+    ensures taken { IfSome result (λ at. (held : List (Option SpecLiveState)) → AreDeadlinesOf deadlines.old held → AreDeadlinesOf deadlines.new (slice_set held at None)) }
+    ensures none { IfNone result ((held : List (Option SpecLiveState)) (at : ℕ) → AreDeadlinesOf deadlines.old held → is_dead (slice_index_or held at None) now ≡ false) }
     ensures len { btree_set_len deadlines.new + (if is_some result then 1 else 0) ≡ btree_set_len deadlines.old }
     ensures unchanged { IfNone result (deadlines.new.keys ≡ deadlines.old.keys) }
 {

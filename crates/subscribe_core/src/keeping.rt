@@ -22,7 +22,7 @@ use crate::entry::Entry;
 use crate::fault::SubscribeFault;
 use crate::matching::{Received, first_reason, is_other_kind};
 use crate::names::{self, Name};
-use crate::registers::{Held, Register};
+use crate::registers::{LiveState, Register};
 use crate::rows::{Reach, Rows};
 use crate::twice::first_twice;
 use block_core::Block;
@@ -63,7 +63,7 @@ fn idle_registers<A: Allocator>(alloc: A, count: usize) -> Result<Vec<Register, 
     for _ in 0..count {
         registers.push(Register {
             held: None,
-            simulated: false,
+            takes_simulated: false,
         })?;
     }
     Ok(registers)
@@ -173,12 +173,12 @@ impl<A: Allocator + Copy> Keeper<A> {
     fn hold(
         &mut self,
         at: usize,
-        old: Option<Held>,
-        held: Held,
-        simulated: bool,
+        old: Option<LiveState>,
+        held: LiveState,
+        takes_simulated: bool,
     ) -> Result<(), AllocError>
         requires was { (r : SpecRegister) × (slice_get self.old.state.registers at ≡ Some r) × (r.held ≡ old) }
-        ensures registers { OnOk result (self.new.state.registers ≡ slice_set self.old.state.registers at (record { held = Some held; simulated = simulated })) }
+        ensures registers { OnOk result (self.new.state.registers ≡ slice_set self.old.state.registers at (record { held = Some held; takes_simulated = takes_simulated })) }
         ensures blocks { OnOk result (self.new.state.blocks ≡ self.old.state.blocks) }
         ensures mode { OnOk result (self.new.state.mode ≡ self.old.state.mode) }
         ensures moment { OnOk result (self.new.state.moment ≡ self.old.state.moment) }
@@ -191,7 +191,7 @@ impl<A: Allocator + Copy> Keeper<A> {
             at,
             Register {
                 held: Some(held),
-                simulated,
+                takes_simulated,
             },
         );
         Ok(())
@@ -235,7 +235,7 @@ impl<A: Allocator + Copy> Keeper<A> {
         let mode = self.is_simulating();
         let reach = self.reach(at);
         let (block, old) = self.look(reach);
-        let is_other_kind = is_other_kind(frame, mode, old.simulated);
+        let is_other_kind = is_other_kind(frame, mode, old.takes_simulated);
         if let Some(reason) = first_reason(block, frame, is_other_kind) {
             entries.push(Entry::Refused { block: at, reason })?;
             return Ok(());
@@ -243,8 +243,8 @@ impl<A: Allocator + Copy> Keeper<A> {
         match push_good(alloc, at, now, &old, frame, entries)? {
             None => Ok(()),
             Some(held) => {
-                let simulated = old.simulated || frame.goose.simulation;
-                self.hold(at, old.held, held, simulated)
+                let takes_simulated = old.takes_simulated || frame.goose.simulation;
+                self.hold(at, old.held, held, takes_simulated)
             }
         }
     }
@@ -298,7 +298,7 @@ impl<A: Allocator + Copy> Keeper<A> {
         for at in 0..self.rows.count() {
             let reach = self.rows.reach(at);
             let (_, register) = self.rows.look(reach);
-            if register.simulated {
+            if register.takes_simulated {
                 entries.push(Entry::Switched { block: at })?;
             }
         }
@@ -315,11 +315,11 @@ impl<A: Allocator + Copy> Keeper<A> {
         for at in 0..self.rows.count() {
             let reach = self.rows.reach(at);
             let (_, old) = self.rows.look(reach);
-            if old.simulated {
+            if old.takes_simulated {
                 deadlines::leave(&mut self.deadlines, at, old.held);
                 let idle = Register {
                     held: None,
-                    simulated: false,
+                    takes_simulated: false,
                 };
                 self.rows.write(at, idle);
             }

@@ -32,13 +32,13 @@ fn is_other_id<A: Allocator>(awaited: &Option<Octets<A>>, id: Option<&[u8]>) -> 
 }
 
 // Whether the frame is simulated where its block takes real ones, or the other way round.
-pub(crate) fn is_other_kind(frame: &Received<'_>, mode: bool, simulated: bool) -> bool
-    ensures { result ≡ means_other_kind (received_frame frame.now) mode simulated }
+pub(crate) fn is_other_kind(frame: &Received<'_>, mode: bool, takes_simulated: bool) -> bool
+    ensures { result ≡ means_other_kind (received_frame frame.now) mode takes_simulated }
 {
     if frame.goose.simulation {
         !mode
     } else {
-        simulated
+        takes_simulated
     }
 }
 

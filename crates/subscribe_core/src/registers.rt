@@ -25,7 +25,7 @@ pub enum Verdict {
 
 /// What a block holds: the numbers of a frame, and the moment at which its lifetime is over, in microseconds.
 #[derive(Clone, Copy, Debug, PartialEq, Eq)]
-pub struct Held {
+pub struct LiveState {
     pub state: u32,
     pub sequence: u32,
     pub deadline: u128,
@@ -34,12 +34,12 @@ pub struct Held {
 /// What is kept of a block: what it holds, and whether it takes simulated frames.
 #[derive(Clone, Copy, Debug, PartialEq, Eq)]
 pub struct Register {
-    pub held: Option<Held>,
-    pub simulated: bool,
+    pub held: Option<LiveState>,
+    pub takes_simulated: bool,
 }
 
 // The verdict on a good frame.
-pub(crate) fn judge(held: &Option<Held>, facts: &Facts) -> Verdict
+pub(crate) fn judge(held: &Option<LiveState>, facts: &Facts) -> Verdict
     ensures { result ≡ verdict_on held.now facts.now }
 {
     match held {
@@ -59,7 +59,7 @@ pub(crate) fn judge(held: &Option<Held>, facts: &Facts) -> Verdict
 }
 
 // What is still held at the moment.
-pub(crate) fn held_at(held: &Option<Held>, now: u64) -> Option<Held>
+pub(crate) fn held_at(held: &Option<LiveState>, now: u64) -> Option<LiveState>
     ensures { result ≡ after_clock held.now now }
 {
     match held {

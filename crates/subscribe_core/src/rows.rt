@@ -84,7 +84,7 @@ impl<A: Allocator> Rows<A> {
     // Has the block at a position hold nothing.
     pub(crate) fn let_go(&mut self, at: usize)
         requires within { at < length self.old.registers.items }
-        ensures registers { (r : SpecRegister) → slice_get self.old.registers.items at ≡ Some r → self.new.registers.items ≡ slice_set self.old.registers.items at (record { held = None; simulated = r.simulated }) }
+        ensures registers { (r : SpecRegister) → slice_get self.old.registers.items at ≡ Some r → self.new.registers.items ≡ slice_set self.old.registers.items at (record { held = None; takes_simulated = r.takes_simulated }) }
         ensures blocks { self.new.blocks ≡ self.old.blocks }
         ensures count { self.new.reaches ≡ min (self.old.reaches + 1) (2 ^ 64 - 1) }
     {

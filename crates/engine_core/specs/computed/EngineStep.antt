@@ -1,7 +1,7 @@
 -- What one answer of a reader of items makes an engine write.
 use Rattle.std.specs.Prelude.{◌≡◌, ◌⊎◌, ℕ, Bool, List, [], ◌∷◌, ◌++◌, Option, Some, None, Result, Ok, Err, false}
 use Rattle.std.specs.Io.KnownBytes.{Appends}
-use Rattle.list_core.specs.Device.{AppendsFront}
+use Rattle.list_core.specs.Device.{AppendsPrefix}
 use Rattle.list_core.specs.declared.line_rules.ItemFault.{ItemFault}
 use Rattle.list_core.specs.declared.line_rules.ItemFault.TheVariants as fault
 use Rattle.list_core.specs.declared.line_rules.LineError.{LineError}
@@ -16,9 +16,9 @@ use Rattle.engine_core.specs.EngineText.{Text, step_text}
 
 -- What an engine answers for an item after others, and appends to a line: its text, and then it stands after this item too; a refusal; or want of memory, where there is something to write.
 abbrev pub Takes : {X C : Type 0} → Text X C → (List (ℕ × X) → Type 0) → List (ℕ × X) → ℕ × X → Result Bool (LineError C) → List ℕ → List ℕ → Type 0
-Takes t stands before e (Ok found) old new = (text : List ℕ) × (t.step before e ≡ Ok (text, found)) × (new ≡ old ++ text) × stands (before ++ e ∷ [])
-Takes t stands before e (Err (line.Cause why)) old new = t.step before e ≡ Err why
-Takes t stands before e (Err (line.Memory m)) old new = step_text t e.0 (t.step before e) ≡ [] → ⊥
+Takes t stands before e (Ok found) old new = (text : List ℕ) × (t.of_item before e ≡ Ok (text, found)) × (new ≡ old ++ text) × stands (before ++ e ∷ [])
+Takes t stands before e (Err (line.Cause why)) old new = t.of_item before e ≡ Err why
+Takes t stands before e (Err (line.Memory m)) old new = step_text t e.0 (t.of_item before e) ≡ [] → ⊥
 
 -- the fault by which a step ends the text
 abbrev pub step_fault : {C : Type 0} → ℕ → Result (List ℕ × Bool) C → Option (ItemFault C)
@@ -27,14 +27,14 @@ step_fault n (Err why) = Some (fault.Line n why)
 
 -- the text that an answer asks for, after these items
 abbrev pub due : {X C : Type 0} → Text X C → List (ℕ × X) → Answer X C → List ℕ
-due t before (Ok (Some e)) = step_text t e.0 (t.step before e)
+due t before (Ok (Some e)) = step_text t e.0 (t.of_item before e)
 due t before (Ok None) = []
 due t before (Err (Some f)) = t.last f
 due t before (Err None) = []
 
 -- the fault by which an answer ends the text
 abbrev pub closes : {X C : Type 0} → Text X C → List (ℕ × X) → Answer X C → Option (ItemFault C)
-closes t before (Ok (Some e)) = step_fault e.0 (t.step before e)
+closes t before (Ok (Some e)) = step_fault e.0 (t.of_item before e)
 closes t before (Ok None) = None
 closes t before (Err (Some f)) = Some f
 closes t before (Err None) = None
@@ -47,13 +47,13 @@ WantsFor t before answer = (answer ≡ Err None) ⊎ (due t before answer ≡ []
 abbrev pub Stops : {C : Type 0} → Type 0 → List ℕ → Option (ItemFault C) → Ending → Option (List ℕ) → Option (List ℕ) → Type 0
 Stops {C = C} wants text closing ending old new =
     ((ending ≡ Memory) × wants × (new ≡ old))
-    ⊎ (((ending ≡ WriteFault) × AppendsFront old new text)
+    ⊎ (((ending ≡ WriteFault) × AppendsPrefix old new text)
     ⊎ ((f : ItemFault C) × (closing ≡ Some f) × (ending ≡ ending_at f) × Appends old new text))
 
 -- what is written after an answer, and how the run goes on
 abbrev pub StepWrites : {X C : Type 0} → Text X C → (List (ℕ × X) → Type 0) → List (ℕ × X) → Answer X C → Next → Option (List ℕ) → Option (List ℕ) → Type 0
 StepWrites {X = X} t stands before answer (next.Wrote found) old new =
-    (e : ℕ × X) × (text : List ℕ) × (answer ≡ Ok (Some e)) × (t.step before e ≡ Ok (text, found)) × Appends old new text × stands (before ++ e ∷ [])
+    (e : ℕ × X) × (text : List ℕ) × (answer ≡ Ok (Some e)) × (t.of_item before e ≡ Ok (text, found)) × Appends old new text × stands (before ++ e ∷ [])
 StepWrites t stands before answer next.Ended old new = (answer ≡ Ok None) × (new ≡ old)
 StepWrites t stands before answer (next.Stop ending) old new = Stops (WantsFor t before answer) (due t before answer) (closes t before answer) ending old new
 

@@ -24,7 +24,7 @@ put_step t n (Err why) rest = told_stop t (faulty (fault.Line n why))
 -- what is told of items that follow others
 unfoldable pub told_after : {X C : Type 0} → Text X C → List (ℕ × X) → List (ℕ × X) → Stop (ItemFault C) → Account C
 told_after t before [] stop = told_stop t stop
-told_after t before (e ∷ es) stop = put_step t e.0 (t.step before e) (told_after t (before ++ e ∷ []) es stop)
+told_after t before (e ∷ es) stop = put_step t e.0 (t.of_item before e) (told_after t (before ++ e ∷ []) es stop)
 
 -- what is told of the rest of a list, after these items
 abbrev pub told_rest : {X C : Type 0} → Text X C → List (ℕ × X) → Listing X C → Account C

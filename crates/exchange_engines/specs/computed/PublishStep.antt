@@ -110,7 +110,7 @@ item_written (item.Poll moment) g = call_at g (call moment Polled)
 abbrev pub publish_text : {A : Type 0} → Text (ScriptItem A) ScriptCause
 publish_text = record {
   first = codes "V2\n";
-  step = λ before e. item_written e.1 (progress_after before);
+  of_item = λ before e. item_written e.1 (progress_after before);
   last = script_line;
 }
 

@@ -24,6 +24,6 @@ kept_after blocks items = state_after_list (fresh_state blocks) (events_of items
 abbrev pub replay_text : {A : Type 0} → List (Block A) → Text (Event A) ListCause
 replay_text blocks = record {
   first = [];
-  step = λ before e. Ok (entry_lines e.0 (step_entries (kept_after blocks before) (reading_of e.1)), false);
+  of_item = λ before e. Ok (entry_lines e.0 (step_entries (kept_after blocks before) (reading_of e.1)), false);
   last = λ f. list_line (list_fault_of f);
 }

@@ -19,7 +19,7 @@ last_of period last (c ∷ cs) = last_of period (last_by last c (seen_after peri
 abbrev pub watch_text : {A : Type 0} → ℕ → List ℕ → Text (Event A) ListCause
 watch_text period id = record {
   first = [];
-  step = λ before e. Ok (watched e.0 id e.1.kind (seen_all period (last_of period None (counts_of id before)) (counts (samples_of id e.1.kind))));
+  of_item = λ before e. Ok (watched e.0 id e.1.kind (seen_all period (last_of period None (counts_of id before)) (counts (samples_of id e.1.kind))));
   last = λ f. list_line (list_fault_of f);
 }
 

@@ -90,7 +90,7 @@ fn put_change<A: Allocator>(
 ) -> Result<(), LineError<ScriptCause>>
     ensures call { (p : Setup A) (calls : List Call) → IsScriptSound p → PublisherStandsAfter p calls publisher.old →
         TakesCall p calls (call moment (Changed (change t values))) result line.old.items line.new.items publisher.new }
-    ensures front { OnErr result (take (length line.old.items) line.new.items ≡ line.old.items) }
+    ensures kept { OnErr result (take (length line.old.items) line.new.items ≡ line.old.items) }
 {
     let first = match publisher.change(moment, t, values) {
         Ok(first) => first,
@@ -110,7 +110,7 @@ fn put_poll<A: Allocator>(
 ) -> Result<(), LineError<ScriptCause>>
     ensures call { (p : Setup A) (calls : List Call) → IsScriptSound p → PublisherStandsAfter p calls publisher.old →
         TakesCall p calls (call moment Polled) result line.old.items line.new.items publisher.new }
-    ensures front { OnErr result (take (length line.old.items) line.new.items ≡ line.old.items) }
+    ensures kept { OnErr result (take (length line.old.items) line.new.items ≡ line.old.items) }
 {
     let Some(next) = publisher.poll(moment) else {
         return Ok(());
@@ -157,7 +157,7 @@ fn take_change<A: Allocator>(
     values: ValueList<A>,
 ) -> Result<Stage<A>, LineError<ScriptCause>>
     ensures item { (g : Progress A) → Holds stage g → TakesItem g (SpecItem.Change moment t values) result line.old.items line.new.items }
-    ensures front { OnErr result (take (length line.old.items) line.new.items ≡ line.old.items) }
+    ensures kept { OnErr result (take (length line.old.items) line.new.items ≡ line.old.items) }
 {
     match running(stage) {
         Ok(mut publisher) => match put_change(&mut publisher, line, moment, t, values) {
@@ -175,7 +175,7 @@ fn take_poll<A: Allocator>(
     moment: u64,
 ) -> Result<Stage<A>, LineError<ScriptCause>>
     ensures item { (g : Progress A) → Holds stage g → TakesItem g (SpecItem.Poll moment) result line.old.items line.new.items }
-    ensures front { OnErr result (take (length line.old.items) line.new.items ≡ line.old.items) }
+    ensures kept { OnErr result (take (length line.old.items) line.new.items ≡ line.old.items) }
 {
     match running(stage) {
         Ok(mut publisher) => match put_poll(&mut publisher, line, moment) {
@@ -193,7 +193,7 @@ fn take_item<A: Allocator>(
     item: ScriptItem<A>,
 ) -> Result<Stage<A>, LineError<ScriptCause>>
     ensures item { (g : Progress A) → Holds stage g → TakesItem g item result line.old.items line.new.items }
-    ensures front { OnErr result (take (length line.old.items) line.new.items ≡ line.old.items) }
+    ensures kept { OnErr result (take (length line.old.items) line.new.items ≡ line.old.items) }
 {
     match item {
         ScriptItem::Control(control, first) => take_control(stage, control, first),

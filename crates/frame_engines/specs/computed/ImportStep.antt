@@ -1,7 +1,7 @@
 -- What one answer of a reader of records makes `import` write.
 use Rattle.std.specs.Prelude.{◌≡◌, ◌+◌, ◌⊎◌, ℕ, List, [], Option, Some, None, Result, Ok, Err}
 use Rattle.std.specs.Io.KnownBytes.{Appends}
-use Rattle.list_core.specs.Device.{AppendsFront}
+use Rattle.list_core.specs.Device.{AppendsPrefix}
 use Rattle.capture_core.specs.Capture.{CaptureRecord}
 use Rattle.capture_core.specs.declared.capture_fault.CaptureFault.{CaptureFault}
 use Rattle.engine_core.specs.declared.ending.Ending.{Ending}
@@ -18,11 +18,11 @@ import_due n (Err f) = capture_line f
 
 -- the line of a fault was written, or a front of it where the writer failed
 abbrev pub FaultWrites : CaptureFault → Ending → Option (List ℕ) → Option (List ℕ) → Type 0
-FaultWrites f ending old new = ((ending ≡ WriteFault) × AppendsFront old new (capture_line f)) ⊎ ((ending ≡ ending_of_capture f.cause) × Appends old new (capture_line f))
+FaultWrites f ending old new = ((ending ≡ WriteFault) × AppendsPrefix old new (capture_line f)) ⊎ ((ending ≡ ending_of_capture f.cause) × Appends old new (capture_line f))
 
 -- what is written after an answer behind n records, and how the run goes on
 abbrev pub ImportWrites : ℕ → Result (Option CaptureRecord) CaptureFault → Next → Option (List ℕ) → Option (List ℕ) → Type 0
 ImportWrites n answer (next.Wrote found) old new = (r : CaptureRecord) × (answer ≡ Ok (Some r)) × (found ≡ is_left_out (n + 1, r)) × Appends old new (record_line (n + 1, r))
 ImportWrites n answer next.Ended old new = (answer ≡ Ok None) × (new ≡ old)
 ImportWrites n answer (next.Stop ending) old new =
-    ((ending ≡ WriteFault) × AppendsFront old new (import_due n answer)) ⊎ ((f : CaptureFault) × (answer ≡ Err f) × FaultWrites f ending old new)
+    ((ending ≡ WriteFault) × AppendsPrefix old new (import_due n answer)) ⊎ ((f : CaptureFault) × (answer ≡ Err f) × FaultWrites f ending old new)

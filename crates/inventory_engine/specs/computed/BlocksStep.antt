@@ -32,7 +32,7 @@ written_of n earlier seen = concat (lines_by n earlier seen)
 abbrev pub blocks_text : {A : Type 0} → Text (Event A) ListCause
 blocks_text = record {
   first = [];
-  step = λ before e. Ok (written_of e.0 (sightings_in before) (sightings_of e.1.kind), false);
+  of_item = λ before e. Ok (written_of e.0 (sightings_in before) (sightings_of e.1.kind), false);
   last = λ f. list_line (list_fault_of f);
 }
 

@@ -4,7 +4,7 @@ use Rattle.std.specs.Ordering.{nat_cmp, ordering_then}
 use Rattle.std.specs.declared.cmp.Ordering.{Ordering}
 use Rattle.std.specs.BTreeSet.{BTreeSet, contains, keys_between}
 use Rattle.std.specs.declared.ops.Bound.TheVariants.{Unbounded, Included}
-use Rattle.subscribe_core.specs.declared.registers.Held.{Held}
+use Rattle.subscribe_core.specs.declared.registers.LiveState.{LiveState}
 use Rattle.subscribe_core.specs.declared.registers.Register.{Register}
 use Rattle.subscribe_core.specs.computed.Steps.{is_dead}
 
@@ -13,16 +13,16 @@ abbrev pub pair_cmp : ℕ × ℕ → ℕ × ℕ → Ordering
 pair_cmp x y = ordering_then (nat_cmp x.0 y.0) (nat_cmp x.1 y.1)
 
 -- what is held has this deadline
-abbrev pub has_deadline : Option Held → ℕ → Bool
+abbrev pub has_deadline : Option LiveState → ℕ → Bool
 has_deadline None deadline = false
 has_deadline (Some h) deadline = h.deadline == deadline
 
 -- what is held, register by register
-abbrev pub helds : List Register → List (Option Held)
+abbrev pub helds : List Register → List (Option LiveState)
 helds rs = map (λ (r : Register). r.held) rs
 
 -- the set has exactly the deadline of each holding block, with its position
-abbrev pub AreDeadlinesOf : BTreeSet (ℕ × ℕ) → List (Option Held) → Type 0
+abbrev pub AreDeadlinesOf : BTreeSet (ℕ × ℕ) → List (Option LiveState) → Type 0
 AreDeadlinesOf set held = (q : ℕ × ℕ) → contains pair_cmp set q ≡ has_deadline (slice_index_or held q.1 None) q.0
 
 -- the pairs of the set that are due
@@ -30,12 +30,12 @@ abbrev pub due_pairs : ℕ → BTreeSet (ℕ × ℕ) → List (ℕ × ℕ)
 due_pairs now set = keys_between pair_cmp Unbounded (Included (now, 2 ^ 64 - 1)) set
 
 -- how many of the blocks are due
-abbrev pub due_count : ℕ → List (Option Held) → ℕ
+abbrev pub due_count : ℕ → List (Option LiveState) → ℕ
 due_count now [] = 0
 due_count now (held ∷ rest) = if is_dead held now then due_count now rest + 1 else due_count now rest
 
 -- the positions of the blocks that are due, in their order; the first has position b
-abbrev pub due_positions : ℕ → ℕ → List (Option Held) → List ℕ
+abbrev pub due_positions : ℕ → ℕ → List (Option LiveState) → List ℕ
 due_positions now b [] = []
 due_positions now b (held ∷ rest) =
     if is_dead held now then b ∷ due_positions now (b + 1) rest else due_positions now (b + 1) rest

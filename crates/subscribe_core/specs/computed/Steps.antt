@@ -5,7 +5,7 @@ use Rattle.subscribe_core.specs.declared.entry.Reason.{Reason}
 use Rattle.subscribe_core.specs.declared.entry.Entry.{Entry}
 use Rattle.subscribe_core.specs.declared.entry.Entry.TheVariants as says
 use Rattle.subscribe_core.specs.declared.registers.Facts.{Facts}
-use Rattle.subscribe_core.specs.declared.registers.Held.{Held}
+use Rattle.subscribe_core.specs.declared.registers.LiveState.{LiveState}
 use Rattle.subscribe_core.specs.declared.registers.Register.{Register}
 use Rattle.subscribe_core.specs.declared.registers.Verdict.{Verdict}
 use Rattle.subscribe_core.specs.declared.registers.Verdict.TheVariants.{Act, Refreshed, Repeated, Older}
@@ -16,22 +16,22 @@ use Rattle.subscribe_core.specs.Simulation.{is_other_kind, is_plain_simulated, i
 use Rattle.subscribe_core.specs.State.{State}
 
 -- the lifetime of what is held is over at the moment
-abbrev pub is_dead : Option Held → ℕ → Bool
+abbrev pub is_dead : Option LiveState → ℕ → Bool
 is_dead None now = false
 is_dead (Some h) now = nat_le h.deadline now
 
 -- what is still held at the moment
-abbrev pub after_clock : Option Held → ℕ → Option Held
+abbrev pub after_clock : Option LiveState → ℕ → Option LiveState
 after_clock None now = None
 after_clock (Some h) now = if nat_le h.deadline now then None else Some h
 
 -- what is still held after a switch, where there is one
-abbrev pub after_switch : Bool → Option Held → Option Held
+abbrev pub after_switch : Bool → Option LiveState → Option LiveState
 after_switch true held = None
 after_switch false held = held
 
 -- the verdict on a good frame, by what is held
-abbrev pub verdict_on : Option Held → Facts → Verdict
+abbrev pub verdict_on : Option LiveState → Facts → Verdict
 verdict_on None f = Act
 verdict_on (Some h) f =
     if nat_lt h.state f.state then Act
@@ -40,7 +40,7 @@ verdict_on (Some h) f =
     else Older
 
 -- what is held after a good frame: an action and a renewal take its pair and its lifetime
-abbrev pub held_after_frame : Verdict → Option Held → ℕ → Facts → Option Held
+abbrev pub held_after_frame : Verdict → Option LiveState → ℕ → Facts → Option LiveState
 held_after_frame Act held now f = Some (record { state = f.state; sequence = f.sequence; deadline = now + f.lifetime })
 held_after_frame Refreshed held now f = Some (record { state = f.state; sequence = f.sequence; deadline = now + f.lifetime })
 held_after_frame Repeated held now f = held
@@ -65,27 +65,27 @@ abbrev pub switched_entries : {A : Type 0} → Bool → Content → ℕ → List
 switched_entries mode k b [] rs = []
 switched_entries mode k b (x ∷ xs) [] = []
 switched_entries mode k b (x ∷ xs) (r ∷ rs) =
-    if switch_by x mode r.simulated k then says.Switched b ∷ switched_entries mode k (b + 1) xs rs
+    if switch_by x mode r.takes_simulated k then says.Switched b ∷ switched_entries mode k (b + 1) xs rs
     else switched_entries mode k (b + 1) xs rs
 
 -- what a block holds once the expiry and the switch are done
-abbrev pub turned : {A : Type 0} → ℕ → Bool → Content → Block A → Register → Option Held
-turned now mode k x r = after_switch (switch_by x mode r.simulated k) (after_clock r.held now)
+abbrev pub turned : {A : Type 0} → ℕ → Bool → Content → Block A → Register → Option LiveState
+turned now mode k x r = after_switch (switch_by x mode r.takes_simulated k) (after_clock r.held now)
 
 -- a frame of a block: its entry, by the reason against it and what the block holds
-abbrev pub block_entry : {A : Type 0} → ℕ → FrameRead → Option Reason → Option Held → Entry A
+abbrev pub block_entry : {A : Type 0} → ℕ → FrameRead → Option Reason → Option LiveState → Entry A
 block_entry b f (Some reason) held = says.Refused b reason
 block_entry b f None held = entry_of b f (verdict_on held (facts_of_frame f))
 
 -- and what the block holds afterwards
-abbrev pub block_held : ℕ → FrameRead → Option Reason → Option Held → Option Held
+abbrev pub block_held : ℕ → FrameRead → Option Reason → Option LiveState → Option LiveState
 block_held now f (Some reason) held = held
 block_held now f None held = held_after_frame (verdict_on held (facts_of_frame f)) held now (facts_of_frame f)
 
 -- what a block holds after an event
-abbrev pub held_by : {A : Type 0} → ℕ → Bool → Block A → Register → Content → Option Held → Option Held
+abbrev pub held_by : {A : Type 0} → ℕ → Bool → Block A → Register → Content → Option LiveState → Option LiveState
 held_by now mode x r (OfGoose f) held =
-    if is_of f x then block_held now f (reason_of (is_other_kind f mode r.simulated) x f) held else held
+    if is_of f x then block_held now f (reason_of (is_other_kind f mode r.takes_simulated) x f) held else held
 held_by now mode x r OfSampled held = held
 held_by now mode x r (OfFault fault) held = held
 held_by now mode x r OfClock held = held
@@ -94,7 +94,7 @@ held_by now mode x r (OfMode on) held = held
 -- what is kept of a block after an event
 abbrev pub register_by : {A : Type 0} → ℕ → Bool → Content → Block A → Register → Register
 register_by now mode k x r =
-    record { held = held_by now mode x r k (turned now mode k x r); simulated = flag_by x mode r.simulated k }
+    record { held = held_by now mode x r k (turned now mode k x r); takes_simulated = flag_by x mode r.takes_simulated k }
 
 -- what is kept of each block
 abbrev pub registers_by : {A : Type 0} → ℕ → Bool → Content → List (Block A) → List Register → List Register
@@ -105,7 +105,7 @@ registers_by now mode k (x ∷ xs) (r ∷ rs) = register_by now mode k x r ∷ r
 -- the entry of a frame of GOOSE, by the block that was found and what is kept of it
 abbrev pub found_entry : {A : Type 0} → ℕ → Bool → FrameRead → ℕ → Option (Block A) → Option Register → Entry A
 found_entry now mode f b (Some x) (Some r) =
-    block_entry b f (reason_of (is_other_kind f mode r.simulated) x f) (turned now mode (OfGoose f) x r)
+    block_entry b f (reason_of (is_other_kind f mode r.takes_simulated) x f) (turned now mode (OfGoose f) x r)
 found_entry now mode f b (Some x) None = says.NotSubscribed
 found_entry now mode f b None r = says.NotSubscribed
 

@@ -9,9 +9,9 @@ pub returns-then-size-gt-LONGEST_RECORD-clause-record : goal.returns-then-size-g
 returns-then-size-gt-LONGEST_RECORD-clause-record g c =
     (Err c.in_record.result, refl, answered_long c.args.form _ c.args.head.now _ _ c.args.before c.requires.few c.requires.head (omega arith) (sym c.in_record.ensures))
 
-pub returns-then-pass-clause-record : goal.returns-then-pass-clause-record
-returns-then-pass-clause-record g c =
-    let passed = c.if-pass.ensures in (
+pub returns-then-skip-clause-record : goal.returns-then-skip-clause-record
+returns-then-skip-clause-record g c =
+    let passed = c.if-skip.ensures in (
       Ok (Some (record { moment = moment_in_head c.args.form c.args.head.now; octets = passed.0 })),
       (record { moment = moment_in_head c.args.form c.args.head.now; octets = passed.0 }, refl, passed.1, λ p. omega (arith, p.0, p.1, c.then-size-eq0.either)),
       answered_whole c.args.form c.args.head.now passed.0 _ _ _ _ c.args.before c.requires.few c.requires.head (omega arith) (passed.1 ∙ c.long_at-size.ensures) passed.2 passed.3,
@@ -19,7 +19,7 @@ returns-then-pass-clause-record g c =
 
 pub returns-then-size-eq0-clause-record : goal.returns-then-size-eq0-clause-record
 returns-then-size-eq0-clause-record g c =
-    let passed = c.if-pass.ensures in
+    let passed = c.if-skip.ensures in
     (Err c.cut_in.result, refl, answered_cut c.args.form _ c.args.head.now passed.0 _ _ _ _ c.args.before passed.4 c.requires.few c.requires.head (omega arith) (omega (arith, passed.1)) passed.2 passed.3 (rw (← c.ending.ensures) c.cut_in.ensures.fault))
 
 pub returns-in-Whole-clause-record : goal.returns-in-Whole-clause-record

@@ -1,6 +1,6 @@
 use Rattle.std.proofs.Common.{refl, rules}
 use Rattle.std.proofs.lemmas.List.{take-append-drop, take_rest}
-use Rattle.list_core.proofs.Devices.{Appends-append, AppendsFront-append, AppendsFront-none, take-add}
+use Rattle.list_core.proofs.Devices.{Appends-append, AppendsPrefix-append, AppendsPrefix-none, take-add}
 use Rattle.list_core.proofs.whole_write.put_all.Goals as goal
 
 pub loop-at-preserved : goal.loop-at-preserved
@@ -15,5 +15,5 @@ pub returns-in-Err-clause-written : goal.returns-in-Err-clause-written
 returns-in-Err-clause-written g c = (
   refl,
   rw (← take-append-drop c.loop-at.at c.args.octets.now)
-      (AppendsFront-append _ _ _ _ _ c.loop-at.invariant.written (AppendsFront-none _ _ _ c.in-Err.ensures.taken)),
+      (AppendsPrefix-append _ _ _ _ _ c.loop-at.invariant.written (AppendsPrefix-none _ _ _ c.in-Err.ensures.taken)),
 )

@@ -1,12 +1,12 @@
 use Rattle.std.proofs.Common.{◌≡◌, ◌-◌}
-use Rattle.list_core.specs.ItemReader.{SkipsLines, item_place, item_number}
+use Rattle.list_core.specs.ItemReader.{SkipsLines, item_state, item_number}
 use Rattle.list_core.proofs.item_reader.ItemReader.next.Given as goal
 
 abbrev pub invariant-tries : goal.invariant-tries
 invariant-tries g l = record {
-  skipped : SkipsLines g.G.LineRules.rules (item_place g.R.Source.left g.R.Source.ending l.initial.self) (item_place g.R.Source.left g.R.Source.ending l.self);
+  skipped : SkipsLines g.G.LineRules.rules (item_state g.R.Source.left g.R.Source.ending l.initial.self) (item_state g.R.Source.left g.R.Source.ending l.self);
   number : item_number l.self ≡ item_number l.initial.self;
 }
 
 abbrev pub decreases-tries : goal.decreases-tries
-decreases-tries g l = 1000000 - (item_place g.R.Source.left g.R.Source.ending l.self).taken
+decreases-tries g l = 1000000 - (item_state g.R.Source.left g.R.Source.ending l.self).taken

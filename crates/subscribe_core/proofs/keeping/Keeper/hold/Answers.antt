@@ -21,6 +21,6 @@ invariant_of-self-2 g c =
     let here = subst (λ (s : StateAndReaches _). slice_get s.state.registers c.args.at ≡ Some c.requires.was.0) (sym c.self.view_is) c.requires.was.1 in
     let lt = slice_get_within registers c.args.at c.requires.was.0 here in
     let size = length-map registers (λ (r : Register). r.held) in
-    let new : Register = record { held = Some c.args.held; simulated = c.args.simulated } in
+    let new : Register = record { held = Some c.args.held; takes_simulated = c.args.takes_simulated } in
     indexed_write _ _ registers _ _ c.args.at new _ _ (ap (λ b. b.items) c.write.ensures.blocks) c.write.ensures.registers c.self.invariant
     (c.in_ok-swap.ensures.swapped (helds registers) c.args.held (omega arith) (held_of registers c.args.at c.requires.was.0 here ∙ c.requires.was.2) refl c.self.invariant.timed)

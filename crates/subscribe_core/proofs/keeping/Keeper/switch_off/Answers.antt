@@ -18,7 +18,7 @@ loop-at-preserved g c =
     let same = ap (λ v. v.items) c.reach-reach.ensures.registers in
     let looked = sym (ap₂ (λ (rs : List Register) (n : ℕ). slice_get rs n) same c.reach-reach.ensures.at) ∙ c.look.ensures.register in
     let here = sym (ap (λ (rs : List Register). slice_get rs at) i.off) ∙ looked in
-    let idle : Register = record { held = None; simulated = false } in
+    let idle : Register = record { held = None; takes_simulated = false } in
     elim c.if-old.branch [
       | then-old w ↦
           let blocks = ap (λ b. b.items) (w.write.ensures.blocks ∙ c.reach-reach.ensures.blocks) in

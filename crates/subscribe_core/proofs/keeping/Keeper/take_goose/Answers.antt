@@ -34,7 +34,7 @@ returns-in-Some-first_reason-clause-entries g c =
     let r = c.look.result.1 in
     let block = sym (ap₂ (λ (t : State _) (n : ℕ). slice_get t.blocks n) c.reach-reach.ensures.state c.reach-reach.ensures.at) ∙ c.look.ensures.block in
     let register_is = sym (ap₂ (λ (t : State _) (n : ℕ). slice_get t.registers n) c.reach-reach.ensures.state c.reach-reach.ensures.at) ∙ c.look.ensures.register in
-    let told = reason_told x f c.is_other_kind-is_other_kind.result s.mode c.is_simulating-mode.result r.simulated (Some c.in-Some-first_reason.reason) c.is_other_kind-is_other_kind.ensures c.is_simulating-mode.ensures c.in-Some-first_reason.ensures in
+    let told = reason_told x f c.is_other_kind-is_other_kind.result s.mode c.is_simulating-mode.result r.takes_simulated (Some c.in-Some-first_reason.reason) c.is_other_kind-is_other_kind.ensures c.is_simulating-mode.ensures c.in-Some-first_reason.ensures in
     c.in_ok-push-2.ensures.items
     ∙ ap (λ (es : List (Entry _)). c.args.entries.now.items ++ es)
     (answer_refused c.args.now s.mode s.blocks s.registers f c.in-Some.at x r c.in-Some-first_reason.reason c.find.ensures.apart (sym c.in-Some.ensures.found) block register_is told)
@@ -47,7 +47,7 @@ returns-in-Some-first_reason-clause-registers g c =
     let r = c.look.result.1 in
     let block = sym (ap₂ (λ (t : State _) (n : ℕ). slice_get t.blocks n) c.reach-reach.ensures.state c.reach-reach.ensures.at) ∙ c.look.ensures.block in
     let register_is = sym (ap₂ (λ (t : State _) (n : ℕ). slice_get t.registers n) c.reach-reach.ensures.state c.reach-reach.ensures.at) ∙ c.look.ensures.register in
-    let told = reason_told x f c.is_other_kind-is_other_kind.result s.mode c.is_simulating-mode.result r.simulated (Some c.in-Some-first_reason.reason) c.is_other_kind-is_other_kind.ensures c.is_simulating-mode.ensures c.in-Some-first_reason.ensures in
+    let told = reason_told x f c.is_other_kind-is_other_kind.result s.mode c.is_simulating-mode.result r.takes_simulated (Some c.in-Some-first_reason.reason) c.is_other_kind-is_other_kind.ensures c.is_simulating-mode.ensures c.in-Some-first_reason.ensures in
     ap (λ (t : State _). registers_after_clock c.args.now t.registers) c.reach-reach.ensures.state
     ∙ registers_refused c.args.now s.mode s.blocks s.registers f c.in-Some.at x r c.in-Some-first_reason.reason c.find.ensures.sizes c.find.ensures.apart (sym c.in-Some.ensures.found) block register_is told
 
@@ -59,7 +59,7 @@ returns-in-None-clause-entries g c =
     let r = c.look.result.1 in
     let block = sym (ap₂ (λ (t : State _) (n : ℕ). slice_get t.blocks n) c.reach-reach.ensures.state c.reach-reach.ensures.at) ∙ c.look.ensures.block in
     let register_is = sym (ap₂ (λ (t : State _) (n : ℕ). slice_get t.registers n) c.reach-reach.ensures.state c.reach-reach.ensures.at) ∙ c.look.ensures.register in
-    let told = reason_told x f c.is_other_kind-is_other_kind.result s.mode c.is_simulating-mode.result r.simulated None c.is_other_kind-is_other_kind.ensures c.is_simulating-mode.ensures c.in_default-first_reason.ensures in
+    let told = reason_told x f c.is_other_kind-is_other_kind.result s.mode c.is_simulating-mode.result r.takes_simulated None c.is_other_kind-is_other_kind.ensures c.is_simulating-mode.ensures c.in_default-first_reason.ensures in
     c.in_ok-push_good.ensures.entries
     ∙ ap (λ (es : List (Entry _)). c.args.entries.now.items ++ es)
     (answer_good c.args.now s.mode s.blocks s.registers f c.in-Some.at x r c.find.ensures.apart (sym c.in-Some.ensures.found) block register_is told)
@@ -72,7 +72,7 @@ returns-in-None-clause-registers g c =
     let r = c.look.result.1 in
     let block = sym (ap₂ (λ (t : State _) (n : ℕ). slice_get t.blocks n) c.reach-reach.ensures.state c.reach-reach.ensures.at) ∙ c.look.ensures.block in
     let register_is = sym (ap₂ (λ (t : State _) (n : ℕ). slice_get t.registers n) c.reach-reach.ensures.state c.reach-reach.ensures.at) ∙ c.look.ensures.register in
-    let told = reason_told x f c.is_other_kind-is_other_kind.result s.mode c.is_simulating-mode.result r.simulated None c.is_other_kind-is_other_kind.ensures c.is_simulating-mode.ensures c.in_default-first_reason.ensures in
+    let told = reason_told x f c.is_other_kind-is_other_kind.result s.mode c.is_simulating-mode.result r.takes_simulated None c.is_other_kind-is_other_kind.ensures c.is_simulating-mode.ensures c.in_default-first_reason.ensures in
     let renewal = sym c.in_ok-push_good.ensures.held ∙ c.in-None.is in
     ap (λ (t : State _). registers_after_clock c.args.now t.registers) c.reach-reach.ensures.state
     ∙ (written_none c.args.now s.registers c.in-Some.at r f register_is renewal
@@ -86,7 +86,7 @@ returns-after-old-clause-entries g c =
     let r = c.look.result.1 in
     let block = sym (ap₂ (λ (t : State _) (n : ℕ). slice_get t.blocks n) c.reach-reach.ensures.state c.reach-reach.ensures.at) ∙ c.look.ensures.block in
     let register_is = sym (ap₂ (λ (t : State _) (n : ℕ). slice_get t.registers n) c.reach-reach.ensures.state c.reach-reach.ensures.at) ∙ c.look.ensures.register in
-    let told = reason_told x f c.is_other_kind-is_other_kind.result s.mode c.is_simulating-mode.result r.simulated None c.is_other_kind-is_other_kind.ensures c.is_simulating-mode.ensures c.in_default-first_reason.ensures in
+    let told = reason_told x f c.is_other_kind-is_other_kind.result s.mode c.is_simulating-mode.result r.takes_simulated None c.is_other_kind-is_other_kind.ensures c.is_simulating-mode.ensures c.in_default-first_reason.ensures in
     let entries =
     c.in_ok-push_good.ensures.entries
     ∙ ap (λ (es : List (Entry _)). c.args.entries.now.items ++ es)
@@ -102,19 +102,19 @@ returns-after-old-clause-registers g c =
     let block = sym (ap₂ (λ (t : State _) (n : ℕ). slice_get t.blocks n) c.reach-reach.ensures.state c.reach-reach.ensures.at) ∙ c.look.ensures.block in
     let register_is = sym (ap₂ (λ (t : State _) (n : ℕ). slice_get t.registers n) c.reach-reach.ensures.state c.reach-reach.ensures.at) ∙ c.look.ensures.register in
     let new = c.in-Some-2.held in
-    let told = reason_told x f c.is_other_kind-is_other_kind.result s.mode c.is_simulating-mode.result r.simulated None c.is_other_kind-is_other_kind.ensures c.is_simulating-mode.ensures c.in_default-first_reason.ensures in
+    let told = reason_told x f c.is_other_kind-is_other_kind.result s.mode c.is_simulating-mode.result r.takes_simulated None c.is_other_kind-is_other_kind.ensures c.is_simulating-mode.ensures c.in_default-first_reason.ensures in
     let renewal = sym c.in_ok-push_good.ensures.held ∙ c.in-Some-2.is in
-    let flag : c.if-old.simulated ≡ (r.simulated || f.pdu.simulation) =
+    let flag : c.if-old.takes_simulated ≡ (r.takes_simulated || f.pdu.simulation) =
     elim c.if-old.branch [
-      | then-old w ↦ w.simulated-is ∙ (w.if-old.true ∙ sym (ap (λ (b : Bool). b || f.pdu.simulation) w.if-old.true))
-      | else-old w ↦ w.simulated-is ∙ sym (ap (λ (b : Bool). b || f.pdu.simulation) w.if-old.false)
+      | then-old w ↦ w.takes_simulated-is ∙ (w.if-old.true ∙ sym (ap (λ (b : Bool). b || f.pdu.simulation) w.if-old.true))
+      | else-old w ↦ w.takes_simulated-is ∙ sym (ap (λ (b : Bool). b || f.pdu.simulation) w.if-old.false)
     ] in
     let fresh = new_lives c.args.now x r f _ new told renewal in
     let after =
-    ap (λ (b : Bool). registers_after_clock c.args.now (set s.registers c.in-Some.at (record { held = Some new; simulated = b }))) flag
+    ap (λ (b : Bool). registers_after_clock c.args.now (set s.registers c.in-Some.at (record { held = Some new; takes_simulated = b }))) flag
     ∙ (written_new c.args.now s.registers c.in-Some.at r f new fresh renewal
     ∙ registers_good c.args.now s.mode s.blocks s.registers f c.in-Some.at x r c.find.ensures.sizes c.find.ensures.apart (sym c.in-Some.ensures.found) block register_is told) in
-    let moved = ap (λ (t : State _). set t.registers c.in-Some.at (record { held = Some new; simulated = c.if-old.simulated })) c.reach-reach.ensures.state in
+    let moved = ap (λ (t : State _). set t.registers c.in-Some.at (record { held = Some new; takes_simulated = c.if-old.takes_simulated })) c.reach-reach.ensures.state in
     on_ok_weaker c.hold.result (λ e. ap (registers_after_clock c.args.now) (e ∙ moved) ∙ after) c.hold.ensures.registers
 
 pub returns-after-old-clause-count : goal.returns-after-old-clause-count
@@ -126,9 +126,9 @@ returns-after-old-clause-count g c =
     let block = sym (ap₂ (λ (t : State _) (n : ℕ). slice_get t.blocks n) c.reach-reach.ensures.state c.reach-reach.ensures.at) ∙ c.look.ensures.block in
     let register_is = sym (ap₂ (λ (t : State _) (n : ℕ). slice_get t.registers n) c.reach-reach.ensures.state c.reach-reach.ensures.at) ∙ c.look.ensures.register in
     let new = c.in-Some-2.held in
-    let told = reason_told x f c.is_other_kind-is_other_kind.result s.mode c.is_simulating-mode.result r.simulated None c.is_other_kind-is_other_kind.ensures c.is_simulating-mode.ensures c.in_default-first_reason.ensures in
+    let told = reason_told x f c.is_other_kind-is_other_kind.result s.mode c.is_simulating-mode.result r.takes_simulated None c.is_other_kind-is_other_kind.ensures c.is_simulating-mode.ensures c.in_default-first_reason.ensures in
     let renewal = sym c.in_ok-push_good.ensures.held ∙ c.in-Some-2.is in
-    let register : Register = record { held = Some new; simulated = c.if-old.simulated } in
+    let register : Register = record { held = Some new; takes_simulated = c.if-old.takes_simulated } in
     let fewer = written_fewer c.args.now s.registers c.in-Some.at register (new_lives c.args.now x r f _ new told renewal) in
     let first = c.reach-reach.ensures.count in
     let moved = ap (λ (t : State _). set t.registers c.in-Some.at register) c.reach-reach.ensures.state in

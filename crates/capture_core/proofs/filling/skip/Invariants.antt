@@ -1,7 +1,7 @@
 use Rattle.std.proofs.Common.{◌≡◌, ℕ, ◌+◌, List, length}
 use Rattle.std.specs.Io.KnownBytes.{Consumes}
 use Rattle.list_core.specs.Device.{OnlyOpen}
-use Rattle.capture_core.proofs.filling.pass.Given as goal
+use Rattle.capture_core.proofs.filling.skip.Given as goal
 
 abbrev pub invariant-pieces : goal.invariant-pieces
 invariant-pieces g l = record {
