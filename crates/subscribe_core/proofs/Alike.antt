@@ -75,7 +75,7 @@ against_is f mode taken v e = ap (λ (x : Bool). if x then not mode else taken) 
 
 -- a good frame at i is simulated or real as the block takes them afterwards
 record Tells {A : Type 0} (b : Block A) (events : List EventRead) (i : ℕ) (f : FrameRead) : Type 0 where
-  takes_simulated : f.pdu.simulation ≡ true → invites b events i ≡ true
+  simulated : f.pdu.simulation ≡ true → invites b events i ≡ true
   real : f.pdu.simulation ≡ false → (takes_simulated b events i ≡ false) × (invites b events i ≡ false)
 
 tells : {A : Type 0} → (b : Block A) (events : List EventRead) (i : ℕ) (g : Facts) (e : EventRead) (f : FrameRead) → (trace_of_block b events).good i ≡ Some g → slice_get events i ≡ Some e → e.content ≡ OfGoose f → Tells b events i f
@@ -93,7 +93,7 @@ tells b events i g e f good at kind =
     ap (λ (o : Option EventRead). holds_at (is_plain_simulated b) o && mode_at events i) at ∙
     ap (λ (k : Content). is_plain_simulated b k && mode_at events i) kind in
     record {
-      takes_simulated = λ s.
+      simulated = λ s.
           let on : mode_at events i ≡ true =
           not-false (mode_at events i) (sym (against_is f (mode_at events i) (takes_simulated b events i) true s) ∙ no_reason) in
           invite_is ∙ and_from (is_of f b && (is_clear (reason_of false b f) && f.pdu.simulation)) (mode_at events i)
@@ -117,7 +117,7 @@ kind_at_start : {A : Type 0} → (b : Block A) (events : List EventRead) (s : �
 kind_at_start b events s f x =
     elim (cases_Bool f.pdu.simulation) [
       | inl y ↦
-          y ∙ sym (taken_from (invites b events) (sets_off events) (s + 1) (taken_here (invites b events) (sets_off events) s (x.takes_simulated y)))
+          y ∙ sym (taken_from (invites b events) (sets_off events) (s + 1) (taken_here (invites b events) (sets_off events) s (x.simulated y)))
       | inr n ↦
           elim (cases_Bool (takes_simulated b events (s + 1))) [
             | inr t ↦ n ∙ sym t
@@ -138,7 +138,7 @@ kind_later b events i f x same =
           elim (cases_Bool (takes_simulated b events i)) [
             | inl t ↦ y ∙ sym t
             | inr n ↦
-                absurd (false≢true (sym parts.0 ∙ and_from (invites b events i) (not (takes_simulated b events i)) (x.takes_simulated y) (ap not n)))
+                absurd (false≢true (sym parts.0 ∙ and_from (invites b events i) (not (takes_simulated b events i)) (x.simulated y) (ap not n)))
           ]
       | inr n ↦ n ∙ sym (x.real n).0
     ]
