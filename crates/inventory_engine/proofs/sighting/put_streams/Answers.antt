@@ -14,7 +14,7 @@ loop-asdu-preserved g c =
     let more = stream_more c.args.number c.loop-asdu.yielded c.in-Some.asdu (asdus_left c.args.sampled.now.asdus) (asdus_left c.loop-asdu.asdu-iterator) (asdus_left c.next.new.self)
     c.args.known.now.items c.loop-asdu.known.items c.put_stream.new.known.items c.args.line.now.items c.loop-asdu.line.items c.put_stream.new.line.items
     i.2 c.in-Some.ensures.steps.0 i.3 c.in_ok-put_stream.ensures.written in
-    (tt, tt, more.0, more.1, front_twice c.args.line.now.items c.loop-asdu.line.items c.put_stream.new.line.items i.4 c.put_stream.ensures.front)
+    (tt, tt, more.0, more.1, front_twice c.args.line.now.items c.loop-asdu.line.items c.put_stream.new.line.items i.4 c.put_stream.ensures.kept)
 
 pub returns-in_err-put_stream-clause-wants : goal.returns-in_err-put_stream-clause-wants
 returns-in_err-put_stream-clause-wants g c =
