@@ -6,13 +6,13 @@ use Rattle.block_core.specs.declared.block.Block.{Block}
 use Rattle.subscribe_core.specs.declared.entry.Entry.{Entry}
 use Rattle.subscribe_core.specs.computed.Content.{reading_of}
 use Rattle.subscribe_core.specs.Entries.{AreEntriesAt}
-use Rattle.subscribe_core.specs.State.{State, fresh_state}
+use Rattle.subscribe_core.specs.State.{State, StandsAfter, fresh_state}
 use Rattle.subscribe_core.specs.computed.Steps.{step_entries, step_state}
 use Rattle.subscribe_core.proofs.Readings.{is_read}
 use Rattle.subscribe_core.proofs.Runs.{entries_step, fresh_stands, stands_step}
 use Rattle.engine_core.specs.computed.EngineStep.{Takes}
 use Rattle.exchange_engines.specs.EntryText.{entry_lines}
-use Rattle.exchange_engines.specs.ReplayText.{IsReplayText, KeepsAfter, events_of}
+use Rattle.exchange_engines.specs.ReplayText.{IsReplayText, events_of}
 use Rattle.exchange_engines.proofs.NonEmpty.{no_entry}
 use Rattle.exchange_engines.specs.computed.ReplayStep.{kept_after, replay_text, state_after_list}
 
@@ -39,7 +39,11 @@ replays s t before n event entries old new stands said then_ wrote = (
   then_ ∙ ap (λ (k : State _). step_state k (reading_of event)) stands ∙ sym (kept_push s.blocks before (n, event)) ∙ ap (λ (bs : List (Block _)). kept_after bs (before ++ (n, event) ∷ [])) (sym (ap (λ (k : State _). k.blocks) then_)),
 )
 
--- what is kept after one event more
+-- a subscriber of these blocks keeps this after these events
+record KeepsAfter {A : Type 0} (blocks : List (Block A)) (events : List (Event A)) (s : State A) : Type 0 where
+  of_blocks : s.blocks ≡ blocks
+  stands : StandsAfter events s
+
 keeps_next : {A : Type 0} (blocks : List (Block A)) (before : List (Event A)) (e : Event A) (s : State A) → KeepsAfter blocks before s → KeepsAfter blocks (before ++ e ∷ []) (step_state s (reading_of e))
 keeps_next blocks before e s k = record { of_blocks = k.of_blocks; stands = stands_step before e (reading_of e) s (is_read e) k.stands }
 
@@ -58,13 +62,9 @@ replay_is blocks = record {
   each_item = λ before e.
       let k = kept_keeps blocks before in
       let s = kept_after blocks before in record {
-        old = s;
-        kept = k;
         entries = step_entries s (reading_of e.1);
         are_entries = subst (λ (bs : List (Block _)). AreEntriesAt bs (events_of before ++ e.1 ∷ []) (length (events_of before)) (step_entries s (reading_of e.1))) k.of_blocks
             (entries_step (events_of before) e.1 (reading_of e.1) s (is_read e.1) k.stands);
-        new = step_state s (reading_of e.1);
-        keeps = keeps_next blocks (events_of before) e.1 s k;
         lines = refl;
       };
   last = λ f. refl;

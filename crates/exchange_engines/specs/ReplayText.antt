@@ -13,7 +13,6 @@ use Rattle.block_core.specs.declared.block.Block.{Block}
 use Rattle.subscribe_core.specs.declared.entry.Entry.{Entry}
 use Rattle.subscribe_core.specs.Entries.{AreEntriesAt}
 use Rattle.subscribe_core.specs.Apart.{AreApart, IsFirstTwice}
-use Rattle.subscribe_core.specs.State.{State, StandsAfter}
 use Rattle.engine_core.specs.declared.ending.Ending.{Ending}
 use Rattle.engine_core.specs.declared.ending.Ending.TheVariants.{Memory}
 use Rattle.engine_core.specs.EngineText.{Text}
@@ -25,23 +24,13 @@ use Rattle.text_core.specs.LineText.{list_line}
 abbrev pub events_of : {A : Type 0} → List (ℕ × Event A) → List (Event A)
 events_of items = map (λ e. e.1) items
 
--- a subscriber of these blocks keeps this after these events
-pub record KeepsAfter {A : Type 0} (blocks : List (Block A)) (events : List (Event A)) (s : State A) : Type 0 where
-  pub of_blocks : s.blocks ≡ blocks
-  pub stands : StandsAfter events s
-
--- What is written of an event after others: the lines of its entries. What a subscriber keeps before the event, and then, is
--- what it keeps after the events up to there. No event is a finding.
+-- What is written of an event after others: the lines of the entries that the list up to it has at it. No event is a finding.
 pub record ReplaysEvent {A : Type 0} (blocks : List (Block A)) (before : List (ℕ × Event A)) (e : ℕ × Event A) (written : Result (List ℕ × Bool) ListCause) : Type 0 where
-  pub old : State A
-  pub kept : KeepsAfter blocks (events_of before) old
   pub entries : List (Entry A)
   pub are_entries : AreEntriesAt blocks (events_of before ++ e.1 ∷ []) (length (events_of before)) entries
-  pub new : State A
-  pub keeps : KeepsAfter blocks (events_of before ++ e.1 ∷ []) new
   pub lines : written ≡ Ok (entry_lines e.0 entries, false)
 
--- What `replay` writes for these blocks: of each event what a subscriber of them answers it after the events before.
+-- What `replay` writes for these blocks: of each event the lines of its entries.
 pub record IsReplayText {A : Type 0} (blocks : List (Block A)) (t : Text (Event A) ListCause) : Type 0 where
   pub first : t.first ≡ []
   pub each_item : (before : List (ℕ × Event A)) (e : ℕ × Event A) → ReplaysEvent blocks before e (t.of_item before e)

@@ -1,4 +1,4 @@
--- What a publisher gives, over the whole list of its calls: the accepted changes and the polls.
+-- What a publisher gives, over a list of calls in which each change is accepted.
 use Rattle.std.specs.Prelude.{◌≡◌, ℕ, zero, suc, ◌+◌, ◌*◌, ◌<◌, ◌≤◌, Option, Some, None, List, [], ◌∷◌, max, take, length, slice_get, option_map}
 use Rattle.frame_core.specs.declared.frame.Frame.{Frame}
 use Rattle.frame_core.specs.Written.{written_frame}
@@ -7,7 +7,7 @@ use Rattle.publish_core.specs.Numbers.{state_number}
 use Rattle.publish_core.specs.Table.{step_at, step_of}
 use Rattle.publish_core.specs.Frames.{Setup, Change, frame}
 
--- what a call asks for: a change that it hands in, and that is accepted, or a frame
+-- what a call asks for: that a change be published, which it hands in, or the frame that is due
 pub data Request : Type 0 where
   Changed : Change → Request
   Polled : Request
