@@ -19,7 +19,7 @@ use Rattle.capture_core.specs.Capture.{Capture, CaptureRecord, capture, records_
 use Rattle.capture_core.specs.Reading.{ReadsHeader, ReadsRecord, TakesFor, behind_record}
 use Rattle.engine_core.specs.declared.ending.Ending.{Ending}
 use Rattle.engine_core.specs.declared.ending.Ending.TheVariants.{Done, Findings, WriteFault}
-use Rattle.frame_engines.specs.ImportText.{AtRecord, EndsBehind, Imports, ImportsToFault, capture_line, ending_of_capture, is_left_out, last_line, put_records, record_line, text_behind}
+use Rattle.frame_engines.specs.ImportText.{AtRecord, EndsBehind, FailsBehind, Imports, ImportsToFault, capture_line, ending_of_capture, is_left_out, last_line, put_records, record_line, text_behind}
 use Rattle.frame_engines.specs.computed.ImportStep.{FaultWrites, import_due}
 
 -- ---- texts
@@ -122,12 +122,12 @@ Imported z ending a c v old new = (given : List ℕ) × GivesOctets a c given ×
 
 -- the first line was not written whole, and the reader is untouched
 pub not_begun : (a : Option (List ℕ)) (z : InputEnd) (old new : Option (List ℕ)) → AppendsPrefix old new (codes "V2\n") → Imported z WriteFault a a z old new
-not_begun a z old new w = ([], no_more a, (AppendsPrefix-more old new (codes "V2\n") (text_behind (capture z [])) w, inl (refl, refl)))
+not_begun a z old new w = ([], no_more a, record { prefix = AppendsPrefix-more old new (codes "V2\n") (text_behind (capture z [])) w; fails_at = inl (refl, refl) })
 
 module _ (z v : InputEnd) (given : List ℕ) (start held new : Option (List ℕ)) (first : Appends start held (codes "V2\n")) where
   well : (found : Bool) → (capture v given).stop ≡ finished → list_any is_left_out (capture v given).records ≡ found → Appends held new (text_behind (capture v given)) → Imports z (if found then Findings else Done) v given start new
-  well true s f w = (s, f, Appends-append start held new (codes "V2\n") (text_behind (capture v given)) first w)
-  well false s f w = (s, f, Appends-append start held new (codes "V2\n") (text_behind (capture v given)) first w)
+  well true s f w = record { capture_ends = s; finds = f; written = Appends-append start held new (codes "V2\n") (text_behind (capture v given)) first w }
+  well false s f w = record { capture_ends = s; finds = f; written = Appends-append start held new (codes "V2\n") (text_behind (capture v given)) first w }
 
   by_cause : (why : CaptureCause) → ImportsToFault (ending_of_capture why) v given start new → Imports z (ending_of_capture why) v given start new
   by_cause ReadFailed w = w
@@ -137,13 +137,16 @@ module _ (z v : InputEnd) (given : List ℕ) (start held new : Option (List ℕ)
   by_cause TooManyRecords w = w
 
   badly : (f : CaptureFault) → (capture v given).stop ≡ faulty f → Appends held new (text_behind (capture v given)) → EndsBehind v given (capture v given).records → Imports z (ending_of_capture f.cause) v given start new
-  badly f s w i = by_cause f.cause (f, s, refl, Appends-append start held new (codes "V2\n") (text_behind (capture v given)) first w, i)
+  badly f s w i =
+      by_cause f.cause (record { why = f; has_fault = s; has_ending = refl; written = Appends-append start held new (codes "V2\n") (text_behind (capture v given)) first w; none_behind = i })
 
   in_part : (rs : List (ℕ × CaptureRecord)) (others : Capture) (mid : Option (List ℕ)) → EndsBehind v given rs → capture v given ≡ put_records rs others → Appends held mid (text_to rs) → AppendsPrefix mid new (text_behind others) → Imports z WriteFault v given start new
   in_part rs others mid i e w p =
       let text : text_behind (capture v given) ≡ text_to rs ++ text_behind others = ap text_behind e ∙ text_parts rs others in
       let front : AppendsPrefix held new (text_behind (capture v given)) = subst (AppendsPrefix held new) (sym text) (AppendsPrefix-append held mid new (text_to rs) (text_behind others) w p) in
-      (AppendsPrefix-append start held new (codes "V2\n") (text_behind (capture v given)) first front, inr (rs, (mid, others, i, e, Appends-append start held mid (codes "V2\n") (text_to rs) first w, p)))
+      let behind : FailsBehind v given start new =
+      record { records = rs; others = others; says = e; none_behind = i; held = mid; written = Appends-append start held mid (codes "V2\n") (text_to rs) first w; next = p } in
+      record { prefix = AppendsPrefix-append start held new (codes "V2\n") (text_behind (capture v given)) first front; fails_at = inr behind }
 
 -- a fault ends the text behind these records
 faulted : (rs : List (ℕ × CaptureRecord)) (z v : InputEnd) (given : List ℕ) (f : CaptureFault) (ending : Ending) (start held mid new : Option (List ℕ)) → Appends start held (codes "V2\n") →

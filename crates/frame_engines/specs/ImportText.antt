@@ -79,29 +79,41 @@ pub record AtRecord (z : InputEnd) (given : List ℕ) (records : List (ℕ × Ca
 abbrev pub EndsBehind : InputEnd → List ℕ → List (ℕ × CaptureRecord) → Type 0
 EndsBehind z given records = ((records ≡ []) × (length given ≤ 24)) ⊎ AtRecord z given records
 
--- the capture has a fault with this ending, the whole text was written, and nothing was read behind the record of the fault
-abbrev pub ImportsToFault : Ending → InputEnd → List ℕ → Option (List ℕ) → Option (List ℕ) → Type 0
-ImportsToFault ending z given old new = (f : CaptureFault) × ((capture z given).stop ≡ faulty f) × (ending_of_capture f.cause ≡ ending) × Appends old new (import_text (capture z given)) × EndsBehind z given (capture z given).records
+-- The capture has a fault with this ending, the whole text was written, and nothing was read behind the record of the fault.
+pub record ImportsToFault (ending : Ending) (z : InputEnd) (given : List ℕ) (old new : Option (List ℕ)) : Type 0 where
+  pub why : CaptureFault
+  pub has_fault : (capture z given).stop ≡ faulty why
+  pub has_ending : ending_of_capture why.cause ≡ ending
+  pub written : Appends old new (import_text (capture z given))
+  pub none_behind : EndsBehind z given (capture z given).records
 
--- the capture has no fault, a record was left out or none was, and the whole text was written
-abbrev pub ImportsToEnd : Bool → Capture → Option (List ℕ) → Option (List ℕ) → Type 0
-ImportsToEnd found c old new = (c.stop ≡ finished) × (list_any is_left_out c.records ≡ found) × Appends old new (import_text c)
+-- The capture has no fault, a record was left out or none was, and the whole text was written.
+pub record ImportsToEnd (found : Bool) (c : Capture) (old new : Option (List ℕ)) : Type 0 where
+  pub capture_ends : c.stop ≡ finished
+  pub finds : list_any is_left_out c.records ≡ found
+  pub written : Appends old new (import_text c)
 
--- The writer failed behind the lines of these records, at the next one: what was read ends with its record.
-abbrev pub StopsBehind : InputEnd → List ℕ → List (ℕ × CaptureRecord) → Option (List ℕ) → Option (List ℕ) → Type 0
-StopsBehind z given records old new = (held : Option (List ℕ)) × (others : Capture) × EndsBehind z given records × (capture z given ≡ put_records records others)
-    × Appends old held (codes "V2\n" ++ flat_map record_line records) × AppendsPrefix held new (text_behind others)
+-- The writer failed behind the lines of some records, at the next one: what was read ends with its record.
+pub record FailsBehind (z : InputEnd) (given : List ℕ) (old new : Option (List ℕ)) : Type 0 where
+  pub records : List (ℕ × CaptureRecord)
+  pub others : Capture
+  pub says : capture z given ≡ put_records records others
+  pub none_behind : EndsBehind z given records
+  -- what the writer holds before that line
+  pub held : Option (List ℕ)
+  pub written : Appends old held (codes "V2\n" ++ flat_map record_line records)
+  pub next : AppendsPrefix held new (text_behind others)
 
--- a front of the text of these octets was written; the reader, which told such an ending before, is untouched, or the first line and those of some records had been written whole
-abbrev pub ImportsFront : InputEnd → InputEnd → List ℕ → Option (List ℕ) → Option (List ℕ) → Type 0
-ImportsFront before z given old new = AppendsPrefix old new (import_text (capture z given))
-    × (IsUntouched before z given ⊎ ((records : List (ℕ × CaptureRecord)) × StopsBehind z given records old new))
+-- A prefix of the text of these octets was written; the reader, which told such an ending before, is untouched, or the first line and those of some records had been written whole.
+pub record ImportsPrefix (before z : InputEnd) (given : List ℕ) (old new : Option (List ℕ)) : Type 0 where
+  pub prefix : AppendsPrefix old new (import_text (capture z given))
+  pub fails_at : IsUntouched before z given ⊎ FailsBehind z given old new
 
--- What `import` leaves written of the octets that a reader gave, with the endings that it told before and tells after: the whole text at Done and Findings, and at InputFault and ReadFault, where nothing is read behind the record of the fault; a front of it at WriteFault. It never wants memory.
+-- What `import` leaves written of the octets that a reader gave, with the endings that it told before and tells after: the whole text at Done and Findings, and at InputFault and ReadFault, where nothing is read behind the record of the fault; a prefix of it at WriteFault. It never wants memory.
 abbrev pub Imports : InputEnd → Ending → InputEnd → List ℕ → Option (List ℕ) → Option (List ℕ) → Type 0
 Imports before Done z given old new = ImportsToEnd false (capture z given) old new
 Imports before Findings z given old new = ImportsToEnd true (capture z given) old new
 Imports before InputFault z given old new = ImportsToFault InputFault z given old new
 Imports before ReadFault z given old new = ImportsToFault ReadFault z given old new
-Imports before WriteFault z given old new = ImportsFront before z given old new
+Imports before WriteFault z given old new = ImportsPrefix before z given old new
 Imports before Memory z given old new = ⊥
