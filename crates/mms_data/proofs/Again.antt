@@ -1,12 +1,12 @@
 -- What is spelled so is read.
-use Rattle.std.proofs.Common.{◌≡◌, ℕ, suc, ◌-◌, ◌+◌, ◌%◌, ◌≤◌, ◌<◌, eqb, false, List, ◌∷◌, ◌++◌, length, drop, Result, Ok, refl, ap, ap₂, ◌∙◌, append_assoc, arith}
+use Rattle.std.proofs.Common.{◌≡◌, ℕ, suc, ◌-◌, ◌+◌, ◌%◌, ◌≤◌, ◌<◌, eqb, false, List, [], ◌∷◌, ◌++◌, length, drop, Result, Ok, refl, ap, ap₂, ◌∙◌, append_assoc, arith}
 use Rattle.std.proofs.lemmas.List.{length-append, take_at, drop_at}
 use Rattle.ber_core.specs.declared.fault.Fault.{Fault}
 use Rattle.ber_core.specs.Length.{Len}
 use Rattle.ber_core.specs.Element.{Elem}
 use Rattle.ber_core.specs.computed.Reading.{◌>>=◌, header_at}
 use Rattle.ber_core.proofs.Headers.{header_for, length_again}
-use Rattle.mms_data.specs.Data.{Data, simple, array, structure, Items, no_items, item, items_of, list_of, list_of-items_of, items_of-list_of}
+use Rattle.mms_data.specs.Data.{Data, simple, array, structure, Items, no_items, item, items_of}
 use Rattle.mms_data.specs.Kinds.{identifier_of, simple_kind}
 use Rattle.mms_data.specs.Spelling.{Spells, SpellsItems, SpellsAll}
 use Rattle.mms_data.specs.computed.Reading.{contents_within, contents_at, member_with, members_with, member_at, members_at}
@@ -15,6 +15,21 @@ use Rattle.mms_data.specs.declared.kinds.Kind.TheVariants.{Array, Structure, Sim
 use Rattle.mms_data.proofs.KindLaws.{low_tag, here_again}
 use Rattle.mms_data.proofs.ContentsLaws.{simple_again}
 use Rattle.mms_data.proofs.Loop.{one_more, none_left}
+
+-- members as a list of values
+abbrev list_of : Items → List Data
+list_of no_items = []
+list_of (item d ds) = d ∷ list_of ds
+
+-- a list made members, and those a list again, is the same list
+list_of-items_of : (ds : List Data) → list_of (items_of ds) ≡ ds
+list_of-items_of [] = refl
+list_of-items_of (d ∷ ds) = ap (λ (xs : List Data). d ∷ xs) (list_of-items_of ds)
+
+-- members made a list, and that members again, are the same members
+items_of-list_of : (ds : Items) → items_of (list_of ds) ≡ ds
+items_of-list_of no_items = refl
+items_of-list_of (item d ds) = ap (item d) (items_of-list_of ds)
 
 -- the contents of the element at the front
 pub contents_again : (p id : ℕ) (size c rest : List ℕ) → contents_within (header_for p id (length size) (length c)) (id ∷ size ++ (c ++ rest)) ≡ c

@@ -1,6 +1,5 @@
 -- Values of Data (ISO 9506-2): what a `Value` and a `View` of the code stand for.
-use Rattle.std.specs.Prelude.{◌≡◌, ℕ, ℤ, Bool, List, [], ◌∷◌, refl}
-use Rattle.std.proofs.Common.{ap}
+use Rattle.std.specs.Prelude.{ℕ, ℤ, Bool, List, [], ◌∷◌}
 use Rattle.mms_data.specs.declared.time.UtcTime.{UtcTime}
 
 -- a value without members, by its kind; bits are the count of the unused ones and the octets
@@ -32,18 +31,3 @@ mutual
 abbrev pub items_of : List Data → Items
 items_of [] = no_items
 items_of (d ∷ ds) = item d (items_of ds)
-
--- members as a list of values
-abbrev pub list_of : Items → List Data
-list_of no_items = []
-list_of (item d ds) = d ∷ list_of ds
-
--- a list made members, and those a list again, is the same list
-pub list_of-items_of : (ds : List Data) → list_of (items_of ds) ≡ ds
-list_of-items_of [] = refl
-list_of-items_of (d ∷ ds) = ap (λ (xs : List Data). d ∷ xs) (list_of-items_of ds)
-
--- members made a list, and that members again, are the same members
-pub items_of-list_of : (ds : Items) → items_of (list_of ds) ≡ ds
-items_of-list_of no_items = refl
-items_of-list_of (item d ds) = ap (item d) (items_of-list_of ds)
