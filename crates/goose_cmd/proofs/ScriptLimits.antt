@@ -37,11 +37,12 @@ use Rattle.script_core.specs.declared.script.ScriptLines.{ScriptLines}
 use Rattle.script_core.specs.declared.script.ScriptLines.TheVariants.{First, After}
 use Rattle.script_core.specs.declared.script.ScriptPart.{ScriptPart}
 use Rattle.script_core.specs.declared.script.ScriptPart.TheVariants as part
-use Rattle.script_core.specs.ControlLine.{ControlLine, control_of, control_said}
+use Rattle.script_core.specs.computed.ControlLine.{ControlLine, control_of, control_said}
 use Rattle.script_core.specs.ScriptFields.{all_octets_in, time_in}
-use Rattle.script_core.specs.Script.{all_said, line_said, script_rules, script_said, settled}
-use Rattle.script_core.specs.CallLine.{call_said, change_said, change_said_by, change_to, poll_of, poll_said, too_early}
-use Rattle.script_core.specs.StepLine.{step_said, step_said_by}
+use Rattle.script_core.specs.Script.{script_rules}
+use Rattle.script_core.specs.computed.LineReading.{all_said, line_said, script_said, settled}
+use Rattle.script_core.specs.computed.CallLine.{call_said, change_said, change_said_by, change_to, poll_of, poll_said, too_early}
+use Rattle.script_core.specs.computed.StepLine.{step_said, step_said_by}
 use Rattle.exchange_engines.specs.PublishText.{item_of_request, item_of_call, items_of_lines, script_of}
 use Rattle.goose_cmd.specs.ListText.{MomentsAreShort}
 use Rattle.goose_cmd.specs.PublishedReplay.{SaysRun, script_of_text}

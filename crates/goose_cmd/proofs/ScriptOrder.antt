@@ -33,11 +33,12 @@ use Rattle.script_core.specs.declared.script.ScriptPart.{ScriptPart}
 use Rattle.script_core.specs.declared.script.ScriptPart.TheVariants as part
 use Rattle.script_core.specs.declared.script_control.ControlNumbers.{ControlNumbers}
 use Rattle.block_core.specs.Commas.{at_most_32_bits, comma_fields, number_by, octets_in, text_in, word_in}
-use Rattle.script_core.specs.ControlLine.{ControlLine, block_of_line, control_of, control_said, control_with, numbers_with}
-use Rattle.script_core.specs.Script.{all_said, line_said, script_rules, script_said, settled}
-use Rattle.script_core.specs.CallLine.{call_said, change_said_by, change_said, change_to, poll_of, poll_said, too_early}
+use Rattle.script_core.specs.computed.ControlLine.{ControlLine, block_of_line, control_of, control_said, control_with, numbers_with}
+use Rattle.script_core.specs.Script.{script_rules}
+use Rattle.script_core.specs.computed.LineReading.{all_said, line_said, script_said, settled}
+use Rattle.script_core.specs.computed.CallLine.{call_said, change_said_by, change_said, change_to, poll_of, poll_said, too_early}
 use Rattle.script_core.specs.ScriptFields.{flag_in, all_octets_in, tag_in, time_in}
-use Rattle.script_core.specs.StepLine.{step_said_by, step_said}
+use Rattle.script_core.specs.computed.StepLine.{step_said_by, step_said}
 use Rattle.exchange_engines.specs.computed.PublishStep.{is_good, with_step}
 use Rattle.exchange_engines.specs.PublishText.{IsScriptSound, item_of_request, item_of_call, items_of_lines, script_of}
 use Rattle.exchange_engines.specs.ScriptLaws.{ScriptsAreInOrder, StandsBefore, StandsBeforeCall}

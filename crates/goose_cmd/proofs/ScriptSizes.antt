@@ -15,9 +15,9 @@ use Rattle.publish_core.specs.Table.{step_at}
 use Rattle.exchange_laws.specs.Stems.{HasSizes}
 use Rattle.script_core.specs.declared.script_control.ControlNumbers.{ControlNumbers}
 use Rattle.block_core.specs.Commas.{number_by, octets_in, text_in, word_in}
-use Rattle.script_core.specs.ControlLine.{ControlLine, control_of, control_with, numbers_with}
+use Rattle.script_core.specs.computed.ControlLine.{ControlLine, control_of, control_with, numbers_with}
 use Rattle.script_core.specs.ScriptFields.{all_octets_in, flag_in, tag_in}
-use Rattle.script_core.specs.StepLine.{step_said_by, step_with}
+use Rattle.script_core.specs.computed.StepLine.{step_said_by, step_with}
 use Rattle.list_core.specs.Decimal.{decimal_of}
 use Rattle.goose_cmd.proofs.ScriptOrder.{Below, below, either}
 use Rattle.goose_cmd.proofs.WrittenOctets.{cons_octets, no_octets}

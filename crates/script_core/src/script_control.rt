@@ -2,11 +2,11 @@
 ghost use Rattle.std.specs.Prelude.{◌≡◌, true, option_map, IfOk, IfErr};
 ghost use Rattle.list_core.specs.Cuts.{parts_after};
 ghost use Rattle.block_core.specs.Commas.{number_by, octets_in, text_in, word_in};
-ghost use Rattle.script_core.specs.Script.{AnswersScriptLine};
-ghost use Rattle.script_core.specs.ControlLine.{block_of_line, control_keeps, control_of, control_said, control_with, numbers_in, numbers_with};
+ghost use Rattle.script_core.specs.computed.LineReading.{AnswersScriptLine};
+ghost use Rattle.script_core.specs.computed.ControlLine.{block_of_line, control_keeps, control_of, control_said, control_with, numbers_in, numbers_with};
 ghost use Rattle.script_core.specs.ScriptFields.{flag_in, tag_in};
-ghost use Rattle.script_core.specs.StepLine.{step_said_by, step_said};
-ghost use Rattle.script_core.specs.ControlView.{control_seen, view_keeps};
+ghost use Rattle.script_core.specs.computed.StepLine.{step_said_by, step_said};
+ghost use Rattle.script_core.specs.computed.ControlView.{control_seen, view_keeps};
 
 use crate::script::{ScriptCause, ScriptItem, ScriptPart};
 use block_core::commas::{fields_of, number_by, text_in, word_in};

@@ -2,7 +2,7 @@
 use Rattle.std.specs.Prelude.{ℕ, Bool, List, option_map}
 use Rattle.std.specs.Borrow.{Bor}
 use Rattle.block_core.specs.BlockText.{texts_keep}
-use Rattle.script_core.specs.ControlLine.{ControlLine}
+use Rattle.script_core.specs.computed.ControlLine.{ControlLine}
 use Rattle.script_core.specs.declared.script_control.ControlView.{ControlView}
 
 -- the control line that a view stands for: the same numbers and addresses, and the octets of its texts
