@@ -70,3 +70,7 @@ abbrev pub CanFollow : InputEnd → List ℕ → InputEnd → Type 0
 CanFollow Open more z = Unit {0}
 CanFollow End more z = (more ≡ []) × (z ≡ End)
 CanFollow Failed more z = (more ≡ []) × (z ≡ Failed)
+
+-- this is so of all that can still come after a source told this ending
+abbrev pub WhateverComes : InputEnd → (InputEnd → List ℕ → Type 0) → Type 0
+WhateverComes ending Is = (more : List ℕ) (z : InputEnd) → CanFollow ending more z → Is z more

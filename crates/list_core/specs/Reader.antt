@@ -8,7 +8,7 @@ use Rattle.std.specs.Borrow.{Bor}
 use Rattle.std.specs.Io.KnownBytes.{Consumes}
 use Rattle.list_core.specs.Cuts.{HasNo}
 use Rattle.list_core.specs.Device.{GivesOctets, OnlyOpen}
-use Rattle.list_core.specs.Lines.{Reading, reading, put_line, finished, faulty, CanFollow, StartsLine}
+use Rattle.list_core.specs.Lines.{Reading, reading, put_line, finished, faulty, StartsLine, WhateverComes}
 use Rattle.list_core.specs.FirstLine.{IsFront}
 
 -- a text that is being read: what the source has left and how it ends, the octets that are held and not answered, and the count of lines taken before
@@ -71,8 +71,7 @@ pub record AnswersLine (old : Stream) (answer : Result (Option (List ℕ)) ListF
   pub counted : Counted answer old.taken new.taken
   pub bounded : length (old.held ++ given) ≤ 8192
   pub off : TakesLineOff answer new.ending (old.held ++ given) new.held
-  pub reads : (more : List ℕ) (z : InputEnd) → CanFollow new.ending more z →
-      Answered answer (reading z old.taken (old.held ++ given ++ more)) (reading z new.taken (new.held ++ more))
+  pub reads : WhateverComes new.ending (λ z more. Answered answer (reading z old.taken (old.held ++ given ++ more)) (reading z new.taken (new.held ++ more)))
 
 -- the line that an answer lends
 abbrev pub lent_line : Result (Option (Bor (List ℕ))) ListFault → Result (Option (List ℕ)) ListFault
