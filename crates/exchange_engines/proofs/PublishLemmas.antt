@@ -204,11 +204,11 @@ module _ {A : Type 0} (p : Setup A) (calls : List Call) (sound : IsScriptSound p
       let c = call m (Changed change) in
       let time = greatest_call_moment (calls ++ c ∷ []) in
       let held = request_frame (standing_from (fresh_publisher p) calls) (Changed change) m in
-      let same = answer_one p (trace_of_calls (calls ++ c ∷ [])) (length calls) (Some published.0) held published.1 (answered p calls c sound) in
+      let same = answer_one p (trace_of_calls (calls ++ c ∷ [])) (length calls) (Some published.published) held published.publishes (answered p calls c sound) in
       let not_refused = sym (judged_only p.control p.table (next_state p calls) change sound.steps None accepted) in (
-        answer_text time (Some published.0),
+        answer_text time (Some published.published),
         ap (λ (o : Option PublishFault). text_unless_refused o (answer_text time held)) not_refused ∙ ap (λ (o : Option (SentFrame A)). Ok (answer_text time o, false)) (sym same),
-        wrote ∙ ap (λ (l : List ℕ). old ++ l) (published_line moment time octets published.0 now published.2),
+        wrote ∙ ap (λ (l : List ℕ). old ++ l) (published_line moment time octets published.published now published.is_written),
         stands,
       )
 
@@ -221,10 +221,10 @@ module _ {A : Type 0} (p : Setup A) (calls : List Call) (sound : IsScriptSound p
       let c = call m Polled in
       let time = greatest_call_moment (calls ++ c ∷ []) in
       let held = request_frame (standing_from (fresh_publisher p) calls) Polled m in
-      let same = answer_one p (trace_of_calls (calls ++ c ∷ [])) (length calls) (Some published.0) held published.1 (answered p calls c sound) in (
-        answer_text time (Some published.0),
+      let same = answer_one p (trace_of_calls (calls ++ c ∷ [])) (length calls) (Some published.published) held published.publishes (answered p calls c sound) in (
+        answer_text time (Some published.published),
         ap (λ (o : Option (SentFrame A)). Ok (answer_text time o, false)) (sym same),
-        wrote ∙ ap (λ (l : List ℕ). old ++ l) (published_line moment time octets published.0 now published.2),
+        wrote ∙ ap (λ (l : List ℕ). old ++ l) (published_line moment time octets published.published now published.is_written),
         stands,
       )
 
@@ -246,7 +246,7 @@ pub polled_there : {A : Type 0} (p : Setup A) (calls : List Call) (m : ℕ) (oct
     (n : ℕ) → step_text (publish_text {A = A}) n (call_written p calls (call m Polled)) ≡ [] → ⊥
 polled_there {A} p calls m octets sound published n none =
     let c = call m Polled in
-    let same = answer_one p (trace_of_calls (calls ++ c ∷ [])) (length calls) (Some published.0) _ published.1 (answered p calls c sound) in
+    let same = answer_one p (trace_of_calls (calls ++ c ∷ [])) (length calls) (Some published.published) _ published.publishes (answered p calls c sound) in
     let h = ap (answer_text {A = A} (greatest_call_moment (calls ++ c ∷ []))) same ∙ none in cc
 
 -- a poll that is not taken leaves the item so

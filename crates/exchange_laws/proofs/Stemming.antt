@@ -46,22 +46,22 @@ of_run {A} p calls e r x o some no_wrap w read goose kind = record {
 }
   where
     c : ℕ
-    c = w.publishes.0
+    c = w.publishes.c
 
     k : ℕ
-    k = w.publishes.1
+    k = w.publishes.k
 
     handed_in : Change
-    handed_in = w.publishes.2
+    handed_in = w.publishes.change
 
     at : (j : ℕ) × (j ≤ w.call) × IsChange (published_trace calls) j c handed_in
-    at = carried w.publishes.3
+    at = carried w.publishes.gives
 
     q : GoosePdu A
     q = pdu_with p.control handed_in (state_number p.first c) (sequence_number k) (step_at p.table (step_of p.table k)).live_ms
 
     unit : w.received.apdu ≡ apdus.Goose q
-    unit = w.same ∙ ap (λ (f : Frame A). f.apdu) w.publishes.4
+    unit = w.same ∙ ap (λ (f : Frame A). f.apdu) w.publishes.is_frame
 
     pdu : x.pdu ≡ plain q
     pdu = pdu_read e r x o w.received q read goose kind w.spelled unit

@@ -61,9 +61,9 @@ all_octets_sent m (c ∷ cs) (a ∷ answers) each =
 -- the frame that a call gives is written as octets where its change is
 answer_octets : {A : Type 0} (p : Setup A) (calls : List Call) (i : ℕ) (f : Frame A) → SaysOctets p calls → AreAccepted p calls → IsAnswer p (trace_of_calls calls) i (Some f) → AreOctets (written_frame f)
 answer_octets {A} p calls i f octets accepted w =
-    let at = carried w.3 in
-    let spelled = (change_accepted p calls at.0 w.0 w.2 accepted at.2).spelled in
-    subst (λ (g : Frame A). AreOctets (written_frame g)) (sym w.4) (frame_octets p (state_number p.first w.0) w.1 w.2 octets.to octets.from spelled (octets.values at.0 w.2 at.2.request))
+    let at = carried w.gives in
+    let spelled = (change_accepted p calls at.0 w.c w.change accepted at.2).spelled in
+    subst (λ (g : Frame A). AreOctets (written_frame g)) (sym w.is_frame) (frame_octets p (state_number p.first w.c) w.k w.change octets.to octets.from spelled (octets.values at.0 w.change at.2.request))
 
 -- a list says nothing by how the text of a script ends
 how_it_ends : {A B : Type 0} (t : Text (ScriptItem A) ScriptCause) (n : ℕ) (stop : Stop (ItemFault ScriptCause)) → IsPublishText t → n < 1000000 → EndsList B n (last_text t stop)

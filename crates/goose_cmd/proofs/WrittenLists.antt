@@ -138,11 +138,11 @@ behind_some (x ∷ d) a b e = omega arith
 
 answer_size : {A : Type 0} (p : Setup A) (calls : List Call) (i : ℕ) (f : Frame A) → HasSizes p → AreAccepted p calls → IsAnswer p (trace_of_calls calls) i (Some f) → HasSize f
 answer_size {A} p calls i f held accepted w =
-    let at = carried w.3 in
-    let fit = (change_accepted p calls at.0 w.0 w.2 accepted at.2).fit w.1 in
-    subst HasSize (sym w.4) (
+    let at = carried w.gives in
+    let fit = (change_accepted p calls at.0 w.c w.change accepted at.2).fit w.k in
+    subst HasSize (sym w.is_frame) (
       behind_some p.control.destination _ _ held.to,
-      elim (cases_lt 1600 (length (written_frame (frame p.control p.table (state_number p.first w.0) w.2 w.1)))) [
+      elim (cases_lt 1600 (length (written_frame (frame p.control p.table (state_number p.first w.c) w.change w.k)))) [
         | inl long ↦ absurd (fit (inr long))
         | inr short ↦ omega arith
       ],

@@ -153,15 +153,15 @@ poll_step p t n (Some l) poll some b = go (is_due p.table l (t.now n)) refl
         let q : number_behind l.sequence ≡ sequence_number (suc b.k) = ap number_behind b.sequence ∙ sym (sequence_number_next b.k) in
         let s : min (l.step + 1) (length p.table - 1) ≡ step_of p.table (suc b.k) = ap (λ (y : ℕ). min (y + 1) (length p.table - 1)) b.step ∙ step_next p.table b.k in (
           open_out p t (suc n) n b.c (suc b.k) (next_last p.table l (t.now n)) x b.state q s refl,
-          (
-            b.c,
-            suc b.k,
-            change_of l,
-            x.gives,
-            ap (λ (y : ℕ). frame_with p.control (change_of l) y (number_behind l.sequence) (step_at p.table (min (l.step + 1) (length p.table - 1))).live_ms) b.state ∙
+          record {
+            c = b.c;
+            k = suc b.k;
+            change = change_of l;
+            gives = x.gives;
+            is_frame = ap (λ (y : ℕ). frame_with p.control (change_of l) y (number_behind l.sequence) (step_at p.table (min (l.step + 1) (length p.table - 1))).live_ms) b.state ∙
                 ap (λ (y : ℕ). frame_with p.control (change_of l) (state_number p.first b.c) y (step_at p.table (min (l.step + 1) (length p.table - 1))).live_ms) q ∙
-                ap (λ (y : ℕ). frame_with p.control (change_of l) (state_number p.first b.c) (sequence_number (suc b.k)) (step_at p.table y).live_ms) s,
-          ),
+                ap (λ (y : ℕ). frame_with p.control (change_of l) (state_number p.first b.c) (sequence_number (suc b.k)) (step_at p.table y).live_ms) s;
+          },
         )
     go false is =
         let early : t.now n < l.given + 1000 * (step_at p.table l.step).wait_ms = leb-false _ _ is in
@@ -176,13 +176,13 @@ change_step p t n change is =
     let s : 0 ≡ step_of p.table 0 = omega arith in
     let x = open_first {table = p.table} is in (
       open_out p t (suc n) n (changes t n) 0 (first_last (state_number p.first (changes t n)) change (t.now n)) x refl refl s refl,
-      (
-        changes t n,
-        0,
-        change,
-        x.gives,
-        ap (λ (y : ℕ). frame_with p.control change (state_number p.first (changes t n)) 0 (step_at p.table y).live_ms) s,
-      ),
+      record {
+        c = changes t n;
+        k = 0;
+        change = change;
+        gives = x.gives;
+        is_frame = ap (λ (y : ℕ). frame_with p.control change (state_number p.first (changes t n)) 0 (step_at p.table y).live_ms) s;
+      },
     )
 
 -- what gives a frame after the newest one is due
