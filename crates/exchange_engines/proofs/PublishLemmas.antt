@@ -166,16 +166,15 @@ pub runs_first : {A : Type 0} (g : Progress A) (control : Control A) (first : �
 runs_first nothing control first steps items r h e stands sound fails = absurd h
 runs_first {A} (setting_up p) control first steps items (Ok s) h e stands sound fails =
     let q : Setup A = setup control items first in
-    let same : q ≡ p = ap (λ (l : List Step). setup control l first) e ∙ h in (
-      q,
-      [],
-      sound,
-      stands,
-      λ c. (
-        ap (λ (x : Setup A). call_at (setting_up x) c) (sym same) ∙ ap (λ (o : Option ScriptCause). unless_unsound o (call_written q [] c)) (sound_setup q sound),
-        ap (λ (x : Setup A). called (setting_up x) c) (sym same),
-      ),
-    )
+    let same : q ≡ p = ap (λ (l : List Step). setup control l first) e ∙ h in
+    record {
+      p = q;
+      calls = [];
+      is_sound = sound;
+      stands = stands;
+      writes = λ c. ap (λ (x : Setup A). call_at (setting_up x) c) (sym same) ∙ ap (λ (o : Option ScriptCause). unless_unsound o (call_written q [] c)) (sound_setup q sound);
+      goes_on = λ c. ap (λ (x : Setup A). called (setting_up x) c) (sym same);
+    }
 runs_first {A} (setting_up p) control first steps items (Err why) h e stands sound fails = λ c.
     let q : Setup A = setup control items first in
     let same : q ≡ p = ap (λ (l : List Step). setup control l first) e ∙ h in
@@ -205,12 +204,13 @@ module _ {A : Type 0} (p : Setup A) (calls : List Call) (sound : IsScriptSound p
       let time = greatest_call_moment (calls ++ c ∷ []) in
       let held = request_frame (standing_from (fresh_publisher p) calls) (Changed change) m in
       let same = answer_one p (trace_of_calls (calls ++ c ∷ [])) (length calls) (Some published.published) held published.publishes (answered p calls c sound) in
-      let not_refused = sym (judged_only p.control p.table (next_state p calls) change sound.steps None accepted) in (
-        answer_text time (Some published.published),
-        ap (λ (o : Option PublishFault). text_unless_refused o (answer_text time held)) not_refused ∙ ap (λ (o : Option (SentFrame A)). Ok (answer_text time o, false)) (sym same),
-        wrote ∙ ap (λ (l : List ℕ). old ++ l) (published_line moment time octets published.published now published.is_written),
-        stands,
-      )
+      let not_refused = sym (judged_only p.control p.table (next_state p calls) change sound.steps None accepted) in
+      record {
+        text = answer_text time (Some published.published);
+        has_text = ap (λ (o : Option PublishFault). text_unless_refused o (answer_text time held)) not_refused ∙ ap (λ (o : Option (SentFrame A)). Ok (answer_text time o, false)) (sym same);
+        appended = wrote ∙ ap (λ (l : List ℕ). old ++ l) (published_line moment time octets published.published now published.is_written);
+        stands_after = stands;
+      }
 
   -- a poll gave a frame
   pub polled_one : (m moment : ℕ) (octets : List ℕ) → PublishesOctets p (calls ++ call m Polled ∷ []) (length calls) octets →
@@ -221,12 +221,13 @@ module _ {A : Type 0} (p : Setup A) (calls : List Call) (sound : IsScriptSound p
       let c = call m Polled in
       let time = greatest_call_moment (calls ++ c ∷ []) in
       let held = request_frame (standing_from (fresh_publisher p) calls) Polled m in
-      let same = answer_one p (trace_of_calls (calls ++ c ∷ [])) (length calls) (Some published.published) held published.publishes (answered p calls c sound) in (
-        answer_text time (Some published.published),
-        ap (λ (o : Option (SentFrame A)). Ok (answer_text time o, false)) (sym same),
-        wrote ∙ ap (λ (l : List ℕ). old ++ l) (published_line moment time octets published.published now published.is_written),
-        stands,
-      )
+      let same = answer_one p (trace_of_calls (calls ++ c ∷ [])) (length calls) (Some published.published) held published.publishes (answered p calls c sound) in
+      record {
+        text = answer_text time (Some published.published);
+        has_text = ap (λ (o : Option (SentFrame A)). Ok (answer_text time o, false)) (sym same);
+        appended = wrote ∙ ap (λ (l : List ℕ). old ++ l) (published_line moment time octets published.published now published.is_written);
+        stands_after = stands;
+      }
 
   -- it gave none
   pub polled_none : (m : ℕ) → PublishesNone p (calls ++ call m Polled ∷ []) (length calls) → PublisherStandsAfter p (calls ++ call m Polled ∷ []) s → TakesCall p calls (call m Polled) (Ok tt) old old s
@@ -234,12 +235,13 @@ module _ {A : Type 0} (p : Setup A) (calls : List Call) (sound : IsScriptSound p
       let c = call m Polled in
       let time = greatest_call_moment (calls ++ c ∷ []) in
       let held = request_frame (standing_from (fresh_publisher p) calls) Polled m in
-      let same = answer_one p (trace_of_calls (calls ++ c ∷ [])) (length calls) None held none (answered p calls c sound) in (
-        [],
-        ap (λ (o : Option (SentFrame A)). Ok (answer_text time o, false)) (sym same),
-        sym (append-nil old),
-        stands,
-      )
+      let same = answer_one p (trace_of_calls (calls ++ c ∷ [])) (length calls) None held none (answered p calls c sound) in
+      record {
+        text = [];
+        has_text = ap (λ (o : Option (SentFrame A)). Ok (answer_text time o, false)) (sym same);
+        appended = sym (append-nil old);
+        stands_after = stands;
+      }
 
 -- a poll that gives a frame has a text
 pub polled_there : {A : Type 0} (p : Setup A) (calls : List Call) (m : ℕ) (octets : List ℕ) → IsScriptSound p → PublishesOctets p (calls ++ call m Polled ∷ []) (length calls) octets →
@@ -258,4 +260,4 @@ poll_fails {A} g p calls m (line.Memory x) old new s same t = λ n none. t n (ap
 -- an item was taken, and the engine stands after it
 pub publishes : {A : Type 0} (before : List (ℕ × ScriptItem A)) (n : ℕ) (i : ScriptItem A) (s : Stage A) (old new : List ℕ) → TakesItem (progress_after before) i (Ok s) old new →
     Takes publish_text (λ (items : List (ℕ × ScriptItem A)). Holds s (progress_after items)) before (n, i) (Ok false) old new
-publishes before n i s old new t = (t.0, t.1, t.2, subst (Holds s) (sym (progress-push before (n, i))) t.3)
+publishes before n i s old new t = record { text = t.text; has_text = t.has_text; appended = t.appended; stands_after = subst (Holds s) (sym (progress-push before (n, i))) t.holds }

@@ -182,7 +182,12 @@ pub takes_event : {A : Type 0} (n : ℕ) (before : List (ℕ × Event A)) (event
     → Takes (blocks_text {A = A}) (λ (items : List (ℕ × Event A)). Keeps after (sightings_in items)) before (n, event) (Ok false) old new
 takes_event n before event known after old new wrote k =
     let p = wrote (sightings_in before) k in
-    (written_of n (sightings_in before) (sightings_of event.kind), refl, p.0, subst (λ (l : List Sighting). Keeps after l) (sym (sightings-push before (n, event))) p.1)
+    record {
+      text = written_of n (sightings_in before) (sightings_of event.kind);
+      has_text = refl;
+      appended = p.0;
+      stands_after = subst (λ (l : List Sighting). Keeps after l) (sym (sightings-push before (n, event))) p.1;
+    }
 
 -- nothing is held at first
 pub keeps_none : {A : Type 0} → Keeps {A = A} [] []

@@ -123,20 +123,42 @@ Holds (stage.Setup control first steps) (setting_up p) = setup control steps.ite
 Holds (stage.Running publisher) (calling p calls) = IsScriptSound p × PublisherStandsAfter p calls publisher
 Holds _ _ = ⊥
 
--- an item was taken after this, or refused
+-- an item was taken after this: its text was appended, and the engine holds what follows
+pub record ScriptItemTaken {A : Type 0} (g : Progress A) (i : ScriptItem A) (s : Stage A) (old new : List ℕ) : Type 0 where
+  pub text : List ℕ
+  pub has_text : item_written i g ≡ Ok (text, false)
+  pub appended : new ≡ old ++ text
+  pub holds : Holds s (next_progress i g)
+
+-- an item was taken after this; or refused; or memory was wanted, where there is something to write
 abbrev pub TakesItem : {A : Type 0} → Progress A → ScriptItem A → Result (Stage A) (LineError ScriptCause) → List ℕ → List ℕ → Type 0
-TakesItem g i (Ok s) old new = (text : List ℕ) × (item_written i g ≡ Ok (text, false)) × (new ≡ old ++ text) × Holds s (next_progress i g)
+TakesItem g i (Ok s) old new = ScriptItemTaken g i s old new
 TakesItem g i (Err (line.Cause why)) old new = item_written i g ≡ Err why
 TakesItem {A} g i (Err (line.Memory e)) old new = (n : ℕ) → step_text (publish_text {A = A}) n (item_written i g) ≡ [] → ⊥
 
--- a call was taken after these, or refused
+-- a call was taken after these: its text was appended, and the publisher stands after it too
+pub record CallTaken {A : Type 0} (p : Setup A) (calls : List Call) (c : Call) (old new : List ℕ) (s : PublisherState A) : Type 0 where
+  pub text : List ℕ
+  pub has_text : call_written p calls c ≡ Ok (text, false)
+  pub appended : new ≡ old ++ text
+  pub stands_after : PublisherStandsAfter p (calls ++ c ∷ []) s
+
+-- a call was taken after these; or refused; or memory was wanted, where there is something to write
 abbrev pub TakesCall : {A : Type 0} → Setup A → List Call → Call → Result (Unit {0}) (LineError ScriptCause) → List ℕ → List ℕ → PublisherState A → Type 0
-TakesCall p calls c (Ok u) old new s = (text : List ℕ) × (call_written p calls c ≡ Ok (text, false)) × (new ≡ old ++ text) × PublisherStandsAfter p (calls ++ c ∷ []) s
+TakesCall p calls c (Ok u) old new s = CallTaken p calls c old new s
 TakesCall p calls c (Err (line.Cause why)) old new s = call_written p calls c ≡ Err why
 TakesCall {A} p calls c (Err (line.Memory e)) old new s = (n : ℕ) → step_text (publish_text {A = A}) n (call_written p calls c) ≡ [] → ⊥
 
+-- a publisher runs after this: it stands after some calls, and a further call is one behind them
+pub record RunsPublisher {A : Type 0} (g : Progress A) (s : PublisherState A) : Type 0 where
+  pub p : Setup A
+  pub calls : List Call
+  pub is_sound : IsScriptSound p
+  pub stands : PublisherStandsAfter p calls s
+  pub writes : (c : Call) → call_at g c ≡ call_written p calls c
+  pub goes_on : (c : Call) → called g c ≡ calling p (calls ++ c ∷ [])
+
 -- the publisher that runs after this, or why none does
 abbrev pub Runs : {A : Type 0} → Progress A → Result (PublisherState A) ScriptCause → Type 0
-Runs {A} g (Ok s) = (p : Setup A) × (calls : List Call) × IsScriptSound p × PublisherStandsAfter p calls s
-    × ((c : Call) → (call_at g c ≡ call_written p calls c) × (called g c ≡ calling p (calls ++ c ∷ [])))
+Runs g (Ok s) = RunsPublisher g s
 Runs g (Err why) = (c : Call) → call_at g c ≡ Err why
