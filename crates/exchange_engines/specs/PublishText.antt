@@ -13,7 +13,7 @@ use Rattle.publish_core.specs.declared.table.Step.{Step}
 use Rattle.publish_core.specs.Frames.{Setup}
 use Rattle.publish_core.specs.Refusal.{Accepts, Refuses}
 use Rattle.publish_core.specs.Run.{Request, Call, Changed, Polled, IsAnswer, greatest_call_moment, trace_of_calls}
-use Rattle.publish_core.specs.Table.{AreSteps}
+use Rattle.publish_core.specs.Table.{AreSteps, most_steps}
 use Rattle.script_core.specs.declared.script.ScriptCause.{ScriptCause}
 use Rattle.script_core.specs.declared.script.ScriptCause.TheVariants as cause
 use Rattle.script_core.specs.declared.script.ScriptItem.{ScriptItem}
@@ -93,7 +93,7 @@ IsCallText p calls c written = IsCallTaken p calls c written ⊎ IsCallRefused p
 pub record IsPublishText {A : Type 0} (t : Text (ScriptItem A) ScriptCause) : Type 0 where
   pub first : t.first ≡ codes "V2\n"
   pub control_line : (n first : ℕ) (control : Control A) → t.of_item [] (n, item.Control control first) ≡ Ok ([], false)
-  pub table_step : (p : Setup A) (before : List (ℕ × ScriptItem A)) → items_of_lines before ≡ script_of p [] → length p.table < 16 →
+  pub table_step : (p : Setup A) (before : List (ℕ × ScriptItem A)) → items_of_lines before ≡ script_of p [] → length p.table < most_steps →
       (n : ℕ) (s : Step) → t.of_item before (n, item.Step s) ≡ Ok ([], false)
   pub call : (p : Setup A) (calls : List Call) (before : List (ℕ × ScriptItem A)) → items_of_lines before ≡ script_of p calls → IsScriptSound p →
       (n : ℕ) (c : Call) → IsCallText p calls c (t.of_item before (n, item_of_call c))

@@ -5,6 +5,7 @@ use Rattle.std.specs.Prelude.{◌⊎◌}
 use Rattle.ber_core.specs.Length.{AreOctets}
 use Rattle.frame_core.specs.declared.frame.Frame.{Frame}
 use Rattle.list_core.specs.declared.event.Event.{Event}
+use Rattle.list_core.specs.declared.device.InputEnd.{InputEnd}
 use Rattle.list_core.specs.declared.line_rules.ItemFault.{ItemFault}
 use Rattle.list_core.specs.declared.list_fault.ListCause.{ListCause}
 use Rattle.list_core.specs.Lines.{Stop, faulty, finished, unfinished}
@@ -22,10 +23,10 @@ use Rattle.exchange_laws.proofs.WrittenForms.{change_accepted}
 use Rattle.script_core.specs.declared.script.ScriptCause.{ScriptCause}
 use Rattle.script_core.specs.declared.script.ScriptItem.{ScriptItem}
 use Rattle.engine_core.specs.EngineText.{Text, last_text}
-use Rattle.engine_core.specs.computed.WholeText.{told}
+use Rattle.engine_core.specs.computed.WholeText.{told, whole_text}
 use Rattle.exchange_engines.specs.ReplayText.{IsReplayText}
 use Rattle.exchange_engines.specs.ScriptLine.{script_line}
-use Rattle.goose_cmd.specs.PublishedReplay.{script_of_text}
+use Rattle.goose_cmd.specs.PublishedReplay.{CanBeFollowed, SaysRun, script_of_text}
 use Rattle.goose_cmd.specs.PublishedLaws.{PublishedTextsReplay}
 use Rattle.exchange_engines.specs.PublishText.{IsPublishText, IsScriptSound}
 use Rattle.goose_cmd.specs.ListText.{ReplayGives, SendsOctets, list_text}
@@ -85,9 +86,10 @@ nothing_replays {B} block end r replay ends =
     nothing_at zero es at = absurd cc
     nothing_at (suc i) es at = absurd cc
 
-pub published_texts_replay : {A B : Type 0} → PublishedTextsReplay A B
-published_texts_replay {A} {B} p block calls answers z text t r run says is replay =
-    subst (λ (written : List ℕ). ReplayGives r written (one_entry_each (sent_from 0 calls answers))) (sym (scripts_give_lists B p calls answers z text t run.are_answers says is).writes)
+published_replay : {A B : Type 0} (p : Setup A) (block : Block B) (calls : List Call) (answers : List (Option (Frame A))) (z : InputEnd) (text : List ℕ) (t : Text (ScriptItem A) ScriptCause) (r : Text (Event B) ListCause) →
+    CanBeFollowed p block calls answers → SaysRun p calls (script_of_text z text) → IsPublishText t → IsReplayText (block ∷ []) r → ReplayGives r (whole_text t (script_of_text z text)) (one_entry_each (sent_from 0 calls answers))
+published_replay {A} {B} p block calls answers z text t r run says is replay =
+    subst (λ (written : List ℕ). ReplayGives r written (one_entry_each (sent_from 0 calls answers))) (sym (scripts_give_lists B p calls answers z text t (record { says_run = says; are_answers = run.are_answers; is_text = is })).writes)
     (by_setup (script_set_up p (calls ++ says.calls_left) z text says.items).sound)
   where
     stop : Stop (ItemFault ScriptCause)
@@ -113,3 +115,6 @@ published_texts_replay {A} {B} p block calls answers z text t r run says is repl
           in_time = run.in_time;
         } in
         ended_runs_replay p block calls answers (last_text t stop) r (record { is_run = all; moments_are_short = script_moments p calls z text says; are_octets = octets; at_most = omega arith }) replay (how_it_ends t (1 + length (sent_from 0 calls answers)) stop is room)
+
+pub published_texts_replay : {A B : Type 0} → PublishedTextsReplay A B
+published_texts_replay p block calls answers z text t r w = published_replay p block calls answers z text t r w.can_be_followed w.says_run w.is_published w.is_replayed

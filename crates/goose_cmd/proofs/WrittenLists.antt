@@ -21,10 +21,10 @@ use Rattle.publish_core.specs.Run.{Request, Call, IsAnswer, trace_of_calls}
 use Rattle.publish_core.proofs.GivesOne.{carried}
 use Rattle.block_core.specs.declared.block.Block.{Block}
 use Rattle.subscribe_core.specs.declared.entry.Entry.{Entry}
-use Rattle.subscribe_core.specs.Entries.{AreEntries, AreEntriesAt}
+use Rattle.subscribe_core.specs.Entries.{AreEntriesAt}
 use Rattle.subscribe_core.specs.Apart.{AreApart}
 use Rattle.subscribe_core.proofs.Runs.{entries_are_one, entries_stay}
-use Rattle.exchange_laws.specs.PublishedList.{IsWholeRun, Sent, one_entry_each, published_events, sent_from, with_frame}
+use Rattle.exchange_laws.specs.PublishedList.{Sent, one_entry_each, published_events, sent_from, with_frame}
 use Rattle.exchange_laws.specs.Stems.{AreAccepted, HasSizes}
 use Rattle.exchange_laws.proofs.OneFrame.{one_apart}
 use Rattle.exchange_laws.proofs.PublishedLists.{whole_runs_replay}

@@ -6,6 +6,7 @@ use Rattle.list_core.specs.declared.line_rules.LineError.TheVariants as line
 use Rattle.publish_core.specs.declared.fault.PublishFault.{PublishFault}
 use Rattle.publish_core.specs.declared.table.Step.{Step}
 use Rattle.publish_core.specs.Frames.{Setup, change, setup}
+use Rattle.publish_core.specs.Table.{most_steps}
 use Rattle.publish_core.specs.computed.Judgement.{refusal}
 use Rattle.publish_core.specs.Refusal.{next_state}
 use Rattle.publish_core.specs.Run.{Request, Call, Changed, Polled, call, greatest_call_moment}
@@ -57,9 +58,9 @@ abbrev pub progress_after : {A : Type 0} → List (ℕ × ScriptItem A) → Prog
 progress_after items = progress_from nothing (items_of_lines items)
 
 -- what a publisher holds after these calls
-abbrev pub standing_from : {A : Type 0} → PublisherState A → List Call → PublisherState A
-standing_from s [] = s
-standing_from s (c ∷ calls) = standing_from (request_state s c.request c.moment) calls
+abbrev pub state_after_calls : {A : Type 0} → PublisherState A → List Call → PublisherState A
+state_after_calls s [] = s
+state_after_calls s (c ∷ calls) = state_after_calls (request_state s c.request c.moment) calls
 
 -- why a call is refused, if it is
 abbrev pub call_refusal : {A : Type 0} → Setup A → List Call → Request → Option PublishFault
@@ -73,7 +74,7 @@ text_unless_refused (Some why) text = Err (script_cause why)
 
 -- the text of a call behind others
 abbrev pub call_written : {A : Type 0} → Setup A → List Call → Call → Result (List ℕ × Bool) ScriptCause
-call_written p calls c = text_unless_refused (call_refusal p calls c.request) (answer_text (greatest_call_moment (calls ++ c ∷ [])) (request_frame (standing_from (fresh_publisher p) calls) c.request c.moment))
+call_written p calls c = text_unless_refused (call_refusal p calls c.request) (answer_text (greatest_call_moment (calls ++ c ∷ [])) (request_frame (state_after_calls (fresh_publisher p) calls) c.request c.moment))
 
 -- the step waits, and its frame lives longer than that
 abbrev pub is_good : Step → Bool
@@ -82,7 +83,7 @@ is_good s = nat_lt 0 s.wait_ms && nat_lt s.wait_ms s.live_ms
 -- why no publisher can be set up so, if none can
 abbrev pub setup_cause : {A : Type 0} → Setup A → Option ScriptCause
 setup_cause p =
-    if nat_lt 0 (length p.table) && nat_le (length p.table) 16
+    if nat_lt 0 (length p.table) && nat_le (length p.table) most_steps
     then (if list_all is_good p.table then (if p.first == 0 then Some cause.FirstState else None) else Some cause.StepTimes)
     else Some cause.StepCount
 
@@ -102,7 +103,7 @@ item_written (item.Control control first) nothing = Ok ([], false)
 item_written (item.Control control first) (setting_up p) = Err cause.ScriptForm
 item_written (item.Control control first) (calling p calls) = Err cause.ScriptForm
 item_written (item.Step s) nothing = Err cause.ScriptForm
-item_written (item.Step s) (setting_up p) = if nat_lt (length p.table) 16 then Ok ([], false) else Err cause.StepCount
+item_written (item.Step s) (setting_up p) = if nat_lt (length p.table) most_steps then Ok ([], false) else Err cause.StepCount
 item_written (item.Step s) (calling p calls) = Err cause.ScriptForm
 item_written (item.Change moment t values) g = call_at g (call moment (Changed (change t values)))
 item_written (item.Poll moment) g = call_at g (call moment Polled)

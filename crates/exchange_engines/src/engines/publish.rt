@@ -18,7 +18,7 @@ use arrayvec::ArrayVec;
 use engine_core::{Ending, Engine, run};
 use frame_core::{ItemFault, LineError, Sink, Source};
 use mms_data::{UtcTime, ValueList};
-use publish_core::{Control, PublishFault, Publisher, Step, Table};
+use publish_core::{Control, MOST_STEPS, PublishFault, Publisher, Step, Table};
 use script_core::{ScriptCause, ScriptItem, ScriptLines};
 use std::alloc::{AllocError, Allocator};
 use std::mem;
@@ -30,7 +30,7 @@ pub enum Stage<A: Allocator> {
     /// Nothing was said.
     Start,
     /// The control line was read, with the status number of the first state, and these steps.
-    Setup(Control<A>, u32, ArrayVec<Step, 16>),
+    Setup(Control<A>, u32, ArrayVec<Step, MOST_STEPS>),
     /// A call was made.
     Running(Publisher<A>),
 }
