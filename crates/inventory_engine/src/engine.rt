@@ -39,8 +39,11 @@ impl<A: Allocator + Copy> Engine<A> for Listing<A> {
         line: &mut Vec<u8, A>,
         number: u64,
         event: Event<A>,
+        spare: &mut Option<Event<A>>,
     ) -> Result<bool, LineError<ListCause>> {
-        match put_event(self.alloc, &mut self.known, line, number, &event.kind) {
+        let put = put_event(self.alloc, &mut self.known, line, number, &event.kind);
+        *spare = Some(event);
+        match put {
             Ok(()) => Ok(false),
             Err(error) => Err(LineError::Memory(error)),
         }

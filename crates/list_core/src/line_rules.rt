@@ -36,9 +36,11 @@ pub trait LineRules<A: Allocator> {
     ghost rules: { Rules Self Self.Item Self.Cause };
 
     /// Reads a line, of at most 4,096 octets. Nothing is settled by a line that is refused, and none for want of memory.
+    /// An earlier item that is spare may be taken, for its memory.
     fn item_in(
         &mut self,
         alloc: A,
+        spare: &mut Option<Self::Item>,
         line: &[u8],
     ) -> Result<Option<Self::Item>, LineError<Self::Cause>>
         requires { length line.now ≤ 4096 }

@@ -223,6 +223,7 @@ impl<A: Allocator> Engine<A> for Publishing<A> {
         line: &mut Vec<u8, A>,
         _number: u64,
         item: ScriptItem<A>,
+        _spare: &mut Option<ScriptItem<A>>,
     ) -> Result<bool, LineError<ScriptCause>> {
         let stage = mem::replace(&mut self.stage, Stage::Start);
         match take_item(stage, line, item) {

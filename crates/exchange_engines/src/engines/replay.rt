@@ -36,8 +36,11 @@ impl<A: Allocator + Copy> Engine<A> for Replaying<A> {
         line: &mut Vec<u8, A>,
         number: u64,
         event: Event<A>,
+        spare: &mut Option<Event<A>>,
     ) -> Result<bool, LineError<ListCause>> {
-        let entries = match self.subscriber.take(&event) {
+        let taken = self.subscriber.take(&event);
+        *spare = Some(event);
+        let entries = match taken {
             Ok(entries) => entries,
             Err(error) => return Err(LineError::Memory(error)),
         };

@@ -132,8 +132,11 @@ impl<A: Allocator> Engine<A> for Watching<'_> {
         line: &mut Vec<u8, A>,
         number: u64,
         event: Event<A>,
+        spare: &mut Option<Event<A>>,
     ) -> Result<bool, LineError<ListCause>> {
-        match put_event(&mut self.watch, self.id, line, number, &event.kind) {
+        let put = put_event(&mut self.watch, self.id, line, number, &event.kind);
+        *spare = Some(event);
+        match put {
             Ok(found) => Ok(found),
             Err(error) => Err(LineError::Memory(error)),
         }

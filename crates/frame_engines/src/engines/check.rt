@@ -150,8 +150,11 @@ impl<A: Allocator> Engine<A> for CheckText {
         line: &mut Vec<u8, A>,
         number: u64,
         event: Event<A>,
+        spare: &mut Option<Event<A>>,
     ) -> Result<bool, LineError<ListCause>> {
-        match put_event_notes(line, number, &event.kind) {
+        let noted = put_event_notes(line, number, &event.kind);
+        *spare = Some(event);
+        match noted {
             Ok(found) => Ok(found),
             Err(error) => Err(LineError::Memory(error)),
         }

@@ -146,8 +146,11 @@ impl<A: Allocator> Engine<A> for RewriteText {
         line: &mut Vec<u8, A>,
         _number: u64,
         event: Event<A>,
+        spare: &mut Option<Event<A>>,
     ) -> Result<bool, LineError<ListCause>> {
-        match put_event(line, &event) {
+        let put = put_event(line, &event);
+        *spare = Some(event);
+        match put {
             Ok(kept) => Ok(kept),
             Err(error) => Err(LineError::Memory(error)),
         }

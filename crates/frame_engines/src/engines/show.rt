@@ -8,7 +8,7 @@ ghost use Rattle.list_core.specs.Device.{GivesOctets};
 ghost use Rattle.engine_core.specs.Ending.{is_write_fault};
 ghost use Rattle.engine_core.specs.Run.{Writes};
 ghost use Rattle.text_core.specs.Pieces.{AppendsText};
-ghost use Rattle.frame_engines.specs.ShowText.{octets_line, show_text};
+ghost use Rattle.frame_engines.specs.ShowText.{kind_line, octets_line, show_text};
 
 use crate::texts::frame::put_frame;
 use engine_core::{Ending, Engine, run};
@@ -53,6 +53,21 @@ fn put_mode<A: Allocator>(
     line.extend_from_slice(b"\n")
 }
 
+// Appends the line of an event.
+fn put_event<A: Allocator>(
+    line: &mut Vec<u8, A>,
+    number: u64,
+    event: &Event<A>,
+) -> Result<(), AllocError>
+    ensures { AppendsText result line.old.items line.new.items (kind_line number event.now.moment event.now.kind) }
+{
+    match &event.kind {
+        EventKind::Clock => put_clock_line(line, number, event.moment),
+        EventKind::Frame(octets) => put_octets(line, number, octets.as_slice()),
+        EventKind::Mode(on) => put_mode(line, number, event.moment, *on),
+    }
+}
+
 /// What `show` writes.
 #[derive(Drop)]
 struct ShowText;
@@ -71,12 +86,10 @@ impl<A: Allocator> Engine<A> for ShowText {
         line: &mut Vec<u8, A>,
         number: u64,
         event: Event<A>,
+        spare: &mut Option<Event<A>>,
     ) -> Result<bool, LineError<ListCause>> {
-        let put = match &event.kind {
-            EventKind::Clock => put_clock_line(line, number, event.moment),
-            EventKind::Frame(octets) => put_octets(line, number, octets.as_slice()),
-            EventKind::Mode(on) => put_mode(line, number, event.moment, *on),
-        };
+        let put = put_event(line, number, &event);
+        *spare = Some(event);
         match put {
             Ok(()) => Ok(false),
             Err(error) => Err(LineError::Memory(error)),
