@@ -12,14 +12,15 @@ use crate::texts::entry::put_entries;
 use engine_core::{Ending, Engine, refuse, run};
 use frame_core::{Event, EventLines, ItemFault, LineError, ListCause, Sink, Source, fault_of_list};
 use std::alloc::{AllocError, Allocator};
-use subscribe_core::{Block, SubscribeFault, Subscriber};
+use subscribe_core::{Block, Entry, SubscribeFault, Subscriber};
 use text_core::line::put_list_line;
 use text_core::pieces::put_decimal;
 
-/// What `replay` writes: what a subscriber answers.
+/// What `replay` writes: what a subscriber answers. The memory of the entries of an event is used again for those of the next.
 #[derive(Drop)]
 struct Replaying<A: Allocator> {
     subscriber: Subscriber<A>,
+    entries: Vec<Entry<A>, A>,
 }
 
 impl<A: Allocator + Copy> Engine<A> for Replaying<A> {
@@ -37,11 +38,11 @@ impl<A: Allocator + Copy> Engine<A> for Replaying<A> {
         number: u64,
         event: Event<A>,
     ) -> Result<bool, LineError<ListCause>> {
-        let entries = match self.subscriber.take(&event) {
-            Ok(entries) => entries,
+        match self.subscriber.take_into(&event, &mut self.entries) {
+            Ok(()) => {}
             Err(error) => return Err(LineError::Memory(error)),
-        };
-        match put_entries(line, number, entries.as_slice()) {
+        }
+        match put_entries(line, number, self.entries.as_slice()) {
             Ok(()) => Ok(false),
             Err(error) => Err(LineError::Memory(error)),
         }
@@ -100,7 +101,10 @@ pub fn replay<A: Allocator + Copy, R: Source, W: Sink>(
         Ok(subscriber) => run(
             alloc,
             EventLines::First,
-            Replaying { subscriber },
+            Replaying {
+                subscriber,
+                entries: Vec::new(alloc),
+            },
             b"",
             reader,
             writer,

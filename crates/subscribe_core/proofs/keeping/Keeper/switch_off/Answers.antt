@@ -25,7 +25,7 @@ loop-at-preserved g c =
           let written = w.write.ensures.registers ∙ ap (λ (rs : List Register). set rs at idle) same in
           rw w.self-inside-is record {
             indexed = indexed_write _ _ registers _ _ at idle _ _ blocks written i.indexed
-                (w.leave.ensures (helds registers) (held_of registers at r looked) i.indexed.timed);
+                (w.let_go.ensures (helds registers) (held_of registers at r looked) i.indexed.timed);
             off = written ∙ (ap (λ (rs : List Register). set rs at idle) i.off ∙ sym (off_more at first r here w.if-old.true));
             blocks_stay = blocks ∙ i.blocks_stay;
             mode_stays = i.mode_stays;
