@@ -19,6 +19,7 @@ pub mod SampledSpellableTests
 pub mod WrittenSpelled
 pub mod Texts
 pub mod ApduSizes
+pub mod GooseSizes
 pub mod ValueLaws
 pub mod KeptValues
 pub mod SpellableTests

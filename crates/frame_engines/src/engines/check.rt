@@ -1,5 +1,5 @@
 //! `check`: a line for each note on a frame.
-ghost use Rattle.std.specs.Prelude.{◌≡◌, ◌++◌, [], ℕ, List, true, false, length, take, ⊤, IsOk, MatchResult, Ok};
+ghost use Rattle.std.specs.Prelude.{◌≡◌, ◌≢◌, ◌++◌, [], ℕ, List, true, false, length, take, ⊤, IsOk, MatchResult, Ok};
 ghost use Rattle.list_core.specs.declared.device.InputEnd.{InputEnd};
 ghost use Rattle.list_core.specs.declared.event_lines.EventLines.TheVariants.{First};
 ghost use Rattle.list_core.specs.Device.{GivesOctets};
@@ -18,7 +18,7 @@ use byteorder::{BigEndian, ByteOrder};
 use engine_core::{Ending, Engine, run};
 use frame_core::{
     ApduView, Event, EventKind, EventLines, FrameView, ItemFault, LineError, ListCause, Sink,
-    Source, encode_view, fault_of_list, see_frame,
+    Source, encode_view, fault_of_list, see_frame, written_length,
 };
 use std::alloc::{AllocError, Allocator};
 use text_core::line::{put_fault_line, put_list_line};
@@ -30,7 +30,8 @@ const GOOSE_DESTINATIONS: (u64, u64) = (0x010C_CD01_0000, 0x010C_CD01_01FF);
 /// The first recommended destination of Sampled Values, 01-0C-CD-04-00-00, and the last.
 const SAMPLED_DESTINATIONS: (u64, u64) = (0x010C_CD04_0000, 0x010C_CD04_01FF);
 
-// Whether octets are those of the written form of the frame that they spell, and this form fits.
+// Whether octets are those of the written form of the frame that they spell, and this form fits. Never inlined, so that
+// room for the form is made only where one is written.
 #[inline(never)]
 fn is_in_written_form(view: &FrameView<'_>, octets: &[u8]) -> bool
     requires { ApduIsSpellable (frame_of {A = Unit {0}} view.now).apdu }
@@ -43,7 +44,17 @@ fn is_in_written_form(view: &FrameView<'_>, octets: &[u8]) -> bool
     }
 }
 
-// The same, where the form is not made of a frame that is known to stand in it.
+// Whether the written form of the frame is known to have another count of octets.
+fn has_another_length(view: &FrameView<'_>, count: usize) -> bool
+    ensures { result ≡ true → length (written_frame (frame_of {A = Unit {0}} view.now)) ≢ count }
+{
+    match written_length(view) {
+        Some(written) => written != count,
+        None => false,
+    }
+}
+
+// Whether octets are those of the written form, which is not written where this is known, or where its length differs.
 fn stands_in_written_form(view: &FrameView<'_>, octets: &[u8]) -> bool
     requires spellable { ApduIsSpellable (frame_of {A = Unit {0}} view.now).apdu }
     requires known { is_written view.now.apdu ≡ true → (octets.now ≡ written_frame (frame_of {A = Unit {0}} view.now)) × (fits (frame_of {A = Unit {0}} view.now) ≡ true) }
@@ -51,6 +62,9 @@ fn stands_in_written_form(view: &FrameView<'_>, octets: &[u8]) -> bool
 {
     if view.apdu.is_written() {
         return true;
+    }
+    if has_another_length(view, octets.len()) {
+        return false;
     }
     is_in_written_form(view, octets)
 }
