@@ -17,6 +17,7 @@ pub mod SampledWrittenSpelled
 pub mod SampledSpelledSpellable
 pub mod SampledSpellableTests
 pub mod WrittenSpelled
+pub mod ShortFields
 pub mod Texts
 pub mod ApduSizes
 pub mod GooseSizes

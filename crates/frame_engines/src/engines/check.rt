@@ -81,7 +81,8 @@ fn has_recommended_destination(view: &FrameView<'_>) -> bool
     first <= destination && destination <= last
 }
 
-// Appends a line with this word where something does not hold.
+// Appends a line with this word where something does not hold. Inlined, so that where it holds no call is made.
+#[inline(always)]
 fn put_note<A: Allocator>(
     line: &mut Vec<u8, A>,
     holds: bool,
