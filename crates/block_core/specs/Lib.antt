@@ -1,4 +1,4 @@
 pub mod Commas
 pub mod BlockText
-pub mod BlockView
 pub mod Period
+pub mod computed

@@ -1,7 +1,7 @@
 //! Control blocks by a text of six fields.
 ghost use Rattle.std.specs.Prelude.{◌≡◌, ◌∷◌, [], true, option_map, IfOk, IfErr, Some};
 ghost use Rattle.block_core.specs.BlockText.{AnswersBlock, block_in, block_keeps, block_of};
-ghost use Rattle.block_core.specs.BlockView.{block_seen};
+ghost use Rattle.block_core.specs.computed.BlockView.{block_seen};
 
 use crate::block::Block;
 use crate::commas::{fields_of, number_by, text_in, word_in};

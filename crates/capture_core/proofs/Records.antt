@@ -14,7 +14,8 @@ use Rattle.capture_core.specs.declared.capture_fault.CaptureCause.TheVariants.{R
 use Rattle.capture_core.specs.declared.capture_fault.CaptureFault.{CaptureFault}
 use Rattle.capture_core.specs.declared.record.Captured.{Captured}
 use Rattle.capture_core.specs.Capture.{Capture, CaptureRecord, captured_size, cut, ended, fault_in, moment_in_head, put_record, read_one, records_after, records_of, no_records}
-use Rattle.capture_core.specs.Reading.{IsRecordToldAs, ReadsRecord, StopsBy, TakesFor, WithinRecord, short_stop}
+use Rattle.capture_core.specs.RecordAnswers.{IsRecordToldAs, ReadsRecord, TakesFor, WithinRecord}
+use Rattle.capture_core.specs.computed.PrivateCalls.{StopsBy, short_stop}
 
 -- nothing follows where a source has ended
 pub nothing_follows : (w : InputEnd) (more : List ℕ) (y : InputEnd) → w ≢ Open → CanFollow w more y → (more ≡ []) × (y ≡ w)

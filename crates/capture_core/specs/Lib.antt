@@ -1,7 +1,7 @@
 pub mod Numbers
 pub mod Header
 pub mod Capture
-pub mod Reading
+pub mod RecordAnswers
 pub mod Spelling
 pub mod computed
 pub mod Laws

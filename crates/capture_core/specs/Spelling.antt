@@ -2,7 +2,7 @@
 use Rattle.std.specs.Prelude.{◌≡◌, ◌≤◌, ◌+◌, ℕ, List, [], ◌∷◌, ◌++◌, length, Some}
 use Rattle.list_core.specs.Lines.{finished}
 use Rattle.capture_core.specs.Header.{header_of}
-use Rattle.capture_core.specs.Capture.{Capture, CaptureRecord, capture, captured_size, moment_in_head}
+use Rattle.capture_core.specs.Capture.{Capture, CaptureRecord, captured_size, moment_in_head}
 use Rattle.capture_core.specs.declared.form.CaptureForm.{CaptureForm}
 
 -- a head of 16 octets, which says the moment and how many octets were captured, at most 262,144, and then these

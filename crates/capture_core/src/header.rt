@@ -2,7 +2,7 @@
 ghost use Rattle.std.specs.Prelude.{◌≡◌, ◌≤◌, length, IfErr};
 ghost use Rattle.list_core.specs.declared.device.InputEnd.{InputEnd};
 ghost use Rattle.capture_core.specs.Header.{form_in, form_of, header_of, is_read_in, unit_of};
-ghost use Rattle.capture_core.specs.Reading.{ReadsHeader};
+ghost use Rattle.capture_core.specs.RecordAnswers.{ReadsHeader};
 ghost use Rattle.capture_core.specs.declared.capture_fault.CaptureCause.TheVariants as cause;
 
 use crate::capture_fault::{CaptureCause, CaptureFault, cut_in};

@@ -2,7 +2,8 @@
 ghost use Rattle.std.specs.Prelude.{◌≡◌, ◌≢◌, ◌<◌, ◌≤◌, ◌^◌, [], length, Option, Result, IfErr};
 ghost use Rattle.list_core.specs.declared.device.InputEnd.{InputEnd};
 ghost use Rattle.capture_core.specs.Capture.{CaptureRecord, microseconds_of, moment_in_head};
-ghost use Rattle.capture_core.specs.Reading.{IsRecordToldAs, ReadsRecord, StopsBy, short_stop};
+ghost use Rattle.capture_core.specs.RecordAnswers.{IsRecordToldAs, ReadsRecord};
+ghost use Rattle.capture_core.specs.computed.PrivateCalls.{StopsBy, short_stop};
 ghost use Rattle.capture_core.specs.declared.capture_fault.CaptureFault as fault;
 ghost use Rattle.capture_core.specs.declared.capture_fault.CaptureCause.TheVariants as cause;
 

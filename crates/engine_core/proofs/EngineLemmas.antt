@@ -1,5 +1,5 @@
 -- What several answers of a reader of items make an engine write.
-use Rattle.std.proofs.Common.{Option, Some, None, Ok, Err, Result, ◌≡◌, ◌⊎◌, ℕ, ◌+◌, Bool, true, false, List, [], ◌∷◌, ◌++◌, inl, inr, ap, ap₂, sym, ◌∙◌, refl, subst, arith}
+use Rattle.std.proofs.Common.{Option, Some, None, Ok, Err, Result, ◌≡◌, ◌⊎◌, ℕ, Bool, true, false, List, [], ◌∷◌, ◌++◌, inl, inr, ap, ap₂, sym, ◌∙◌, refl, subst, arith}
 use Rattle.std.specs.Prelude.{◌||◌, if◌then◌else◌}
 use Rattle.std.proofs.lemmas.List.{append-nil}
 use Rattle.std.proofs.lemmas.Grind.{flat_map-append}
@@ -12,9 +12,9 @@ use Rattle.list_core.specs.declared.list_fault.ListCause.TheVariants.{LineTooLon
 use Rattle.list_core.specs.declared.line_rules.ItemFault.{ItemFault}
 use Rattle.list_core.specs.declared.line_rules.ItemFault.TheVariants as fault
 use Rattle.list_core.specs.Device.{AppendsPrefix, GivesOctets}
-use Rattle.list_core.specs.Lines.{faulty}
-use Rattle.list_core.specs.Items.{Rules, Listing, listing, put_item, put_items, stops}
-use Rattle.list_core.specs.ItemReader.{ReaderState, Answer, AnswersItem, CountsTo, OnlyKept, TakesItems, Tells, line_of, lines_before}
+use Rattle.list_core.specs.Items.{Rules, Listing, listing}
+use Rattle.list_core.specs.ItemReader.{ReaderState, Answer, AnswersItem, CountsTo, OnlyKept, Tells, lines_before}
+use Rattle.list_core.specs.computed.PrivateCalls.{TakesItems}
 use Rattle.list_core.specs.Reader.{IsWanting}
 use Rattle.list_core.proofs.Devices.{Appends-append, Appends-none, AppendsPrefix-more, Consumes-none, Gives-from_Consumes}
 use Rattle.list_core.proofs.Readers.{CanFollow-none, off_after, starts_after}
@@ -23,7 +23,7 @@ use Rattle.engine_core.specs.declared.ending.Ending.{Ending}
 use Rattle.engine_core.specs.declared.ending.Ending.TheVariants.{Done, Findings, WriteFault}
 use Rattle.engine_core.specs.Ending.{ending_of, ending_at}
 use Rattle.engine_core.specs.EngineText.{Text, ItemText, has_finding, joined_texts, next_text, step_text}
-use Rattle.engine_core.specs.Run.{AtLine, EndsAt, EndsByFault, EndsWell, RefusesNext, Writes, said_onward}
+use Rattle.engine_core.specs.Run.{AtLine, EndsAt, EndsByFault, EndsWell, Writes, said_onward}
 use Rattle.engine_core.specs.computed.EngineStep.{Stops, WantsFor, due, closes, step_fault}
 use Rattle.engine_core.proofs.ItemTexts.{AreNext, are_texts, next_push, or_false}
 use Rattle.engine_core.proofs.Wanted.{wanted_behind, wanted_rest}
@@ -181,15 +181,15 @@ module _ {S X C : Type 0} (r : Rules S X C) (t : Text X C) (a b c : ReaderState 
     -- the run stopped
     pub stopped : (ending : Ending) → Stops (WantsFor t es answer) (due t es answer) (closes t es answer) ending mid new → Leaves ending
     unfolding line
-    stopped ending (inl x) = rw x.0 (leaves _ (record {
-      wanted = elim x.1 [
+    stopped ending (inl x) = rw x.for_memory (leaves _ (record {
+      wanted = elim x.wanted [
         | inl e ↦ inl (subst (λ o. OnlyKept r q.settled c.ending (lines_before answer c.taken) q.rest o) e q.kept)
         | inr due_some ↦ inr (λ none. due_some (due_none t es answer _ _ tells none))
       ];
-      no_more = x.2;
+      no_more = x.unwritten;
     }))
-    stopped ending (inr (inl x)) = rw x.0 (leaves WriteFault (due_front t es answer _ _ tells mid new x.1))
-    stopped ending (inr (inr x)) = rw x.2 (leaves (ending_at x.0) (by_fault t p.texts line mid new x.0 (ends_by t es (ending_at x.0) answer _ _ b.taken c.taken tells q.lines.counted x.0 x.1 refl mid new x.3)))
+    stopped ending (inr (inl x)) = rw x.by_writer (leaves WriteFault (due_front t es answer _ _ tells mid new x.written))
+    stopped ending (inr (inr x)) = rw x.has_ending (leaves (ending_at x.why) (by_fault t p.texts line mid new x.why (ends_by t es (ending_at x.why) answer _ _ b.taken c.taken tells q.lines.counted x.why x.closes refl mid new x.written)))
 
   -- the list has ended
   pub ended : (q : AnswersItem r b (Ok None) c) → new ≡ mid → Leaves (if found then Findings else Done)

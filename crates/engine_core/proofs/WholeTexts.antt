@@ -8,7 +8,7 @@ use Rattle.list_core.specs.declared.line_rules.ItemFault.{ItemFault}
 use Rattle.list_core.specs.declared.line_rules.ItemFault.TheVariants as fault
 use Rattle.list_core.specs.Device.{AppendsPrefix}
 use Rattle.list_core.specs.Lines.{Stop, finished, faulty}
-use Rattle.list_core.specs.Items.{Rules, Listing, listing, put_items}
+use Rattle.list_core.specs.Items.{Rules, Listing, listing}
 use Rattle.list_core.proofs.Devices.{Appends-append, Appends-none, AppendsPrefix-append, AppendsPrefix-more}
 use Rattle.engine_core.specs.declared.ending.Ending.{Ending}
 use Rattle.engine_core.specs.declared.ending.Ending.TheVariants.{Done, Findings, InputFault, ReadFault, WriteFault, Memory}
@@ -91,7 +91,7 @@ module _ {S X C : Type 0} (r : Rules S X C) (s : S) (t : Text X C) (ending : End
       let next = next_first t run.items (said_onward z run.line).items (said_onward z run.line).stop in
       appends_front (rw next.1 (AppendsPrefix-more run.held new _ next.0 w))
 
--- nothing is a front of any text
+-- nothing is a prefix of any text
 front_none : (a : Option (List ℕ)) (text : List ℕ) → AppendsPrefix a a text
 front_none None text = tt
 front_none (Some os) text = ([], text, refl, sym (append-nil os))

@@ -4,7 +4,6 @@ use Rattle.std.specs.List.{flat_map, list_any}
 use Rattle.list_core.specs.declared.line_rules.ItemFault.{ItemFault}
 use Rattle.list_core.specs.declared.line_rules.ItemFault.TheVariants as fault
 use Rattle.list_core.specs.Lines.{Stop, finished, unfinished, faulty}
-use Rattle.list_core.specs.Items.{Listing}
 
 -- What an engine writes of a list of items, which come with the numbers of their lines: something first, then for each
 -- item, and something last on a fault. X are the items, C is why one is refused. What is written for an item is fixed

@@ -35,7 +35,7 @@ LeavesOfWhole t ReadFault l old new = LeavesFaulty t ReadFault l old new
 LeavesOfWhole t WriteFault l old new = AppendsPrefix old new (whole_text t l)
 LeavesOfWhole t Memory l old new = AppendsPrefix old new (whole_text t l)
 
--- of the whole text of the list that was read, a run leaves all where it ends at the end or by a fault of it, and else a front
+-- of the whole text of the list that was read, a run leaves all where it ends at the end or by a fault of it, and else a prefix
 abbrev pub RunsWriteWholeTexts : Type 0 → Type 0 → Type 0 → Type 0
 RunsWriteWholeTexts S X C =
     (r : Rules S X C) (s : S) (t : Text X C) (ending : Ending) (z : InputEnd) (read : List ℕ) (old new : Option (List ℕ)) →

@@ -101,7 +101,7 @@ pub record Run {S X C : Type 0} (r : Rules S X C) (s : S) (t : Text X C) (ending
 abbrev pub IsUntouched : InputEnd → InputEnd → List ℕ → Type 0
 IsUntouched before after read = (after ≡ before) × (read ≡ [])
 
--- A run that could not write its first text: its writer failed at a front of it, and an open reader is untouched.
+-- A run that could not write its first text: its writer failed at a prefix of it, and an open reader is untouched.
 pub record FailsAtFirst {X C : Type 0} (t : Text X C) (ending : Ending) (z : InputEnd) (read : List ℕ) (old new : Option (List ℕ)) : Type 0 where
   pub write_fault : ending ≡ WriteFault
   pub untouched : IsUntouched Open z read
@@ -117,6 +117,6 @@ pub record WritesSome {S X C : Type 0} (Is : Text X C → Type 0) (r : Rules S X
   pub is_text : Is text
   pub run : Writes r s text ending z read old new
 
--- a run that is refused before it reads: its one text was written, or the writer failed at a front of it
+-- a run that is refused before it reads: its one text was written, or the writer failed at a prefix of it
 abbrev pub LeavesRefused : List ℕ → Ending → Option (List ℕ) → Option (List ℕ) → Type 0
 LeavesRefused text ending old new = ((ending ≡ InputFault) × Appends old new text) ⊎ ((ending ≡ WriteFault) × AppendsPrefix old new text)

@@ -13,7 +13,7 @@ pub enum Ending {
     InputFault,
     /// The reader failed: the last line written says where.
     ReadFault,
-    /// The writer failed: a front of the text stands written.
+    /// The writer failed: a prefix of the text stands written.
     WriteFault,
     /// Memory was refused: whole lines of the earlier events stand written.
     Memory,

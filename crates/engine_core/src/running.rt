@@ -31,12 +31,13 @@ pub trait Engine<A: Allocator> {
 
     /// Appends the text of the next item, and answers whether the item is a finding; or why it is
     /// refused. Memory is wanted for a text alone: an item that writes nothing asks for none. Where it is
-    /// refused, what stood in the line before still stands in front.
+    /// refused, what stood in the line before still stands in front. An item that is used up may be left as spare.
     fn put_item(
         &mut self,
         line: &mut Vec<u8, A>,
         number: u64,
         item: Self::Item,
+        spare: &mut Option<Self::Item>,
     ) -> Result<bool, LineError<Self::Cause>>
         ensures same { text self.new ≡ text self.old }
         ensures step { (before : List (ℕ × Self.Item)) → stands self.old before →
@@ -112,6 +113,7 @@ fn answer_item<A: Allocator, E: Engine<A>, W: Sink>(
     line: &mut Vec<u8, A>,
     number: u64,
     item: E::Item,
+    spare: &mut Option<E::Item>,
     writer: &mut W,
 ) -> Next
     requires { W.failed writer.old ≡ false }
@@ -121,7 +123,7 @@ fn answer_item<A: Allocator, E: Engine<A>, W: Sink>(
     ensures fails { W.failed writer.new ≡ stops_by is_write_fault result }
 {
     line.clear();
-    match engine.put_item(line, number, item) {
+    match engine.put_item(line, number, item, spare) {
         Ok(found) => match put_all(writer, line.as_slice()) {
             Ok(()) => Next::Wrote(found),
             Err(_) => Next::Stop(Ending::WriteFault),
@@ -145,6 +147,7 @@ fn answer_next<
     engine: &mut E,
     line: &mut Vec<u8, A>,
     items: &mut ItemReader<R, G>,
+    spare: &mut Option<G::Item>,
     writer: &mut W,
 ) -> Next
     requires { W.failed writer.old ≡ false }
@@ -154,9 +157,9 @@ fn answer_next<
         StepWrites (E.text engine.old) (E.stands engine.new) before answer result (W.contents writer.old) (W.contents writer.new)) }
     ensures fails { W.failed writer.new ≡ stops_by is_write_fault result }
 {
-    match items.next(alloc) {
+    match items.next(alloc, spare) {
         Ok(None) => Next::Ended,
-        Ok(Some(item)) => answer_item(engine, line, items.line_number(), item, writer),
+        Ok(Some(item)) => answer_item(engine, line, items.line_number(), item, spare, writer),
         Err(ItemError::Fault(fault)) => Next::Stop(answer_fault(engine, line, &fault, writer)),
         Err(ItemError::Memory(_)) => Next::Stop(Ending::Memory),
     }
@@ -197,9 +200,17 @@ pub fn run<
     }
     let mut line = Vec::new(alloc);
     let mut items = ItemReader::new(reader, rules);
+    let mut spare = None;
     let mut found = false;
     'answers: loop {
-        match answer_next(alloc, &mut engine, &mut line, &mut items, writer) {
+        match answer_next(
+            alloc,
+            &mut engine,
+            &mut line,
+            &mut items,
+            &mut spare,
+            writer,
+        ) {
             Next::Wrote(is_finding) => found |= is_finding,
             Next::Ended => return (ending_where(found), items.into_reader()),
             Next::Stop(ending) => return (ending, items.into_reader()),

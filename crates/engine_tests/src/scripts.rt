@@ -42,7 +42,7 @@ fn next_answer<S: Source>(
     alloc: &RefusingAlloc<Global>,
     script: &mut ItemReader<S, ScriptLines>,
 ) -> Answer {
-    match script.next(alloc) {
+    match script.next(alloc, &mut None) {
         Ok(Some(item)) => item_told(&item),
         Err(ItemError::Fault(ItemFault::Line(number, cause))) => Answer::Fault(number, cause),
         Err(ItemError::Memory(_)) => Answer::Memory,

@@ -18,7 +18,7 @@ use Rattle.publish_core.specs.Refusal.{Accepts, Refuses, next_state}
 use Rattle.publish_core.specs.Run.{Request, Call, Changed, Polled, IsAnswer, PublishesNone, PublishesOctets, call, greatest_call_moment, trace_of_calls}
 use Rattle.publish_core.specs.State.{PublisherState, PublisherStandsAfter}
 use Rattle.publish_core.specs.computed.Step.{request_frame, request_state, fresh_publisher}
-use Rattle.publish_core.specs.Table.{AreSteps, IsGood, step_at}
+use Rattle.publish_core.specs.Table.{AreSteps, IsGood, most_steps, step_at}
 use Rattle.publish_core.proofs.Judged.{judged, judged_only}
 use Rattle.publish_core.proofs.Runs.{request_ok, answer_one, fresh_stands}
 use Rattle.exchange_engines.specs.declared.engines.publish.Stage.{Stage}
@@ -32,7 +32,7 @@ use Rattle.list_core.specs.declared.line_rules.LineError.TheVariants as line
 use Rattle.engine_core.specs.computed.EngineStep.{Takes}
 use Rattle.engine_core.specs.EngineText.{step_text}
 use Rattle.exchange_engines.specs.PublishText.{IsCallText, IsPublishText, IsScriptSound, answer_text, item_of_request, item_of_call, items_of_lines, script_cause, script_of}
-use Rattle.exchange_engines.specs.computed.PublishStep.{Progress, nothing, setting_up, calling, Holds, Runs, TakesCall, TakesItem, call_at, call_written, called, is_good, item_written, next_progress, progress_after, progress_from, publish_text, setup_cause, standing_from, text_unless_refused, unless_unsound, with_step}
+use Rattle.exchange_engines.specs.computed.PublishStep.{Progress, nothing, setting_up, calling, Holds, Runs, TakesCall, TakesItem, call_at, call_written, called, is_good, item_written, next_progress, progress_after, progress_from, publish_text, setup_cause, state_after_calls, text_unless_refused, unless_unsound, with_step}
 
 -- ---- how far a script has come
 
@@ -91,8 +91,8 @@ good_each [] e i lt = absurd (omega (arith, lt))
 good_each (s ∷ steps) e zero lt = good_is s (and_parts (is_good s) _ e).0
 good_each (s ∷ steps) e (suc i) lt = good_each steps (and_parts (is_good s) _ e).1 i (omega (arith, lt))
 
-counted : {A : Type 0} (p : Setup A) → AreSteps p.table → (nat_lt 0 (length p.table) && nat_le (length p.table) 16) ≡ true
-counted p steps = and_from _ _ (lt-ltb 0 (length p.table) (omega (arith, steps.some))) (le-leb (length p.table) 16 steps.most)
+counted : {A : Type 0} (p : Setup A) → AreSteps p.table → (nat_lt 0 (length p.table) && nat_le (length p.table) most_steps) ≡ true
+counted p steps = and_from _ _ (lt-ltb 0 (length p.table) (omega (arith, steps.some))) (le-leb (length p.table) most_steps steps.most)
 
 sound_setup : {A : Type 0} (p : Setup A) → IsScriptSound p → setup_cause p ≡ None
 sound_setup p sound =
@@ -105,31 +105,31 @@ first_cause p steps none = rw (counted p steps, all_good p.table steps.good, eq-
 
 -- ---- calls
 
-standing_behind : {A : Type 0} (p : Setup A) (before calls : List Call) (s : PublisherState A) → PublisherStandsAfter p before s → PublisherStandsAfter p (before ++ calls) (standing_from s calls)
+standing_behind : {A : Type 0} (p : Setup A) (before calls : List Call) (s : PublisherState A) → PublisherStandsAfter p before s → PublisherStandsAfter p (before ++ calls) (state_after_calls s calls)
 standing_behind p before [] s w = subst (λ (l : List Call). PublisherStandsAfter p l s) (sym (append-nil before)) w
 standing_behind p before (c ∷ calls) s w =
-    subst (λ (l : List Call). PublisherStandsAfter p l (standing_from s (c ∷ calls))) (append_assoc before (c ∷ []) calls)
+    subst (λ (l : List Call). PublisherStandsAfter p l (state_after_calls s (c ∷ calls))) (append_assoc before (c ∷ []) calls)
     (standing_behind p (before ++ c ∷ []) calls (request_state s c.request c.moment) (request_ok p before s c.request c.moment w).1)
 
-standing_after : {A : Type 0} (p : Setup A) (calls : List Call) → IsScriptSound p → PublisherStandsAfter p calls (standing_from (fresh_publisher p) calls)
+standing_after : {A : Type 0} (p : Setup A) (calls : List Call) → IsScriptSound p → PublisherStandsAfter p calls (state_after_calls (fresh_publisher p) calls)
 standing_after p calls sound = standing_behind p [] calls (fresh_publisher p) (fresh_stands p sound.some sound.most)
 
 -- what a call is answered, by what is held
-answered : {A : Type 0} (p : Setup A) (calls : List Call) (c : Call) → IsScriptSound p → IsAnswer p (trace_of_calls (calls ++ c ∷ [])) (length calls) (request_frame (standing_from (fresh_publisher p) calls) c.request c.moment)
-answered p calls c sound = (request_ok p calls (standing_from (fresh_publisher p) calls) c.request c.moment (standing_after p calls sound)).0
+answered : {A : Type 0} (p : Setup A) (calls : List Call) (c : Call) → IsScriptSound p → IsAnswer p (trace_of_calls (calls ++ c ∷ [])) (length calls) (request_frame (state_after_calls (fresh_publisher p) calls) c.request c.moment)
+answered p calls c sound = (request_ok p calls (state_after_calls (fresh_publisher p) calls) c.request c.moment (standing_after p calls sound)).0
 
 -- the text of a call is what the whole list of calls says
 request_is : {A : Type 0} (p : Setup A) (calls : List Call) (m : ℕ) (a : Request) → IsScriptSound p → IsCallText p calls (call m a) (call_written p calls (call m a))
 request_is p calls m Polled sound =
-    inl (record { taken = tt; answer = request_frame (standing_from (fresh_publisher p) calls) Polled m; is_answer = answered p calls (call m Polled) sound; line = refl })
+    inl (record { answered = tt; answer = request_frame (state_after_calls (fresh_publisher p) calls) Polled m; is_answer = answered p calls (call m Polled) sound; line = refl })
 request_is {A} p calls m (Changed change) sound = in_case (refusal p.control p.table (next_state p calls) change) (judged p.control p.table (next_state p calls) change sound.steps)
   where
     given : Option (SentFrame A)
-    given = request_frame (standing_from (fresh_publisher p) calls) (Changed change) m
+    given = request_frame (state_after_calls (fresh_publisher p) calls) (Changed change) m
 
     in_case : (answer : Option PublishFault) → IsJudged p.control p.table (next_state p calls) change answer →
-        IsCallText p calls (call m (Changed change)) (text_unless_refused answer (answer_text (greatest_call_moment (calls ++ call m (Changed change) ∷ [])) (request_frame (standing_from (fresh_publisher p) calls) (Changed change) m)))
-    in_case None accepted = inl (record { taken = accepted; answer = given; is_answer = answered p calls (call m (Changed change)) sound; line = refl })
+        IsCallText p calls (call m (Changed change)) (text_unless_refused answer (answer_text (greatest_call_moment (calls ++ call m (Changed change) ∷ [])) (request_frame (state_after_calls (fresh_publisher p) calls) (Changed change) m)))
+    in_case None accepted = inl (record { answered = accepted; answer = given; is_answer = answered p calls (call m (Changed change)) sound; line = refl })
     in_case (Some why) refused = inr (record { why = why; refused = refused; ends = refl })
 
 -- a call behind a script
@@ -147,7 +147,7 @@ publish_is {A} = record {
   table_step = λ p before is few n s.
       ap (λ (l : List (ScriptItem A)). item_written (item.Step s) (progress_from nothing l)) is
       ∙ ap (item_written (item.Step s)) (script_progress p [])
-      ∙ (rw (lt-ltb (length p.table) 16 few) refl);
+      ∙ (rw (lt-ltb (length p.table) most_steps few) refl);
   call = λ p calls before is sound n c.
       let said : item_written (item_of_call c) (progress_after before) ≡ call_written p calls c =
       step_request (progress_after before) c.moment c.request
@@ -166,16 +166,15 @@ pub runs_first : {A : Type 0} (g : Progress A) (control : Control A) (first : �
 runs_first nothing control first steps items r h e stands sound fails = absurd h
 runs_first {A} (setting_up p) control first steps items (Ok s) h e stands sound fails =
     let q : Setup A = setup control items first in
-    let same : q ≡ p = ap (λ (l : List Step). setup control l first) e ∙ h in (
-      q,
-      [],
-      sound,
-      stands,
-      λ c. (
-        ap (λ (x : Setup A). call_at (setting_up x) c) (sym same) ∙ ap (λ (o : Option ScriptCause). unless_unsound o (call_written q [] c)) (sound_setup q sound),
-        ap (λ (x : Setup A). called (setting_up x) c) (sym same),
-      ),
-    )
+    let same : q ≡ p = ap (λ (l : List Step). setup control l first) e ∙ h in
+    record {
+      p = q;
+      calls = [];
+      is_sound = sound;
+      stands = stands;
+      writes = λ c. ap (λ (x : Setup A). call_at (setting_up x) c) (sym same) ∙ ap (λ (o : Option ScriptCause). unless_unsound o (call_written q [] c)) (sound_setup q sound);
+      goes_on = λ c. ap (λ (x : Setup A). called (setting_up x) c) (sym same);
+    }
 runs_first {A} (setting_up p) control first steps items (Err why) h e stands sound fails = λ c.
     let q : Setup A = setup control items first in
     let same : q ≡ p = ap (λ (l : List Step). setup control l first) e ∙ h in
@@ -191,7 +190,7 @@ published_line moment now octets f e h = rw (e, h) refl
 pub refused : {A : Type 0} (p : Setup A) (calls : List Call) (m : ℕ) (change : Change) (why : PublishFault) → IsScriptSound p → Refuses p calls change why → call_written p calls (call m (Changed change)) ≡ Err (script_cause why)
 refused p calls m change why sound refuses =
     let c = call m (Changed change) in
-    ap (λ (o : Option PublishFault). text_unless_refused o (answer_text (greatest_call_moment (calls ++ c ∷ [])) (request_frame (standing_from (fresh_publisher p) calls) (Changed change) m)))
+    ap (λ (o : Option PublishFault). text_unless_refused o (answer_text (greatest_call_moment (calls ++ c ∷ [])) (request_frame (state_after_calls (fresh_publisher p) calls) (Changed change) m)))
     (sym (judged_only p.control p.table (next_state p calls) change sound.steps (Some why) refuses))
 
 module _ {A : Type 0} (p : Setup A) (calls : List Call) (sound : IsScriptSound p) (old new : List ℕ) (s : PublisherState A) where
@@ -203,14 +202,15 @@ module _ {A : Type 0} (p : Setup A) (calls : List Call) (sound : IsScriptSound p
   changed m change moment octets accepted published stands now wrote =
       let c = call m (Changed change) in
       let time = greatest_call_moment (calls ++ c ∷ []) in
-      let held = request_frame (standing_from (fresh_publisher p) calls) (Changed change) m in
-      let same = answer_one p (trace_of_calls (calls ++ c ∷ [])) (length calls) (Some published.0) held published.1 (answered p calls c sound) in
-      let not_refused = sym (judged_only p.control p.table (next_state p calls) change sound.steps None accepted) in (
-        answer_text time (Some published.0),
-        ap (λ (o : Option PublishFault). text_unless_refused o (answer_text time held)) not_refused ∙ ap (λ (o : Option (SentFrame A)). Ok (answer_text time o, false)) (sym same),
-        wrote ∙ ap (λ (l : List ℕ). old ++ l) (published_line moment time octets published.0 now published.2),
-        stands,
-      )
+      let held = request_frame (state_after_calls (fresh_publisher p) calls) (Changed change) m in
+      let same = answer_one p (trace_of_calls (calls ++ c ∷ [])) (length calls) (Some published.published) held published.publishes (answered p calls c sound) in
+      let not_refused = sym (judged_only p.control p.table (next_state p calls) change sound.steps None accepted) in
+      record {
+        text = answer_text time (Some published.published);
+        has_text = ap (λ (o : Option PublishFault). text_unless_refused o (answer_text time held)) not_refused ∙ ap (λ (o : Option (SentFrame A)). Ok (answer_text time o, false)) (sym same);
+        appended = wrote ∙ ap (λ (l : List ℕ). old ++ l) (published_line moment time octets published.published now published.is_written);
+        stands_after = stands;
+      }
 
   -- a poll gave a frame
   pub polled_one : (m moment : ℕ) (octets : List ℕ) → PublishesOctets p (calls ++ call m Polled ∷ []) (length calls) octets →
@@ -220,33 +220,35 @@ module _ {A : Type 0} (p : Setup A) (calls : List Call) (sound : IsScriptSound p
   polled_one m moment octets published stands now wrote =
       let c = call m Polled in
       let time = greatest_call_moment (calls ++ c ∷ []) in
-      let held = request_frame (standing_from (fresh_publisher p) calls) Polled m in
-      let same = answer_one p (trace_of_calls (calls ++ c ∷ [])) (length calls) (Some published.0) held published.1 (answered p calls c sound) in (
-        answer_text time (Some published.0),
-        ap (λ (o : Option (SentFrame A)). Ok (answer_text time o, false)) (sym same),
-        wrote ∙ ap (λ (l : List ℕ). old ++ l) (published_line moment time octets published.0 now published.2),
-        stands,
-      )
+      let held = request_frame (state_after_calls (fresh_publisher p) calls) Polled m in
+      let same = answer_one p (trace_of_calls (calls ++ c ∷ [])) (length calls) (Some published.published) held published.publishes (answered p calls c sound) in
+      record {
+        text = answer_text time (Some published.published);
+        has_text = ap (λ (o : Option (SentFrame A)). Ok (answer_text time o, false)) (sym same);
+        appended = wrote ∙ ap (λ (l : List ℕ). old ++ l) (published_line moment time octets published.published now published.is_written);
+        stands_after = stands;
+      }
 
   -- it gave none
   pub polled_none : (m : ℕ) → PublishesNone p (calls ++ call m Polled ∷ []) (length calls) → PublisherStandsAfter p (calls ++ call m Polled ∷ []) s → TakesCall p calls (call m Polled) (Ok tt) old old s
   polled_none m none stands =
       let c = call m Polled in
       let time = greatest_call_moment (calls ++ c ∷ []) in
-      let held = request_frame (standing_from (fresh_publisher p) calls) Polled m in
-      let same = answer_one p (trace_of_calls (calls ++ c ∷ [])) (length calls) None held none (answered p calls c sound) in (
-        [],
-        ap (λ (o : Option (SentFrame A)). Ok (answer_text time o, false)) (sym same),
-        sym (append-nil old),
-        stands,
-      )
+      let held = request_frame (state_after_calls (fresh_publisher p) calls) Polled m in
+      let same = answer_one p (trace_of_calls (calls ++ c ∷ [])) (length calls) None held none (answered p calls c sound) in
+      record {
+        text = [];
+        has_text = ap (λ (o : Option (SentFrame A)). Ok (answer_text time o, false)) (sym same);
+        appended = sym (append-nil old);
+        stands_after = stands;
+      }
 
 -- a poll that gives a frame has a text
 pub polled_there : {A : Type 0} (p : Setup A) (calls : List Call) (m : ℕ) (octets : List ℕ) → IsScriptSound p → PublishesOctets p (calls ++ call m Polled ∷ []) (length calls) octets →
     (n : ℕ) → step_text (publish_text {A = A}) n (call_written p calls (call m Polled)) ≡ [] → ⊥
 polled_there {A} p calls m octets sound published n none =
     let c = call m Polled in
-    let same = answer_one p (trace_of_calls (calls ++ c ∷ [])) (length calls) (Some published.0) _ published.1 (answered p calls c sound) in
+    let same = answer_one p (trace_of_calls (calls ++ c ∷ [])) (length calls) (Some published.published) _ published.publishes (answered p calls c sound) in
     let h = ap (answer_text {A = A} (greatest_call_moment (calls ++ c ∷ []))) same ∙ none in cc
 
 -- a poll that is not taken leaves the item so
@@ -258,4 +260,4 @@ poll_fails {A} g p calls m (line.Memory x) old new s same t = λ n none. t n (ap
 -- an item was taken, and the engine stands after it
 pub publishes : {A : Type 0} (before : List (ℕ × ScriptItem A)) (n : ℕ) (i : ScriptItem A) (s : Stage A) (old new : List ℕ) → TakesItem (progress_after before) i (Ok s) old new →
     Takes publish_text (λ (items : List (ℕ × ScriptItem A)). Holds s (progress_after items)) before (n, i) (Ok false) old new
-publishes before n i s old new t = (t.0, t.1, t.2, subst (Holds s) (sym (progress-push before (n, i))) t.3)
+publishes before n i s old new t = record { text = t.text; has_text = t.has_text; appended = t.appended; stands_after = subst (Holds s) (sym (progress-push before (n, i))) t.holds }

@@ -32,12 +32,12 @@ kept_push blocks before e = ap (state_after_list (fresh_state blocks)) (events_p
 pub replays : {A : Type 0} (s t : State A) (before : List (ℕ × Event A)) (n : ℕ) (event : Event A) (entries : List (Entry A)) (old new : List ℕ) →
     s ≡ kept_after s.blocks before → entries ≡ step_entries s (reading_of event) → t ≡ step_state s (reading_of event) → new ≡ old ++ entry_lines n entries →
     Takes (replay_text s.blocks) (λ (items : List (ℕ × Event A)). t ≡ kept_after t.blocks items) before (n, event) (Ok false) old new
-replays s t before n event entries old new stands said then_ wrote = (
-  entry_lines n entries,
-  ap (λ (k : State _). Ok (entry_lines n (step_entries k (reading_of event)), false)) (sym stands) ∙ ap (λ (es : List (Entry _)). Ok (entry_lines n es, false)) (sym said),
-  wrote,
-  then_ ∙ ap (λ (k : State _). step_state k (reading_of event)) stands ∙ sym (kept_push s.blocks before (n, event)) ∙ ap (λ (bs : List (Block _)). kept_after bs (before ++ (n, event) ∷ [])) (sym (ap (λ (k : State _). k.blocks) then_)),
-)
+replays s t before n event entries old new stands said then_ wrote = record {
+  text = entry_lines n entries;
+  has_text = ap (λ (k : State _). Ok (entry_lines n (step_entries k (reading_of event)), false)) (sym stands) ∙ ap (λ (es : List (Entry _)). Ok (entry_lines n es, false)) (sym said);
+  appended = wrote;
+  stands_after = then_ ∙ ap (λ (k : State _). step_state k (reading_of event)) stands ∙ sym (kept_push s.blocks before (n, event)) ∙ ap (λ (bs : List (Block _)). kept_after bs (before ++ (n, event) ∷ [])) (sym (ap (λ (k : State _). k.blocks) then_));
+}
 
 -- a subscriber of these blocks keeps this after these events
 record KeepsAfter {A : Type 0} (blocks : List (Block A)) (events : List (Event A)) (s : State A) : Type 0 where

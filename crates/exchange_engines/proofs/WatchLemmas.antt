@@ -118,12 +118,13 @@ pub watches : {A : Type 0} (p q n : ℕ) (id : List ℕ) (before : List (ℕ × 
     → after ≡ last_of p last (counts (samples_of id event.kind))
     → Takes (watch_text p id) (λ (items : List (ℕ × Event A)). after ≡ last_of q None (counts_of id items)) before (n, event) (Ok found) old new
 watches p q n id before event last after found old new stands same wrote finds keeps =
-    let said = watched n id event.kind (seen_all p last (counts (samples_of id event.kind))) in (
-      said.0,
-      ap (λ (o : Option ℕ). Ok (watched n id event.kind (seen_all p o (counts (samples_of id event.kind))))) (sym stands) ∙ ap (λ (f : Bool). Ok (said.0, f)) (sym finds),
-      wrote,
-      keeps ∙ last-push p id before (n, event) last stands ∙ ap (λ (k : ℕ). last_of k None (counts_of id (before ++ (n, event) ∷ []))) (sym same),
-    )
+    let said = watched n id event.kind (seen_all p last (counts (samples_of id event.kind))) in
+    record {
+      text = said.0;
+      has_text = ap (λ (o : Option ℕ). Ok (watched n id event.kind (seen_all p o (counts (samples_of id event.kind))))) (sym stands) ∙ ap (λ (f : Bool). Ok (said.0, f)) (sym finds);
+      appended = wrote;
+      stands_after = keeps ∙ last-push p id before (n, event) last stands ∙ ap (λ (k : ℕ). last_of k None (counts_of id (before ++ (n, event) ∷ []))) (sym same);
+    }
 
 -- where nothing is written of an event, it has no sample
 pub no_samples : {A : Type 0} (p n : ℕ) (id : List ℕ) (last : Option ℕ) (k : EventKind A) → (watched n id k (seen_all p last (counts (samples_of id k)))).0 ≡ [] → samples_of id k ≡ []

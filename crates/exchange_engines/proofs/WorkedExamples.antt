@@ -1,5 +1,5 @@
 -- What engines write of a few lists, computed: a wrong definition does not check.
-use Rattle.std.proofs.Common.{◌≡◌, ℕ, Bool, true, false, List, [], ◌∷◌, ◌++◌, None, refl}
+use Rattle.std.proofs.Common.{◌≡◌, ℕ, Bool, true, List, [], ◌∷◌, ◌++◌, None, refl}
 use Rattle.std.specs.Prelude.{codes}
 use Rattle.std.specs.Fmt.{digits}
 use Rattle.hex.specs.Hex.{decode_pairs, encode_with}
@@ -18,7 +18,7 @@ use Rattle.frame_core.specs.computed.EnvelopeReading.{envelope_at, envelope_judg
 use Rattle.list_core.specs.EventLine.{event_rules}
 use Rattle.frame_core.specs.computed.FrameReading.{frame_at}
 use Rattle.list_core.specs.Items.{items_said, listing}
-use Rattle.list_core.specs.Lines.{finished, reading}
+use Rattle.list_core.specs.Lines.{reading}
 use Rattle.list_core.specs.declared.device.InputEnd.TheVariants.{End}
 use Rattle.list_core.specs.declared.event.Event.{Event}
 use Rattle.list_core.specs.declared.event_lines.EventLines.TheVariants.{First}

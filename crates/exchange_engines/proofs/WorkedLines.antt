@@ -1,5 +1,5 @@
 -- The lines of a few entries, samples and faults of scripts, computed, as docs/FORMATS.md shows them: a wrong definition does not check.
-use Rattle.std.proofs.Common.{◌≡◌, true, Some, None, [], ◌∷◌, refl}
+use Rattle.std.proofs.Common.{◌≡◌, true, [], ◌∷◌, refl}
 use Rattle.std.specs.Prelude.{codes}
 use Rattle.std.specs.Fmt.{digits}
 use Rattle.hex.specs.Hex.{encode_with}
@@ -12,7 +12,7 @@ use Rattle.subscribe_core.specs.declared.entry.Reason.TheVariants as reason
 use Rattle.subscribe_core.specs.declared.watch.Seen.TheVariants as seen
 use Rattle.exchange_engines.specs.EntryText.{entry_line, entry_lines}
 use Rattle.exchange_engines.specs.SampleLine.{sample_line}
-use Rattle.exchange_engines.specs.ScriptLine.{script_line}
+use Rattle.exchange_engines.specs.ScriptFaultLine.{script_fault_line}
 use Rattle.mms_data.specs.Data.{boolean, simple}
 
 pub record AreEntryLines : Type 0 where
@@ -33,9 +33,9 @@ entry_texts = record { act = refl; refreshed = refl; repeated = refl; older = re
 pub record AreOtherLines : Type 0 where
   pub skipped : sample_line 7 (record { position = 0; count = 4 }) (seen.Skipped 2) ≡ codes "7 0 4 skipped 2\n"
   pub next : sample_line 5 (record { position = 1; count = 1 }) seen.Next ≡ codes "5 1 1 next\n"
-  pub entries_differ : script_line (item_fault.Line 5 script.EntriesDiffer) ≡ codes "# 5 script EntriesDiffer\n"
-  pub members : script_line (item_fault.Line 4 (script.Members (record { place = 1; cause = causes.LengthPastEnd }))) ≡ codes "# 4 script Members 1 LengthPastEnd\n"
-  pub long_line : script_line (item_fault.Lines (record { line = 9; cause = list.LineTooLong })) ≡ codes "# 9 script LineTooLong\n"
+  pub entries_differ : script_fault_line (item_fault.Line 5 script.EntriesDiffer) ≡ codes "# 5 script EntriesDiffer\n"
+  pub members : script_fault_line (item_fault.Line 4 (script.Members (record { place = 1; cause = causes.LengthPastEnd }))) ≡ codes "# 4 script Members 1 LengthPastEnd\n"
+  pub long_line : script_fault_line (item_fault.Lines (record { line = 9; cause = list.LineTooLong })) ≡ codes "# 9 script LineTooLong\n"
 
 other_lines : AreOtherLines
 unfolding digits

@@ -3,7 +3,7 @@ pub mod ReplayText
 pub mod WatchText
 pub mod PublishText
 pub mod EntryText
-pub mod ScriptLine
+pub mod ScriptFaultLine
 pub mod SampleLine
 pub mod computed
 pub mod ScriptLaws

@@ -4,7 +4,7 @@ use Rattle.std.specs.Prelude.{◌≡◌, ◌<◌, ◌≤◌, ◌⊎◌, ℕ, Lis
 use Rattle.list_core.specs.declared.event.EventKind.TheVariants.{Frame}
 use Rattle.frame_core.specs.declared.frame.Frame.{Frame as SentFrame}
 use Rattle.list_core.specs.declared.line_rules.ItemFault.{ItemFault}
-use Rattle.list_core.specs.EventLine.{event_text}
+use Rattle.list_core.specs.EventText.{event_text}
 use Rattle.frame_core.specs.Written.{written_frame}
 use Rattle.publish_core.specs.declared.control.Control.{Control}
 use Rattle.publish_core.specs.declared.fault.PublishFault.{PublishFault}
@@ -13,13 +13,13 @@ use Rattle.publish_core.specs.declared.table.Step.{Step}
 use Rattle.publish_core.specs.Frames.{Setup}
 use Rattle.publish_core.specs.Refusal.{Accepts, Refuses}
 use Rattle.publish_core.specs.Run.{Request, Call, Changed, Polled, IsAnswer, greatest_call_moment, trace_of_calls}
-use Rattle.publish_core.specs.Table.{AreSteps}
+use Rattle.publish_core.specs.Table.{AreSteps, most_steps}
 use Rattle.script_core.specs.declared.script.ScriptCause.{ScriptCause}
 use Rattle.script_core.specs.declared.script.ScriptCause.TheVariants as cause
 use Rattle.script_core.specs.declared.script.ScriptItem.{ScriptItem}
 use Rattle.script_core.specs.declared.script.ScriptItem.TheVariants as item
 use Rattle.engine_core.specs.EngineText.{Text}
-use Rattle.exchange_engines.specs.ScriptLine.{script_line}
+use Rattle.exchange_engines.specs.ScriptFaultLine.{script_fault_line}
 
 -- items without the numbers of their lines
 abbrev pub items_of_lines : {A : Type 0} → List (ℕ × ScriptItem A) → List (ScriptItem A)
@@ -52,9 +52,9 @@ answer_text moment None = []
 answer_text {A} moment (Some f) = event_text {A = A} (record { moment = moment; kind = Frame (written_frame f) })
 
 -- a poll is always answered, a change where it is accepted
-abbrev pub IsTaken : {A : Type 0} → Setup A → List Call → Request → Type 0
-IsTaken p calls (Changed change) = Accepts p calls change
-IsTaken p calls Polled = ⊤
+abbrev pub IsAnswered : {A : Type 0} → Setup A → List Call → Request → Type 0
+IsAnswered p calls (Changed change) = Accepts p calls change
+IsAnswered p calls Polled = ⊤
 
 -- a change that is refused, and why
 abbrev pub IsRefused : {A : Type 0} → Setup A → List Call → Request → PublishFault → Type 0
@@ -70,9 +70,9 @@ script_cause publish.EntriesDiffer = cause.EntriesDiffer
 script_cause publish.NotSpellable = cause.NotSpellable
 script_cause publish.WouldNotFit = cause.WouldNotFit
 
--- A call after these is taken: what it gives is written at the greatest moment so far. No line is a finding.
-pub record IsCallTaken {A : Type 0} (p : Setup A) (calls : List Call) (c : Call) (written : Result (List ℕ × Bool) ScriptCause) : Type 0 where
-  pub taken : IsTaken p calls c.request
+-- A call after these is answered: what it gives is written at the greatest moment so far. No line is a finding.
+pub record IsCallAnswered {A : Type 0} (p : Setup A) (calls : List Call) (c : Call) (written : Result (List ℕ × Bool) ScriptCause) : Type 0 where
+  pub answered : IsAnswered p calls c.request
   pub answer : Option (SentFrame A)
   pub is_answer : IsAnswer p (trace_of_calls (calls ++ c ∷ [])) (length calls) answer
   pub line : written ≡ Ok (answer_text (greatest_call_moment (calls ++ c ∷ [])) answer, false)
@@ -85,7 +85,7 @@ pub record IsCallRefused {A : Type 0} (p : Setup A) (calls : List Call) (c : Cal
 
 -- what is written of a call after these
 abbrev pub IsCallText : {A : Type 0} → Setup A → List Call → Call → Result (List ℕ × Bool) ScriptCause → Type 0
-IsCallText p calls c written = IsCallTaken p calls c written ⊎ IsCallRefused p calls c written
+IsCallText p calls c written = IsCallAnswered p calls c written ⊎ IsCallRefused p calls c written
 
 -- ---- the text
 
@@ -93,8 +93,8 @@ IsCallText p calls c written = IsCallTaken p calls c written ⊎ IsCallRefused p
 pub record IsPublishText {A : Type 0} (t : Text (ScriptItem A) ScriptCause) : Type 0 where
   pub first : t.first ≡ codes "V2\n"
   pub control_line : (n first : ℕ) (control : Control A) → t.of_item [] (n, item.Control control first) ≡ Ok ([], false)
-  pub table_step : (p : Setup A) (before : List (ℕ × ScriptItem A)) → items_of_lines before ≡ script_of p [] → length p.table < 16 →
+  pub table_step : (p : Setup A) (before : List (ℕ × ScriptItem A)) → items_of_lines before ≡ script_of p [] → length p.table < most_steps →
       (n : ℕ) (s : Step) → t.of_item before (n, item.Step s) ≡ Ok ([], false)
   pub call : (p : Setup A) (calls : List Call) (before : List (ℕ × ScriptItem A)) → items_of_lines before ≡ script_of p calls → IsScriptSound p →
       (n : ℕ) (c : Call) → IsCallText p calls c (t.of_item before (n, item_of_call c))
-  pub last : (f : ItemFault ScriptCause) → t.last f ≡ script_line f
+  pub last : (f : ItemFault ScriptCause) → t.last f ≡ script_fault_line f

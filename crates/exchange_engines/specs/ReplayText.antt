@@ -18,7 +18,7 @@ use Rattle.engine_core.specs.declared.ending.Ending.TheVariants.{Memory}
 use Rattle.engine_core.specs.EngineText.{Text}
 use Rattle.engine_core.specs.Run.{IsUntouched, LeavesRefused, WritesSome}
 use Rattle.exchange_engines.specs.EntryText.{entry_lines}
-use Rattle.text_core.specs.LineText.{list_line}
+use Rattle.text_core.specs.LineText.{list_fault_line}
 
 -- events without the numbers of their lines
 abbrev pub events_of : {A : Type 0} → List (ℕ × Event A) → List (Event A)
@@ -34,7 +34,7 @@ pub record ReplaysEvent {A : Type 0} (blocks : List (Block A)) (before : List (�
 pub record IsReplayText {A : Type 0} (blocks : List (Block A)) (t : Text (Event A) ListCause) : Type 0 where
   pub first : t.first ≡ []
   pub each_item : (before : List (ℕ × Event A)) (e : ℕ × Event A) → ReplaysEvent blocks before e (t.of_item before e)
-  pub last : (f : ItemFault ListCause) → t.last f ≡ list_line (list_fault_of f)
+  pub last : (f : ItemFault ListCause) → t.last f ≡ list_fault_line (list_fault_of f)
 
 -- the one line for a block given twice, at its position
 abbrev pub twice_line : ℕ → List ℕ

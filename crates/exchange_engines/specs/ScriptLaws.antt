@@ -6,17 +6,18 @@ use Rattle.publish_core.specs.declared.control.Control.{Control}
 use Rattle.publish_core.specs.declared.table.Step.{Step}
 use Rattle.publish_core.specs.Frames.{Setup}
 use Rattle.publish_core.specs.Run.{Call}
+use Rattle.publish_core.specs.Table.{most_steps}
 use Rattle.script_core.specs.declared.script.ScriptItem.{ScriptItem}
 use Rattle.script_core.specs.declared.script.ScriptItem.TheVariants as item
 use Rattle.script_core.specs.declared.script.ScriptLines.TheVariants.{First}
 use Rattle.script_core.specs.Script.{script_rules}
 use Rattle.exchange_engines.specs.PublishText.{items_of_lines, script_of, IsScriptSound}
 
--- before a step stands a control line with fewer than 16 steps
+-- before a step stands a control line with fewer than the most steps of a table
 pub record StandsBeforeStep {A : Type 0} (before : List (ScriptItem A)) : Type 0 where
   pub setup : Setup A
   pub is_script : before ≡ script_of setup []
-  pub has_room : length setup.table < 16
+  pub has_room : length setup.table < most_steps
 
 -- before a call stands a control line with steps that set up a publisher, and other calls
 pub record StandsBeforeCall {A : Type 0} (before : List (ScriptItem A)) : Type 0 where

@@ -18,7 +18,7 @@ use Rattle.subscribe_core.specs.declared.watch.Seen.{Seen}
 use Rattle.subscribe_core.specs.declared.watch.Seen.TheVariants as seen
 use Rattle.subscribe_core.specs.Watch.{AreSeen}
 use Rattle.engine_core.specs.EngineText.{Text}
-use Rattle.text_core.specs.LineText.{fault_line, list_line}
+use Rattle.text_core.specs.LineText.{fault_line, list_fault_line}
 use Rattle.exchange_engines.specs.SampleLine.{Sample, sample_line}
 
 -- the sample of an ASDU, if it is of the stream with this svID
@@ -93,4 +93,4 @@ pub record WatchesEvent {A : Type 0} (period : ℕ) (id : List ℕ) (before : Li
 pub record IsWatchText {A : Type 0} (period : ℕ) (id : List ℕ) (t : Text (Event A) ListCause) : Type 0 where
   pub first : t.first ≡ []
   pub each_item : (before : List (ℕ × Event A)) (e : ℕ × Event A) → WatchesEvent period id before e (t.of_item before e)
-  pub last : (f : ItemFault ListCause) → t.last f ≡ list_line (list_fault_of f)
+  pub last : (f : ItemFault ListCause) → t.last f ≡ list_fault_line (list_fault_of f)

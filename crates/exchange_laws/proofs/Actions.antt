@@ -14,7 +14,7 @@ use Rattle.subscribe_core.specs.computed.Content.{reading_of}
 use Rattle.subscribe_core.specs.Entries.{AreEntriesAt, AreReadEntriesAt}
 use Rattle.subscribe_core.specs.Epoch.{Acts, IsLastStart}
 use Rattle.subscribe_core.specs.Laws.{IsActOn, IsIn}
-use Rattle.subscribe_core.specs.Reading.{AreRead, FrameRead, OfGoose, EventRead}
+use Rattle.subscribe_core.specs.EventsRead.{AreRead, FrameRead, OfGoose, EventRead}
 use Rattle.subscribe_core.specs.Sight.{trace_of_block}
 use Rattle.subscribe_core.specs.Apart.{AreApart}
 use Rattle.subscribe_core.specs.State.{fresh_state}

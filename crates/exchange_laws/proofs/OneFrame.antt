@@ -13,7 +13,7 @@ use Rattle.subscribe_core.specs.declared.registers.Verdict.{Verdict}
 use Rattle.subscribe_core.specs.declared.registers.Verdict.TheVariants.{Act, Refreshed, Repeated, Older}
 use Rattle.subscribe_core.specs.FrameEntry.{entry_of}
 use Rattle.subscribe_core.specs.Matching.{facts_of_frame, first_of, is_of, reason_of}
-use Rattle.subscribe_core.specs.Reading.{FrameRead, OfGoose, EventRead}
+use Rattle.subscribe_core.specs.EventsRead.{FrameRead, OfGoose, EventRead}
 use Rattle.subscribe_core.specs.Simulation.{is_other_kind}
 use Rattle.subscribe_core.specs.Apart.{AreApart}
 use Rattle.subscribe_core.specs.State.{State}

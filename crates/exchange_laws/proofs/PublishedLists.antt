@@ -17,7 +17,7 @@ use Rattle.publish_core.proofs.GivesOne.{carried}
 use Rattle.publish_core.proofs.Runs.{answers_are_one, runs_are_whole as publisher_runs}
 use Rattle.subscribe_core.specs.computed.Content.{content_by, reading_of}
 use Rattle.subscribe_core.specs.Entries.{AreEntries}
-use Rattle.subscribe_core.specs.Reading.{Content, EventRead}
+use Rattle.subscribe_core.specs.EventsRead.{Content, EventRead}
 use Rattle.subscribe_core.specs.State.{fresh_state}
 use Rattle.subscribe_core.specs.computed.Steps.{run_events}
 use Rattle.subscribe_core.proofs.Runs.{runs_are_whole}
@@ -56,11 +56,11 @@ list_read B (s ∷ rest) w =
 
 frame_spelled : {A : Type 0} (p : Setup A) (calls : List Call) (i : ℕ) (f : Frame A) → HasSizes p → AreAccepted p calls → IsAnswer p (trace_of_calls calls) i (Some f) → IsSpelled f
 frame_spelled {A} p calls i f held accepted w =
-    let c : ℕ = w.0 in
-    let k : ℕ = w.1 in
-    let change : Change = w.2 in
-    let at = carried w.3 in
-    let is : f ≡ frame p.control p.table (state_number p.first c) change k = w.4 in
+    let c : ℕ = w.c in
+    let k : ℕ = w.k in
+    let change : Change = w.change in
+    let at = carried w.gives in
+    let is : f ≡ frame p.control p.table (state_number p.first c) change k = w.is_frame in
     subst (λ (g : Frame A). IsSpelled g) (sym is) (record {
       pdu = pdu_with p.control change (state_number p.first c) (sequence_number k) (step_at p.table (step_of p.table k)).live_ms;
       goose = refl;

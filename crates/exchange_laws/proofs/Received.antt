@@ -15,7 +15,7 @@ use Rattle.block_core.specs.declared.block.Block.{Block}
 use Rattle.subscribe_core.specs.declared.entry.Reason.{Reason}
 use Rattle.subscribe_core.specs.declared.registers.Facts.{Facts}
 use Rattle.subscribe_core.specs.Matching.{facts_of_frame, is_of, reason_of, facts_unless_refused}
-use Rattle.subscribe_core.specs.Reading.{AreRead, Content, FrameRead, IsContent, IsRead, OfClock, OfFault, OfGoose, OfMode, OfSampled, EventRead}
+use Rattle.subscribe_core.specs.EventsRead.{AreRead, Content, FrameRead, IsContent, IsRead, OfClock, OfFault, OfGoose, OfMode, OfSampled, EventRead}
 use Rattle.subscribe_core.specs.Sight.{facts_at, facts_of, trace_of_block}
 use Rattle.subscribe_core.specs.Simulation.{is_other_kind, mode_at, takes_simulated}
 use Rattle.subscribe_core.proofs.Readings.{read_one}

@@ -14,7 +14,7 @@ use Rattle.block_core.specs.declared.block.Block.{Block}
 use Rattle.subscribe_core.specs.declared.registers.LiveState.{LiveState}
 use Rattle.subscribe_core.specs.declared.registers.Verdict.TheVariants as verdicts
 use Rattle.subscribe_core.specs.Matching.{facts_of_frame, has_other_id, holds, reasons}
-use Rattle.subscribe_core.specs.Reading.{FrameRead}
+use Rattle.subscribe_core.specs.EventsRead.{FrameRead}
 use Rattle.subscribe_core.specs.computed.Steps.{run_events}
 use Rattle.subscribe_core.proofs.BlockNames.{key_is_of}
 use Rattle.exchange_laws.specs.PublishedList.{InTime, InTimeFrom, IsOwnBlock, Sent, one_entry_each, sent_from, with_frame}
@@ -62,7 +62,7 @@ module _ {A B : Type 0} (p : Setup A) (block : Block B) (own : IsOwnBlock p bloc
   live_at l = (step_at p.table l.step).live_ms
 
   abbrev held_of : Last A → LiveState
-  held_of l = record { state = l.state; sequence = l.sequence; deadline = l.given + 1000 * live_at l }
+  held_of l = record { state = l.state; sequence = l.sequence; deadline = l.given_at + 1000 * live_at l }
 
   -- the frame that was given last, as it is read
   abbrev read_of : Last A → FrameRead
@@ -109,54 +109,54 @@ module _ {A B : Type 0} (p : Setup A) (block : Block B) (own : IsOwnBlock p bloc
     states : l.state + changes ≤ 4294967295
     sequences : l.sequence + frames ≤ 4294967295
     some : 0 < l.state
-    given : l.given ≤ m
+    given : l.given_at ≤ m
     step : l.step < length p.table
     entries : length l.values ≡ p.control.entries
 
   abbrev Replays : List Call → Type 0
   Replays cs =
       (next m : ℕ) (l : Last A) → Keeps (count cs) (length (sent_by next m (Some l) cs)) next m l → HaveEntries p.control.entries cs →
-      InTimeFrom (l.given + 1000 * live_at l) (sent_by next m (Some l) cs) →
-      run_events (alone block (Some (held_of l)) l.given) (readings_of (sent_by next m (Some l) cs)) ≡ one_entry_each (sent_by next m (Some l) cs)
+      InTimeFrom (l.given_at + 1000 * live_at l) (sent_by next m (Some l) cs) →
+      run_events (alone block (Some (held_of l)) l.given_at) (readings_of (sent_by next m (Some l) cs)) ≡ one_entry_each (sent_by next m (Some l) cs)
 
-  replay_change : (cs : List Call) → Replays cs → (handed_in : Change) (now next m : ℕ) (l : Last A) → Keeps (1 + count cs) (length (sent_by next m (Some l) (call now (Changed handed_in) ∷ cs))) next m l → length handed_in.values ≡ p.control.entries → HaveEntries p.control.entries cs → InTimeFrom (l.given + 1000 * live_at l) (sent_by next m (Some l) (call now (Changed handed_in) ∷ cs)) → run_events (alone block (Some (held_of l)) l.given) (readings_of (sent_by next m (Some l) (call now (Changed handed_in) ∷ cs))) ≡ one_entry_each (sent_by next m (Some l) (call now (Changed handed_in) ∷ cs))
+  replay_change : (cs : List Call) → Replays cs → (handed_in : Change) (now next m : ℕ) (l : Last A) → Keeps (1 + count cs) (length (sent_by next m (Some l) (call now (Changed handed_in) ∷ cs))) next m l → length handed_in.values ≡ p.control.entries → HaveEntries p.control.entries cs → InTimeFrom (l.given_at + 1000 * live_at l) (sent_by next m (Some l) (call now (Changed handed_in) ∷ cs)) → run_events (alone block (Some (held_of l)) l.given_at) (readings_of (sent_by next m (Some l) (call now (Changed handed_in) ∷ cs))) ≡ one_entry_each (sent_by next m (Some l) (call now (Changed handed_in) ∷ cs))
   replay_change cs rest handed_in now next m l k entries more time =
       let states : l.state + (1 + count cs) ≤ 4294967295 = k.states in
       let up : next ≡ l.state + 1 = k.next_is ∙ after_plain l.state (omega arith) in
-      let given : l.given ≤ m = k.given in
+      let given : l.given_at ≤ m = k.given in
       let first : 0 < length p.table = steps.some in
       let last : Last A = first_last next handed_in (max m now) in
       let sequences : l.sequence + suc (length (sent_by (number_behind next) (max m now) (Some last) cs)) ≤ 4294967295 = k.sequences in
       let above : l.state < next = omega arith in
       let some : 0 < next = omega arith in
-      one_run block (read_of last) (Some (held_of l)) l.given (max m now) verdicts.Act (is_plain last some first entries)
+      one_run block (read_of last) (Some (held_of l)) l.given_at (max m now) verdicts.Act (is_plain last some first entries)
       (lt-leb _ _ time.0) (omega arith) (verdict_above (held_of l) (facts_of_frame (read_of last)) above) _ _
       (rest (number_behind next) (max m now) last
       (record { next_is = refl; states = omega arith; sequences = omega arith; some = some; given = omega arith; step = first; entries = entries })
       more time.1)
 
-  replay_due : (cs : List Call) → Replays cs → (now next m : ℕ) (l : Last A) (due : Bool) → Keeps (count cs) (length (with_frame (max m now) Polled (if due then Some (last_frame p.control p.table (next_last p.table l (max m now))) else None) (sent_by next (max m now) (if due then Some (next_last p.table l (max m now)) else Some l) cs))) next m l → HaveEntries p.control.entries cs → InTimeFrom (l.given + 1000 * live_at l) (with_frame (max m now) Polled (if due then Some (last_frame p.control p.table (next_last p.table l (max m now))) else None) (sent_by next (max m now) (if due then Some (next_last p.table l (max m now)) else Some l) cs)) → run_events (alone block (Some (held_of l)) l.given) (readings_of (with_frame (max m now) Polled (if due then Some (last_frame p.control p.table (next_last p.table l (max m now))) else None) (sent_by next (max m now) (if due then Some (next_last p.table l (max m now)) else Some l) cs))) ≡ one_entry_each (with_frame (max m now) Polled (if due then Some (last_frame p.control p.table (next_last p.table l (max m now))) else None) (sent_by next (max m now) (if due then Some (next_last p.table l (max m now)) else Some l) cs))
+  replay_due : (cs : List Call) → Replays cs → (now next m : ℕ) (l : Last A) (due : Bool) → Keeps (count cs) (length (with_frame (max m now) Polled (if due then Some (last_frame p.control p.table (next_last p.table l (max m now))) else None) (sent_by next (max m now) (if due then Some (next_last p.table l (max m now)) else Some l) cs))) next m l → HaveEntries p.control.entries cs → InTimeFrom (l.given_at + 1000 * live_at l) (with_frame (max m now) Polled (if due then Some (last_frame p.control p.table (next_last p.table l (max m now))) else None) (sent_by next (max m now) (if due then Some (next_last p.table l (max m now)) else Some l) cs)) → run_events (alone block (Some (held_of l)) l.given_at) (readings_of (with_frame (max m now) Polled (if due then Some (last_frame p.control p.table (next_last p.table l (max m now))) else None) (sent_by next (max m now) (if due then Some (next_last p.table l (max m now)) else Some l) cs))) ≡ one_entry_each (with_frame (max m now) Polled (if due then Some (last_frame p.control p.table (next_last p.table l (max m now))) else None) (sent_by next (max m now) (if due then Some (next_last p.table l (max m now)) else Some l) cs))
   replay_due cs rest now next m l true k more time =
       let states : l.state + count cs ≤ 4294967295 = k.states in
       let last : Last A = next_last p.table l (max m now) in
       let sequences : l.sequence + suc (length (sent_by next (max m now) (Some last) cs)) ≤ 4294967295 = k.sequences in
       let up : number_behind l.sequence ≡ l.sequence + 1 = after_plain l.sequence (omega arith) in
-      let given : l.given ≤ m = k.given in
+      let given : l.given_at ≤ m = k.given in
       let first : 0 < length p.table = steps.some in
       let below : min (l.step + 1) (length p.table - 1) < length p.table = omega arith in
       let above : l.sequence < number_behind l.sequence = omega arith in
-      one_run block (read_of last) (Some (held_of l)) l.given (max m now) verdicts.Refreshed (is_plain last k.some below k.entries)
+      one_run block (read_of last) (Some (held_of l)) l.given_at (max m now) verdicts.Refreshed (is_plain last k.some below k.entries)
       (lt-leb _ _ time.0) (omega arith) (verdict_next (held_of l) (facts_of_frame (read_of last)) refl above) _ _
       (rest next (max m now) last
       (record { next_is = k.next_is; states = states; sequences = omega arith; some = k.some; given = omega arith; step = below; entries = k.entries })
       more time.1)
   replay_due cs rest now next m l false k more time =
-      let given : l.given ≤ m = k.given in
+      let given : l.given_at ≤ m = k.given in
       rest next (max m now) l
       (record { next_is = k.next_is; states = k.states; sequences = k.sequences; some = k.some; given = omega arith; step = k.step; entries = k.entries })
       more time
 
-  replay_call : (cs : List Call) → Replays cs → (request : Request) (now next m : ℕ) (l : Last A) → Keeps (changes_of (Some request) + count cs) (length (sent_by next m (Some l) (call now request ∷ cs))) next m l → HasEntries p.control.entries request → HaveEntries p.control.entries cs → InTimeFrom (l.given + 1000 * live_at l) (sent_by next m (Some l) (call now request ∷ cs)) → run_events (alone block (Some (held_of l)) l.given) (readings_of (sent_by next m (Some l) (call now request ∷ cs))) ≡ one_entry_each (sent_by next m (Some l) (call now request ∷ cs))
+  replay_call : (cs : List Call) → Replays cs → (request : Request) (now next m : ℕ) (l : Last A) → Keeps (changes_of (Some request) + count cs) (length (sent_by next m (Some l) (call now request ∷ cs))) next m l → HasEntries p.control.entries request → HaveEntries p.control.entries cs → InTimeFrom (l.given_at + 1000 * live_at l) (sent_by next m (Some l) (call now request ∷ cs)) → run_events (alone block (Some (held_of l)) l.given_at) (readings_of (sent_by next m (Some l) (call now request ∷ cs))) ≡ one_entry_each (sent_by next m (Some l) (call now request ∷ cs))
   replay_call cs rest (Changed handed_in) now next m l k entries more time = replay_change cs rest handed_in now next m l k entries more time
   replay_call cs rest Polled now next m l k entries more time =
       let states : l.state + (0 + count cs) ≤ 4294967295 = k.states in

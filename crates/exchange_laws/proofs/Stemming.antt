@@ -14,7 +14,7 @@ use Rattle.publish_core.proofs.GivesOne.{carried}
 use Rattle.block_core.specs.declared.block.Block.{Block}
 use Rattle.subscribe_core.specs.declared.registers.Facts.{Facts}
 use Rattle.subscribe_core.specs.Laws.{IsIn}
-use Rattle.subscribe_core.specs.Reading.{AreRead, FrameRead, IsContent, IsRead, OfGoose, EventRead}
+use Rattle.subscribe_core.specs.EventsRead.{AreRead, FrameRead, IsContent, IsRead, OfGoose, EventRead}
 use Rattle.subscribe_core.specs.Sight.{trace_of_block}
 use Rattle.exchange_laws.specs.Stems.{IsOfRun, IsPublishedUnder, StemsFromRun}
 use Rattle.exchange_laws.proofs.Changes.{number_of_change}
@@ -46,22 +46,22 @@ of_run {A} p calls e r x o some no_wrap w read goose kind = record {
 }
   where
     c : ℕ
-    c = w.publishes.0
+    c = w.publishes.c
 
     k : ℕ
-    k = w.publishes.1
+    k = w.publishes.k
 
     handed_in : Change
-    handed_in = w.publishes.2
+    handed_in = w.publishes.change
 
     at : (j : ℕ) × (j ≤ w.call) × IsChange (published_trace calls) j c handed_in
-    at = carried w.publishes.3
+    at = carried w.publishes.gives
 
     q : GoosePdu A
     q = pdu_with p.control handed_in (state_number p.first c) (sequence_number k) (step_at p.table (step_of p.table k)).live_ms
 
     unit : w.received.apdu ≡ apdus.Goose q
-    unit = w.same ∙ ap (λ (f : Frame A). f.apdu) w.publishes.4
+    unit = w.same ∙ ap (λ (f : Frame A). f.apdu) w.publishes.is_frame
 
     pdu : x.pdu ≡ plain q
     pdu = pdu_read e r x o w.received q read goose kind w.spelled unit

@@ -16,7 +16,7 @@ use Rattle.publish_core.specs.Run.{Call, Changed, First, GivesFrame, Next, Polle
 use Rattle.block_core.specs.declared.block.Block.{Block}
 use Rattle.subscribe_core.specs.declared.entry.Entry.TheVariants as says
 use Rattle.subscribe_core.specs.computed.Content.{content_by, reading_of}
-use Rattle.subscribe_core.specs.Reading.{Content}
+use Rattle.subscribe_core.specs.EventsRead.{Content}
 use Rattle.subscribe_core.specs.State.{fresh_state}
 use Rattle.subscribe_core.specs.computed.Steps.{run_events}
 use Rattle.exchange_laws.specs.Stems.{IsOfRun, IsPublishedUnder, StemsFromRun}
@@ -98,10 +98,10 @@ module _ (again_octets new_octets : List ℕ) (again_spelled : SpellsFrame again
   events = event 10500 again_octets ∷ event 10600 again_octets ∷ event 20500 new_octets ∷ event 20600 again_octets ∷ []
 
   of_again : IsOfRun p calls again_octets
-  of_again = record { call = 1; published = again; publishes = (0, 1, to true, gives_again, refl); received = again; spelled = again_spelled; same = refl }
+  of_again = record { call = 1; published = again; publishes = record { c = 0; k = 1; change = to true; gives = gives_again; is_frame = refl }; received = again; spelled = again_spelled; same = refl }
 
   of_new : IsOfRun p calls new_octets
-  of_new = record { call = 2; published = new; publishes = (1, 0, to false, gives_new, refl); received = new; spelled = new_spelled; same = refl }
+  of_new = record { call = 2; published = new; publishes = record { c = 1; k = 0; change = to false; gives = gives_new; is_frame = refl }; received = new; spelled = new_spelled; same = refl }
 
   -- every frame that is received is of the run
 

@@ -65,18 +65,18 @@ frame_is_spelled p c k change held accepted =
 
 pub what_is_published_is_of_the_run : {A : Type 0} → WhatIsPublishedIsOfTheRun A
 what_is_published_is_of_the_run {A} p calls i octets held accepted w =
-    let c : ℕ = w.1.0 in
-    let k : ℕ = w.1.1 in
-    let change : Change = w.1.2 in
-    let at = carried w.1.3 in
+    let c : ℕ = w.publishes.c in
+    let k : ℕ = w.publishes.k in
+    let change : Change = w.publishes.change in
+    let at = carried w.publishes.gives in
     let given : Frame A = frame p.control p.table (state_number p.first c) change k in
-    let is : w.0 ≡ given = w.1.4 in
+    let is : w.published ≡ given = w.publishes.is_frame in
     record {
       call = i;
-      published = w.0;
-      publishes = w.1;
+      published = w.published;
+      publishes = w.publishes;
       received = given;
-      spelled = subst (SpellsFrame given) (sym (w.2 ∙ ap (λ (f : Frame A). written_frame f) is)) (frame_is_spelled p c k change held (change_accepted p calls at.0 c change accepted at.2));
+      spelled = subst (SpellsFrame given) (sym (w.is_written ∙ ap (λ (f : Frame A). written_frame f) is)) (frame_is_spelled p c k change held (change_accepted p calls at.0 c change accepted at.2));
       same = sym (ap (λ (f : Frame A). f.apdu) is);
     }
 

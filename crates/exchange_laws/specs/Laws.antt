@@ -14,7 +14,7 @@ use Rattle.subscribe_core.specs.declared.registers.Facts.{Facts}
 use Rattle.subscribe_core.specs.Entries.{AreEntries, AreEntriesAt}
 use Rattle.subscribe_core.specs.Epoch.{IsLastStart, Trace}
 use Rattle.subscribe_core.specs.Laws.{IsIn}
-use Rattle.subscribe_core.specs.Reading.{AreRead, EventRead}
+use Rattle.subscribe_core.specs.EventsRead.{AreRead, EventRead}
 use Rattle.subscribe_core.specs.Sight.{trace_of_block}
 use Rattle.subscribe_core.specs.Apart.{AreApart}
 use Rattle.exchange_laws.specs.PublishedList.{IsWholeRun, one_entry_each, published_events, sent_from}

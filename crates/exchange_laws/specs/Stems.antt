@@ -14,7 +14,7 @@ use Rattle.block_core.specs.declared.block.Block.{Block}
 use Rattle.subscribe_core.specs.declared.registers.Facts.{Facts}
 use Rattle.subscribe_core.specs.Epoch.{Trace}
 use Rattle.subscribe_core.specs.Laws.{IsIn}
-use Rattle.subscribe_core.specs.Reading.{EventRead}
+use Rattle.subscribe_core.specs.EventsRead.{EventRead}
 use Rattle.subscribe_core.specs.Sight.{trace_of_block}
 
 -- the octets spell a frame that has the APDU of a frame which some call of the run publishes; its envelope may be another

@@ -3,6 +3,7 @@ pub mod ApduLaws
 pub mod EnvelopeLaws
 pub mod FrameLaws
 pub mod FrameParts
+pub mod FrameSizes
 pub mod Seen
 pub mod WrittenLaws
 pub mod PutLaws

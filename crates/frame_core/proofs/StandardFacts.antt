@@ -1,5 +1,5 @@
 -- Frames that docs/FORMATS.md gives, computed: a wrong definition does not check.
-use Rattle.std.proofs.Common.{◌≡◌, ℕ, ◌+◌, true, false, List, [], ◌∷◌, ◌++◌, take, drop, Some, None, Ok, Err, refl}
+use Rattle.std.proofs.Common.{◌≡◌, ℕ, ◌+◌, true, false, List, [], ◌∷◌, ◌++◌, take, drop, Some, None, Ok, refl}
 use Rattle.std.specs.Prelude.{Result}
 use Rattle.ber_core.specs.computed.ContentsReading.{all_visible_at, any_integer_at, boolean_at, counted_at, integer_at}
 use Rattle.ber_core.specs.computed.FieldReading.{required_at, there_at}

@@ -18,7 +18,7 @@ pub use crate::encoding::{EncodeFault, encode};
 pub use crate::frame::{Apdu, Frame};
 pub use crate::frame_view::{ApduView, FrameView};
 pub use crate::goose_encoding::{GooseFrame, encode_goose};
-pub use crate::view_encoding::encode_view;
+pub use crate::view_encoding::{encode_view, written_length};
 pub use crate::viewing::{see_frame, view_frame};
 pub use crate::vlan_tag::VlanTag;
 pub use list_core::{

@@ -1,6 +1,6 @@
 -- What is noted of a frame that was read.
 use Rattle.std.proofs.Common.{◌≡◌, ◌++◌, ℕ, List, [], Bool, true, false, Ok, Err, Result, ap, sym, ◌∙◌, refl}
-use Rattle.std.specs.Prelude.{Option, ◌∷◌, ◌↔◌, IsErr, OnOk, codes}
+use Rattle.std.specs.Prelude.{Option, Some, None, ◌≢◌, ◌∷◌, ◌↔◌, IsErr, OnOk, codes, if◌then◌else◌, length}
 use Rattle.std.specs.Fmt.{decimal}
 use Rattle.std.specs.Str.{bytes_eq}
 use Rattle.std.proofs.lemmas.List.{append_assoc}
@@ -36,6 +36,18 @@ form_compared f form octets (Err x) v same spelled long is h e = cc
 pub own_form : {A : Type 0} (f : Frame A) (octets : List ℕ) → (octets ≡ written_frame f) × (fits f ≡ true) → true ≡ is_form (fitting_form (Ok f)) octets
 own_form f octets known =
     sym ((bytes_eq-Decides octets octets).1 refl) ∙ ap (λ (x : Option (List ℕ)). is_form x octets) (sym (form_known f octets known))
+
+-- what does not hold is false
+not_so : (b : Bool) → (b ≡ true → ⊥) → false ≡ b
+not_so true wrong = absurd (wrong refl)
+not_so false wrong = refl
+
+-- octets of another count than the written form has are not those of the form
+pub another_length : {A : Type 0} (f : Frame A) (octets : List ℕ) → length (written_frame f) ≢ length octets → false ≡ is_form (fitting_form (Ok f)) octets
+another_length f octets differ = in_case (fits f) where
+  in_case : (b : Bool) → false ≡ is_form (if b then Some (written_frame f) else None) octets
+  in_case true = not_so (bytes_eq (written_frame f) octets) (λ same. differ (ap length ((bytes_eq-Decides (written_frame f) octets).0 same)))
+  in_case false = refl
 
 -- both notes, one after the other
 pub both_noted : {E : Type 0} (n : ℕ) (octets : List ℕ) (v : FrameView) (form to : Bool) (before mid after : List ℕ) (r : Result (Unit {0}) E)

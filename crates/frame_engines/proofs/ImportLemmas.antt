@@ -16,10 +16,10 @@ use Rattle.capture_core.specs.declared.capture_fault.CaptureFault.{CaptureFault}
 use Rattle.capture_core.specs.declared.capture_fault.CaptureCause.{CaptureCause}
 use Rattle.capture_core.specs.declared.capture_fault.CaptureCause.TheVariants.{CaptureHeader, CaptureShort, RecordLength, TooManyRecords, ReadFailed}
 use Rattle.capture_core.specs.Capture.{Capture, CaptureRecord, capture, records_after, no_records}
-use Rattle.capture_core.specs.Reading.{ReadsHeader, ReadsRecord, TakesFor, behind_record}
+use Rattle.capture_core.specs.RecordAnswers.{ReadsHeader, ReadsRecord, TakesFor, behind_record}
 use Rattle.engine_core.specs.declared.ending.Ending.{Ending}
 use Rattle.engine_core.specs.declared.ending.Ending.TheVariants.{Done, Findings, WriteFault}
-use Rattle.frame_engines.specs.ImportText.{AtRecord, EndsBehind, FailsBehind, Imports, ImportsToFault, capture_line, ending_of_capture, is_left_out, last_line, put_records, record_line, text_behind}
+use Rattle.frame_engines.specs.ImportText.{AtRecord, EndsBehind, FailsBehind, Imports, ImportsToFault, capture_fault_line, ending_of_capture, is_left_out, last_line, put_records, record_line, text_behind}
 use Rattle.frame_engines.specs.computed.ImportStep.{FaultWrites, import_due}
 
 -- ---- texts
@@ -52,7 +52,7 @@ found_more rs n r found more p q =
 due_first : (form : CaptureForm) (n : ℕ) (z : InputEnd) (answer : Result (Option CaptureRecord) CaptureFault) → (rest : List ℕ) × (text_behind (behind_record form n answer z []) ≡ import_due n answer ++ rest)
 due_first form n z (Ok (Some r)) = (text_behind (records_after form z (n + 1) []), append_assoc (record_line (n + 1, r)) _ _)
 due_first form n z (Ok None) = ([], refl)
-due_first form n z (Err f) = ([], sym (append-nil (capture_line f)))
+due_first form n z (Err f) = ([], sym (append-nil (capture_fault_line f)))
 
 -- ---- what was taken
 
@@ -153,9 +153,9 @@ faulted : (rs : List (ℕ × CaptureRecord)) (z v : InputEnd) (given : List ℕ)
     capture v given ≡ put_records rs (no_records (faulty f)) → EndsBehind v given rs → Appends held mid (text_to rs) → FaultWrites f ending mid new → Imports z ending v given start new
 faulted rs z v given f ending start held mid new first e i w (inl q) = rw q.0 (in_part z v given start held new first rs (no_records (faulty f)) mid i e w q.1)
 faulted rs z v given f ending start held mid new first e i w (inr q) =
-    let text : text_behind (capture v given) ≡ text_to rs ++ capture_line f = ap text_behind e ∙ text_parts rs (no_records (faulty f)) in
+    let text : text_behind (capture v given) ≡ text_to rs ++ capture_fault_line f = ap text_behind e ∙ text_parts rs (no_records (faulty f)) in
     let all : (capture v given).records ≡ rs = ap (λ (c : Capture). c.records) e ∙ append-nil rs in
-    rw q.0 (badly z v given start held new first f (ap (λ (c : Capture). c.stop) e) (subst (Appends held new) (sym text) (Appends-append held mid new (text_to rs) (capture_line f) w q.1)) (subst (EndsBehind v given) (sym all) i))
+    rw q.0 (badly z v given start held new first f (ap (λ (c : Capture). c.stop) e) (subst (Appends held new) (sym text) (Appends-append held mid new (text_to rs) (capture_fault_line f) w q.1)) (subst (EndsBehind v given) (sym all) i))
 
 -- the header has a fault
 pub bad_header : (a b : Option (List ℕ)) (z w : InputEnd) (f : CaptureFault) (ending : Ending) (start held new : Option (List ℕ)) → ReadsHeader a z (Err f) b w → Appends start held (codes "V2\n") → FaultWrites f ending held new → Imported z ending a b w start new

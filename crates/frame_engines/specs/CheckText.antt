@@ -14,7 +14,7 @@ use Rattle.list_core.specs.declared.list_fault.ListCause.{ListCause}
 use Rattle.frame_core.specs.computed.FrameReading.{frame_at}
 use Rattle.list_core.specs.ListReader.{list_fault_of}
 use Rattle.engine_core.specs.EngineText.{Text}
-use Rattle.text_core.specs.LineText.{fault_line, list_line}
+use Rattle.text_core.specs.LineText.{fault_line, list_fault_line}
 use Rattle.frame_engines.specs.WrittenForm.{fitting_form}
 
 -- the number of six octets, the first the most significant
@@ -66,5 +66,5 @@ abbrev pub check_text : {A : Type 0} → Text (Event A) ListCause
 check_text = record {
   first = [];
   of_item = λ before e. Ok (notes e.0 e.1.kind, has_text (notes e.0 e.1.kind));
-  last = λ f. list_line (list_fault_of f);
+  last = λ f. list_fault_line (list_fault_of f);
 }

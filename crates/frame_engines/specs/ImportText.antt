@@ -5,11 +5,11 @@ use Rattle.std.specs.Fmt.{decimal}
 use Rattle.std.specs.Io.KnownBytes.{Appends}
 use Rattle.list_core.specs.declared.device.InputEnd.{InputEnd}
 use Rattle.list_core.specs.Device.{AppendsPrefix}
-use Rattle.list_core.specs.EventLine.{event_text}
+use Rattle.list_core.specs.EventText.{event_text}
 use Rattle.list_core.specs.Lines.{Stop, finished, unfinished, faulty}
 use Rattle.list_core.specs.declared.event.EventKind.TheVariants.{Frame}
 use Rattle.capture_core.specs.Capture.{Capture, CaptureRecord, capture, records_after}
-use Rattle.capture_core.specs.Reading.{WithinRecord}
+use Rattle.capture_core.specs.RecordAnswers.{WithinRecord}
 use Rattle.capture_core.specs.declared.form.CaptureForm.{CaptureForm}
 use Rattle.capture_core.specs.declared.capture_fault.CaptureCause.{CaptureCause}
 use Rattle.capture_core.specs.declared.capture_fault.CaptureCause.TheVariants.{CaptureHeader, CaptureShort, RecordLength, TooManyRecords, ReadFailed}
@@ -36,8 +36,8 @@ abbrev pub record_line : ℕ × CaptureRecord → List ℕ
 record_line r = if is_left_out r then left_out_line r.0 (length r.1.octets) else imported_line r.1.moment r.1.octets
 
 -- the last line, on a fault: a comment
-abbrev pub capture_line : CaptureFault → List ℕ
-capture_line f = codes "# " ++ decimal f.number ++ codes " capture " ++ name_of_capture_cause f.cause ++ codes "\n"
+abbrev pub capture_fault_line : CaptureFault → List ℕ
+capture_fault_line f = codes "# " ++ decimal f.number ++ codes " capture " ++ name_of_capture_cause f.cause ++ codes "\n"
 
 -- records before others
 abbrev pub put_records : List (ℕ × CaptureRecord) → Capture → Capture
@@ -47,7 +47,7 @@ put_records rs c = record { records = rs ++ c.records; stop = c.stop }
 abbrev pub last_line : Stop CaptureFault → List ℕ
 last_line finished = []
 last_line unfinished = []
-last_line (faulty f) = capture_line f
+last_line (faulty f) = capture_fault_line f
 
 -- the text behind the first line
 abbrev pub text_behind : Capture → List ℕ

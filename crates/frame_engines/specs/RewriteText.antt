@@ -6,8 +6,8 @@ use Rattle.list_core.specs.ListReader.{list_fault_of}
 use Rattle.std.specs.Fmt.{decimal}
 use Rattle.list_core.specs.declared.event.EventKind.{EventKind}
 use Rattle.list_core.specs.declared.event.EventKind.TheVariants.{Frame, Clock, Mode}
-use Rattle.list_core.specs.EventLine.{kind_text}
-use Rattle.text_core.specs.LineText.{list_line}
+use Rattle.list_core.specs.EventText.{kind_text}
+use Rattle.text_core.specs.LineText.{list_fault_line}
 use Rattle.frame_engines.specs.WrittenForm.{written_form}
 use Rattle.engine_core.specs.EngineText.{Text}
 
@@ -33,5 +33,5 @@ abbrev pub rewrite_text : {A : Type 0} → Text (Event A) ListCause
 rewrite_text = record {
   first = codes "V2\n";
   of_item = λ before e. Ok (kind_text (decimal e.1.moment) (rewritten e.1.kind), is_kept e.1.kind);
-  last = λ f. codes "# " ++ list_line (list_fault_of f);
+  last = λ f. codes "# " ++ list_fault_line (list_fault_of f);
 }

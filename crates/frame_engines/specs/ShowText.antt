@@ -3,14 +3,14 @@ use Rattle.std.specs.Prelude.{ℕ, List, [], ◌++◌, codes, false, Result, Ok,
 use Rattle.std.specs.Fmt.{decimal}
 use Rattle.list_core.specs.declared.event.Event.{Event}
 use Rattle.list_core.specs.declared.list_fault.ListCause.{ListCause}
-use Rattle.list_core.specs.EventLine.{mode_text}
+use Rattle.list_core.specs.EventText.{mode_text}
 use Rattle.list_core.specs.ListReader.{list_fault_of}
 use Rattle.ber_core.specs.declared.fault.Fault.{Fault}
 use Rattle.list_core.specs.declared.event.EventKind.{EventKind}
 use Rattle.list_core.specs.declared.event.EventKind.TheVariants.{Frame, Clock, Mode}
 use Rattle.frame_core.specs.declared.frame.Frame as frames
 use Rattle.frame_core.specs.computed.FrameReading.{frame_at}
-use Rattle.text_core.specs.LineText.{clock_line, fault_line, list_line}
+use Rattle.text_core.specs.LineText.{clock_line, fault_line, list_fault_line}
 use Rattle.frame_engines.specs.FrameText.{frame_line}
 use Rattle.engine_core.specs.EngineText.{Text}
 
@@ -34,5 +34,5 @@ abbrev pub show_text : {A : Type 0} → Text (Event A) ListCause
 show_text = record {
   first = [];
   of_item = λ before e. Ok (kind_line e.0 e.1.moment e.1.kind, false);
-  last = λ f. list_line (list_fault_of f);
+  last = λ f. list_fault_line (list_fault_of f);
 }

@@ -8,7 +8,7 @@ mod output;
 mod performing;
 
 ghost use Rattle.std.specs.Prelude.{IfOk};
-ghost use Rattle.words_core.specs.CommandLine.{HasPeriod, said};
+ghost use Rattle.words_core.specs.CommandLine.{HasPeriod, asked_by};
 
 use crate::input::{BLOCK, Input, Recent};
 use crate::output::Output;
@@ -91,7 +91,7 @@ fn words_of<'a>(rt: &HostRuntime, texts: &'a [String]) -> Result<Vec<&'a str>, A
 // The task that the words ask for.
 #[inline(never)]
 fn task_of(rt: &HostRuntime, words: &[&str]) -> Result<Task, WordsError>
-    ensures { IfOk result (λ t. HasPeriod (said t)) }
+    ensures { IfOk result (λ t. HasPeriod (asked_by t)) }
 {
     read_words(rt.alloc(), words)
 }
@@ -130,7 +130,7 @@ fn say_stop(rt: &HostRuntime, command: &str, last: &[u8], recent: &Recent) {
 
 // Runs a task from standard input to standard output, and answers the exit status.
 fn run(rt: &HostRuntime, task: Task) -> u8
-    requires { HasPeriod (said task) }
+    requires { HasPeriod (asked_by task) }
 {
     let Ok(output) = Output::new(rt.alloc(), io::writer(rt)) else {
         return status(&Ending::Memory);

@@ -3,7 +3,7 @@ ghost use Rattle.std.specs.Prelude.{◌≡◌, ℕ, List, false};
 ghost use Rattle.list_core.specs.declared.device.InputEnd.{InputEnd};
 ghost use Rattle.list_core.specs.Device.{GivesOctets};
 ghost use Rattle.engine_core.specs.Ending.{is_write_fault};
-ghost use Rattle.words_core.specs.CommandLine.{HasPeriod, said};
+ghost use Rattle.words_core.specs.CommandLine.{HasPeriod, asked_by};
 ghost use Rattle.goose.specs.TaskText.{TaskWrites};
 
 use engine_core::Ending;
@@ -27,9 +27,9 @@ pub fn perform<R: Source, W: Sink>(
 ) -> (Ending, R)
     requires open { R.ending reader ≡ InputEnd.Open }
     requires works { W.failed writer.old ≡ false }
-    requires period { HasPeriod (said task) }
+    requires period { HasPeriod (asked_by task) }
     ensures text { (given : List ℕ) × GivesOctets (R.left reader) (R.left result.1) given
-        × TaskWrites (said task) result.0 (R.ending result.1) given (W.contents writer.old) (W.contents writer.new) }
+        × TaskWrites (asked_by task) result.0 (R.ending result.1) given (W.contents writer.old) (W.contents writer.new) }
     ensures read_fault { result.0 ≡ Ending.ReadFault → R.ending result.1 ≡ InputEnd.Failed }
     ensures fault { W.failed writer.new ≡ is_write_fault result.0 }
 {

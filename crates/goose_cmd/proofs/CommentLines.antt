@@ -29,7 +29,7 @@ use Rattle.script_core.specs.declared.script.ScriptCause.{ScriptCause}
 use Rattle.script_core.specs.declared.script.ScriptCause.TheVariants as script
 use Rattle.text_core.specs.Names.{name_of_cause, name_of_list_cause}
 use Rattle.exchange_engines.specs.ExchangeNames.{name_of_script_cause}
-use Rattle.exchange_engines.specs.ScriptLine.{cause_detail, script_line}
+use Rattle.exchange_engines.specs.ScriptFaultLine.{cause_detail, script_fault_line}
 use Rattle.goose_cmd.proofs.ScriptOrder.{either}
 
 -- ---- texts without control characters, of so many octets at most
@@ -115,7 +115,7 @@ pub record IsComment (text : List ℕ) : Type 0 where
   pub line : text ≡ (35 ∷ 32 ∷ says) ++ 10 ∷ []
   pub short : IsShort 1000 says
 
-pub script_comment : (f : ItemFault ScriptCause) → IsComment (script_line f)
+pub script_comment : (f : ItemFault ScriptCause) → IsComment (script_fault_line f)
 script_comment (fault.Lines f) =
     let w = both_short 72 20 (decimal f.line ++ codes " script ") (name_of_list_cause f.cause) (both_short 64 8 (decimal f.line) (codes " script ") (decimal_short f.line) (refl, omega arith)) (lines_short f.cause) in
     record { says = decimal f.line ++ codes " script " ++ name_of_list_cause f.cause; line = refl; short = (w.0, let l = w.1 in omega (arith, l)) }

@@ -23,7 +23,7 @@ use Rattle.subscribe_core.specs.computed.Content.{reading_of}
 use Rattle.subscribe_core.specs.Entries.{AreOfContent, AreOfEach, AreReadEntriesAt, ExpiresAt, SwitchesAt}
 use Rattle.subscribe_core.specs.FrameEntry.{IsBlockEntry, IsFrameEntry, entry_of, reason_at}
 use Rattle.subscribe_core.specs.Matching.{first_of, has_other_id, holds, is_of, reasons}
-use Rattle.subscribe_core.specs.Reading.{Content, EventRead, FrameRead, OfClock, OfFault, OfGoose, OfMode, OfSampled}
+use Rattle.subscribe_core.specs.EventsRead.{Content, EventRead, FrameRead, OfClock, OfFault, OfGoose, OfMode, OfSampled}
 use Rattle.subscribe_core.specs.Simulation.{is_other_kind, mode_at, takes_simulated}
 use Rattle.subscribe_core.specs.Apart.{AreApart}
 use Rattle.subscribe_core.proofs.Readings.{reads_one}

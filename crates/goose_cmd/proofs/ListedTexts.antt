@@ -37,15 +37,15 @@ use Rattle.frame_core.proofs.SpelledSpellable.{frame_spellable}
 use Rattle.block_core.specs.declared.block.Block.{Block}
 use Rattle.block_core.specs.BlockText.{block_in}
 use Rattle.subscribe_core.specs.computed.Content.{content_by, content_of, content_with}
-use Rattle.subscribe_core.specs.Reading.{Content, OfClock, OfFault, OfGoose, OfMode, OfSampled}
+use Rattle.subscribe_core.specs.EventsRead.{Content, OfClock, OfFault, OfGoose, OfMode, OfSampled}
 use Rattle.engine_core.specs.computed.WholeText.{told_after}
-use Rattle.inventory_engine.specs.Sightings.{Key, Sighting, block_seen, block_text, key_of, sightings_in, sightings_of, sightings_read, sightings_with, stream_seen, streams_seen}
+use Rattle.inventory_engine.specs.Sightings.{Key, Sighting, block_sighting, block_text, key_of, sightings_in, sightings_of, sightings_read, sightings_with, stream_sighting, stream_sightings}
 use Rattle.inventory_engine.specs.BlocksText.{IsNewest, changed_word, first_word, line_after, sighting_line}
 use Rattle.inventory_engine.specs.computed.BlocksStep.{blocks_text, newest, written_of}
 use Rattle.inventory_engine.specs.Laws.{IsFirst, block_told}
 use Rattle.inventory_engine.proofs.FirstLines.{one_first}
 use Rattle.inventory_engine.proofs.Newest.{newest_is}
-use Rattle.goose_cmd.specs.ListedBlocks.{AreListed, IsBlockOf, ListedBlocksAreApart, Tells}
+use Rattle.goose_cmd.specs.ListedBlocks.{AreListed, IsBlockOf, ListedBlocksAreApart, LineTells}
 use Rattle.goose_cmd.proofs.BlockTexts.{block_says, block_unbroken, chosen, decimal_unbroken, no_stream, otherwise, word_unbroken}
 use Rattle.goose_cmd.proofs.ListedItems.{AreKept, KeepsOctets, list_kept}
 
@@ -54,8 +54,8 @@ use Rattle.goose_cmd.proofs.ListedItems.{AreKept, KeepsOctets, list_kept}
 -- a control block, which can stand in a list, or streams
 abbrev Shows : List Sighting → Type 0
 Shows seen =
-    ((app_id : ℕ) × (p : GoosePdu (Unit {0})) × (app_id < 65536) × IsSpellableGoose p × (seen ≡ block_seen app_id p ∷ []))
-    ⊎ ((asdus : List (Asdu (Unit {0}))) × (seen ≡ streams_seen asdus))
+    ((app_id : ℕ) × (p : GoosePdu (Unit {0})) × (app_id < 65536) × IsSpellableGoose p × (seen ≡ block_sighting app_id p ∷ []))
+    ⊎ ((asdus : List (Asdu (Unit {0}))) × (seen ≡ stream_sightings asdus))
 
 address_small : (o : List ℕ) (f : Frame (Unit {0})) → AreOctets o → SpellsFrame f o → f.app_id < 65536
 address_small o f h s =
@@ -118,7 +118,7 @@ written_ends front n earlier (s ∷ seen) h =
     subst Starts (append_assoc front line (written_of n (earlier ++ s ∷ []) seen))
     (written_ends (front ++ line) n (earlier ++ s ∷ []) seen (after_ends front n s (newest earlier (key_of s)) h))
 
-line_there : (text front rest : List ℕ) (n : ℕ) (word told : List ℕ) → text ≡ front ++ ((sighting_line n word told ++ []) ++ rest) → Starts front → n ≤ 1000000 → HasNo 10 word → HasNo 10 told → Tells text word told
+line_there : (text front rest : List ℕ) (n : ℕ) (word told : List ℕ) → text ≡ front ++ ((sighting_line n word told ++ []) ++ rest) → Starts front → n ≤ 1000000 → HasNo 10 word → HasNo 10 told → LineTells text word told
 line_there text front rest n word told is starts small plain unbroken = record {
   number = n;
   at_most = small;
@@ -154,7 +154,7 @@ module _ {A : Type 0} (blocks : List (Block A)) (text : List ℕ) (listed : AreL
     -- a control block whose line stands there is listed
     module _ (app_id : ℕ) (p : GoosePdu (Unit {0})) (low : app_id < 65536) (spelled : IsSpellableGoose p) where
       abbrev seen_now : Sighting
-      seen_now = block_seen app_id p
+      seen_now = block_sighting app_id p
 
       seen_before : (last : List ℕ) → IsNewest earlier (key_of seen_now) (Some last) → last ≡ block_text app_id p → Listed blocks seen_now
       seen_before last is same =
@@ -179,21 +179,21 @@ module _ {A : Type 0} (blocks : List (Block A)) (text : List ℕ) (listed : AreL
     -- so are all control blocks of the event
     shown_listed : (seen : List Sighting) → Shows seen → text ≡ front ++ (written_of n earlier seen ++ rest) → AllListed blocks seen
     shown_listed seen (inl w) stands =
-        subst (AllListed blocks) (sym w.4) (λ i s app_id at own. only (block_seen w.0 w.1) (now_listed w.0 w.1 w.2 w.3 (stands ∙ ap (λ (l : List Sighting). front ++ (written_of n earlier l ++ rest)) w.4)) i s at)
+        subst (AllListed blocks) (sym w.4) (λ i s app_id at own. only (block_sighting w.0 w.1) (now_listed w.0 w.1 w.2 w.3 (stands ∙ ap (λ (l : List Sighting). front ++ (written_of n earlier l ++ rest)) w.4)) i s at)
       where
         only : (x : Sighting) → Listed blocks x → (i : ℕ) (s : Sighting) → slice_get (x ∷ []) i ≡ Some s → Listed blocks s
         only x l zero s at = subst (Listed blocks) (same_Some x s at) l
         only x l (suc i) s at = absurd (none-some s at)
     shown_listed seen (inr w) stands = subst (AllListed blocks) (sym w.1) (λ i s app_id at own. absurd (nameless w.0 i s app_id at own))
       where
-        nameless : (asdus : List (Asdu (Unit {0}))) (i : ℕ) (s : Sighting) (app_id : ℕ) → slice_get (streams_seen asdus) i ≡ Some s → s.app_id ≡ Some app_id → ⊥
+        nameless : (asdus : List (Asdu (Unit {0}))) (i : ℕ) (s : Sighting) (app_id : ℕ) → slice_get (stream_sightings asdus) i ≡ Some s → s.app_id ≡ Some app_id → ⊥
         nameless [] i s app_id at own = none-some s at
-        nameless (a ∷ asdus) zero s app_id at own = none-some app_id (ap (λ (x : Sighting). x.app_id) (same_Some (stream_seen a) s at) ∙ own)
+        nameless (a ∷ asdus) zero s app_id at own = none-some app_id (ap (λ (x : Sighting). x.app_id) (same_Some (stream_sighting a) s at) ∙ own)
         nameless (a ∷ asdus) (suc i) s app_id at own = nameless asdus i s app_id at own
 
   apdu_there : (app_id : ℕ) (a : Apdu (Unit {0})) → app_id < 65536 → ApduIsSpellable a → AllListed blocks (sightings_with app_id a) → IsThere blocks (content_with app_id a)
   apdu_there app_id (apdus.Goose p) small spelled all =
-      let w = all 0 (block_seen app_id p) app_id refl refl in
+      let w = all 0 (block_sighting app_id p) app_id refl refl in
       (w.position, w.there ∙ ap (λ (b : Block A). Some b) (block_says app_id p w.block small spelled w.says))
   apdu_there app_id (apdus.Sampled p) small spelled all = tt
 
@@ -246,7 +246,7 @@ abbrev SayKeys : Type 0 → List Sighting → Type 0
 SayKeys A [] = Unit {0}
 SayKeys A (s ∷ seen) = SaysKey A s × SayKeys A seen
 
-streams_say : (A : Type 0) (asdus : List (Asdu (Unit {0}))) → SayKeys A (streams_seen asdus)
+streams_say : (A : Type 0) (asdus : List (Asdu (Unit {0}))) → SayKeys A (stream_sightings asdus)
 streams_say A [] = tt
 streams_say A (a ∷ asdus) = (λ block is. absurd (none-some block (sym (no_stream A a) ∙ is)), streams_say A asdus)
 

@@ -31,7 +31,7 @@ use Rattle.script_core.specs.Script.{script_rules}
 use Rattle.exchange_engines.specs.EntryText.{entry_lines}
 use Rattle.engine_core.specs.EngineText.{Text}
 use Rattle.engine_core.specs.computed.WholeText.{Account, put_step, told_after, told_stop}
-use Rattle.exchange_engines.specs.PublishText.{IsCallText, IsPublishText, IsRefused, IsTaken, answer_text, items_of_lines, script_cause}
+use Rattle.exchange_engines.specs.PublishText.{IsCallText, IsPublishText, IsRefused, IsAnswered, answer_text, items_of_lines, script_cause}
 use Rattle.exchange_engines.specs.ScriptLaws.{StandsBefore}
 use Rattle.exchange_engines.specs.ReplayText.{IsReplayText, events_of}
 use Rattle.exchange_engines.specs.WatchText.{IsWatchText, counts, counts_of, samples_of, watched}
@@ -129,7 +129,7 @@ blocks_texts_are_one t u l is other =
 
 module _ {A : Type 0} (p : Setup A) (calls : List Call) (steps : AreSteps p.table) where
   -- a call is not both taken and refused
-  pub not_both : (request : Request) (why : PublishFault) → IsTaken p calls request → IsRefused p calls request why → ⊥
+  pub not_both : (request : Request) (why : PublishFault) → IsAnswered p calls request → IsRefused p calls request why → ⊥
   not_both (Changed c) why taken refused =
       let judged = changes_are_judged p.control p.table (next_state p calls) c steps in
       none-some why (judged.2 None taken ∙ sym (judged.2 (Some why) refused))
@@ -146,8 +146,8 @@ module _ {A : Type 0} (p : Setup A) (calls : List Call) (steps : AreSteps p.tabl
   call_same : (c : Call) (said other : Result (List ℕ × Bool) ScriptCause) → IsCallText p calls c said → IsCallText p calls c other → said ≡ other
   call_same c said other (inl a) (inl b) =
       a.line ∙ (ap (λ (answer : Option (Frame A)). Ok (answer_text (greatest_call_moment (calls ++ c ∷ [])) answer, false)) (answer_one p (trace_of_calls (calls ++ c ∷ [])) (length calls) a.answer b.answer a.is_answer b.is_answer) ∙ sym b.line)
-  call_same c said other (inl a) (inr b) = absurd (not_both c.request b.why a.taken b.refused)
-  call_same c said other (inr a) (inl b) = absurd (not_both c.request a.why b.taken a.refused)
+  call_same c said other (inl a) (inr b) = absurd (not_both c.request b.why a.answered b.refused)
+  call_same c said other (inr a) (inl b) = absurd (not_both c.request a.why b.answered a.refused)
   call_same c said other (inr a) (inr b) = a.ends ∙ (ap (λ (why : PublishFault). Err (script_cause why)) (reason_one c.request a.why b.why a.refused b.refused) ∙ sym b.ends)
 
 module _ {A : Type 0} (t u : Text (ScriptItem A) ScriptCause) (is : IsPublishText t) (other : IsPublishText u) where

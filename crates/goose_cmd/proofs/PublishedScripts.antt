@@ -4,7 +4,8 @@ use Rattle.std.proofs.Math.Seq.{take-append_seam}
 use Rattle.std.proofs.lemmas.List.{append-nil, length-append, length-map, length_push, map-append}
 use Rattle.std.specs.List.{flat_map}
 use Rattle.frame_core.specs.declared.frame.Frame.{Frame}
-use Rattle.list_core.specs.EventLine.{event_text}
+use Rattle.list_core.specs.EventText.{event_text}
+use Rattle.list_core.specs.declared.device.InputEnd.{InputEnd}
 use Rattle.list_core.specs.declared.line_rules.ItemFault.{ItemFault}
 use Rattle.list_core.specs.declared.line_rules.ItemFault.TheVariants as fault
 use Rattle.list_core.specs.Items.{Listing}
@@ -12,7 +13,7 @@ use Rattle.list_core.specs.Lines.{Stop, faulty}
 use Rattle.publish_core.specs.declared.table.Step.{Step}
 use Rattle.publish_core.specs.Frames.{Change, Setup, setup}
 use Rattle.publish_core.specs.Refusal.{Accepts}
-use Rattle.publish_core.specs.Run.{Request, Call, Changed, IsAnswer, Polled, greatest_call_moment, trace_of_calls}
+use Rattle.publish_core.specs.Run.{Request, AreAnswers, Call, Changed, IsAnswer, Polled, greatest_call_moment, trace_of_calls}
 use Rattle.publish_core.proofs.Runs.{answer_one, answers_stay}
 use Rattle.publish_core.proofs.Whole.{greatest-push}
 use Rattle.subscribe_core.proofs.Traces.{get_middle}
@@ -23,13 +24,12 @@ use Rattle.script_core.specs.declared.script.ScriptItem.{ScriptItem}
 use Rattle.script_core.specs.declared.script.ScriptItem.TheVariants as item
 use Rattle.engine_core.specs.EngineText.{Text, last_text}
 use Rattle.engine_core.specs.computed.WholeText.{Account, put_step, told, told_after, told_stop}
-use Rattle.goose_cmd.specs.PublishedReplay.{StopsBehind, TellsStop}
-use Rattle.goose_cmd.specs.PublishedLaws.{ScriptsGiveLists}
-use Rattle.exchange_engines.specs.PublishText.{IsCallText, IsPublishText, IsScriptSound, IsTaken, answer_text, item_of_call, items_of_lines, script_cause, script_of}
+use Rattle.goose_cmd.specs.PublishedReplay.{SaysRun, StopsBehind, TellsStop, script_of_text}
+use Rattle.goose_cmd.specs.PublishedLaws.{GivesList, ScriptsGiveLists}
+use Rattle.exchange_engines.specs.PublishText.{IsCallText, IsPublishText, IsScriptSound, IsAnswered, answer_text, item_of_call, items_of_lines, script_cause, script_of}
 use Rattle.exchange_engines.proofs.PublishLemmas.{items-push}
 use Rattle.goose_cmd.specs.ListText.{list_text}
 use Rattle.std.specs.Prelude.{◌⊎◌}
-use Rattle.goose_cmd.specs.PublishedReplay.{script_of_text}
 use Rattle.goose_cmd.proofs.OneText.{not_both}
 use Rattle.goose_cmd.proofs.ScriptOrder.{IsSetUp, script_set_up}
 
@@ -44,7 +44,7 @@ frame_text : {A : Type 0} (B : Type 0) (moment : ℕ) (request : Request) (a : O
 frame_text B moment request None rest = refl
 frame_text B moment request (Some f) rest = refl
 
-request_taken : {A : Type 0} (p : Setup A) (calls : List Call) (request : Request) → ((change : Change) → request ≡ Changed change → Accepts p calls change) → IsTaken p calls request
+request_taken : {A : Type 0} (p : Setup A) (calls : List Call) (request : Request) → ((change : Change) → request ≡ Changed change → Accepts p calls change) → IsAnswered p calls request
 request_taken p calls (Changed change) accepted = accepted change refl
 request_taken p calls Polled accepted = tt
 
@@ -145,7 +145,7 @@ module _ {A : Type 0} (B : Type 0) (p : Setup A) (t : Text (ScriptItem A) Script
 
       by_call : IsCallText p done c (t.of_item before (e.0, item_of_call c)) →
           (stop : Stop (ItemFault ScriptCause)) × (put_step t e.0 (t.of_item before e) (told_after t (before ++ e ∷ []) es script.stop) ≡ sent_told B t [] stop) × TellsStop p done (c ∷ more) script stop
-      by_call (inl w) = absurd (not_both p done sound.steps c.request stops.0 w.taken stops.1)
+      by_call (inl w) = absurd (not_both p done sound.steps c.request stops.0 w.answered stops.1)
       by_call (inr w) = (
         faulty (fault.Line e.0 (script_cause w.why)),
         ap (λ s. put_step t e.0 s (told_after t (before ++ e ∷ []) es script.stop)) (ap (λ (x : ScriptItem A). t.of_item before (e.0, x)) here ∙ w.ends),
@@ -231,8 +231,9 @@ no_back : {X : Type 0} (xs ys : List X) → xs ++ ys ≡ [] → ys ≡ []
 no_back [] ys e = e
 no_back (x ∷ xs) ys e = absurd cc
 
-pub scripts_give_lists : {A : Type 0} (B : Type 0) → ScriptsGiveLists A B
-scripts_give_lists {A} B p calls answers z text t are says is = record {
+gives_list : {A : Type 0} (B : Type 0) (p : Setup A) (calls : List Call) (answers : List (Option (Frame A))) (z : InputEnd) (text : List ℕ) (t : Text (ScriptItem A) ScriptCause) →
+    AreAnswers p calls answers → (says : SaysRun p calls (script_of_text z text)) → IsPublishText t → GivesList B p calls says.calls_left answers (script_of_text z text) t
+gives_list {A} B p calls answers z text t are says is = record {
   writes = ap₂ (λ (a : List ℕ) (o : Account ScriptCause). a ++ o.text) is.first told_is ∙ ap (λ (stop : Stop (ItemFault ScriptCause)). list_text (published_events {B = B} (sent_from 0 calls answers)) ++ last_text t stop) (sym stop_is);
   stops = subst (TellsStop p calls says.calls_left script) (sym stop_is) ends.2;
 }
@@ -265,3 +266,6 @@ scripts_give_lists {A} B p calls answers z text t are says is = record {
 
     stop_is : (told t script).stop ≡ ends.0
     stop_is = ap (λ (o : Account ScriptCause). o.stop) told_is
+
+pub scripts_give_lists : {A : Type 0} (B : Type 0) → ScriptsGiveLists A B
+scripts_give_lists B p calls answers z text t w = gives_list B p calls answers z text t w.are_answers w.says_run w.is_text

@@ -5,6 +5,7 @@ use Rattle.std.specs.Prelude.{◌⊎◌}
 use Rattle.ber_core.specs.Length.{AreOctets}
 use Rattle.frame_core.specs.declared.frame.Frame.{Frame}
 use Rattle.list_core.specs.declared.event.Event.{Event}
+use Rattle.list_core.specs.declared.device.InputEnd.{InputEnd}
 use Rattle.list_core.specs.declared.line_rules.ItemFault.{ItemFault}
 use Rattle.list_core.specs.declared.list_fault.ListCause.{ListCause}
 use Rattle.list_core.specs.Lines.{Stop, faulty, finished, unfinished}
@@ -22,10 +23,10 @@ use Rattle.exchange_laws.proofs.WrittenForms.{change_accepted}
 use Rattle.script_core.specs.declared.script.ScriptCause.{ScriptCause}
 use Rattle.script_core.specs.declared.script.ScriptItem.{ScriptItem}
 use Rattle.engine_core.specs.EngineText.{Text, last_text}
-use Rattle.engine_core.specs.computed.WholeText.{told}
+use Rattle.engine_core.specs.computed.WholeText.{told, whole_text}
 use Rattle.exchange_engines.specs.ReplayText.{IsReplayText}
-use Rattle.exchange_engines.specs.ScriptLine.{script_line}
-use Rattle.goose_cmd.specs.PublishedReplay.{script_of_text}
+use Rattle.exchange_engines.specs.ScriptFaultLine.{script_fault_line}
+use Rattle.goose_cmd.specs.PublishedReplay.{CanBeFollowed, SaysRun, script_of_text}
 use Rattle.goose_cmd.specs.PublishedLaws.{PublishedTextsReplay}
 use Rattle.exchange_engines.specs.PublishText.{IsPublishText, IsScriptSound}
 use Rattle.goose_cmd.specs.ListText.{ReplayGives, SendsOctets, list_text}
@@ -61,15 +62,15 @@ all_octets_sent m (c ∷ cs) (a ∷ answers) each =
 -- the frame that a call gives is written as octets where its change is
 answer_octets : {A : Type 0} (p : Setup A) (calls : List Call) (i : ℕ) (f : Frame A) → SaysOctets p calls → AreAccepted p calls → IsAnswer p (trace_of_calls calls) i (Some f) → AreOctets (written_frame f)
 answer_octets {A} p calls i f octets accepted w =
-    let at = carried w.3 in
-    let spelled = (change_accepted p calls at.0 w.0 w.2 accepted at.2).spelled in
-    subst (λ (g : Frame A). AreOctets (written_frame g)) (sym w.4) (frame_octets p (state_number p.first w.0) w.1 w.2 octets.to octets.from spelled (octets.values at.0 w.2 at.2.request))
+    let at = carried w.gives in
+    let spelled = (change_accepted p calls at.0 w.c w.change accepted at.2).spelled in
+    subst (λ (g : Frame A). AreOctets (written_frame g)) (sym w.is_frame) (frame_octets p (state_number p.first w.c) w.k w.change octets.to octets.from spelled (octets.values at.0 w.change at.2.request))
 
 -- a list says nothing by how the text of a script ends
 how_it_ends : {A B : Type 0} (t : Text (ScriptItem A) ScriptCause) (n : ℕ) (stop : Stop (ItemFault ScriptCause)) → IsPublishText t → n < 1000000 → EndsList B n (last_text t stop)
 how_it_ends {A} {B} t n finished is room = nothing_ends B n
 how_it_ends {A} {B} t n unfinished is room = nothing_ends B n
-how_it_ends {A} {B} t n (faulty f) is room = subst (EndsList B n) (sym (is.last f)) (comment_listed n (script_line f) (script_comment f) room ∙ nothing_ends B (n + 1))
+how_it_ends {A} {B} t n (faulty f) is room = subst (EndsList B n) (sym (is.last f)) (comment_listed n (script_fault_line f) (script_comment f) room ∙ nothing_ends B (n + 1))
 
 -- a list without events says nothing
 nothing_replays : {B : Type 0} (block : Block B) (end : List ℕ) (r : Text (Event B) ListCause) → IsReplayText (block ∷ []) r → EndsList B 1 end → ReplayGives r (list_text {A = B} [] ++ end) []
@@ -85,9 +86,10 @@ nothing_replays {B} block end r replay ends =
     nothing_at zero es at = absurd cc
     nothing_at (suc i) es at = absurd cc
 
-pub published_texts_replay : {A B : Type 0} → PublishedTextsReplay A B
-published_texts_replay {A} {B} p block calls answers z text t r run says is replay =
-    subst (λ (written : List ℕ). ReplayGives r written (one_entry_each (sent_from 0 calls answers))) (sym (scripts_give_lists B p calls answers z text t run.are_answers says is).writes)
+published_replay : {A B : Type 0} (p : Setup A) (block : Block B) (calls : List Call) (answers : List (Option (Frame A))) (z : InputEnd) (text : List ℕ) (t : Text (ScriptItem A) ScriptCause) (r : Text (Event B) ListCause) →
+    CanBeFollowed p block calls answers → SaysRun p calls (script_of_text z text) → IsPublishText t → IsReplayText (block ∷ []) r → ReplayGives r (whole_text t (script_of_text z text)) (one_entry_each (sent_from 0 calls answers))
+published_replay {A} {B} p block calls answers z text t r run says is replay =
+    subst (λ (written : List ℕ). ReplayGives r written (one_entry_each (sent_from 0 calls answers))) (sym (scripts_give_lists B p calls answers z text t (record { says_run = says; are_answers = run.are_answers; is_text = is })).writes)
     (by_setup (script_set_up p (calls ++ says.calls_left) z text says.items).sound)
   where
     stop : Stop (ItemFault ScriptCause)
@@ -113,3 +115,6 @@ published_texts_replay {A} {B} p block calls answers z text t r run says is repl
           in_time = run.in_time;
         } in
         ended_runs_replay p block calls answers (last_text t stop) r (record { is_run = all; moments_are_short = script_moments p calls z text says; are_octets = octets; at_most = omega arith }) replay (how_it_ends t (1 + length (sent_from 0 calls answers)) stop is room)
+
+pub published_texts_replay : {A B : Type 0} → PublishedTextsReplay A B
+published_texts_replay p block calls answers z text t r w = published_replay p block calls answers z text t r w.can_be_followed w.says_run w.is_text w.is_replayed

@@ -23,7 +23,7 @@ use Rattle.list_core.specs.declared.list_fault.ListCause.TheVariants.{LineTooLon
 use Rattle.list_core.specs.declared.list_fault.ListFault.{ListFault}
 use Rattle.list_core.specs.EventLine.{is_moment, is_version, microseconds_in, moment_of, most_digits}
 use Rattle.list_core.specs.Items.{Listing, items_said, put_said}
-use Rattle.list_core.specs.Lines.{Reading, Stop, fault_at, line_judged, pieces, put_line, reading, reading_at_end, reading_of_pieces, reading_of_rest, without_cr}
+use Rattle.list_core.specs.Lines.{LineListing, Stop, fault_at, line_judged, pieces, put_line, reading, reading_at_end, reading_of_pieces, reading_of_rest, without_cr}
 use Rattle.list_core.proofs.MomentDigits.{digits_test}
 use Rattle.publish_core.specs.declared.table.Step.{Step}
 use Rattle.publish_core.specs.Frames.{Change, Setup}
@@ -37,11 +37,12 @@ use Rattle.script_core.specs.declared.script.ScriptLines.{ScriptLines}
 use Rattle.script_core.specs.declared.script.ScriptLines.TheVariants.{First, After}
 use Rattle.script_core.specs.declared.script.ScriptPart.{ScriptPart}
 use Rattle.script_core.specs.declared.script.ScriptPart.TheVariants as part
-use Rattle.script_core.specs.ControlLine.{ControlLine, control_of, control_said}
+use Rattle.script_core.specs.computed.ControlLine.{ControlLine, control_of, control_said}
 use Rattle.script_core.specs.ScriptFields.{all_octets_in, time_in}
-use Rattle.script_core.specs.Script.{all_said, line_said, script_rules, script_said, settled}
-use Rattle.script_core.specs.CallLine.{call_said, change_said, change_said_by, change_to, poll_of, poll_said, too_early}
-use Rattle.script_core.specs.StepLine.{step_said, step_said_by}
+use Rattle.script_core.specs.Script.{script_rules}
+use Rattle.script_core.specs.computed.LineReading.{all_said, line_said, script_said, settled}
+use Rattle.script_core.specs.computed.CallLine.{call_said, change_said, change_said_by, change_to, poll_of, poll_said, too_early}
+use Rattle.script_core.specs.computed.StepLine.{step_said, step_said_by}
 use Rattle.exchange_engines.specs.PublishText.{item_of_request, item_of_call, items_of_lines, script_of}
 use Rattle.goose_cmd.specs.ListText.{MomentsAreShort}
 use Rattle.goose_cmd.specs.PublishedReplay.{SaysRun, script_of_text}
@@ -189,10 +190,10 @@ module _ (A : Type 0) where
 
 -- ---- a list has at most 1,000,000 lines
 
-judged_few : (n : ℕ) (line : List ℕ) (r : Reading) → n ≤ 1000000 → (n < 1000000 → n + length r.lines ≤ 1000000) → n + length (line_judged n line r).lines ≤ 1000000
+judged_few : (n : ℕ) (line : List ℕ) (r : LineListing) → n ≤ 1000000 → (n < 1000000 → n + length r.lines ≤ 1000000) → n + length (line_judged n line r).lines ≤ 1000000
 judged_few n line r le few =
-    either (nat_le 1000000 n) (fault_at n ListTooLong) _ (λ (x : Reading). n + length x.lines ≤ 1000000) (λ many. omega arith)
-    (λ room. either (nat_lt 4096 (length line)) (fault_at n LineTooLong) r (λ (x : Reading). n + length x.lines ≤ 1000000) (λ long. omega arith) (λ short. few (grind (arith, nat_tests))))
+    either (nat_le 1000000 n) (fault_at n ListTooLong) _ (λ (x : LineListing). n + length x.lines ≤ 1000000) (λ many. omega arith)
+    (λ room. either (nat_lt 4096 (length line)) (fault_at n LineTooLong) r (λ (x : LineListing). n + length x.lines ≤ 1000000) (λ long. omega arith) (λ short. few (grind (arith, nat_tests))))
 
 end_few : (z : InputEnd) (n : ℕ) (rest : List ℕ) → n < 1000000 → n + length (reading_at_end z n rest).lines ≤ 1000000
 end_few End n [] lt = omega arith

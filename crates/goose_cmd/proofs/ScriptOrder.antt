@@ -31,13 +31,14 @@ use Rattle.script_core.specs.declared.script.ScriptLines.{ScriptLines}
 use Rattle.script_core.specs.declared.script.ScriptLines.TheVariants.{First, After}
 use Rattle.script_core.specs.declared.script.ScriptPart.{ScriptPart}
 use Rattle.script_core.specs.declared.script.ScriptPart.TheVariants as part
-use Rattle.script_core.specs.declared.script_control.ControlNumbers.{ControlNumbers}
+use Rattle.script_core.specs.declared.script_control.ControlEnd.{ControlEnd}
 use Rattle.block_core.specs.Commas.{at_most_32_bits, comma_fields, number_by, octets_in, text_in, word_in}
-use Rattle.script_core.specs.ControlLine.{ControlLine, block_of_line, control_of, control_said, control_with, numbers_with}
-use Rattle.script_core.specs.Script.{all_said, line_said, script_rules, script_said, settled}
-use Rattle.script_core.specs.CallLine.{call_said, change_said_by, change_said, change_to, poll_of, poll_said, too_early}
+use Rattle.script_core.specs.computed.ControlLine.{ControlLine, block_of_line, control_of, control_said, control_with, numbers_with}
+use Rattle.script_core.specs.Script.{script_rules}
+use Rattle.script_core.specs.computed.LineReading.{all_said, line_said, script_said, settled}
+use Rattle.script_core.specs.computed.CallLine.{call_said, change_said_by, change_said, change_to, poll_of, poll_said, too_early}
 use Rattle.script_core.specs.ScriptFields.{flag_in, all_octets_in, tag_in, time_in}
-use Rattle.script_core.specs.StepLine.{step_said_by, step_said}
+use Rattle.script_core.specs.computed.StepLine.{step_said_by, step_said}
 use Rattle.exchange_engines.specs.computed.PublishStep.{is_good, with_step}
 use Rattle.exchange_engines.specs.PublishText.{IsScriptSound, item_of_request, item_of_call, items_of_lines, script_of}
 use Rattle.exchange_engines.specs.ScriptLaws.{ScriptsAreInOrder, StandsBefore, StandsBeforeCall}
@@ -103,7 +104,7 @@ below None = tt
 below (Some n) = either (nat_le n 4294967295) (Some n) None Below (λ le. leb-true n 4294967295 le) (λ gt. tt)
 
 -- the first status number, where there is one
-abbrev Begins : Option ControlNumbers → Type 0
+abbrev Begins : Option ControlEnd → Type 0
 Begins None = Unit {0}
 Begins (Some n) = n.first ≤ 4294967295
 
@@ -119,7 +120,7 @@ abbrev LineBegins : Option ControlLine → Type 0
 LineBegins None = Unit {0}
 LineBegins (Some l) = l.numbers.first ≤ 4294967295
 
-line_begins : (a b : Option (List ℕ)) (c : Option (Option VlanTag)) (d : Option ℕ) (f g h : Option (List ℕ)) (n : Option ControlNumbers) → Begins n → LineBegins (control_with a b c d f g h n)
+line_begins : (a b : Option (List ℕ)) (c : Option (Option VlanTag)) (d : Option ℕ) (f g h : Option (List ℕ)) (n : Option ControlEnd) → Begins n → LineBegins (control_with a b c d f g h n)
 line_begins None b c d f g h n k = tt
 line_begins (Some a) None c d f g h n k = tt
 line_begins (Some a) (Some b) None d f g h n k = tt

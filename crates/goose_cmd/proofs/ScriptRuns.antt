@@ -2,7 +2,6 @@
 use Rattle.std.proofs.Common.{◌≡◌, ℕ, zero, suc, take, Option, Some, None, List, [], ◌∷◌, ◌++◌, slice_get, option_map, inl, inr, ap, subst, sym, ◌∙◌, refl, append_assoc}
 use Rattle.std.proofs.lemmas.List.{append-nil}
 use Rattle.std.specs.Prelude.{◌⊎◌}
-use Rattle.list_core.specs.declared.device.InputEnd.{InputEnd}
 use Rattle.publish_core.specs.declared.fault.PublishFault.{PublishFault}
 use Rattle.publish_core.specs.Frames.{Change, Setup}
 use Rattle.publish_core.specs.Refusal.{Accepts, next_state}
@@ -12,18 +11,18 @@ use Rattle.publish_core.specs.Table.{AreSteps}
 use Rattle.publish_core.proofs.Judged.{changes_are_judged}
 use Rattle.goose_cmd.specs.PublishedReplay.{StopsBehind, script_of_text}
 use Rattle.goose_cmd.specs.PublishedLaws.{SaysSomeRun, ScriptsSayRuns}
-use Rattle.exchange_engines.specs.PublishText.{IsRefused, IsScriptSound, IsTaken, items_of_lines, script_of}
+use Rattle.exchange_engines.specs.PublishText.{IsRefused, IsScriptSound, IsAnswered, items_of_lines, script_of}
 use Rattle.goose_cmd.proofs.ScriptOrder.{AreOfScript, script_items}
 
 -- behind others each of these calls is taken
 abbrev AllTaken : {A : Type 0} → Setup A → List Call → List Call → Type 0
 AllTaken p done [] = Unit {0}
-AllTaken p done (c ∷ cs) = IsTaken p done c.request × AllTaken p (done ++ c ∷ []) cs
+AllTaken p done (c ∷ cs) = IsAnswered p done c.request × AllTaken p (done ++ c ∷ []) cs
 
 all_accepted : {A : Type 0} (p : Setup A) (cs done : List Call) → AllTaken p done cs → (i : ℕ) (change : Change) → option_map (λ (c : Call). c.request) (slice_get cs i) ≡ Some (Changed change) → Accepts p (done ++ take i cs) change
 all_accepted p [] done w zero change e = absurd cc
 all_accepted p [] done w (suc i) change e = absurd cc
-all_accepted p (c ∷ cs) done w zero change e = subst (λ (l : List Call). Accepts p l change) (sym (append-nil done)) (subst (IsTaken p done) here w.0)
+all_accepted p (c ∷ cs) done w zero change e = subst (λ (l : List Call). Accepts p l change) (sym (append-nil done)) (subst (IsAnswered p done) here w.0)
   where
     here : c.request ≡ Changed change
     here = cc
@@ -33,7 +32,7 @@ all_accepted p (c ∷ cs) done w (suc i) change e = subst (λ (l : List Call). A
 abbrev UpToRefused : {A : Type 0} → Setup A → List Call → List Call → Type 0
 UpToRefused p done cs = (calls : List Call) × (left : List Call) × (cs ≡ calls ++ left) × AllTaken p done calls × StopsBehind p (done ++ calls) left
 
-one_more : {A : Type 0} (p : Setup A) (done cs : List Call) (c : Call) → IsTaken p done c.request → UpToRefused p (done ++ c ∷ []) cs → UpToRefused p done (c ∷ cs)
+one_more : {A : Type 0} (p : Setup A) (done cs : List Call) (c : Call) → IsAnswered p done c.request → UpToRefused p (done ++ c ∷ []) cs → UpToRefused p done (c ∷ cs)
 one_more p done cs c taken w = (
   c ∷ w.0,
   w.1,
@@ -47,13 +46,13 @@ call_judged : {A : Type 0} (p : Setup A) → AreSteps p.table → (done cs : Lis
 call_judged {A} p steps done cs c rest = by_request c.request refl
   where
     by_answer : (change : Change) → c.request ≡ Changed change → (answer : Option PublishFault) → IsJudged p.control p.table (next_state p done) change answer → UpToRefused p done (c ∷ cs)
-    by_answer change is None accepted = one_more p done cs c (subst (IsTaken p done) (sym is) accepted) rest
+    by_answer change is None accepted = one_more p done cs c (subst (IsAnswered p done) (sym is) accepted) rest
     by_answer change is (Some why) refused =
         ([], c ∷ cs, refl, tt, subst (λ (l : List Call). StopsBehind p l (c ∷ cs)) (sym (append-nil done)) (why, subst (λ (request : Request). IsRefused p done request why) (sym is) refused))
 
     by_request : (request : Request) → c.request ≡ request → UpToRefused p done (c ∷ cs)
     by_request (Changed change) is = let w = changes_are_judged p.control p.table (next_state p done) change steps in by_answer change is w.0 w.1
-    by_request Polled is = one_more p done cs c (subst (IsTaken p done) (sym is) tt) rest
+    by_request Polled is = one_more p done cs c (subst (IsAnswered p done) (sym is) tt) rest
 
 up_to_refused : {A : Type 0} (p : Setup A) → AreSteps p.table → (cs done : List Call) → UpToRefused p done cs
 up_to_refused p steps [] done = ([], [], refl, tt, tt)

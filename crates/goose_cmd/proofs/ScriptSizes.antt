@@ -13,11 +13,11 @@ use Rattle.publish_core.specs.declared.table.Step.{Step}
 use Rattle.publish_core.specs.Frames.{Setup}
 use Rattle.publish_core.specs.Table.{step_at}
 use Rattle.exchange_laws.specs.Stems.{HasSizes}
-use Rattle.script_core.specs.declared.script_control.ControlNumbers.{ControlNumbers}
+use Rattle.script_core.specs.declared.script_control.ControlEnd.{ControlEnd}
 use Rattle.block_core.specs.Commas.{number_by, octets_in, text_in, word_in}
-use Rattle.script_core.specs.ControlLine.{ControlLine, control_of, control_with, numbers_with}
+use Rattle.script_core.specs.computed.ControlLine.{ControlLine, control_of, control_with, numbers_with}
 use Rattle.script_core.specs.ScriptFields.{all_octets_in, flag_in, tag_in}
-use Rattle.script_core.specs.StepLine.{step_said_by, step_with}
+use Rattle.script_core.specs.computed.StepLine.{step_said_by, step_with}
 use Rattle.list_core.specs.Decimal.{decimal_of}
 use Rattle.goose_cmd.proofs.ScriptOrder.{Below, below, either}
 use Rattle.goose_cmd.proofs.WrittenOctets.{cons_octets, no_octets}
@@ -106,7 +106,7 @@ tag_low (d ∷ ds) = by_word (word_in (d ∷ ds)) (word_low (d ∷ ds))
 
 -- ---- the control line
 
-abbrev HaveSizes : Option ControlNumbers → Type 0
+abbrev HaveSizes : Option ControlEnd → Type 0
 HaveSizes None = Unit {0}
 HaveSizes (Some n) = (n.conf_rev ≤ 4294967295) × (n.entries ≤ 4294967295)
 
@@ -142,7 +142,7 @@ abbrev pub SaysSizes : Option ControlLine → Type 0
 SaysSizes None = Unit {0}
 SaysSizes (Some l) = LineIsHeld l
 
-line_sizes : (a b : Option (List ℕ)) (c : Option (Option VlanTag)) (d : Option ℕ) (f g h : Option (List ℕ)) (n : Option ControlNumbers) →
+line_sizes : (a b : Option (List ℕ)) (c : Option (Option VlanTag)) (d : Option ℕ) (f g h : Option (List ℕ)) (n : Option ControlEnd) →
     Sized 6 a → Sized 6 b → HasTag c → IsWord d → HaveSizes n → SaysSizes (control_with a b c d f g h n)
 line_sizes None b c d f g h n p q r s k = tt
 line_sizes (Some a) None c d f g h n p q r s k = tt

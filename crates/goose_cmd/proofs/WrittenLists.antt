@@ -8,7 +8,8 @@ use Rattle.list_core.specs.declared.event.Event.{Event}
 use Rattle.list_core.specs.declared.event_lines.EventLines.TheVariants.{After}
 use Rattle.list_core.specs.declared.event_lines.MomentUnit.TheVariants.{Microseconds}
 use Rattle.list_core.specs.declared.list_fault.ListCause.{ListCause}
-use Rattle.list_core.specs.EventLine.{event_rules, event_text}
+use Rattle.list_core.specs.EventLine.{event_rules}
+use Rattle.list_core.specs.EventText.{event_text}
 use Rattle.list_core.specs.Items.{Listing, items_in, items_said, listing, put_item, stops}
 use Rattle.list_core.specs.Lines.{finished}
 use Rattle.frame_core.specs.Written.{written_frame}
@@ -21,10 +22,10 @@ use Rattle.publish_core.specs.Run.{Request, Call, IsAnswer, trace_of_calls}
 use Rattle.publish_core.proofs.GivesOne.{carried}
 use Rattle.block_core.specs.declared.block.Block.{Block}
 use Rattle.subscribe_core.specs.declared.entry.Entry.{Entry}
-use Rattle.subscribe_core.specs.Entries.{AreEntries, AreEntriesAt}
+use Rattle.subscribe_core.specs.Entries.{AreEntriesAt}
 use Rattle.subscribe_core.specs.Apart.{AreApart}
 use Rattle.subscribe_core.proofs.Runs.{entries_are_one, entries_stay}
-use Rattle.exchange_laws.specs.PublishedList.{IsWholeRun, Sent, one_entry_each, published_events, sent_from, with_frame}
+use Rattle.exchange_laws.specs.PublishedList.{Sent, one_entry_each, published_events, sent_from, with_frame}
 use Rattle.exchange_laws.specs.Stems.{AreAccepted, HasSizes}
 use Rattle.exchange_laws.proofs.OneFrame.{one_apart}
 use Rattle.exchange_laws.proofs.PublishedLists.{whole_runs_replay}
@@ -138,11 +139,11 @@ behind_some (x ∷ d) a b e = omega arith
 
 answer_size : {A : Type 0} (p : Setup A) (calls : List Call) (i : ℕ) (f : Frame A) → HasSizes p → AreAccepted p calls → IsAnswer p (trace_of_calls calls) i (Some f) → HasSize f
 answer_size {A} p calls i f held accepted w =
-    let at = carried w.3 in
-    let fit = (change_accepted p calls at.0 w.0 w.2 accepted at.2).fit w.1 in
-    subst HasSize (sym w.4) (
+    let at = carried w.gives in
+    let fit = (change_accepted p calls at.0 w.c w.change accepted at.2).fit w.k in
+    subst HasSize (sym w.is_frame) (
       behind_some p.control.destination _ _ held.to,
-      elim (cases_lt 1600 (length (written_frame (frame p.control p.table (state_number p.first w.0) w.2 w.1)))) [
+      elim (cases_lt 1600 (length (written_frame (frame p.control p.table (state_number p.first w.c) w.change w.k)))) [
         | inl long ↦ absurd (fit (inr long))
         | inr short ↦ omega arith
       ],

@@ -5,7 +5,8 @@ use Rattle.list_core.specs.declared.device.InputEnd.TheVariants.{End}
 use Rattle.list_core.specs.declared.event.Event.{Event}
 use Rattle.list_core.specs.declared.event_lines.EventLines.TheVariants.{First}
 use Rattle.list_core.specs.declared.list_fault.ListCause.{ListCause}
-use Rattle.list_core.specs.EventLine.{HoldsOctets, IsListable, event_rules, event_text}
+use Rattle.list_core.specs.EventLine.{event_rules}
+use Rattle.list_core.specs.EventText.{HoldsOctets, IsListable, event_text}
 use Rattle.list_core.specs.Items.{Listing, listing}
 use Rattle.list_core.specs.Lines.{finished}
 use Rattle.frame_core.specs.Written.{written_frame}

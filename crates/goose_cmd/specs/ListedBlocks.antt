@@ -50,7 +50,7 @@ pub record HasLine (text line : List ℕ) : Type 0 where
   pub has_no_lf : HasNo 10 line
 
 -- a line of the text tells this: the number of a line of a list, the word, and what is told
-pub record Tells (text word what : List ℕ) : Type 0 where
+pub record LineTells (text word what : List ℕ) : Type 0 where
   pub number : ℕ
   pub at_most : number ≤ 1000000
   pub has_line : HasLine text (decimal number ++ word ++ what)
@@ -64,8 +64,8 @@ pub record IsBlockOf {A : Type 0} (blocks : List (Block A)) (what : List ℕ) : 
 
 -- What each line `block` tells is the BLOCK of one of these blocks, and no line `block-changed` stands.
 pub record AreListed {A : Type 0} (text : List ℕ) (blocks : List (Block A)) : Type 0 where
-  pub each : (what : List ℕ) → Tells text (codes " block ") what → IsBlockOf blocks what
-  pub none_changes : (what : List ℕ) → ¬ Tells text (codes " block-changed ") what
+  pub each : (what : List ℕ) → LineTells text (codes " block ") what → IsBlockOf blocks what
+  pub none_changes : (what : List ℕ) → ¬ LineTells text (codes " block-changed ") what
 
 -- the frame is configured otherwise than its block
 abbrev pub IsOfConfiguration : Reason → Type 0

@@ -23,12 +23,17 @@ pub record GivesList {A : Type 0} (B : Type 0) (p : Setup A) (calls left : List 
   pub writes : whole_text t script ≡ list_text (published_events {B = B} (sent_from 0 calls answers)) ++ last_text t (told t script).stop
   pub stops : TellsStop p calls left script (told t script).stop
 
--- Of the text of a script, which says a run, `publish` writes the list of the frames that its calls give, and how it stops.
+-- A script is published: it says a run of this publisher, whose calls have these answers, and this is the text of `publish`.
+pub record IsPublished {A : Type 0} (p : Setup A) (calls : List Call) (answers : List (Option (Frame A))) (script : Listing (ScriptItem A) ScriptCause) (t : Text (ScriptItem A) ScriptCause) : Type 0 where
+  pub says_run : SaysRun p calls script
+  pub are_answers : AreAnswers p calls answers
+  pub is_text : IsPublishText t
+
+-- Of the text of a script that is published, the list of the frames that its calls give is written, and how it stops.
 abbrev pub ScriptsGiveLists : Type 0 → Type 0 → Type 0
 ScriptsGiveLists A B =
     (p : Setup A) (calls : List Call) (answers : List (Option (Frame A))) (z : InputEnd) (text : List ℕ) (t : Text (ScriptItem A) ScriptCause) →
-    AreAnswers p calls answers → (says : SaysRun p calls (script_of_text z text)) → IsPublishText t →
-    GivesList B p calls says.calls_left answers (script_of_text z text) t
+    (published : IsPublished p calls answers (script_of_text z text) t) → GivesList B p calls published.says_run.calls_left answers (script_of_text z text) t
 
 -- a script says the run of some publisher
 pub record SaysSomeRun {A : Type 0} (script : Listing (ScriptItem A) ScriptCause) : Type 0 where
@@ -41,10 +46,18 @@ abbrev pub ScriptsSayRuns : Type 0 → Type 0
 ScriptsSayRuns A =
     (z : InputEnd) (text : List ℕ) → (items_of_lines (script_of_text {A = A} z text).items ≡ []) ⊎ SaysSomeRun (script_of_text {A = A} z text)
 
+-- A script is published, and what is written is replayed with the publisher's own block: it says a run of this publisher, whose
+-- calls have these answers and which the block can follow, and these are the texts of `publish` and of the replay.
+pub record IsPublishedAndReplayed {A B : Type 0} (p : Setup A) (block : Block B) (calls : List Call) (answers : List (Option (Frame A))) (script : Listing (ScriptItem A) ScriptCause) (t : Text (ScriptItem A) ScriptCause) (r : Text (Event B) ListCause) : Type 0 where
+  pub says_run : SaysRun p calls script
+  pub can_be_followed : CanBeFollowed p block calls answers
+  pub is_text : IsPublishText t
+  pub is_replayed : IsReplayText (block ∷ []) r
+
 -- What `publish` writes of the text of a script is replayed with the publisher's own block by one line for each frame: an
 -- action for a change's, a renewal for a poll's, and nothing else.
 abbrev pub PublishedTextsReplay : Type 0 → Type 0 → Type 0
 PublishedTextsReplay A B =
     (p : Setup A) (block : Block B) (calls : List Call) (answers : List (Option (Frame A))) (z : InputEnd) (text : List ℕ) (t : Text (ScriptItem A) ScriptCause) (r : Text (Event B) ListCause) →
-    CanBeFollowed p block calls answers → SaysRun p calls (script_of_text z text) → IsPublishText t → IsReplayText (block ∷ []) r →
+    IsPublishedAndReplayed p block calls answers (script_of_text z text) t r →
     ReplayGives r (whole_text t (script_of_text z text)) (one_entry_each (sent_from 0 calls answers))

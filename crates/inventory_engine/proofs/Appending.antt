@@ -15,7 +15,7 @@ use Rattle.pdu_core.specs.declared.sampled.asdu.Asdu.{Asdu}
 use Rattle.pdu_core.specs.declared.sampled.view.AsduView.{AsduView}
 use Rattle.text_core.proofs.NonEmpty.{ends}
 use Rattle.inventory_engine.specs.declared.known.Known.{Known}
-use Rattle.inventory_engine.specs.Sightings.{Sighting, key_of, sightings_in, sightings_of, stream_seen, streams_seen}
+use Rattle.inventory_engine.specs.Sightings.{Sighting, key_of, sightings_in, sightings_of, stream_sighting, stream_sightings}
 use Rattle.inventory_engine.specs.BlocksText.{changed_word, first_word, line_after, sighting_line}
 use Rattle.inventory_engine.specs.computed.BlocksStep.{Keeps, AppendsLines, HasLines, blocks_text, lines_by, newest, written_of}
 use Rattle.inventory_engine.specs.computed.KnownTexts.{InOrder, IsAt, IsGap, known_key, known_text, same_key}
@@ -145,26 +145,26 @@ map-push f xs x = map-append f xs (x ∷ [])
 
 -- one ASDU more
 pub stream_more : {A : Type 0} (n : ℕ) (yielded : List AsduView) (asdu : AsduView) (all rest others : List (Asdu (Unit {0}))) (a b c : List (Known A)) (o m t : List ℕ) → map (asdu_of {A = Unit {0}}) yielded ++ rest ≡ all → rest ≡ asdu_of asdu ∷ others
-    → AppendsLines n (streams_seen (map (asdu_of {A = Unit {0}}) yielded)) a b o m → AppendsLines n (stream_seen (asdu_of {A = Unit {0}} asdu) ∷ []) b c m t
-    → (map (asdu_of {A = Unit {0}}) (yielded ++ asdu ∷ []) ++ others ≡ all) × AppendsLines n (streams_seen (map (asdu_of {A = Unit {0}}) (yielded ++ asdu ∷ []))) a c o t
+    → AppendsLines n (stream_sightings (map (asdu_of {A = Unit {0}}) yielded)) a b o m → AppendsLines n (stream_sighting (asdu_of {A = Unit {0}} asdu) ∷ []) b c m t
+    → (map (asdu_of {A = Unit {0}}) (yielded ++ asdu ∷ []) ++ others ≡ all) × AppendsLines n (stream_sightings (map (asdu_of {A = Unit {0}}) (yielded ++ asdu ∷ []))) a c o t
 stream_more n yielded asdu all rest others a b c o m t parts first f g =
     let one = asdu_of {A = Unit {0}} asdu in
     let seen = map (asdu_of {A = Unit {0}}) yielded in
     let pushed : map (asdu_of {A = Unit {0}}) (yielded ++ asdu ∷ []) ≡ seen ++ one ∷ [] = map-push asdu_of yielded asdu in (
       ap (λ (l : List (Asdu (Unit {0}))). l ++ others) pushed ∙ append_assoc seen (one ∷ []) others ∙ ap (λ (l : List (Asdu (Unit {0}))). seen ++ l) (sym first) ∙ parts,
-      subst (λ (l : List Sighting). AppendsLines n l a c o t) (sym (map-push stream_seen seen one) ∙ ap streams_seen (sym pushed))
-          (appends_then n (streams_seen seen) (stream_seen one ∷ []) a b c o m t f g),
+      subst (λ (l : List Sighting). AppendsLines n l a c o t) (sym (map-push stream_sighting seen one) ∙ ap stream_sightings (sym pushed))
+          (appends_then n (stream_sightings seen) (stream_sighting one ∷ []) a b c o m t f g),
     )
 
 -- something is to be written of an ASDU among others
 pub streams_wanted : {A : Type 0} (n : ℕ) (yielded : List AsduView) (asdu : AsduView) (all rest others : List (Asdu (Unit {0}))) (a b : List (Known A)) (o m : List ℕ) → map (asdu_of {A = Unit {0}}) yielded ++ rest ≡ all → rest ≡ asdu_of asdu ∷ others
-    → AppendsLines n (streams_seen (map (asdu_of {A = Unit {0}}) yielded)) a b o m → HasLines n (stream_seen (asdu_of {A = Unit {0}} asdu) ∷ []) b → HasLines n (streams_seen all) a
+    → AppendsLines n (stream_sightings (map (asdu_of {A = Unit {0}}) yielded)) a b o m → HasLines n (stream_sighting (asdu_of {A = Unit {0}} asdu) ∷ []) b → HasLines n (stream_sightings all) a
 streams_wanted n yielded asdu all rest others a b o m parts first f g =
     let one = asdu_of {A = Unit {0}} asdu in
     let seen = map (asdu_of {A = Unit {0}}) yielded in
     subst (λ (l : List Sighting). HasLines n l a)
-    (sym (map-append stream_seen seen (one ∷ others)) ∙ ap streams_seen (ap (λ (l : List (Asdu (Unit {0}))). seen ++ l) (sym first) ∙ parts))
-    (wanted_then n (streams_seen seen) (stream_seen one ∷ []) (streams_seen others) a b o m f g)
+    (sym (map-append stream_sighting seen (one ∷ others)) ∙ ap stream_sightings (ap (λ (l : List (Asdu (Unit {0}))). seen ++ l) (sym first) ∙ parts))
+    (wanted_then n (stream_sightings seen) (stream_sighting one ∷ []) (stream_sightings others) a b o m f g)
 
 -- a text by a test
 pub by_test : (b : Bool) (x y t : List ℕ) (c : Bool) → c ≡ b → c ≡ true → t ≡ x → t ≡ (if b then x else y)
@@ -182,7 +182,12 @@ pub takes_event : {A : Type 0} (n : ℕ) (before : List (ℕ × Event A)) (event
     → Takes (blocks_text {A = A}) (λ (items : List (ℕ × Event A)). Keeps after (sightings_in items)) before (n, event) (Ok false) old new
 takes_event n before event known after old new wrote k =
     let p = wrote (sightings_in before) k in
-    (written_of n (sightings_in before) (sightings_of event.kind), refl, p.0, subst (λ (l : List Sighting). Keeps after l) (sym (sightings-push before (n, event))) p.1)
+    record {
+      text = written_of n (sightings_in before) (sightings_of event.kind);
+      has_text = refl;
+      appended = p.0;
+      stands_after = subst (λ (l : List Sighting). Keeps after l) (sym (sightings-push before (n, event))) p.1;
+    }
 
 -- nothing is held at first
 pub keeps_none : {A : Type 0} → Keeps {A = A} [] []

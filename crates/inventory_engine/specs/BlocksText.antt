@@ -8,7 +8,7 @@ use Rattle.list_core.specs.declared.line_rules.ItemFault.{ItemFault}
 use Rattle.list_core.specs.declared.list_fault.ListCause.{ListCause}
 use Rattle.list_core.specs.ListReader.{list_fault_of}
 use Rattle.engine_core.specs.EngineText.{Text}
-use Rattle.text_core.specs.LineText.{list_line}
+use Rattle.text_core.specs.LineText.{list_fault_line}
 use Rattle.inventory_engine.specs.Sightings.{Key, Sighting, key_of, sightings_in, sightings_of}
 
 -- at this position stands a sighting with this key
@@ -69,4 +69,4 @@ pub record ShowsEvent {A : Type 0} (before : List (ℕ × Event A)) (e : ℕ × 
 pub record IsBlocksText {A : Type 0} (t : Text (Event A) ListCause) : Type 0 where
   pub first : t.first ≡ []
   pub each_item : (before : List (ℕ × Event A)) (e : ℕ × Event A) → ShowsEvent before e (t.of_item before e)
-  pub last : (f : ItemFault ListCause) → t.last f ≡ list_line (list_fault_of f)
+  pub last : (f : ItemFault ListCause) → t.last f ≡ list_fault_line (list_fault_of f)

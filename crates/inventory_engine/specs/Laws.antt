@@ -1,5 +1,5 @@
 -- What holds of the lines of sightings.
-use Rattle.std.specs.Prelude.{◌≡◌, ℕ, ◌<◌, ◌≤◌, true, List, Some, None, length, take, slice_get}
+use Rattle.std.specs.Prelude.{◌≡◌, ℕ, ◌<◌, ◌≤◌, true, List, Some, None, length, take}
 use Rattle.block_core.specs.declared.block.Block.{Block}
 use Rattle.block_core.specs.BlockText.{block_in, go_id_of}
 use Rattle.pdu_core.specs.declared.goose.GoosePdu.{GoosePdu}

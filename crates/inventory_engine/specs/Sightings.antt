@@ -88,21 +88,21 @@ abbrev pub stream_parts : {A : Type 0} → Asdu A → List (List ℕ)
 stream_parts a = codes "id=" ∷ quoted a.sv_id ∷ codes " rev=" ∷ decimal a.conf_rev ∷ []
 
 -- the control block of a frame with this APPID and APDU
-abbrev pub block_seen : {A : Type 0} → ℕ → GoosePdu A → Sighting
-block_seen app_id p = record { app_id = Some app_id; name = p.gocb_ref; text = block_text app_id p }
+abbrev pub block_sighting : {A : Type 0} → ℕ → GoosePdu A → Sighting
+block_sighting app_id p = record { app_id = Some app_id; name = p.gocb_ref; text = block_text app_id p }
 
 -- the stream of an ASDU
-abbrev pub stream_seen : {A : Type 0} → Asdu A → Sighting
-stream_seen a = record { app_id = None; name = a.sv_id; text = concat (stream_parts a) }
+abbrev pub stream_sighting : {A : Type 0} → Asdu A → Sighting
+stream_sighting a = record { app_id = None; name = a.sv_id; text = concat (stream_parts a) }
 
 -- the streams of several ASDUs, in their order
-abbrev pub streams_seen : {A : Type 0} → List (Asdu A) → List Sighting
-streams_seen asdus = map stream_seen asdus
+abbrev pub stream_sightings : {A : Type 0} → List (Asdu A) → List Sighting
+stream_sightings asdus = map stream_sighting asdus
 
 -- what an APDU in a frame with this APPID shows
 abbrev pub sightings_with : {A : Type 0} → ℕ → Apdu A → List Sighting
-sightings_with app_id (apdus.Goose p) = block_seen app_id p ∷ []
-sightings_with app_id (apdus.Sampled p) = streams_seen p.asdus
+sightings_with app_id (apdus.Goose p) = block_sighting app_id p ∷ []
+sightings_with app_id (apdus.Sampled p) = stream_sightings p.asdus
 
 -- what octets show, which read so
 abbrev pub sightings_read : {A : Type 0} → Result (Frame A) Fault → List Sighting

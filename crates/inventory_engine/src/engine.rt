@@ -16,7 +16,7 @@ use crate::sighting::put_event;
 use engine_core::{Ending, Engine, run};
 use frame_core::{Event, EventLines, ItemFault, LineError, ListCause, Sink, Source, fault_of_list};
 use std::alloc::{AllocError, Allocator};
-use text_core::line::put_list_line;
+use text_core::line::put_list_fault_line;
 
 /// What `blocks` writes, and what was seen by then.
 #[derive(Drop)]
@@ -39,8 +39,11 @@ impl<A: Allocator + Copy> Engine<A> for Listing<A> {
         line: &mut Vec<u8, A>,
         number: u64,
         event: Event<A>,
+        spare: &mut Option<Event<A>>,
     ) -> Result<bool, LineError<ListCause>> {
-        match put_event(self.alloc, &mut self.known, line, number, &event.kind) {
+        let put = put_event(self.alloc, &mut self.known, line, number, &event.kind);
+        *spare = Some(event);
+        match put {
             Ok(()) => Ok(false),
             Err(error) => Err(LineError::Memory(error)),
         }
@@ -51,7 +54,7 @@ impl<A: Allocator + Copy> Engine<A> for Listing<A> {
         line: &mut Vec<u8, A>,
         fault: &ItemFault<ListCause>,
     ) -> Result<(), AllocError> {
-        put_list_line(line, fault_of_list(fault))
+        put_list_fault_line(line, fault_of_list(fault))
     }
 }
 
@@ -62,7 +65,7 @@ impl<A: Allocator + Copy> Engine<A> for Listing<A> {
 /// list has a fault, a last line tells it.
 ///
 /// The reader is Open and the writer has not failed. The text is that of the octets that the reader gave: whole at
-/// `Done`, `InputFault` and `ReadFault`, a front of it at `WriteFault`, and whole lines of the earlier events at
+/// `Done`, `InputFault` and `ReadFault`, a prefix of it at `WriteFault`, and whole lines of the earlier events at
 /// `Memory`, which is for a frame or a line to be written, never for a frame's control block or stream that is
 /// configured as before. What is held grows with the control blocks and streams alone; a frame is looked up in so many
 /// steps as their number has binary digits.

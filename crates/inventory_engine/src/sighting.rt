@@ -7,7 +7,7 @@ ghost use Rattle.pdu_core.specs.Views.{octets_if, pdu_of};
 ghost use Rattle.list_core.specs.declared.event.EventKind.{EventKind as SpecKind};
 ghost use Rattle.text_core.specs.Pieces.{AppendsText};
 ghost use Rattle.inventory_engine.specs.computed.PieceText.{piece_text};
-ghost use Rattle.inventory_engine.specs.Sightings.{block_parts, block_seen, has_fields as fields_have, is_field as field_is, is_field_octet as octet_is, named_parts, sightings_of, stream_parts, stream_seen, streams_seen, text_or_none};
+ghost use Rattle.inventory_engine.specs.Sightings.{block_parts, block_sighting, has_fields as fields_have, is_field as field_is, is_field_octet as octet_is, named_parts, sightings_of, stream_parts, stream_sighting, stream_sightings, text_or_none};
 ghost use Rattle.inventory_engine.specs.BlocksText.{changed_word, first_word, sighting_line};
 ghost use Rattle.inventory_engine.specs.computed.BlocksStep.{AppendsLines, HasLines};
 
@@ -178,8 +178,8 @@ fn put_block<A: Allocator + Copy>(
     app_id: u16,
     goose: &GooseView<'_>,
 ) -> Result<(), AllocError>
-    ensures written { OnOk result (AppendsLines number (block_seen app_id (pdu_of {A = Unit {0}} goose.now) ∷ []) known.old.items known.new.items line.old.items line.new.items) }
-    ensures wants { OnErr result (HasLines number (block_seen app_id (pdu_of {A = Unit {0}} goose.now) ∷ []) known.old.items) }
+    ensures written { OnOk result (AppendsLines number (block_sighting app_id (pdu_of {A = Unit {0}} goose.now) ∷ []) known.old.items known.new.items line.old.items line.new.items) }
+    ensures wants { OnErr result (HasLines number (block_sighting app_id (pdu_of {A = Unit {0}} goose.now) ∷ []) known.old.items) }
     ensures kept { take (length line.old.items) line.new.items ≡ line.old.items }
 {
     let name = goose.gocb_ref;
@@ -200,8 +200,8 @@ fn put_stream<A: Allocator + Copy>(
     number: u64,
     asdu: &AsduView<'_>,
 ) -> Result<(), AllocError>
-    ensures written { OnOk result (AppendsLines number (stream_seen (asdu_of {A = Unit {0}} asdu.now) ∷ []) known.old.items known.new.items line.old.items line.new.items) }
-    ensures wants { OnErr result (HasLines number (stream_seen (asdu_of {A = Unit {0}} asdu.now) ∷ []) known.old.items) }
+    ensures written { OnOk result (AppendsLines number (stream_sighting (asdu_of {A = Unit {0}} asdu.now) ∷ []) known.old.items known.new.items line.old.items line.new.items) }
+    ensures wants { OnErr result (HasLines number (stream_sighting (asdu_of {A = Unit {0}} asdu.now) ∷ []) known.old.items) }
     ensures kept { take (length line.old.items) line.new.items ≡ line.old.items }
 {
     let pieces = stream_pieces(asdu);
@@ -216,8 +216,8 @@ fn put_streams<A: Allocator + Copy>(
     number: u64,
     sampled: &SvView<'_>,
 ) -> Result<(), AllocError>
-    ensures written { OnOk result (AppendsLines number (streams_seen (asdus_left {A = Unit {0}} sampled.now.asdus)) known.old.items known.new.items line.old.items line.new.items) }
-    ensures wants { OnErr result (HasLines number (streams_seen (asdus_left {A = Unit {0}} sampled.now.asdus)) known.old.items) }
+    ensures written { OnOk result (AppendsLines number (stream_sightings (asdus_left {A = Unit {0}} sampled.now.asdus)) known.old.items known.new.items line.old.items line.new.items) }
+    ensures wants { OnErr result (HasLines number (stream_sightings (asdus_left {A = Unit {0}} sampled.now.asdus)) known.old.items) }
     ensures kept { take (length line.old.items) line.new.items ≡ line.old.items }
 {
     for asdu in sampled.asdus {

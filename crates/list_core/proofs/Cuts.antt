@@ -5,7 +5,8 @@ use Rattle.std.specs.Prelude.{slice_range}
 use Rattle.std.proofs.lemmas.Bool.{ne_eqb}
 use Rattle.std.proofs.lemmas.Bool.Decides.{nat_tests}
 use Rattle.std.proofs.lemmas.List.{append-nil, get_or-drop, length-drop, take-append-drop, drop_more}
-use Rattle.list_core.specs.Cuts.{cut_at, HasNo, IsFirst}
+use Rattle.list_core.specs.Cuts.{cut_at, HasNo}
+use Rattle.list_core.specs.computed.PrivateOctets.{IsFirstPlace}
 use Rattle.list_core.proofs.Devices.{take-add}
 
 -- a list at the front of the first part
@@ -60,7 +61,7 @@ HasNo-append c (x ∷ xs) ys a b = λ k. elim k as (λ k. k < length (x ∷ (xs 
 ]
 
 -- the first c, past a front that has none
-pub first-past : (c : ℕ) (xs : List ℕ) (n : ℕ) (i : Option ℕ) → n ≤ length xs → HasNo c (take n xs) → IsFirst c (drop n xs) i → IsFirst c xs (option_map (λ k. n + k) i)
+pub first-past : (c : ℕ) (xs : List ℕ) (n : ℕ) (i : Option ℕ) → n ≤ length xs → HasNo c (take n xs) → IsFirstPlace c (drop n xs) i → IsFirstPlace c xs (option_map (λ k. n + k) i)
 first-past c xs n None l a b =
     let h = HasNo-append c (take n xs) (drop n xs) a b in rw take-append-drop at h
 first-past c xs n (Some i) l a b =
@@ -71,7 +72,7 @@ pub split_at : (c : ℕ) (xs : List ℕ) (n : ℕ) → n < length xs → get_or 
 split_at c xs n l e = sym (take-append-drop n xs) ∙ ap (λ r. take n xs ++ r) (drop_more xs n 0 l ∙ ap (λ x. x ∷ drop (n + 1) xs) e)
 
 -- the parts at the first c
-pub cut-first : (c : ℕ) (xs : List ℕ) (n : ℕ) → IsFirst c xs (Some n) → cut_at c xs ≡ take n xs ∷ cut_at c (drop (n + 1) xs)
+pub cut-first : (c : ℕ) (xs : List ℕ) (n : ℕ) → IsFirstPlace c xs (Some n) → cut_at c xs ≡ take n xs ∷ cut_at c (drop (n + 1) xs)
 cut-first c xs n h = ap (cut_at c) (split_at c xs n h.0 h.1) ∙ cut-part c (take n xs) (drop (n + 1) xs) h.2
 
 -- a piece more that has no c

@@ -5,12 +5,13 @@ use Rattle.list_core.specs.declared.device.InputEnd.{InputEnd}
 use Rattle.list_core.specs.declared.device.InputEnd.TheVariants.{End, Failed}
 use Rattle.list_core.specs.declared.list_fault.ListCause.TheVariants.{LineTooLong, ListTooLong, ReadFailed}
 use Rattle.list_core.specs.Lines.{reading, put_line, without_cr}
-use Rattle.list_core.specs.Cuts.{HasNo, IsFirst}
+use Rattle.list_core.specs.Cuts.{HasNo}
+use Rattle.list_core.specs.computed.PrivateOctets.{IsFirstPlace}
 use Rattle.list_core.proofs.Cuts.{split_at}
 use Rattle.list_core.specs.FirstLine.{IsFront}
 use Rattle.list_core.proofs.Lines.{reading-line, reading-rest, reading-long, reading-many, reading-failed, reading-end}
 
-pub front-line : (ending : InputEnd) (taken : ℕ) (held : List ℕ) (n : ℕ) → IsFirst 10 held (Some n) → n ≤ 4096 → taken < 1000000 → IsFront ending taken held (Ok (Some n))
+pub front-line : (ending : InputEnd) (taken : ℕ) (held : List ℕ) (n : ℕ) → IsFirstPlace 10 held (Some n) → n ≤ 4096 → taken < 1000000 → IsFront ending taken held (Ok (Some n))
 front-line ending taken held n first short few = (
   omega (arith, first.0),
   short,

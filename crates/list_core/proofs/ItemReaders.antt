@@ -6,10 +6,11 @@ use Rattle.list_core.specs.declared.device.InputEnd.{InputEnd}
 use Rattle.list_core.specs.declared.list_fault.ListFault.{ListFault}
 use Rattle.list_core.specs.declared.line_rules.ItemFault.TheVariants as fault
 use Rattle.list_core.specs.Device.{GivesOctets, OnlyOpen}
-use Rattle.list_core.specs.Lines.{Reading, reading, put_line, fault_at, finished, faulty, CanFollow, Stop, StartsLine}
+use Rattle.list_core.specs.Lines.{LineListing, reading, put_line, fault_at, finished, faulty, CanFollow, Stop, StartsLine}
 use Rattle.list_core.specs.FirstLine.{TextReadsAs}
 use Rattle.list_core.specs.Items.{Rules, Listing, put_item, put_items, stops, close, missing, put_said, items_said, items_in, listing}
-use Rattle.list_core.specs.ItemReader.{ReaderState, Answer, TakesItems, Tells, CountsTo, GivesFor, lines_before, TakesOff, OnlyKept, AnswersItem, SkipsLines}
+use Rattle.list_core.specs.ItemReader.{ReaderState, Answer, Tells, CountsTo, GivesFor, lines_before, TakesOff, OnlyKept, AnswersItem}
+use Rattle.list_core.specs.computed.PrivateCalls.{TakesItems, SkipsLines}
 use Rattle.list_core.proofs.Devices.{Consumes-append, Gives-append, Consumes-none, Gives-from_Consumes}
 use Rattle.list_core.specs.Reader.{OnlyWanting}
 use Rattle.list_core.proofs.Readers.{asked_by, passed_none, passed_after, OnlyOpen-append, off_after, starts_after, OnlyOpen-none, CanFollow-given, CanFollow-none, regroup}
@@ -44,7 +45,7 @@ pub items_in-end : {S X C : Type 0} (r : Rules S X C) (s : S) (n : ℕ) (stop : 
 unfolding items_said
 items_in-end r s n stop = refl
 
-pub items_in-line : {S X C : Type 0} (r : Rules S X C) (s : S) (n : ℕ) (line : List ℕ) (l : Reading) → items_in r s n (put_line line l) ≡ put_said n (r.said s line) (λ t. items_in r t (n + 1) l)
+pub items_in-line : {S X C : Type 0} (r : Rules S X C) (s : S) (n : ℕ) (line : List ℕ) (l : LineListing) → items_in r s n (put_line line l) ≡ put_said n (r.said s line) (λ t. items_in r t (n + 1) l)
 unfolding items_said
 items_in-line r s n line l = refl
 

@@ -5,7 +5,8 @@ use Rattle.list_core.specs.declared.line_rules.LineError.{LineError}
 use Rattle.list_core.specs.declared.list_fault.ListCause.{ListCause}
 use Rattle.list_core.specs.declared.list_fault.ListCause.TheVariants.{LineForm, Moment, Hex}
 use Rattle.list_core.specs.declared.event_lines.MomentUnit.{MomentUnit}
-use Rattle.list_core.specs.Cuts.{HasNo, IsFirst}
+use Rattle.list_core.specs.Cuts.{HasNo}
+use Rattle.list_core.specs.computed.PrivateOctets.{IsFirstPlace}
 use Rattle.list_core.specs.EventLine.{fields, event_of_fields, fields_keep, frame_event, frame_octets_by, is_moment, moment_of}
 use Rattle.list_core.specs.computed.LineAnswer.{Answers, fields_after}
 use Rattle.list_core.proofs.Cuts.{cut_some, cut-first, cut-rest}
@@ -38,7 +39,7 @@ mode_more v xs m rest h None e f i = cc
 mode_more v xs m rest h (Some next) e f i = let r = cut_some 32 next.now in rw (e, f, r.2) (more_fields v 77 m h r.0 r.1)
 
 -- a frame with more fields than it has
-pub frame_spaced : {A : Type 0} (v : MomentUnit) (m rest : List ℕ) (n : ℕ) → IsFirst 32 rest (Some n) → event_of_fields {A = A} v ((70 ∷ []) ∷ m ∷ fields rest) ≡ Err LineForm
+pub frame_spaced : {A : Type 0} (v : MomentUnit) (m rest : List ℕ) (n : ℕ) → IsFirstPlace 32 rest (Some n) → event_of_fields {A = A} v ((70 ∷ []) ∷ m ∷ fields rest) ≡ Err LineForm
 frame_spaced v m rest n h = let r = cut_some 32 (drop (n + 1) rest) in rw (cut-first 32 rest n h, r.2) (more_fields v 70 m (take n rest) r.0 r.1)
 
 -- a frame without digits

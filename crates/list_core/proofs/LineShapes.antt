@@ -20,8 +20,9 @@ use Rattle.list_core.specs.declared.event.EventKind.TheVariants.{Frame, Clock, M
 use Rattle.list_core.specs.declared.event_lines.MomentUnit.{MomentUnit}
 use Rattle.list_core.specs.declared.list_fault.ListCause.{ListCause}
 use Rattle.list_core.specs.declared.list_fault.ListCause.TheVariants.{LineForm}
-use Rattle.list_core.specs.EventLine.{fields, is_moment, most_digits, microseconds_in, moment_of, decoded, frame_octets_by, mode_of, mode_text, clock_event, frame_event, mode_event, event_of_fields, event_of, WritesMoment, WritesOctets}
-use Rattle.list_core.specs.computed.LineAnswer.{IsRead}
+use Rattle.list_core.specs.EventLine.{fields, is_moment, most_digits, microseconds_in, moment_of, decoded, frame_octets_by, mode_of, clock_event, frame_event, mode_event, event_of_fields, event_of, WritesMoment, WritesOctets}
+use Rattle.list_core.specs.EventText.{mode_text}
+use Rattle.list_core.specs.computed.LineAnswer.{OctetsAreRead}
 use Rattle.list_core.proofs.Cuts.{cut-part, cut-rest}
 use Rattle.list_core.proofs.MomentDigits.{digits_test}
 use Rattle.list_core.proofs.WrittenLines.{IsWord, word-HasNo, hex_above, clock_fields, frame_fields, mode_fields, mode_facts}
@@ -301,7 +302,7 @@ none_is (Some x) e = cc
 
 -- octets, all of digits so many
 octets_read : {E : Type 0} (digits : List ℕ) (read : Result (List ℕ) E) → 0 < length digits → length digits ≤ 4000 → length digits % 2 ≡ 0
-    → (list_all is_hex_digit digits ≡ true) × IfOk read (λ octets. decode_of digits ≡ Ok octets) → IsRead read (frame_octets_by digits)
+    → (list_all is_hex_digit digits ≡ true) × IfOk read (λ octets. decode_of digits ≡ Ok octets) → OctetsAreRead read (frame_octets_by digits)
 octets_read digits (Ok octets) some short even r =
     let first : ltb 0 (length digits) ≡ true = grind (arith, nat_tests) in
     let second : leb (length digits) 4000 ≡ true = grind (arith, nat_tests) in
@@ -315,11 +316,11 @@ octets_unread digits some short even bad = none_is (frame_octets_by digits) (oct
 -- so the octets of a frame are read
 pub octets_answer : {E : Type 0} (digits : List ℕ) (o : Option (Result (List ℕ) E)) → 0 < length digits → length digits ≤ 4000 → length digits % 2 ≡ 0
     → MatchOption o (list_all is_hex_digit digits ≡ false) (λ read. (list_all is_hex_digit digits ≡ true) × IfOk read (λ octets. decode_of digits ≡ Ok octets))
-    → MatchOption o (frame_octets_by digits ≡ None) (λ read. IsRead read (frame_octets_by digits))
+    → MatchOption o (frame_octets_by digits ≡ None) (λ read. OctetsAreRead read (frame_octets_by digits))
 octets_answer digits None some short even r = octets_unread digits some short even r
 octets_answer digits (Some read) some short even r = octets_read digits read some short even r
 
 -- what was read is written
-pub read_there : {E : Type 0} (read : Result (List ℕ) E) (o : Option (List ℕ)) → IsRead read o → is_some o ≡ true
+pub read_there : {E : Type 0} (read : Result (List ℕ) E) (o : Option (List ℕ)) → OctetsAreRead read o → is_some o ≡ true
 read_there (Ok octets) o r = ap is_some r
 read_there (Err e) o r = r

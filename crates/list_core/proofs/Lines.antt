@@ -6,7 +6,7 @@ use Rattle.std.proofs.lemmas.Bool.Decides.{nat_tests}
 use Rattle.list_core.specs.declared.device.InputEnd.{InputEnd}
 use Rattle.list_core.specs.declared.device.InputEnd.TheVariants.{End, Failed}
 use Rattle.list_core.specs.declared.list_fault.ListCause.TheVariants.{LineTooLong, ListTooLong, ReadFailed}
-use Rattle.list_core.specs.Lines.{pieces, Reading, reading, reading_of_pieces, line_judged, put_line, without_cr, fault_at, finished}
+use Rattle.list_core.specs.Lines.{pieces, LineListing, reading, reading_of_pieces, line_judged, put_line, without_cr, fault_at, finished}
 use Rattle.list_core.specs.Cuts.{HasNo}
 use Rattle.list_core.proofs.Cuts.{put_front, cut_some, cut-append, cut-part, cut-rest}
 use Rattle.std.proofs.lemmas.List.{take_at, drop_at, drop-append-le, length-take, take-append-le, length-append}
@@ -32,19 +32,19 @@ slice_range-put_mid_none xs ys s e k el =
     let front : take e (put_mid e k xs ys) ≡ take e xs = take_at (take e xs) (ys ++ post_of e k xs) e whole in
     between_is (put_mid e k xs ys) s e ∙ ap (drop s) front ∙ sym (between_is xs s e)
 
-judged-good : (n : ℕ) (line : List ℕ) (r : Reading) → n < 1000000 → length line ≤ 4096 → line_judged n line r ≡ r
+judged-good : (n : ℕ) (line : List ℕ) (r : LineListing) → n < 1000000 → length line ≤ 4096 → line_judged n line r ≡ r
 judged-good n line r a b =
     let x : leb 1000000 n ≡ false = grind (arith, nat_tests) in
     let y : ltb 4096 (length line) ≡ false = grind (arith, nat_tests) in
     rw (x, y) refl
 
-judged-long : (n : ℕ) (line : List ℕ) (r : Reading) → n < 1000000 → 4096 < length line → line_judged n line r ≡ fault_at n LineTooLong
+judged-long : (n : ℕ) (line : List ℕ) (r : LineListing) → n < 1000000 → 4096 < length line → line_judged n line r ≡ fault_at n LineTooLong
 judged-long n line r a b =
     let x : leb 1000000 n ≡ false = grind (arith, nat_tests) in
     let y : ltb 4096 (length line) ≡ true = grind (arith, nat_tests) in
     rw (x, y) refl
 
-judged-many : (n : ℕ) (line : List ℕ) (r : Reading) → 1000000 ≤ n → line_judged n line r ≡ fault_at n ListTooLong
+judged-many : (n : ℕ) (line : List ℕ) (r : LineListing) → 1000000 ≤ n → line_judged n line r ≡ fault_at n ListTooLong
 judged-many n line r a =
     let x : leb 1000000 n ≡ true = grind (arith, nat_tests) in
     rw x refl

@@ -49,7 +49,7 @@ starts_after z w s held g t r (inr (inr p)) (inr o) e (inl q) = inr (inr (sym (a
 pub regroup : (h a b m : List ℕ) → h ++ (a ++ b) ++ m ≡ h ++ a ++ (b ++ m)
 regroup h a b m = simp append_assoc
 
--- a front of what lies between two places of a buffer
+-- a prefix of what lies between two places of a buffer
 pub front_within : (buffer : List ℕ) (from to n : ℕ) → n ≤ to - from → slice_range buffer from (from + n) ≡ take n (slice_range buffer from to)
 front_within buffer from to n few =
     let size : from + n - from ≡ n = omega arith in

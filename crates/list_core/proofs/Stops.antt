@@ -4,7 +4,7 @@ use Rattle.list_core.specs.declared.device.InputEnd.{InputEnd}
 use Rattle.list_core.specs.declared.device.InputEnd.TheVariants.{Open, End, Failed}
 use Rattle.list_core.specs.declared.list_fault.ListCause.TheVariants.{LineTooLong, ListTooLong, ReadFailed}
 use Rattle.list_core.specs.declared.list_fault.ListFault.{ListFault}
-use Rattle.list_core.specs.Lines.{Reading, Stop, finished, unfinished, faulty, fault_at, put_line, pieces, line_judged, reading_at_end, reading_of_pieces, reading, without_cr}
+use Rattle.list_core.specs.Lines.{LineListing, Stop, finished, unfinished, faulty, fault_at, put_line, pieces, line_judged, reading_at_end, reading_of_pieces, reading, without_cr}
 use Rattle.list_core.specs.declared.line_rules.ItemFault.{ItemFault}
 use Rattle.list_core.specs.declared.line_rules.ItemFault.TheVariants as fault
 use Rattle.list_core.specs.Items.{Rules, Listing, close, missing, put_said, items_said, listing}
@@ -29,7 +29,7 @@ at_end End n (x ∷ xs) = refl
 at_end Open n rest = tt
 at_end Failed n rest = λ h. refl
 
-judged-means : (z : InputEnd) (n : ℕ) (line : List ℕ) (r : Reading) → Means r.stop z → Means (line_judged n line r).stop z
+judged-means : (z : InputEnd) (n : ℕ) (line : List ℕ) (r : LineListing) → Means r.stop z → Means (line_judged n line r).stop z
 unfolding Means
 judged-means z n line r h = elim (leb 1000000 n) as (λ many. Means (cond many (fault_at n ListTooLong) (cond (ltb 4096 (length line)) (fault_at n LineTooLong) r)).stop z) [
   | true ↦ λ e. cc

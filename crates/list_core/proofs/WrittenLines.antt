@@ -19,7 +19,8 @@ use Rattle.list_core.specs.declared.event.EventKind.{EventKind}
 use Rattle.list_core.specs.declared.event.EventKind.TheVariants.{Frame, Clock, Mode}
 use Rattle.list_core.specs.Cuts.{HasNo}
 use Rattle.list_core.specs.Lines.{reading, without_cr}
-use Rattle.list_core.specs.EventLine.{fields, moment_of, decoded, frame_octets_by, clock_event, frame_event, mode_of, mode_event, mode_text, event_of_fields, event_of, event_rules, meant, kind_text, event_text, IsListableKind, IsListable, HoldsOctets}
+use Rattle.list_core.specs.EventLine.{fields, moment_of, decoded, frame_octets_by, clock_event, frame_event, mode_of, mode_event, event_of_fields, event_of, event_rules, meant}
+use Rattle.list_core.specs.EventText.{mode_text, kind_text, event_text, IsListableKind, IsListable, HoldsOctets}
 use Rattle.list_core.specs.declared.event_lines.MomentUnit.{MomentUnit}
 use Rattle.list_core.specs.declared.event_lines.MomentUnit.TheVariants.{Microseconds}
 use Rattle.list_core.specs.declared.event_lines.EventLines.TheVariants.{First, After}

@@ -1,7 +1,6 @@
 -- What a call of a source or a sink leaves.
 use Rattle.std.specs.Prelude.{◌≡◌, ℕ, List, [], ◌++◌, ◌⊎◌, Option, Some, None, Result, Ok, Err, ⊤}
 use Rattle.std.proofs.Common.{zero, suc}
-use Rattle.std.specs.Io.KnownBytes.{Consumes}
 use Rattle.list_core.specs.declared.device.InputEnd.{InputEnd}
 use Rattle.list_core.specs.declared.device.InputEnd.TheVariants.{Open, End, Failed}
 
@@ -30,12 +29,6 @@ abbrev pub AppendsPrefix : Option (List ℕ) → Option (List ℕ) → List ℕ 
 AppendsPrefix None new bs = ⊤
 AppendsPrefix (Some xs) None bs = ⊤
 AppendsPrefix (Some xs) (Some ys) bs = (prefix : List ℕ) × (rest : List ℕ) × (bs ≡ prefix ++ rest) × (ys ≡ xs ++ prefix)
-
--- these octets were taken, after which the source tells this ending
-abbrev pub TakesTo : InputEnd → Option (List ℕ) → Option (List ℕ) → List ℕ → Type 0
-TakesTo Failed old new os = GivesOctets old new os
-TakesTo End old new os = Consumes old new os
-TakesTo Open old new os = Consumes old new os
 
 -- octets are given by an open source alone
 abbrev pub OnlyOpen : InputEnd → List ℕ → InputEnd → Type 0

@@ -1,12 +1,9 @@
--- The line of an event: what a line says, and the one line that is written.
-use Rattle.std.specs.Prelude.{◌≡◌, ℕ, ◌*◌, ◌^◌, ◌<◌, ◌≤◌, List, [], ◌∷◌, ◌++◌, length, Option, Some, None, is_some, Result, Ok, Err, Bool, true, false, ◌==◌, ◌&&◌, nat_le, nat_lt, if◌then◌else◌, codes}
-use Rattle.std.specs.List.{All}
+-- What a line of a list of events says.
+use Rattle.std.specs.Prelude.{◌≡◌, ℕ, ◌*◌, ◌<◌, ◌≤◌, List, [], ◌∷◌, length, Option, Some, None, is_some, Result, Ok, Err, Bool, true, false, ◌==◌, ◌&&◌, nat_le, nat_lt, if◌then◌else◌}
 use Rattle.list_core.specs.Cuts.{cut_at}
 use Rattle.list_core.specs.Decimal.{is_decimal}
 use Rattle.std.specs.Str.Parse.{digits_value, AllDigits}
-use Rattle.hex.specs.Hex.{decode_of, encode_lower}
-use Rattle.std.specs.Fmt.{decimal}
-use Rattle.list_core.specs.declared.event.EventKind.{EventKind}
+use Rattle.hex.specs.Hex.{decode_of}
 use Rattle.hex.specs.declared.error.FromHexError.{FromHexError}
 use Rattle.list_core.specs.declared.event.Event.{Event}
 use Rattle.list_core.specs.declared.event.EventKind.TheVariants.{Frame, Clock, Mode}
@@ -112,37 +109,6 @@ unit_after (After unit) = unit
 -- the rules of a list of events, of which frames alone are kept in memory
 abbrev pub event_rules : {A : Type 0} → Rules EventLines (Event A) ListCause
 event_rules = record { said = event_said; keeps = λ s line. fields_keep (unit_after s) (fields line); lacks = λ s. None }
-
--- the word for a mode
-abbrev pub mode_text : Bool → List ℕ
-mode_text true = codes "on"
-mode_text false = codes "off"
-
--- the one line of an event of this kind, with its LF, of which the moment is written so
-abbrev pub kind_text : {A : Type 0} → List ℕ → EventKind A → List ℕ
-kind_text moment Clock = codes "C " ++ moment ++ 10 ∷ []
-kind_text moment (Frame octets) = codes "F " ++ moment ++ codes " " ++ encode_lower octets ++ 10 ∷ []
-kind_text moment (Mode on) = codes "M " ++ moment ++ codes " " ++ mode_text on ++ 10 ∷ []
-
--- the one line that is written of an event, with its LF
-abbrev pub event_text : {A : Type 0} → Event A → List ℕ
-event_text e = kind_text (decimal e.moment) e.kind
-
--- what can stand in a list: a frame of 1 to 2,000 octets, the clock, or a mode
-abbrev pub IsListableKind : {A : Type 0} → EventKind A → Type 0
-IsListableKind Clock = Unit {0}
-IsListableKind (Frame octets) = (0 < length octets) × (length octets ≤ 2000)
-IsListableKind (Mode on) = Unit {0}
-
--- what can stand in a list: a moment of at most 18 digits, and a kind that can
-abbrev pub IsListable : {A : Type 0} → Event A → Type 0
-IsListable e = (e.moment < 10 ^ 18) × IsListableKind e.kind
-
--- every number of the frame is an octet
-abbrev pub HoldsOctets : {A : Type 0} → EventKind A → Type 0
-HoldsOctets Clock = Unit {0}
-HoldsOctets (Frame octets) = All (λ x. x < 256) octets
-HoldsOctets (Mode on) = Unit {0}
 
 -- these digits write a moment
 abbrev pub WritesMoment : MomentUnit → List ℕ → ℕ → Type 0

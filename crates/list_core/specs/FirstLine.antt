@@ -2,11 +2,11 @@
 use Rattle.std.specs.Prelude.{◌≡◌, ℕ, ◌+◌, ◌<◌, ◌≤◌, List, [], ◌++◌, length, take, drop, Option, Some, None, Result, Ok, Err}
 use Rattle.list_core.specs.declared.device.InputEnd.{InputEnd}
 use Rattle.list_core.specs.declared.list_fault.ListCause.{ListCause}
-use Rattle.list_core.specs.Lines.{Reading, reading, put_line, without_cr, finished, fault_at, CanFollow, StartsLine}
+use Rattle.list_core.specs.Lines.{LineListing, reading, put_line, without_cr, finished, fault_at, StartsLine, WhateverComes}
 
 -- whatever comes after these octets, the text reads as r
-abbrev pub TextReadsAs : InputEnd → ℕ → List ℕ → (InputEnd → List ℕ → Reading) → Type 0
-TextReadsAs ending taken held r = (more : List ℕ) (z : InputEnd) → CanFollow ending more z → reading z taken (held ++ more) ≡ r z more
+abbrev pub TextReadsAs : InputEnd → ℕ → List ℕ → (InputEnd → List ℕ → LineListing) → Type 0
+TextReadsAs ending taken held r = WhateverComes ending (λ z more. reading z taken (held ++ more) ≡ r z more)
 
 -- what stands first: a line of n octets, the end, or a fault
 abbrev pub IsFront : InputEnd → ℕ → List ℕ → Result (Option ℕ) ListCause → Type 0

@@ -7,12 +7,10 @@ use Rattle.list_core.specs.declared.line_rules.ItemFault.TheVariants as fault
 use Rattle.list_core.specs.declared.item_reader.ItemReader.{ItemReader}
 use Rattle.list_core.specs.declared.item_reader.ItemError.{ItemError}
 use Rattle.list_core.specs.declared.item_reader.ItemError.TheVariants as error
-use Rattle.list_core.specs.declared.item_reader.Tried.{Tried}
-use Rattle.list_core.specs.declared.item_reader.Tried.TheVariants as tried
 use Rattle.list_core.specs.Device.{GivesOctets, OnlyOpen}
 use Rattle.list_core.specs.FirstLine.{IsFront}
-use Rattle.list_core.specs.Lines.{finished, faulty, CanFollow, StartsLine, without_cr}
-use Rattle.list_core.specs.Items.{Rules, Listing, put_item, put_items, stops, listing}
+use Rattle.list_core.specs.Lines.{finished, faulty, StartsLine, WhateverComes, without_cr}
+use Rattle.list_core.specs.Items.{Rules, Listing, put_item, stops, listing}
 use Rattle.list_core.specs.Reader.{IsWanting, Stream, stream}
 
 -- a text that is being read: what the source has left and how it ends, the octets that are held and not answered, the count of lines taken before, and what they settled
@@ -30,6 +28,22 @@ reader_state t s = record { left = t.left; ending = t.ending; held = t.held; tak
 -- what a reader of items stands for
 abbrev pub item_state : {R G : Type 0} → (R → Option (List ℕ)) → (R → InputEnd) → ItemReader R G → ReaderState G
 item_state left ending r = reader_state (stream left ending r.lines) r.rules
+
+-- what a reader in this state lists: what the octets that it holds say, with these behind them
+abbrev pub listed : {S X C : Type 0} → Rules S X C → ReaderState S → InputEnd → List ℕ → Listing X C
+listed r s z octets = listing r s.settled z s.taken (s.held ++ octets)
+
+-- two states of a reader list the same, whatever still comes after the ending that the second one tells
+abbrev pub ListsAs : {S X C : Type 0} → Rules S X C → ReaderState S → ReaderState S → Type 0
+ListsAs r old new = WhateverComes new.ending (λ z more. listed r old z more ≡ listed r new z more)
+
+-- a reader that holds these octets too, which it was given
+abbrev pub with_given : {S : Type 0} → ReaderState S → List ℕ → ReaderState S
+with_given s given = record { left = s.left; ending = s.ending; held = s.held ++ given; taken = s.taken; settled = s.settled }
+
+-- a reader at the start of a line: what is settled before it, how many lines were taken, and the octets from there on
+abbrev pub at_line : {S : Type 0} → ReaderState S → S → ℕ → List ℕ → ReaderState S
+at_line s settled taken rest = record { left = s.left; ending = s.ending; held = rest; taken = taken; settled = settled }
 
 -- the number of the line last answered or refused, 0 before the first
 abbrev pub item_number : {R G : Type 0} → ItemReader R G → ℕ
@@ -131,38 +145,6 @@ pub record AnswersItem {S X C : Type 0} (r : Rules S X C) (old : ReaderState S) 
   pub settled : S
   pub kept : OnlyKept r settled new.ending (lines_before answer new.taken) rest answer
   -- whatever still comes, the octets before the line have no item
-  pub skips : (more : List ℕ) (z : InputEnd) → CanFollow new.ending more z →
-      listing r old.settled z old.taken (old.held ++ given ++ more) ≡ listing r settled z (lines_before answer new.taken) (rest ++ more)
+  pub skips : ListsAs r (with_given old given) (at_line new settled (lines_before answer new.taken) rest)
   -- whatever still comes, the answer is what the text lists first
-  pub reads : (more : List ℕ) (z : InputEnd) → CanFollow new.ending more z →
-      Tells answer (listing r old.settled z old.taken (old.held ++ given ++ more)) (listing r new.settled z new.taken (new.held ++ more))
-
--- lines without items were taken off
-pub record SkipsLines {S X C : Type 0} (r : Rules S X C) (old new : ReaderState S) : Type 0 where
-  pub given : List ℕ
-  pub took : Consumes old.left new.left given
-  pub only_open : OnlyOpen old.ending given new.ending
-  pub counted : old.taken ≤ new.taken
-  pub skipped : List ℕ
-  pub off : old.held ++ given ≡ skipped ++ new.held
-  pub asked : OnlySkipped old.left old.ending old.held given skipped new.left new.ending
-  pub starts : StartsLine new.ending skipped new.held
-  pub reads : (more : List ℕ) (z : InputEnd) → CanFollow new.ending more z →
-      listing r old.settled z old.taken (old.held ++ given ++ more) ≡ listing r new.settled z new.taken (new.held ++ more)
-
--- several answers took these items off, with their lines
-pub record TakesItems {S X C : Type 0} (r : Rules S X C) (old : ReaderState S) (items : List (ℕ × X)) (new : ReaderState S) : Type 0 where
-  pub given : List ℕ
-  pub took : Consumes old.left new.left given
-  pub only_open : OnlyOpen old.ending given new.ending
-  pub counted : old.taken ≤ new.taken
-  pub lines : List ℕ
-  pub off : old.held ++ given ≡ lines ++ new.held
-  pub starts : StartsLine new.ending lines new.held
-  pub reads : (more : List ℕ) (z : InputEnd) → CanFollow new.ending more z →
-      listing r old.settled z old.taken (old.held ++ given ++ more) ≡ put_items items (listing r new.settled z new.taken (new.held ++ more))
-
--- what one line gives: nothing, and then it was taken off, or an answer
-abbrev pub Tries : {S X C : Type 0} → Rules S X C → ReaderState S → ℕ → Tried X C → ReaderState S → ℕ → Type 0
-Tries r old m tried.Skipped new n = SkipsLines r old new × (new.taken ≡ old.taken + 1) × (new.taken ≤ 1000000) × (n ≡ m)
-Tries r old m (tried.Answered a) new n = AnswersItem r old (answer_of n a) new × (n ≡ item_number_told (answer_of n a) m)
+  pub reads : WhateverComes new.ending (λ z more. Tells answer (listed r (with_given old given) z more) (listed r new z more))

@@ -6,7 +6,7 @@ use Rattle.list_core.specs.declared.line_rules.ItemFault.{ItemFault}
 use Rattle.list_core.specs.declared.line_rules.ItemFault.TheVariants as fault
 use Rattle.list_core.specs.declared.line_rules.LineError.{LineError}
 use Rattle.list_core.specs.declared.line_rules.LineError.TheVariants as line
-use Rattle.list_core.specs.Lines.{Reading, Stop, finished, unfinished, faulty, reading}
+use Rattle.list_core.specs.Lines.{LineListing, Stop, finished, unfinished, faulty, reading}
 
 -- The rules of a kind of list: what a line says, given what the lines before it settled. S is what lines settle, as
 -- the unit of the moments behind them, X what a line gives, and C why one is refused.
@@ -58,7 +58,7 @@ items_said r s n [] stop = stops (close r s n stop)
 items_said r s n (l ∷ ls) stop = put_said n (r.said s l) (λ t. items_said r t (n + 1) ls stop)
 
 -- the items of a reading that follows n lines
-abbrev pub items_in : {S X C : Type 0} → Rules S X C → S → ℕ → Reading → Listing X C
+abbrev pub items_in : {S X C : Type 0} → Rules S X C → S → ℕ → LineListing → Listing X C
 items_in r s n l = items_said r s n l.lines l.stop
 
 -- the items of a text that follows n lines, with the ending of its source

@@ -4,6 +4,7 @@ pub mod Lines
 pub mod FirstLine
 pub mod Reader
 pub mod EventLine
+pub mod EventText
 pub mod WriteAnswer
 pub mod Items
 pub mod ItemReader

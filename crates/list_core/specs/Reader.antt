@@ -8,8 +8,7 @@ use Rattle.std.specs.Borrow.{Bor}
 use Rattle.std.specs.Io.KnownBytes.{Consumes}
 use Rattle.list_core.specs.Cuts.{HasNo}
 use Rattle.list_core.specs.Device.{GivesOctets, OnlyOpen}
-use Rattle.list_core.specs.Lines.{Reading, reading, put_line, finished, faulty, CanFollow, StartsLine}
-use Rattle.list_core.specs.FirstLine.{IsFront}
+use Rattle.list_core.specs.Lines.{LineListing, reading, put_line, finished, faulty, StartsLine, WhateverComes}
 
 -- a text that is being read: what the source has left and how it ends, the octets that are held and not answered, and the count of lines taken before
 pub record Stream : Type 0 where
@@ -26,18 +25,8 @@ held r = slice_range r.buffer r.start r.end
 abbrev pub stream : {R : Type 0} → (R → Option (List ℕ)) → (R → InputEnd) → LineReader R → Stream
 stream left ending r = record { left = left r.reader; ending = ending r.reader; held = held r; taken = r.taken }
 
--- what stands first in s: a line of so many octets, the end, or a fault in the next line
-abbrev pub StandsFirst : Stream → Result (Option ℕ) ListFault → Type 0
-StandsFirst s (Ok x) = IsFront s.ending s.taken s.held (Ok x)
-StandsFirst s (Err f) = (f.line ≡ s.taken + 1) × IsFront s.ending s.taken s.held (Err f.cause)
-
--- the number of the line last answered or refused, after it was looked at what stands first: a fault is told with its line, and nothing else is answered yet
-abbrev pub number_after : {T : Type 0} → ℕ → Result T ListFault → ℕ
-number_after n (Ok x) = n
-number_after n (Err f) = f.line
-
 -- what an answer says of the text before it and the text after it
-abbrev pub Answered : Result (Option (List ℕ)) ListFault → Reading → Reading → Type 0
+abbrev pub Answered : Result (Option (List ℕ)) ListFault → LineListing → LineListing → Type 0
 Answered (Ok (Some line)) whole rest = whole ≡ put_line line rest
 Answered (Ok None) whole rest = (whole ≡ record { lines = []; stop = finished }) × (rest ≡ whole)
 Answered (Err f) whole rest = (whole ≡ record { lines = []; stop = faulty f }) × (rest ≡ whole)
@@ -71,20 +60,13 @@ pub record AnswersLine (old : Stream) (answer : Result (Option (List ℕ)) ListF
   pub counted : Counted answer old.taken new.taken
   pub bounded : length (old.held ++ given) ≤ 8192
   pub off : TakesLineOff answer new.ending (old.held ++ given) new.held
-  pub reads : (more : List ℕ) (z : InputEnd) → CanFollow new.ending more z →
-      Answered answer (reading z old.taken (old.held ++ given ++ more)) (reading z new.taken (new.held ++ more))
+  pub reads : WhateverComes new.ending (λ z more. Answered answer (reading z old.taken (old.held ++ given ++ more)) (reading z new.taken (new.held ++ more)))
 
 -- the line that an answer lends
 abbrev pub lent_line : Result (Option (Bor (List ℕ))) ListFault → Result (Option (List ℕ)) ListFault
 lent_line (Ok None) = Ok None
 lent_line (Ok (Some s)) = Ok (Some s.now)
 lent_line (Err f) = Err f
-
--- the line that lies in a buffer at these places
-abbrev pub line_at : List ℕ → Result (Option (ℕ × ℕ)) ListFault → Result (Option (List ℕ)) ListFault
-line_at buffer (Ok None) = Ok None
-line_at buffer (Ok (Some p)) = Ok (Some (slice_range buffer p.0 p.1))
-line_at buffer (Err f) = Err f
 
 -- the number of the line last answered or refused
 abbrev pub reader_number : {R : Type 0} → LineReader R → ℕ

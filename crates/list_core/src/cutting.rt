@@ -1,6 +1,7 @@
 //! The octet that divides lines or fields.
 ghost use Rattle.std.specs.Prelude.{◌≡◌, ◌≤◌, ◌<◌, ◌∷◌, length, take, true, IfSome};
-ghost use Rattle.list_core.specs.Cuts.{HasNo, IsFirst, cut_at, parts_after};
+ghost use Rattle.list_core.specs.Cuts.{HasNo, cut_at, parts_after};
+ghost use Rattle.list_core.specs.computed.PrivateOctets.{IsFirstPlace};
 
 /// How many octets are passed over at once where none of them is the wanted one.
 const PIECE: usize = 64;
@@ -13,7 +14,7 @@ const FEW: usize = 4;
 
 /// The place of the first such octet.
 pub(crate) fn find(octets: &[u8], wanted: u8) -> Option<usize>
-    ensures { IsFirst wanted octets.now result }
+    ensures { IsFirstPlace wanted octets.now result }
 {
     let start = pass_pieces(octets, 0, PIECE, wanted);
     let start = pass_pieces(octets, start, SHORT_PIECE, wanted);
@@ -42,7 +43,7 @@ pub(crate) fn cut_short(octets: &[u8], divider: u8) -> (&[u8], Option<&[u8]>)
 
 /// The part in front of the first divider, whose place is known, and what follows that.
 fn cut_there(octets: &[u8], first: Option<usize>, divider: u8) -> (&[u8], Option<&[u8]>)
-    requires { IsFirst divider octets.now first }
+    requires { IsFirstPlace divider octets.now first }
     ensures parts { cut_at divider octets.now ≡ result.0.now ∷ parts_after divider result.1 }
     ensures front { length result.0.now ≤ length octets.now }
     ensures rest { IfSome result.1 (λ rest. length rest.now ≤ length octets.now) }
@@ -56,7 +57,7 @@ fn cut_there(octets: &[u8], first: Option<usize>, divider: u8) -> (&[u8], Option
 /// The place of the first such octet, octet by octet. A call of its own, since its loop is slower where it is inlined.
 #[inline(never)]
 fn find_each(octets: &[u8], wanted: u8) -> Option<usize>
-    ensures { IsFirst wanted octets.now result }
+    ensures { IsFirstPlace wanted octets.now result }
 {
     octets.iter().position(|octet| *octet == wanted)
 }

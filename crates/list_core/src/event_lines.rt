@@ -33,7 +33,12 @@ impl<A: Allocator + Copy> LineRules<A> for EventLines {
     ghost rules = { event_rules };
 
     #[inline(always)]
-    fn item_in(&mut self, alloc: A, line: &[u8]) -> Result<Option<Event<A>>, LineError<ListCause>> {
+    fn item_in(
+        &mut self,
+        alloc: A,
+        spare: &mut Option<Event<A>>,
+        line: &[u8],
+    ) -> Result<Option<Event<A>>, LineError<ListCause>> {
         let unit = match *self {
             EventLines::After(unit) => unit,
             EventLines::First => match line {
@@ -44,7 +49,7 @@ impl<A: Allocator + Copy> LineRules<A> for EventLines {
                 _ => MomentUnit::Milliseconds,
             },
         };
-        match event_in(alloc, unit, line) {
+        match event_in(alloc, spare, unit, line) {
             Ok(event) => {
                 *self = EventLines::After(unit);
                 Ok(event)

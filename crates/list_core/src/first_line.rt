@@ -1,7 +1,8 @@
 //! What stands first in the octets that a reader of lines holds.
 ghost use Rattle.std.specs.Prelude.{◌≡◌, ◌≢◌, ◌<◌, ◌≤◌, ◌⊎◌, length, take, IfNone, OnOk};
 ghost use Rattle.list_core.specs.declared.device.InputEnd.{InputEnd};
-ghost use Rattle.list_core.specs.Cuts.{HasNo, IsFirst};
+ghost use Rattle.list_core.specs.Cuts.{HasNo};
+ghost use Rattle.list_core.specs.computed.PrivateOctets.{IsFirstPlace};
 ghost use Rattle.list_core.specs.Lines.{without_cr};
 ghost use Rattle.list_core.specs.FirstLine.{IsFront};
 
@@ -32,7 +33,7 @@ pub(crate) fn judge(
     taken: u64,
     ending: InputEnd,
 ) -> Result<Option<usize>, ListCause>
-    requires first { IsFirst 10 held.now first }
+    requires first { IsFirstPlace 10 held.now first }
     requires whole { IfNone first ((4096 < length held.now) ⊎ (ending ≢ InputEnd.Open)) }
     ensures front { IsFront ending taken held.now result }
     ensures ok { OnOk result (IfNone first (ending ≡ InputEnd.End)) }

@@ -33,7 +33,8 @@ pub struct ItemReader<R, G> {
 }
 
 impl<R: Source, G> ItemReader<R, G> {
-    ghost use Rattle.list_core.specs.ItemReader.{AnswersItem, Tries, answer_of, item_number, item_state, item_number_told};
+    ghost use Rattle.list_core.specs.ItemReader.{AnswersItem, answer_of, item_number, item_state, item_number_told};
+    ghost use Rattle.list_core.specs.computed.PrivateCalls.{Tries};
 
     /// A reader of the list that the source gives.
     pub fn new(reader: R, rules: G) -> Self
@@ -60,7 +61,11 @@ impl<R: Source, G> ItemReader<R, G> {
 
     /// Tries the next line.
     #[inline(always)]
-    fn try_line<A: Allocator + Copy>(&mut self, alloc: A) -> Tried<G::Item, G::Cause>
+    fn try_line<A: Allocator + Copy>(
+        &mut self,
+        alloc: A,
+        spare: &mut Option<G::Item>,
+    ) -> Tried<G::Item, G::Cause>
     where
         G: LineRules<A>,
         ensures { Tries G.rules (item_state R.left R.ending self.old) (item_number self.old) result (item_state R.left R.ending self.new) (item_number self.new) }
@@ -77,7 +82,7 @@ impl<R: Source, G> ItemReader<R, G> {
                     Tried::Answered(Err(ItemError::Fault(ItemFault::Line(self.number, cause))))
                 }
             },
-            Ok(Some(size)) => match self.rules.item_in(alloc, self.lines.front(size)) {
+            Ok(Some(size)) => match self.rules.item_in(alloc, spare, self.lines.front(size)) {
                 Ok(None) => {
                     self.lines.take(size);
                     Tried::Skipped
@@ -98,11 +103,12 @@ impl<R: Source, G> ItemReader<R, G> {
 
     /// The next item, or None at the list's end. Lines without items are passed over. After a
     /// fault every later call answers the same fault, and after None it answers None. After want
-    /// of memory the next call tries the same line again.
+    /// of memory the next call tries the same line again. An earlier item that is spare may be taken, for its memory.
     #[inline(always)]
     pub fn next<A: Allocator + Copy>(
         &mut self,
         alloc: A,
+        spare: &mut Option<G::Item>,
     ) -> Result<Option<G::Item>, ItemError<G::Cause>>
     where
         G: LineRules<A>,
@@ -110,7 +116,7 @@ impl<R: Source, G> ItemReader<R, G> {
         ensures number { item_number self.new ≡ item_number_told (answer_of (item_number self.new) result) (item_number self.old) }
     {
         'tries: loop {
-            match self.try_line(alloc) {
+            match self.try_line(alloc, spare) {
                 Tried::Skipped => {}
                 Tried::Answered(answer) => return answer,
             }

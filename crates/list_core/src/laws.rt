@@ -3,7 +3,8 @@
 ghost use Rattle.std.specs.Prelude.{◌≡◌, ℕ, ◌+◌, ◌<◌, ◌↔◌, Bool, List, ◌++◌, codes};
 ghost use Rattle.list_core.specs.declared.device.InputEnd.{InputEnd};
 ghost use Rattle.list_core.specs.declared.event.Event.{Event};
-ghost use Rattle.list_core.specs.EventLine.{event_of, event_rules, event_text, mode_text, IsListable, HoldsOctets, WritesMoment, WritesOctets};
+ghost use Rattle.list_core.specs.EventLine.{event_of, event_rules, WritesMoment, WritesOctets};
+ghost use Rattle.list_core.specs.EventText.{event_text, mode_text, IsListable, HoldsOctets};
 ghost use Rattle.list_core.specs.Items.{Rules, listing, put_item};
 ghost use Rattle.list_core.specs.declared.event.EventKind.TheVariants.{Frame, Clock, Mode};
 ghost use Rattle.list_core.specs.declared.event_lines.MomentUnit.{MomentUnit};

@@ -2,9 +2,11 @@
 ghost use Rattle.std.specs.Prelude.{◌≡◌, ◌≢◌, ℕ, ◌+◌, ◌-◌, ◌<◌, ◌≤◌, ◌⊎◌, List, [], ◌++◌, length, take, slice_range, drop, MatchOption, MatchResult, IfNone, IfSome, IfOk};
 ghost use Rattle.std.specs.Io.KnownBytes.{Consumes};
 ghost use Rattle.list_core.specs.declared.device.InputEnd.{InputEnd};
-ghost use Rattle.list_core.specs.Cuts.{HasNo, IsFirst};
+ghost use Rattle.list_core.specs.Cuts.{HasNo};
+ghost use Rattle.list_core.specs.computed.PrivateOctets.{IsFirstPlace};
 ghost use Rattle.list_core.specs.Lines.{without_cr};
-ghost use Rattle.list_core.specs.Device.{ending_after, KeepsOrForgets, GivesOctets, TakesTo, OnlyOpen};
+ghost use Rattle.list_core.specs.Device.{ending_after, KeepsOrForgets, GivesOctets, OnlyOpen};
+ghost use Rattle.list_core.specs.computed.PrivateOctets.{TakesTo};
 
 use crate::cutting::find;
 use crate::device::{DeviceFault, InputEnd, Source};
@@ -30,7 +32,8 @@ pub struct LineReader<R> {
 }
 
 impl<R: Source> LineReader<R> {
-    ghost use Rattle.list_core.specs.Reader.{held, stream, OnlyWanting, StandsFirst, number_after, AnswersLine, line_at, lent_line, reader_number, line_number_told};
+    ghost use Rattle.list_core.specs.Reader.{held, stream, OnlyWanting, AnswersLine, lent_line, reader_number, line_number_told};
+    ghost use Rattle.list_core.specs.computed.PrivateCalls.{StandsFirst, number_after, line_at};
     ghost use Rattle.std.specs.Borrow.{sem};
     ghost use Rattle.std.specs.Io.BufRead.{Rests};
     ghost use Rattle.list_core.specs.contracts.line_reader.LineReader.{the_row};
@@ -111,7 +114,7 @@ impl<R: Source> LineReader<R> {
     fn look(&self, scanned: usize) -> Option<usize>
         requires within { scanned ≤ length (held self.now) }
         requires before { HasNo 10 (take scanned (held self.now)) }
-        ensures { IsFirst 10 (held self.now) result }
+        ensures { IsFirstPlace 10 (held self.now) result }
     {
         let held = &self.buffer[self.start..self.end];
         match find(&held[scanned..], b'\n') {
@@ -127,7 +130,7 @@ impl<R: Source> LineReader<R> {
             × MatchOption result (TakesTo (R.ending self.new.reader) (R.left self.old.reader) (R.left self.new.reader) given)
             (λ _. Consumes (R.left self.old.reader) (R.left self.new.reader) given)
             × OnlyWanting (R.left self.old.reader) (R.ending self.old.reader) (held self.old) given (R.left self.new.reader) (R.ending self.new.reader) }
-        ensures line { IsFirst 10 (held self.new) result }
+        ensures line { IsFirstPlace 10 (held self.new) result }
         ensures none { IfNone result ((4096 < length (held self.new)) ⊎ (R.ending self.new.reader ≢ InputEnd.Open)) }
         ensures taken { self.new.taken ≡ self.old.taken }
         ensures number { self.new.number ≡ self.old.number }

@@ -35,10 +35,12 @@ pub trait LineRules<A: Allocator> {
     /// The rules, as functions of a line and of what those before it settled.
     ghost rules: { Rules Self Self.Item Self.Cause };
 
-    /// Reads a line, of at most 4,096 octets. Nothing is settled by a line that is refused, and none for want of memory.
+    /// Reads a line, of at most 4,096 octets. Nothing is settled by a line that is refused, nor where memory is wanted.
+    /// An earlier item that is spare may be taken, for its memory.
     fn item_in(
         &mut self,
         alloc: A,
+        spare: &mut Option<Self::Item>,
         line: &[u8],
     ) -> Result<Option<Self::Item>, LineError<Self::Cause>>
         requires { length line.now ≤ 4096 }

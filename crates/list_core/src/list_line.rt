@@ -1,7 +1,7 @@
 //! One line of a list: the event that it says.
 ghost use Rattle.std.specs.Prelude.{◌≡◌, ℕ, List, Option, None, Err, ◌<◌, length, ◌∷◌, [], MatchOption};
 ghost use Rattle.list_core.specs.EventLine.{event_of, event_of_fields, fields, fields_keep, frame_event, is_moment, mode_of, moment_of, frame_octets_by};
-ghost use Rattle.list_core.specs.computed.LineAnswer.{Answers, IsRead, fields_after};
+ghost use Rattle.list_core.specs.computed.LineAnswer.{Answers, OctetsAreRead, fields_after};
 
 use crate::cutting::{cut_short, find};
 use crate::decimal::decimal_in;
@@ -29,6 +29,7 @@ const MOST_HEX_DIGITS: usize = 4000;
 #[inline(always)]
 pub(crate) fn event_in<A: Allocator + Copy>(
     alloc: A,
+    spare: &mut Option<Event<A>>,
     unit: MomentUnit,
     line: &[u8],
 ) -> Result<Option<Event<A>>, LineError<ListCause>>
@@ -36,7 +37,7 @@ pub(crate) fn event_in<A: Allocator + Copy>(
 {
     match line {
         [] | [b'#', ..] => Ok(None),
-        _ => event_in_fields(alloc, unit, line),
+        _ => event_in_fields(alloc, spare, unit, line),
     }
 }
 
@@ -44,6 +45,7 @@ pub(crate) fn event_in<A: Allocator + Copy>(
 #[inline(always)]
 fn event_in_fields<A: Allocator + Copy>(
     alloc: A,
+    spare: &mut Option<Event<A>>,
     unit: MomentUnit,
     line: &[u8],
 ) -> Result<Option<Event<A>>, LineError<ListCause>>
@@ -55,7 +57,7 @@ fn event_in_fields<A: Allocator + Copy>(
     };
     match name {
         [b'C'] => clock_in(unit, rest),
-        [b'F'] => frame_in(alloc, unit, rest),
+        [b'F'] => frame_in(alloc, spare, unit, rest),
         [b'M'] => mode_in(unit, rest),
         _ => Err(LineError::Cause(ListCause::LineForm)),
     }
@@ -88,6 +90,7 @@ fn clock_in<A: Allocator>(
 #[inline(always)]
 fn frame_in<A: Allocator + Copy>(
     alloc: A,
+    spare: &mut Option<Event<A>>,
     unit: MomentUnit,
     rest: &[u8],
 ) -> Result<Option<Event<A>>, LineError<ListCause>>
@@ -101,21 +104,39 @@ fn frame_in<A: Allocator + Copy>(
         return Err(LineError::Cause(ListCause::LineForm));
     }
     // Digits that write octets are one field, since none of them is a space.
-    match frame_octets_in(alloc, digits) {
+    match frame_octets_in(alloc, spare, digits) {
         Some(octets) => frame_event(unit, moment, octets),
         None => Err(LineError::Cause(why_no_frame::<A>(unit, moment, digits))),
     }
 }
 
+/// Memory for octets: that of a spare event, if it has some.
+#[inline(always)]
+fn memory_of<A: Allocator>(alloc: A, spare: &mut Option<Event<A>>) -> Vec<u8, A> {
+    match spare.take() {
+        Some(
+            Event {
+                moment: _,
+                kind: EventKind::Frame(octets),
+            },
+        ) => octets.into_vec(),
+        _ => Vec::new(alloc),
+    }
+}
+
 /// The octets of a frame that digits write, or that memory is wanted for them; none where they write none.
 #[inline(always)]
-fn frame_octets_in<A: Allocator>(alloc: A, digits: &[u8]) -> Option<Result<Octets<A>, AllocError>>
-    ensures { MatchOption result (frame_octets_by digits.now ≡ None) (λ read. IsRead read (frame_octets_by digits.now)) }
+fn frame_octets_in<A: Allocator>(
+    alloc: A,
+    spare: &mut Option<Event<A>>,
+    digits: &[u8],
+) -> Option<Result<Octets<A>, AllocError>>
+    ensures { MatchOption result (frame_octets_by digits.now ≡ None) (λ read. OctetsAreRead read (frame_octets_by digits.now)) }
 {
     if digits.is_empty() || digits.len() > MOST_HEX_DIGITS || digits.len() % 2 != 0 {
         return None;
     }
-    octets_by(alloc, digits)
+    octets_by(memory_of(alloc, spare), digits)
 }
 
 /// The frame event of a moment and of octets that were read.
@@ -125,7 +146,7 @@ fn frame_event<A: Allocator>(
     moment: &[u8],
     octets: Result<Octets<A>, AllocError>,
 ) -> Result<Option<Event<A>>, LineError<ListCause>>
-    ensures { (written : Option (List ℕ)) → IsRead octets written → Answers result (frame_event (moment_of unit moment.now) written) (is_moment unit moment.now) }
+    ensures { (written : Option (List ℕ)) → OctetsAreRead octets written → Answers result (frame_event (moment_of unit moment.now) written) (is_moment unit moment.now) }
 {
     let Some(moment) = moment_in(unit, moment) else {
         return Err(LineError::Cause(ListCause::Moment));

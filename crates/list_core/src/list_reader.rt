@@ -1,9 +1,9 @@
 //! The events of a list, one at a time.
-ghost use Rattle.std.specs.Prelude.{◌≡◌, []};
+ghost use Rattle.std.specs.Prelude.{◌≡◌, [], ℕ};
 ghost use Rattle.list_core.specs.declared.event.Event.{Event as SpecEvent};
 ghost use Rattle.list_core.specs.declared.list_fault.ListCause.{ListCause as SpecCause};
-ghost use Rattle.list_core.specs.ItemReader.{Answer};
-ghost use Rattle.list_core.specs.ListReader.{list_fault_of};
+ghost use Rattle.list_core.specs.ItemReader.{Answer, answer_of};
+ghost use Rattle.list_core.specs.ListReader.{IsToldAs, list_fault_of};
 ghost use Rattle.list_core.specs.declared.event_lines.EventLines.TheVariants.{First};
 ghost use Rattle.list_core.specs.EventLine.{event_rules};
 
@@ -43,6 +43,19 @@ pub fn fault_of_list(fault: &ItemFault<ListCause>) -> ListFault
             line: *line,
             cause: *cause,
         },
+    }
+}
+
+/// An answer about the items of a list of events, as one about its events.
+fn told_of_list<A: Allocator>(
+    answer: Result<Option<Event<A>>, ItemError<ListCause>>,
+) -> Result<Option<Event<A>>, ListError>
+    ensures { (n : ℕ) → IsToldAs n (answer_of n answer) result }
+{
+    match answer {
+        Ok(event) => Ok(event),
+        Err(ItemError::Fault(fault)) => Err(ListError::Fault(fault_of_list(&fault))),
+        Err(ItemError::Memory(error)) => Err(ListError::Memory(error)),
     }
 }
 
@@ -87,10 +100,7 @@ impl<R: Source> ListReader<R> {
         ensures event { (answer : Answer (SpecEvent A) SpecCause) × AnswersItem event_rules (list_state R.left R.ending self.old) answer (list_state R.left R.ending self.new)
             × IsToldAs (list_number self.new) answer result × (list_number self.new ≡ item_number_told answer (list_number self.old)) }
     {
-        match self.items.next(alloc) {
-            Ok(event) => Ok(event),
-            Err(ItemError::Fault(fault)) => Err(ListError::Fault(fault_of_list(&fault))),
-            Err(ItemError::Memory(error)) => Err(ListError::Memory(error)),
-        }
+        let mut spare = None;
+        told_of_list(self.items.next(alloc, &mut spare))
     }
 }

@@ -3,7 +3,7 @@ ghost use Rattle.std.specs.Prelude.{◌≡◌, ◌+◌, ◌*◌, ◌^◌, ◌<�
 ghost use Rattle.std.specs.Fmt.{decimal};
 ghost use Rattle.arrayvec.specs.ArrayVec.{array_vec_len};
 ghost use Rattle.hex.specs.Hex.{encode_lower};
-ghost use Rattle.list_core.specs.EventLine.{event_text, kind_text, IsListable};
+ghost use Rattle.list_core.specs.EventText.{event_text, kind_text, IsListable};
 ghost use Rattle.list_core.specs.WriteAnswer.{WritesListable, write_failed};
 ghost use Rattle.list_core.specs.declared.event.EventKind.TheVariants.{Frame, Clock, Mode};
 
@@ -98,7 +98,7 @@ fn listed_mode(moment: u64, on: bool) -> ArrayVec<u8, LONGEST>
 /// Writes an event as its one line: the moment in microseconds without leading zeros, the octets in
 /// lower case hexadecimal, and LF. Such a line belongs behind a first line `V2`. Takes no memory.
 /// `NotListable` exactly where the moment is over 999,999,999,999,999,999 microseconds or the frame
-/// has 0 octets or over 2,000; nothing was written then. `WriteFailed` after a front of the line was
+/// has 0 octets or over 2,000; nothing was written then. `WriteFailed` after a prefix of the line was
 /// written.
 pub fn write_event<A: Allocator, W: Sink>(
     writer: &mut W,
@@ -144,7 +144,7 @@ fn write_mode<W: Sink>(writer: &mut W, moment: u64, on: bool) -> Result<(), Writ
 
 /// Writes a frame as its one line, as `write_event` does where an event holds it. Takes no memory. `NotListable` exactly
 /// where the moment is over 999,999,999,999,999,999 microseconds or the frame has 0 octets or over 2,000; nothing was
-/// written then. `WriteFailed` after a front of the line was written.
+/// written then. `WriteFailed` after a prefix of the line was written.
 pub fn write_frame<W: Sink>(writer: &mut W, moment: u64, frame: &[u8]) -> Result<(), WriteFault>
     requires { W.failed writer.old ≡ false }
     ensures written { WritesListable ((moment < 10 ^ 18) × ((0 < length frame.now) × (length frame.now ≤ 2000)))

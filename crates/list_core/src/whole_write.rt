@@ -14,12 +14,12 @@ pub enum WriteFault {
     /// over 2,000. Nothing was written.
     #[error("no line of a list can hold the event")]
     NotListable,
-    /// The sink failed, after a front of the octets was written.
+    /// The sink failed, after a prefix of the octets was written.
     #[error("writing failed")]
     WriteFailed,
 }
 
-/// Writes all octets, or answers `WriteFailed` alone, and then a front of them was written.
+/// Writes all octets, or answers `WriteFailed` alone, and then a prefix of them was written.
 pub fn put_all<W: Sink>(writer: &mut W, octets: &[u8]) -> Result<(), WriteFault>
     requires { W.failed writer.old ≡ false }
     ensures written { MatchResult result

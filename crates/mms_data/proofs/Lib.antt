@@ -6,6 +6,7 @@ pub mod Again
 pub mod Found
 pub mod Wrong
 pub mod WrongAgain
+pub mod Booleans
 pub mod Checked
 pub mod Front
 pub mod Few

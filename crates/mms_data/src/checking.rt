@@ -1,6 +1,6 @@
 // Whether octets spell members, with no memory.
 
-ghost use Rattle.std.specs.Prelude.{◌≡◌, ◌<◌, ◌≤◌, ◌+◌, ◌-◌, List, length, slice_range, true, Ok, Err, IfOk, IfErr};
+ghost use Rattle.std.specs.Prelude.{◌≡◌, ◌<◌, ◌≤◌, ◌+◌, ◌-◌, ◌∷◌, ◌⊎◌, [], List, length, slice_range, true, Ok, Err, IfOk, IfErr, IfSome};
 ghost use Rattle.ber_core.specs.declared.fault.Fault.{Fault};
 ghost use Rattle.mms_data.specs.Data.{Data};
 ghost use Rattle.mms_data.specs.computed.Left.{less};
@@ -98,6 +98,31 @@ fn count_members<const NOTES: bool>(
     Ok((count, written))
 }
 
+// The contents of the boolean at `at`, where that has three octets.
+#[inline(always)]
+fn short_boolean(octets: &[u8], at: usize, end: usize) -> Option<u8>
+    requires order { at ≤ end }
+    requires inside { end ≤ length octets.now }
+    ensures next { IfSome result (λ _. at + 3 ≤ end) }
+    ensures there { IfSome result (λ n. slice_range octets.now at (at + 3) ≡ 0x83 ∷ 1 ∷ n ∷ []) }
+{
+    if end - at < 3 {
+        return None;
+    }
+    match &octets[at..at + 3] {
+        [0x83, 1, octet] => Some(*octet),
+        _ => None,
+    }
+}
+
+// Whether an octet is the one that is written for false, or the one for true.
+#[inline(always)]
+fn is_written_truth(octet: u8) -> bool
+    ensures { result ≡ true → (octet ≡ 0) ⊎ (octet ≡ 0xff) }
+{
+    matches!(octet, 0 | 0xff)
+}
+
 // The place after the member at `at`, and whether that is known to stand in its written form.
 #[inline(always)]
 #[cycle(checking)]
@@ -116,6 +141,10 @@ fn pass_member<const NOTES: bool>(
 {
     if depth == 0 {
         return Err(Cause::TooDeep.at(at));
+    }
+    // Booleans, which are met most, are read at once.
+    if let Some(octet) = short_boolean(octets, at, end) {
+        return Ok((at + 3, NOTES & is_written_truth(octet)));
     }
     // The header is read first, so that the contents are judged where the kind is told; but a fault of the kind comes
     // before one of the header.

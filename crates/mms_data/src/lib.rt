@@ -25,6 +25,7 @@ pub mod writing;
 pub use crate::checking::check_members;
 pub use crate::elements::put_element;
 pub use crate::fault::{PutFault, ReadFault};
+pub use crate::measuring::header_length;
 pub use crate::reading::{counted_members, members, read_members};
 pub use crate::spellable::{are_spellable, is_spellable};
 pub use crate::time::UtcTime;

@@ -8,8 +8,9 @@ use crate::value::{Value, ValueList};
 use ber_core::{octet_count, signed_count};
 use std::alloc::Allocator;
 
-// How many octets an identifier and the length of `size` octets of contents have.
-pub(crate) fn header_length(size: usize) -> usize
+/// How many octets an identifier and the shortest length of `size` octets of contents have (ISO/IEC 8825-1, 8.1.3). `size` is at most
+/// 4294967295.
+pub fn header_length(size: usize) -> usize
     requires { size < 2 ^ 32 }
     ensures exact { result ≡ header_size size }
     ensures few { result ≤ 6 }

@@ -66,8 +66,9 @@ impl<'a> Members<'a> {
     ghost use Rattle.mms_data.specs.computed.Reading.{contents_at, members_at};
     ghost use Rattle.mms_data.specs.Spelling.{SpellSome, SpellsAll};
 
-    // The octets of the members, where they are known to be the written forms of the members, one after the other.
-    pub(crate) fn as_written(self) -> Option<&'a [u8]>
+    /// The octets of the members, where they are known to be the written forms of the members, one after the other; `None`
+    /// says nothing.
+    pub fn as_written(self) -> Option<&'a [u8]>
         ensures { IfSome result (λ o. o.now ≡ written_all (left self.entry)) }
     {
         if self.written {

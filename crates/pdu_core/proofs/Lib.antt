@@ -17,8 +17,10 @@ pub mod SampledWrittenSpelled
 pub mod SampledSpelledSpellable
 pub mod SampledSpellableTests
 pub mod WrittenSpelled
+pub mod ShortFields
 pub mod Texts
 pub mod ApduSizes
+pub mod GooseSizes
 pub mod ValueLaws
 pub mod KeptValues
 pub mod SpellableTests

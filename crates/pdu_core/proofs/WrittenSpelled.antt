@@ -29,10 +29,10 @@ use Rattle.mms_data.proofs.Sizes.{element_size}
 
 -- ---- contents, kind by kind
 
-number_written : (n : ℕ) → n < 2 ^ 32 → SpellsContents a_kind_of_number (a_number n) (short_integer (pos n))
+pub number_written : (n : ℕ) → n < 2 ^ 32 → SpellsContents a_kind_of_number (a_number n) (short_integer (pos n))
 number_written n small = (omega (arith, ints), omega (arith, ints), (integer_shortest (pos n) (omega (arith, ints)) (omega (arith, ints))).spells)
 
-flag_written : (b : Bool) → SpellsContents flag (a_flag b) (written_item (a_flag b))
+pub flag_written : (b : Bool) → SpellsContents flag (a_flag b) (written_item (a_flag b))
 flag_written true = (255, refl, refl)
 flag_written false = (0, refl, refl)
 

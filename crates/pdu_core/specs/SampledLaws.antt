@@ -1,8 +1,9 @@
 -- What the definitions of Sampled Values say together: octets have one reading, and what is written is spelled.
-use Rattle.std.specs.Prelude.{◌≡◌, ◌⊎◌, ℕ, List}
+use Rattle.std.specs.Prelude.{◌≡◌, ◌⊎◌, ℕ, ◌≤◌, List, length, slice_range, Ok, Err}
 use Rattle.ber_core.specs.declared.fault.Fault.{Fault}
 use Rattle.ber_core.specs.Length.{AreOctets}
-use Rattle.pdu_core.specs.Sampled.{SpellsAsdus, SpellsSv, SvFault}
+use Rattle.pdu_core.specs.Sampled.{SpellsAsdus, SpellsSv, SvFault, items_of_each}
+use Rattle.pdu_core.specs.computed.SampledReading.{sv_at}
 use Rattle.pdu_core.specs.SampledSpellable.{IsSpellableSv}
 use Rattle.pdu_core.specs.SampledViews.{asdus_left, asdus_region}
 use Rattle.pdu_core.specs.SampledWritten.{HasWrittenSv, written_sv}
@@ -25,6 +26,16 @@ SvPduElseFault A = (o : List ℕ) (at : ℕ) → ((p : SvPdu A) × SpellsSv p o)
 -- no octets have two first faults
 abbrev pub SvFaultIsOne : Type 0
 SvFaultIsOne = (o : List ℕ) (at : ℕ) (f g : Fault) → SvFault f at o → SvFault g at o → f ≡ g
+
+-- the values of the ASDUs of the APDU that octets from p to e spell are read, and so is the first fault that they have
+abbrev pub SvReadingTells : Type 0 → Type 0
+SvReadingTells A = (o : List ℕ) (p e : ℕ) → p ≤ e → e ≤ length o →
+    ((q : SvPdu A) → SpellsSv q (slice_range o p e) → sv_at o p e ≡ Ok (items_of_each q.asdus)) × ((f : Fault) → SvFault f p (slice_range o p e) → sv_at o p e ≡ Err f)
+
+-- what is read are the values of the ASDUs of an APDU that the octets spell, or the first fault that they have
+abbrev pub SvReadingIsTrue : Type 0 → Type 0
+SvReadingIsTrue A = (o : List ℕ) (p e : ℕ) → p ≤ e → e ≤ length o →
+    ((q : SvPdu A) → sv_at o p e ≡ Ok (items_of_each q.asdus) → SpellsSv q (slice_range o p e)) × ((f : Fault) → sv_at o p e ≡ Err f → SvFault f p (slice_range o p e))
 
 -- the written form of an APDU that has a spelling is one, unless its contents have more than 4294967295 octets
 abbrev pub WrittenSvIsSpelled : Type 0 → Type 0

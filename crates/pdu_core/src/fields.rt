@@ -1,9 +1,9 @@
 // The fields of an APDU, kind by kind: the value of each, the place behind it, and whether it and what was read before are
 // known to stand in their written form. Inlined, so that no answer is put together in memory for each field.
 
-ghost use Rattle.std.specs.Prelude.{Bool, ◌≡◌, ◌<◌, ◌≤◌, length, slice_range, IfOk, Some, None, true, false};
+ghost use Rattle.std.specs.Prelude.{Bool, ◌≡◌, ◌<◌, ◌≤◌, ◌+◌, ◌∷◌, [], length, slice_range, IfOk, IfSome, Some, None, true, false};
 ghost use Rattle.ber_core.specs.Contents.{SpellsBoolean};
-ghost use Rattle.ber_core.specs.Element.{contents_of};
+ghost use Rattle.ber_core.specs.Element.{IsIdentifier, contents_of};
 ghost use Rattle.ber_core.specs.computed.FieldReading.{field_as};
 ghost use Rattle.ber_core.specs.Fields.{always, optional, default};
 ghost use Rattle.ber_core.specs.computed.Reading.{Gives};
@@ -93,9 +93,48 @@ pub fn text_if_there<'a>(
     }
 }
 
-/// A number that is always there.
+// The one octet of contents of the element of this identifier at `at`, where that has three octets.
+#[inline(always)]
+fn one_octet(octets: &[u8], at: usize, end: usize, identifier: u8) -> Option<u8>
+    requires ordered { at ≤ end }
+    requires inside { end ≤ length octets.now }
+    ensures next { IfSome result (λ _. at + 3 ≤ end) }
+    ensures there { IfSome result (λ n. slice_range octets.now at (at + 3) ≡ identifier ∷ 1 ∷ n ∷ []) }
+{
+    if end - at < 3 {
+        return None;
+    }
+    match &octets[at..at + 3] {
+        [first, 1, octet] if *first == identifier => Some(*octet),
+        _ => None,
+    }
+}
+
+/// A number that is always there. One of one octet, as most are, is read at once.
 #[inline(always)]
 pub fn number_field(
+    octets: &[u8],
+    at: usize,
+    end: usize,
+    identifier: u8,
+    written: bool,
+) -> Result<(u32, usize, bool), Fault>
+    requires ordered { at ≤ end }
+    requires inside { end ≤ length octets.now }
+    requires identifier { IsIdentifier identifier }
+    ensures exact { Gives (λ x. (Some (a_number x.0), x.1)) result (field_as item_at identifier number always octets.now at end) }
+    ensures next { IfOk result (λ x. (at ≤ x.1) × (x.1 ≤ end)) }
+    ensures stands { IfOk result (λ x. x.2 ≡ true → (written ≡ true) × (slice_range octets.now at x.1 ≡ written_field identifier (Some (a_number x.0)))) }
+{
+    match one_octet(octets, at, end, identifier) {
+        Some(octet @ 0..=0x7f) => Ok((octet as u32, at + 3, written)),
+        _ => any_number_field(octets, at, end, identifier, written),
+    }
+}
+
+// The same of a number of any octets.
+#[inline(always)]
+fn any_number_field(
     octets: &[u8],
     at: usize,
     end: usize,
@@ -136,9 +175,32 @@ pub fn time_field(
     Ok((time, header.contents_to, written))
 }
 
-/// A boolean whose absence means false.
+/// A boolean whose absence means false. One that is 0 or FF, as most are, is read at once.
 #[inline(always)]
 pub fn flag_if_there(
+    octets: &[u8],
+    at: usize,
+    end: usize,
+    identifier: u8,
+    written: bool,
+) -> Result<(bool, usize, bool), Fault>
+    requires ordered { at ≤ end }
+    requires inside { end ≤ length octets.now }
+    requires identifier { IsIdentifier identifier }
+    ensures exact { Gives (λ x. (Some (a_flag x.0), x.1)) result (field_as item_at identifier flag (default (a_flag false)) octets.now at end) }
+    ensures next { IfOk result (λ x. (at ≤ x.1) × (x.1 ≤ end)) }
+    ensures stands { IfOk result (λ x. x.2 ≡ true → (written ≡ true) × (slice_range octets.now at x.1 ≡ written_field identifier (Some (a_flag x.0)))) }
+{
+    match one_octet(octets, at, end, identifier) {
+        Some(0) => Ok((false, at + 3, written)),
+        Some(0xff) => Ok((true, at + 3, written)),
+        _ => any_flag_if_there(octets, at, end, identifier, written),
+    }
+}
+
+// The same of a boolean with any octet.
+#[inline(always)]
+fn any_flag_if_there(
     octets: &[u8],
     at: usize,
     end: usize,

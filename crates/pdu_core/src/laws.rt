@@ -1,7 +1,7 @@
 //! Laws about the definitions that the contracts of this crate cite. The functions compute nothing.
 
-ghost use Rattle.pdu_core.specs.Laws.{FaultIsOne, PduElseFault, PduIsOne, PduOrFault, SpelledIsSpellable, WrittenIsSpelled};
-ghost use Rattle.pdu_core.specs.SampledLaws.{SeenIsOne, SeenIsSpelled, SpelledSvIsSpellable, SvFaultIsOne, SvPduElseFault, SvPduIsOne, SvPduOrFault, WrittenSvIsSpelled};
+ghost use Rattle.pdu_core.specs.Laws.{FaultIsOne, PduElseFault, PduIsOne, PduOrFault, ReadingIsTrue, ReadingTells, SpelledIsSpellable, WrittenIsSpelled};
+ghost use Rattle.pdu_core.specs.SampledLaws.{SeenIsOne, SeenIsSpelled, SpelledSvIsSpellable, SvFaultIsOne, SvPduElseFault, SvPduIsOne, SvPduOrFault, SvReadingIsTrue, SvReadingTells, WrittenSvIsSpelled};
 
 use std::alloc::Allocator;
 
@@ -17,6 +17,17 @@ pub fn one_reading<A: Allocator>()
     ensures sv_either { SvPduOrFault A }
     ensures sv_else_fault { SvPduElseFault A }
     ensures sv_fault { SvFaultIsOne }
+{}
+
+/// The functions on octets, of which the clauses `exact` speak, give the values of the APDU that octets spell, and the first
+/// fault that they have; and what they give stands in the octets.
+pub fn reading_tells<A: Allocator>()
+    ensures told { ReadingTells A }
+    ensures only { ReadingIsTrue A }
+
+    // The same of Sampled Values.
+    ensures sv_told { SvReadingTells A }
+    ensures sv_only { SvReadingIsTrue A }
 {}
 
 /// The written form of an APDU that has a spelling is one, unless its contents have more than 4294967295 octets.

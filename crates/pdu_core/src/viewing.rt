@@ -1,6 +1,6 @@
 // Seeing an APDU where it stands.
 
-ghost use Rattle.std.specs.Prelude.{◌≡◌, ◌≤◌, Err, length, slice_range, true, IfOk, IfErr};
+ghost use Rattle.std.specs.Prelude.{◌≡◌, ◌≤◌, Err, length, slice_range, true, false, IfOk, IfErr};
 ghost use Rattle.ber_core.specs.computed.Reading.{Gives};
 ghost use Rattle.ber_core.specs.declared.fault.Fault.{Fault};
 ghost use Rattle.mms_data.specs.Meaning.{left};
@@ -48,6 +48,7 @@ fn goose<'a, const NOTES: bool>(
     ensures parts { IfOk result (λ v. GooseIsPart v octets.entry) }
     ensures entries { IfOk result (λ v. v.entries ≡ length (left v.members)) }
     ensures written { IfOk result (λ v. v.written ≡ true → slice_range octets.now at end ≡ written_goose (pdu_of {A = Unit {0}} v)) }
+    ensures asked { IfOk result (λ v. v.written ≡ true → NOTES ≡ true) }
 {
     let header = required(octets, at, end, 0x61)?;
     let to = header.contents_to;
@@ -85,28 +86,6 @@ fn goose<'a, const NOTES: bool>(
     })
 }
 
-// The same, noted or not.
-#[inline(always)]
-fn noted_goose<'a>(
-    octets: &'a [u8],
-    at: usize,
-    end: usize,
-    notes: bool,
-) -> Result<GooseView<'a>, Fault>
-    requires ordered { at ≤ end }
-    requires inside { end ≤ length octets.now }
-    ensures exact { Gives (λ v. goose_items (pdu_of {A = Unit {0}} v)) result (goose_at octets.now at end) }
-    ensures parts { IfOk result (λ v. GooseIsPart v octets.entry) }
-    ensures entries { IfOk result (λ v. v.entries ≡ length (left v.members)) }
-    ensures written { IfOk result (λ v. v.written ≡ true → slice_range octets.now at end ≡ written_goose (pdu_of {A = Unit {0}} v)) }
-{
-    if notes {
-        goose::<true>(octets, at, end)
-    } else {
-        goose::<false>(octets, at, end)
-    }
-}
-
 /// What `view_goose` answers, and where `notes` is true, whether the octets are known to be the written form of the APDU.
 /// Inlined, so that who does not ask for this does not pay for it.
 ///
@@ -123,25 +102,22 @@ pub fn see_goose<'a>(
     requires ordered { at ≤ end }
     requires inside { end ≤ length octets.now }
 
-    // What is seen is spelled so, and what is spelled so is seen.
-    ensures found { IfOk result (λ v. SpellsGoose {A = Unit {0}} (pdu_of v) (slice_range octets.now at end)) }
-    ensures only { (p : GoosePdu (Unit {0})) → SpellsGoose p (slice_range octets.now at end) → ShowsGoose result p }
-
-    // The fault that is answered is there, and the fault that is there is answered.
-    ensures fault { IfErr result (λ f. GooseFault f at (slice_range octets.now at end)) }
-    ensures fault_only { (f : Fault) → GooseFault f at (slice_range octets.now at end) → result ≡ Err f }
+    // The function on octets that it computes, as `view_goose` does, whose clauses say what it finds.
+    ensures exact { Gives (λ v. goose_items (pdu_of {A = Unit {0}} v)) result (goose_at octets.now at end) }
 
     // Texts and members are parts of the octets, and the entries are counted.
     ensures parts { IfOk result (λ v. GooseIsPart v octets.entry) }
     ensures entries { IfOk result (λ v. v.entries ≡ length (left v.members)) }
 
-    // The octets are the written form of the APDU, where the view says so.
+    // The octets are the written form of the APDU, where the view says so; it says so only where that was asked.
     ensures written { IfOk result (λ v. v.written ≡ true → slice_range octets.now at end ≡ written_goose (pdu_of {A = Unit {0}} v)) }
-
-    // For callers: the function on octets that it computes.
-    ensures exact { Gives (λ v. goose_items (pdu_of {A = Unit {0}} v)) result (goose_at octets.now at end) }
+    ensures asked { IfOk result (λ v. v.written ≡ true → notes ≡ true) }
 {
-    noted_goose(octets, at, end, notes)
+    if notes {
+        goose::<true>(octets, at, end)
+    } else {
+        goose::<false>(octets, at, end)
+    }
 }
 
 /// The APDU whose one element fills the octets from `at` to `end` (IEC 61850-8-1, IECGoosePdu).
@@ -166,8 +142,8 @@ pub fn view_goose<'a>(octets: &'a [u8], at: usize, end: usize) -> Result<GooseVi
     ensures parts { IfOk result (λ v. GooseIsPart v octets.entry) }
     ensures entries { IfOk result (λ v. v.entries ≡ length (left v.members)) }
 
-    // The octets are the written form of the APDU, where the view says so.
-    ensures written { IfOk result (λ v. v.written ≡ true → slice_range octets.now at end ≡ written_goose (pdu_of {A = Unit {0}} v)) }
+    // Whether the octets are the written form of the APDU is not noted.
+    ensures unnoted { IfOk result (λ v. v.written ≡ false) }
 
     // For callers: the function on octets that it computes.
     ensures exact { Gives (λ v. goose_items (pdu_of {A = Unit {0}} v)) result (goose_at octets.now at end) }

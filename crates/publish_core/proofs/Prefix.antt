@@ -63,5 +63,5 @@ holds_same {A} {n} {t} {u} a p (Some l) b =
       state = b.state;
       sequence = b.sequence;
       step = b.step;
-      given = b.given ∙ a.now b.call b.newest.before;
+      given_at = b.given_at ∙ a.now b.call b.newest.before;
     }

@@ -19,16 +19,16 @@ use Rattle.publish_core.proofs.Whole.{poll_ok, change_ok, get_front}
 
 pub answer_one : {A : Type 0} (p : Setup A) (t : CallTrace) (i : ℕ) (a b : Option (Frame A)) → IsAnswer p t i a → IsAnswer p t i b → a ≡ b
 answer_one p t i None None x y = refl
-answer_one p t i None (Some g) x y = absurd (x y.0 y.1 y.2 y.3)
-answer_one p t i (Some f) None x y = absurd (y x.0 x.1 x.2 x.3)
+answer_one p t i None (Some g) x y = absurd (x y.c y.k y.change y.gives)
+answer_one p t i (Some f) None x y = absurd (y x.c x.k x.change x.gives)
 answer_one {A} p t i (Some f) (Some g) x y =
-    let z = gives_one x.3 y.3 in
+    let z = gives_one x.gives y.gives in
     ap (λ (o : Frame A). Some o)
-    (x.4 ∙
-    ap (λ (c : ℕ). frame p.control p.table (state_number p.first c) x.2 x.1) z.state ∙
-    ap (λ (k : ℕ). frame p.control p.table (state_number p.first y.0) x.2 k) z.frame ∙
-    ap (λ (ch : Change). frame p.control p.table (state_number p.first y.0) ch y.1) z.change ∙
-    sym y.4)
+    (x.is_frame ∙
+    ap (λ (c : ℕ). frame p.control p.table (state_number p.first c) x.change x.k) z.state ∙
+    ap (λ (k : ℕ). frame p.control p.table (state_number p.first y.c) x.change k) z.frame ∙
+    ap (λ (ch : Change). frame p.control p.table (state_number p.first y.c) ch y.k) z.change ∙
+    sym y.is_frame)
 
 list_same : {X : Type 0} (xs ys : List X) → length xs ≡ length ys → ((i : ℕ) (x y : X) → slice_get xs i ≡ Some x → slice_get ys i ≡ Some y → x ≡ y) → xs ≡ ys
 list_same [] [] e h = refl
@@ -52,7 +52,7 @@ trace_longer calls later =
 
 answer_same : {A : Type 0} {n : ℕ} {t u : CallTrace} → SameBelow n t u → (p : Setup A) (i : ℕ) (a : Option (Frame A)) → i < n → IsAnswer p t i a → IsAnswer p u i a
 answer_same e p i None lt x = λ c k change g. x c k change (gives_same (same_sym e) lt g)
-answer_same e p i (Some f) lt x = (x.0, x.1, x.2, gives_same e lt x.3, x.4)
+answer_same e p i (Some f) lt x = record { c = x.c; k = x.k; change = x.change; gives = gives_same e lt x.gives; is_frame = x.is_frame }
 
 pub answers_stay : {A : Type 0} → AnswersStay A
 answers_stay p calls later i a lt x = answer_same (trace_longer calls later) p i a lt x

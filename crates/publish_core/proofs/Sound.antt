@@ -11,7 +11,7 @@ use Rattle.publish_core.specs.computed.Step.{IsFrameOf, first_last}
 use Rattle.publish_core.proofs.NumberLaws.{sequence_number_next}
 use Rattle.publish_core.proofs.Steps.{step_next}
 
-pub next_held : {A : Type 0} (control : Control A) (table : List Step) (l : Last A) (q i now : ℕ) → q ≡ number_behind l.sequence → i ≡ min (l.step + 1) (length table - 1) → IsFrameOf control table l → IsFrameOf control table (record l { sequence = q; step = i; given = now })
+pub next_held : {A : Type 0} (control : Control A) (table : List Step) (l : Last A) (q i now : ℕ) → q ≡ number_behind l.sequence → i ≡ min (l.step + 1) (length table - 1) → IsFrameOf control table l → IsFrameOf control table (record l { sequence = q; step = i; given_at = now })
 next_held control table l q i now e f s =
     record {
       k = suc s.k;

@@ -51,7 +51,7 @@ open_in table t n i c k a some b = record { gives = b.gives; below = b.before; q
     quiet (suc m) h under later lt =
         quiet_at table t n i c k a b h later lt (λ g more less. quiet m g (omega arith) more (omega arith)) (t.request h) refl (some h lt)
 
-pub open_out : {A : Type 0} (p : Setup A) (t : CallTrace) (n i c k : ℕ) (l : Last A) → Open p.table t n i c k (change_of l) → l.state ≡ state_number p.first c → l.sequence ≡ sequence_number k → l.step ≡ step_of p.table k → l.given ≡ t.now i → HoldsNewest p t n l
+pub open_out : {A : Type 0} (p : Setup A) (t : CallTrace) (n i c k : ℕ) (l : Last A) → Open p.table t n i c k (change_of l) → l.state ≡ state_number p.first c → l.sequence ≡ sequence_number k → l.step ≡ step_of p.table k → l.given_at ≡ t.now i → HoldsNewest p t n l
 open_out p t n i c k l o state sequence step given =
     record {
       call = i;
@@ -68,7 +68,7 @@ open_out p t n i c k l o state sequence step given =
       state = state;
       sequence = sequence;
       step = step;
-      given = given;
+      given_at = given;
     }
 
 -- the calls go on by one
@@ -146,28 +146,28 @@ poll_step p t n (Some l) poll some b = go (is_due p.table l (t.now n)) refl
 
     go : (d : Bool) → is_due p.table l (t.now n) ≡ d → PublisherHolds p t (suc n) (if d then Some (next_last p.table l (t.now n)) else Some l) × IsAnswer p t n (if d then Some (last_frame p.control p.table (next_last p.table l (t.now n))) else None)
     go true is =
-        let over : l.given + 1000 * (step_at p.table l.step).wait_ms ≤ t.now n = leb-true _ _ is in
-        let given : l.given ≡ t.now b.call = b.given in
+        let over : l.given_at + 1000 * (step_at p.table l.step).wait_ms ≤ t.now n = leb-true _ _ is in
+        let given : l.given_at ≡ t.now b.call = b.given_at in
         let due : IsDue p.table t b.call b.k n = omega (arith, over, given, wait_is) in
         let x = open_next o poll due in
         let q : number_behind l.sequence ≡ sequence_number (suc b.k) = ap number_behind b.sequence ∙ sym (sequence_number_next b.k) in
         let s : min (l.step + 1) (length p.table - 1) ≡ step_of p.table (suc b.k) = ap (λ (y : ℕ). min (y + 1) (length p.table - 1)) b.step ∙ step_next p.table b.k in (
           open_out p t (suc n) n b.c (suc b.k) (next_last p.table l (t.now n)) x b.state q s refl,
-          (
-            b.c,
-            suc b.k,
-            change_of l,
-            x.gives,
-            ap (λ (y : ℕ). frame_with p.control (change_of l) y (number_behind l.sequence) (step_at p.table (min (l.step + 1) (length p.table - 1))).live_ms) b.state ∙
+          record {
+            c = b.c;
+            k = suc b.k;
+            change = change_of l;
+            gives = x.gives;
+            is_frame = ap (λ (y : ℕ). frame_with p.control (change_of l) y (number_behind l.sequence) (step_at p.table (min (l.step + 1) (length p.table - 1))).live_ms) b.state ∙
                 ap (λ (y : ℕ). frame_with p.control (change_of l) (state_number p.first b.c) y (step_at p.table (min (l.step + 1) (length p.table - 1))).live_ms) q ∙
-                ap (λ (y : ℕ). frame_with p.control (change_of l) (state_number p.first b.c) (sequence_number (suc b.k)) (step_at p.table y).live_ms) s,
-          ),
+                ap (λ (y : ℕ). frame_with p.control (change_of l) (state_number p.first b.c) (sequence_number (suc b.k)) (step_at p.table y).live_ms) s;
+          },
         )
     go false is =
-        let early : t.now n < l.given + 1000 * (step_at p.table l.step).wait_ms = leb-false _ _ is in
-        let given : l.given ≡ t.now b.call = b.given in
+        let early : t.now n < l.given_at + 1000 * (step_at p.table l.step).wait_ms = leb-false _ _ is in
+        let given : l.given_at ≡ t.now b.call = b.given_at in
         let x = open_more o poll (λ due. let d : t.now b.call + 1000 * (step_at p.table (step_of p.table b.k)).wait_ms ≤ t.now n = due in absurd (omega (arith, d, early, given, wait_is))) in (
-          open_out p t (suc n) b.call b.c b.k l x b.state b.sequence b.step b.given,
+          open_out p t (suc n) b.call b.c b.k l x b.state b.sequence b.step b.given_at,
           λ c k change g. open_none x b.newest.before (omega arith) g,
         )
 
@@ -176,13 +176,13 @@ change_step p t n change is =
     let s : 0 ≡ step_of p.table 0 = omega arith in
     let x = open_first {table = p.table} is in (
       open_out p t (suc n) n (changes t n) 0 (first_last (state_number p.first (changes t n)) change (t.now n)) x refl refl s refl,
-      (
-        changes t n,
-        0,
-        change,
-        x.gives,
-        ap (λ (y : ℕ). frame_with p.control change (state_number p.first (changes t n)) 0 (step_at p.table y).live_ms) s,
-      ),
+      record {
+        c = changes t n;
+        k = 0;
+        change = change;
+        gives = x.gives;
+        is_frame = ap (λ (y : ℕ). frame_with p.control change (state_number p.first (changes t n)) 0 (step_at p.table y).live_ms) s;
+      },
     )
 
 -- what gives a frame after the newest one is due

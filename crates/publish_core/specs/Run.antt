@@ -74,11 +74,18 @@ pub record IsNewestFrame (table : List Step) (t : CallTrace) (n i c k : ℕ) (ch
   pub before : i < n
   pub newest : (j d m : ℕ) (other : Change) → GivesFrame table t j d m other → j < n → j ≤ i
 
--- what call i answers: some frame k of some state c that it gives, or nothing where it gives none
+-- call i answers with this frame: it gives some frame k of some state c, and this is that frame
+pub record AnswersFrame {A : Type 0} (p : Setup A) (t : CallTrace) (i : ℕ) (f : Frame A) : Type 0 where
+  pub c : ℕ
+  pub k : ℕ
+  pub change : Change
+  pub gives : GivesFrame p.table t i c k change
+  pub is_frame : f ≡ frame p.control p.table (state_number p.first c) change k
+
+-- what call i answers: a frame that it gives, or nothing where it gives none
 abbrev pub IsAnswer : {A : Type 0} → Setup A → CallTrace → ℕ → Option (Frame A) → Type 0
 IsAnswer p t i None = (c k : ℕ) (change : Change) → ¬ GivesFrame p.table t i c k change
-IsAnswer p t i (Some f) =
-    (c : ℕ) × (k : ℕ) × (change : Change) × GivesFrame p.table t i c k change × (f ≡ frame p.control p.table (state_number p.first c) change k)
+IsAnswer p t i (Some f) = AnswersFrame p t i f
 
 -- call i of the list publishes this frame
 abbrev pub Publishes : {A : Type 0} → Setup A → List Call → ℕ → Frame A → Type 0
@@ -89,8 +96,10 @@ abbrev pub PublishesNone : {A : Type 0} → Setup A → List Call → ℕ → Ty
 PublishesNone p calls i = IsAnswer p (trace_of_calls calls) i None
 
 -- call i of the list publishes a frame whose written form are these octets
-abbrev pub PublishesOctets : {A : Type 0} → Setup A → List Call → ℕ → List ℕ → Type 0
-PublishesOctets {A = A} p calls i octets = (f : Frame A) × Publishes p calls i f × (octets ≡ written_frame f)
+pub record PublishesOctets {A : Type 0} (p : Setup A) (calls : List Call) (i : ℕ) (octets : List ℕ) : Type 0 where
+  pub published : Frame A
+  pub publishes : Publishes p calls i published
+  pub is_written : octets ≡ written_frame published
 
 -- the answers of a whole list of calls, call by call
 pub record AreAnswers {A : Type 0} (p : Setup A) (calls : List Call) (answers : List (Option (Frame A))) : Type 0 where

@@ -31,7 +31,7 @@ pub record HoldsNewest {A : Type 0} (p : Setup A) (t : CallTrace) (n : ℕ) (l :
   pub state : l.state ≡ state_number p.first c
   pub sequence : l.sequence ≡ sequence_number k
   pub step : l.step ≡ step_of p.table k
-  pub given : l.given ≡ t.now call
+  pub given_at : l.given_at ≡ t.now call
 
 -- what is held after the first n calls: nothing before a change, and then the newest frame
 abbrev pub PublisherHolds : {A : Type 0} → Setup A → CallTrace → ℕ → Option (Last A) → Type 0

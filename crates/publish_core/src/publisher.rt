@@ -30,7 +30,7 @@ struct Last<A: Allocator> {
     state: u32,
     sequence: u32,
     step: usize,
-    given: u64,
+    given_at: u64,
 }
 
 /// A publisher of one control block. A contract sees its control, its table, the status number of its next state, its
@@ -75,10 +75,10 @@ fn next_number(number: u32) -> u32
 }
 
 // Whether the wait, in milliseconds, that began at a moment is over; moments are in microseconds.
-fn wait_is_over(given: u64, wait_ms: u32, now: u64) -> bool
-    ensures { IsTrue result ↔ (given + 1000 * wait_ms ≤ now) }
+fn wait_is_over(given_at: u64, wait_ms: u32, now: u64) -> bool
+    ensures { IsTrue result ↔ (given_at + 1000 * wait_ms ≤ now) }
 {
-    u128::from(given) + 1000 * u128::from(wait_ms) <= u128::from(now)
+    u128::from(given_at) + 1000 * u128::from(wait_ms) <= u128::from(now)
 }
 
 // The octets of the frame that is held.
@@ -209,7 +209,7 @@ impl<A: Allocator> Publisher<A> {
             state: self.next,
             sequence: 0,
             step: 0,
-            given: now,
+            given_at: now,
         };
         let frame = write_last(&self.control, &self.table, &last);
         self.next = next_number(self.next);
@@ -230,10 +230,10 @@ impl<A: Allocator> Publisher<A> {
             Some(last) => {
                 let steps = self.table.len();
                 let wait_ms = self.table.at(last.step).wait_ms;
-                if wait_is_over(last.given, wait_ms, now) {
+                if wait_is_over(last.given_at, wait_ms, now) {
                     last.sequence = next_number(last.sequence);
                     last.step = (last.step + 1).min(steps - 1);
-                    last.given = now;
+                    last.given_at = now;
                     Some(write_last(&self.control, &self.table, last))
                 } else {
                     None

@@ -1,4 +1,5 @@
 pub mod ScriptLemmas
 pub mod ControlLemmas
 pub mod LineLaws
+pub mod ScriptLaws
 pub mod WorkedExamples

@@ -14,7 +14,7 @@ use Rattle.mms_data.proofs.WrongAgain.{all_wrong_again}
 use Rattle.list_core.specs.Cuts.{cut_at, parts_after}
 use Rattle.list_core.specs.declared.event_lines.MomentUnit.{MomentUnit}
 use Rattle.list_core.proofs.Cuts.{cut_some}
-use Rattle.script_core.specs.CallLine.{change_said, octets_keep}
+use Rattle.script_core.specs.computed.CallLine.{change_said, octets_keep}
 use Rattle.script_core.specs.declared.script.ScriptCause.TheVariants as cause
 use Rattle.script_core.specs.declared.script.ScriptPart.{ScriptPart}
 

@@ -1,5 +1,5 @@
 -- What a few fields and lines of scripts say, computed.
-use Rattle.std.proofs.Common.{◌≡◌, false, true, None, Some, [], ◌∷◌, Ok, Err, refl}
+use Rattle.std.proofs.Common.{◌≡◌, false, true, None, Some, [], ◌∷◌, Ok, Err, inl, inr, refl, arith}
 use Rattle.std.specs.Prelude.{codes}
 use Rattle.hex.specs.Hex.{decode_pairs}
 use Rattle.ber_core.specs.computed.ContentsReading.{all_visible_at, boolean_at}
@@ -11,7 +11,8 @@ use Rattle.mms_data.specs.computed.KindReading.{kind_at}
 use Rattle.mms_data.specs.computed.Reading.{member_at, member_with, members_at, members_with}
 use Rattle.list_core.specs.declared.event_lines.MomentUnit.TheVariants.{Milliseconds, Microseconds}
 use Rattle.script_core.specs.ScriptFields.{flag_in, tag_in}
-use Rattle.script_core.specs.Script.{line_said, script_said}
+use Rattle.script_core.specs.RefusedLines.{IsRefusedLine}
+use Rattle.script_core.specs.computed.LineReading.{line_said, script_said}
 use Rattle.script_core.specs.Lines.{SaysControl, SaysPoll, SaysStep}
 use Rattle.script_core.specs.declared.script.ScriptCause.TheVariants as cause
 use Rattle.script_core.specs.declared.script.ScriptItem.TheVariants as item
@@ -72,6 +73,24 @@ said = record {
   control = record { size = refl; destination = refl; source = refl; tag = refl; app_id = refl; gocb_ref = refl; dat_set = refl; go_id = refl; conf_rev = refl; entries = refl; simulation = refl; nds_com = refl; first_state = refl };
   step = record { size = refl; wait = refl; live = refl };
   poll = record { size = refl; moment_is = refl };
+}
+
+-- some of the lines that are refused, by the relation of their cause
+pub record AreRefused : Type 0 where
+  pub short_life : IsRefusedLine (Unit {0}) Milliseconds (part.Steps 0) (codes "step") (codes "10" ∷ codes "10" ∷ []) cause.StepTimes
+  pub step_17 : IsRefusedLine (Unit {0}) Milliseconds (part.Steps 16) (codes "step") (codes "10" ∷ codes "2000" ∷ []) cause.StepCount
+  pub early_poll : IsRefusedLine (Unit {0}) Milliseconds (part.Steps 0) (codes "poll") (codes "10" ∷ []) cause.StepCount
+  pub no_moment : IsRefusedLine (Unit {0}) Milliseconds part.Calls (codes "poll") ([] ∷ []) cause.Moment
+  pub odd : IsRefusedLine (Unit {0}) Milliseconds part.Calls (codes "change") (codes "1500" ∷ codes "0000000000000000" ∷ codes "83010" ∷ []) cause.Hex
+
+refused : AreRefused
+unfolding decode_pairs
+refused = record {
+  short_life = record { steps = 0; step = record { wait_ms = 10; live_ms = 10 }; is_line = record { named = refl; stands_behind = refl; says = record { size = refl; wait = refl; live = refl } }; bad = λ good. absurd (omega (arith, good.1)) };
+  step_17 = inl (record { steps = 16; step = record { wait_ms = 10; live_ms = 2000 }; is_line = record { named = refl; stands_behind = refl; says = record { size = refl; wait = refl; live = refl } }; is_good = (omega arith, omega arith); is_full = omega arith });
+  early_poll = inr (record { is_line = inr (record { named = refl; behind_control = λ e. absurd cc; size = refl }); no_step = refl });
+  no_moment = record { is_line = inr (record { named = refl; behind_control = λ e. absurd cc; size = refl }); may_stand = tt; bad = refl };
+  odd = record { is_line = record { named = refl; behind_control = λ e. absurd cc; size = refl }; may_stand = tt; moment = 1500000; moment_is = refl; bad = inr refl };
 }
 
 -- the control line and a change of docs/FORMATS.md, each with what makes it a fault

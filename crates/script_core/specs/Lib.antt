@@ -1,8 +1,6 @@
 pub mod ScriptFields
 pub mod Lines
-pub mod ControlLine
-pub mod StepLine
-pub mod CallLine
+pub mod RefusedLines
 pub mod Script
-pub mod ControlView
+pub mod computed
 pub mod Laws

@@ -1,5 +1,6 @@
--- The lines of a script of `publish` (profile): for each kind of line what its fields say, and where it may stand.
-use Rattle.std.specs.Prelude.{◌≡◌, ℕ, ◌+◌, ◌<◌, List, length, Option, Some, option_and_then, option_map, slice_get, ⊤, codes}
+-- The lines of a script of `publish` (profile): for each kind of line what its fields say, where it may stand, and which
+-- ones say an item.
+use Rattle.std.specs.Prelude.{◌≡◌, ℕ, ◌+◌, ◌<◌, List, length, Option, Some, None, option_and_then, option_map, slice_get, ⊤, codes}
 use Rattle.mms_data.specs.Data.{Data}
 use Rattle.mms_data.specs.Spelling.{SpellsAll}
 use Rattle.mms_data.specs.declared.time.UtcTime.{UtcTime}
@@ -16,9 +17,15 @@ use Rattle.script_core.specs.declared.script.ScriptItem.TheVariants as item
 use Rattle.script_core.specs.declared.script.ScriptPart.{ScriptPart}
 use Rattle.script_core.specs.declared.script.ScriptPart.TheVariants as part
 
+-- ---- what the fields behind the name of a line say
+
 -- field i, read so, says this
 abbrev pub SaysField : {X : Type 0} → List (List ℕ) → ℕ → (List ℕ → Option X) → X → Type 0
 SaysField fields i read x = option_and_then read (slice_get fields i) ≡ Some x
+
+-- field i, read so, says nothing
+abbrev pub SaysNoField : {X : Type 0} → List (List ℕ) → ℕ → (List ℕ → Option X) → Type 0
+SaysNoField fields i read = option_and_then read (slice_get fields i) ≡ None
 
 -- a goID: a text; an empty field is none
 abbrev pub id_in : List ℕ → Option (Option (List ℕ))
@@ -62,18 +69,71 @@ pub record SaysPoll (unit : MomentUnit) (fields : List (List ℕ)) (moment : ℕ
   pub size : length fields ≡ 1
   pub moment_is : SaysField fields 0 (moment_of unit) moment
 
+-- ---- which lines have a form and its place, where lines of some part may stand
+
+-- a control line: it stands first, and says this control block and the status number of its first state
+pub record IsControlLine {A : Type 0} (p : ScriptPart) (name : List ℕ) (fields : List (List ℕ)) (control : Control A) (first : ℕ) : Type 0 where
+  pub named : name ≡ codes "control"
+  pub stands_first : p ≡ part.Control
+  pub says : SaysControl fields control first
+
+-- the line of a step: it stands behind the control line and so many other steps, and says this step
+pub record IsStepLine (p : ScriptPart) (name : List ℕ) (fields : List (List ℕ)) (steps : ℕ) (s : Step) : Type 0 where
+  pub named : name ≡ codes "step"
+  pub stands_behind : p ≡ part.Steps steps
+  pub says : SaysStep fields s
+
+-- the line of a change: it stands behind the control line, and has three fields
+pub record IsChangeLine (p : ScriptPart) (name : List ℕ) (fields : List (List ℕ)) : Type 0 where
+  pub named : name ≡ codes "change"
+  pub behind_control : ¬ (p ≡ part.Control)
+  pub size : length fields ≡ 3
+
+-- the line of a poll: it stands behind the control line, and has one field
+pub record IsPollLine (p : ScriptPart) (name : List ℕ) (fields : List (List ℕ)) : Type 0 where
+  pub named : name ≡ codes "poll"
+  pub behind_control : ¬ (p ≡ part.Control)
+  pub size : length fields ≡ 1
+
 -- a change or a poll may stand here: behind the control line and a step
 abbrev pub MayCall : ScriptPart → Type 0
 MayCall part.Control = ⊥
 MayCall (part.Steps n) = 0 < n
 MayCall part.Calls = ⊤
 
+-- ---- which lines say an item, and which part follows them
+
+-- a control line whose first status number is not 0; steps follow it
+pub record AcceptsControl {A : Type 0} (p : ScriptPart) (name : List ℕ) (fields : List (List ℕ)) (control : Control A) (first : ℕ) (next : ScriptPart) : Type 0 where
+  pub is_line : IsControlLine p name fields control first
+  pub first_state : 0 < first
+  pub follows : next ≡ part.Steps 0
+
+-- the line of a good step, behind fewer than the most steps of a table; further steps may follow it
+pub record AcceptsStep (p : ScriptPart) (name : List ℕ) (fields : List (List ℕ)) (s : Step) (next : ScriptPart) : Type 0 where
+  pub steps : ℕ
+  pub is_line : IsStepLine p name fields steps s
+  pub is_good : IsGood s
+  pub has_room : steps < most_steps
+  pub follows : next ≡ part.Steps (steps + 1)
+
+-- the line of a change, which may stand here; changes and polls follow it
+pub record AcceptsChange (unit : MomentUnit) (p : ScriptPart) (name : List ℕ) (fields : List (List ℕ)) (moment : ℕ) (t : UtcTime) (values : List Data) (next : ScriptPart) : Type 0 where
+  pub named : name ≡ codes "change"
+  pub may_stand : MayCall p
+  pub says : SaysChange unit fields moment t values
+  pub follows : next ≡ part.Calls
+
+-- the line of a poll, which may stand here; changes and polls follow it
+pub record AcceptsPoll (unit : MomentUnit) (p : ScriptPart) (name : List ℕ) (fields : List (List ℕ)) (moment : ℕ) (next : ScriptPart) : Type 0 where
+  pub named : name ≡ codes "poll"
+  pub may_stand : MayCall p
+  pub says : SaysPoll unit fields moment
+  pub follows : next ≡ part.Calls
+
 -- Where lines of this part may stand, a line with this name and these fields says an item, and lines of the next part may follow.
 abbrev pub IsLine : {A : Type 0} → MomentUnit → ScriptPart → List ℕ → List (List ℕ) → ScriptItem A → ScriptPart → Type 0
-IsLine unit p name fields (item.Control control first) next =
-    (name ≡ codes "control") × (p ≡ part.Control) × SaysControl fields control first × (0 < first) × (next ≡ part.Steps 0)
-IsLine unit p name fields (item.Step s) next =
-    (name ≡ codes "step") × SaysStep fields s × IsGood s × ((n : ℕ) × (p ≡ part.Steps n) × (n < most_steps) × (next ≡ part.Steps (n + 1)))
-IsLine unit p name fields (item.Change moment t values) next =
-    (name ≡ codes "change") × MayCall p × SaysChange unit fields moment t values × (next ≡ part.Calls)
-IsLine unit p name fields (item.Poll moment) next = (name ≡ codes "poll") × MayCall p × SaysPoll unit fields moment × (next ≡ part.Calls)
+IsLine unit p name fields (item.Control control first) next = AcceptsControl p name fields control first next
+IsLine unit p name fields (item.Step s) next = AcceptsStep p name fields s next
+IsLine unit p name fields (item.Change moment t values) next = AcceptsChange unit p name fields moment t values next
+IsLine unit p name fields (item.Poll moment) next = AcceptsPoll unit p name fields moment next

@@ -2,11 +2,11 @@
 ghost use Rattle.std.specs.Prelude.{◌≡◌, true, option_map, IfOk, IfErr};
 ghost use Rattle.list_core.specs.Cuts.{parts_after};
 ghost use Rattle.block_core.specs.Commas.{number_by, octets_in, text_in, word_in};
-ghost use Rattle.script_core.specs.Script.{AnswersScriptLine};
-ghost use Rattle.script_core.specs.ControlLine.{block_of_line, control_keeps, control_of, control_said, control_with, numbers_in, numbers_with};
+ghost use Rattle.script_core.specs.computed.LineReading.{AnswersScriptLine};
+ghost use Rattle.script_core.specs.computed.ControlLine.{block_of_line, control_keeps, control_of, control_said, control_with, numbers_in, numbers_with};
 ghost use Rattle.script_core.specs.ScriptFields.{flag_in, tag_in};
-ghost use Rattle.script_core.specs.StepLine.{step_said_by, step_said};
-ghost use Rattle.script_core.specs.ControlView.{control_seen, view_keeps};
+ghost use Rattle.script_core.specs.computed.StepLine.{step_said_by, step_said};
+ghost use Rattle.script_core.specs.computed.ControlView.{control_seen, view_keeps};
 
 use crate::script::{ScriptCause, ScriptItem, ScriptPart};
 use block_core::commas::{fields_of, number_by, text_in, word_in};
@@ -17,7 +17,7 @@ use std::alloc::{AllocError, Allocator};
 
 /// The numbers of a control line: confRev, the count of entries, the two flags, and the first status number.
 #[derive(Clone, Copy)]
-pub struct ControlNumbers {
+pub struct ControlEnd {
     pub conf_rev: u32,
     pub entries: u32,
     pub simulation: bool,
@@ -35,7 +35,7 @@ pub struct ControlView<'a> {
     pub gocb_ref: &'a [u8],
     pub dat_set: &'a [u8],
     pub go_id: Option<&'a [u8]>,
-    pub numbers: ControlNumbers,
+    pub numbers: ControlEnd,
 }
 
 // An address by twelve hexadecimal digits.
@@ -80,7 +80,7 @@ fn numbers_of(
     simulation: &[u8],
     nds_com: &[u8],
     first: &[u8],
-) -> Option<ControlNumbers>
+) -> Option<ControlEnd>
     ensures { result ≡ numbers_with (number_by conf_rev.now) (number_by entries.now) (flag_in simulation.now) (flag_in nds_com.now) (number_by first.now) }
 {
     let conf_rev = number_by(conf_rev)?;
@@ -88,7 +88,7 @@ fn numbers_of(
     let simulation = flag_in(simulation)?;
     let nds_com = flag_in(nds_com)?;
     let first = number_by(first)?;
-    Some(ControlNumbers {
+    Some(ControlEnd {
         conf_rev,
         entries,
         simulation,
@@ -106,7 +106,7 @@ fn view_fields<'a>(
     gocb_ref: &'a [u8],
     dat_set: &'a [u8],
     go_id: &'a [u8],
-    numbers: Option<ControlNumbers>,
+    numbers: Option<ControlEnd>,
 ) -> Option<ControlView<'a>>
     ensures { option_map control_seen result ≡ control_with (octets_in 6 destination.now) (octets_in 6 source.now) (tag_in tag.now) (word_in app_id.now) (text_in gocb_ref.now) (text_in dat_set.now) (text_in go_id.now) numbers }
 {
@@ -157,7 +157,7 @@ fn owned<A: Allocator + Copy>(alloc: A, view: ControlView<'_>) -> Result<Control
 }
 
 // The numbers that the last fields of a control line say.
-fn view_numbers(fields: Option<&[u8]>) -> Option<ControlNumbers>
+fn view_numbers(fields: Option<&[u8]>) -> Option<ControlEnd>
     ensures { result ≡ numbers_in (parts_after 44 fields.entry) }
 {
     let fields = fields_of(fields?)?;

@@ -3,8 +3,8 @@ ghost use Rattle.std.specs.Prelude.{◌≡◌, ◌≤◌, Some, IfSome, length};
 ghost use Rattle.list_core.specs.Cuts.{parts_after};
 ghost use Rattle.list_core.specs.EventLine.{moment_of};
 ghost use Rattle.block_core.specs.Commas.{comma_fields};
-ghost use Rattle.script_core.specs.Script.{AnswersScriptLine, all_keep, all_said, part_keeps, fields_said, line_keeps, line_said};
-ghost use Rattle.script_core.specs.CallLine.{change_keeps, members_keep, octets_keep, change_said_by, change_said, poll_said, too_early};
+ghost use Rattle.script_core.specs.computed.LineReading.{AnswersScriptLine, all_keep, all_said, part_keeps, fields_said, line_keeps, line_said};
+ghost use Rattle.script_core.specs.computed.CallLine.{change_keeps, members_keep, octets_keep, change_said_by, change_said, poll_said, too_early};
 ghost use Rattle.script_core.specs.ScriptFields.{all_octets_in, time_in};
 
 use crate::script::{ScriptCause, ScriptItem, ScriptPart};

@@ -16,6 +16,7 @@ impl<A: Allocator + Copy> LineRules<A> for ScriptLines {
     fn item_in(
         &mut self,
         alloc: A,
+        _spare: &mut Option<ScriptItem<A>>,
         line: &[u8],
     ) -> Result<Option<ScriptItem<A>>, LineError<ScriptCause>> {
         let (unit, part) = match *self {

@@ -17,7 +17,7 @@ use Rattle.subscribe_core.specs.FrameEntry.{IsBlockEntry, IsFrameEntry, entry_of
 use Rattle.subscribe_core.specs.Epoch.{Acts, IsVerdict}
 use Rattle.subscribe_core.specs.Laws.{ActsAreTold, IsActOn}
 use Rattle.subscribe_core.specs.Matching.{facts_of_frame, is_of}
-use Rattle.subscribe_core.specs.Reading.{Content, FrameRead, OfClock, OfFault, OfGoose, OfMode, OfSampled, EventRead}
+use Rattle.subscribe_core.specs.EventsRead.{Content, FrameRead, OfClock, OfFault, OfGoose, OfMode, OfSampled, EventRead}
 use Rattle.subscribe_core.specs.Sight.{facts_at, facts_of, trace_of_block}
 use Rattle.subscribe_core.specs.Simulation.{mode_at, takes_simulated}
 use Rattle.subscribe_core.specs.Apart.{AreApart}

@@ -4,7 +4,7 @@ use Rattle.std.proofs.lemmas.Bool.{and_parts, and_from, eqb-true, eq-eqb}
 use Rattle.std.proofs.lemmas.Slice.Eq.{bytes_eq-Decides}
 use Rattle.std.specs.Str.{bytes_eq}
 use Rattle.block_core.specs.declared.block.Block.{Block}
-use Rattle.subscribe_core.specs.Reading.{FrameRead}
+use Rattle.subscribe_core.specs.EventsRead.{FrameRead}
 use Rattle.subscribe_core.specs.Matching.{is_of}
 
 pub is_of_key : {A : Type 0} → (f : FrameRead) (b : Block A) → is_of f b ≡ true → (b.app_id ≡ f.app_id) × (b.gocb_ref ≡ f.pdu.gocb_ref)

@@ -3,12 +3,12 @@ use Rattle.std.proofs.Common.{◌≡◌, ℕ, zero, suc, ◌+◌, ◌<◌, ◌�
 use Rattle.std.proofs.lemmas.Bool.{cases_Bool, cases_lt, false≢true, cond-true, cond-false}
 use Rattle.std.proofs.lemmas.List.{length-set, length-map, map-set, get_or_past}
 use Rattle.std.proofs.lemmas.Option.{none-some, same_Some, slice_get-get_or}
-use Rattle.std.specs.BTreeSet.{BTreeSet, contains}
 use Rattle.block_core.specs.declared.block.Block.{Block}
+use Rattle.subscribe_core.specs.declared.deadlines.Deadlines.{Deadlines}
 use Rattle.subscribe_core.specs.declared.names.Name.{Name}
 use Rattle.subscribe_core.specs.declared.registers.LiveState.{LiveState}
 use Rattle.subscribe_core.specs.declared.registers.Register.{Register}
-use Rattle.subscribe_core.specs.computed.Deadlines.{AreDeadlinesOf, due_count, helds, pair_cmp}
+use Rattle.subscribe_core.specs.computed.Deadlines.{KeepsDeadlinesOf, due_count, helds}
 use Rattle.subscribe_core.specs.computed.Indexed.{IsIndexed, registers_after_clock, register_after_clock}
 use Rattle.subscribe_core.specs.State.{idle}
 use Rattle.subscribe_core.specs.computed.Steps.{is_dead, after_clock}
@@ -76,7 +76,7 @@ cleared_none (r ∷ rs) now none =
 
 -- what is so at each turn: of what was held at first the last ones are left to let go
 pub record IsClearing {A : Type 0} (now : ℕ) (first_blocks : List (Block A)) (first : List Register) (looks : ℕ)
-    (blocks : List (Block A)) (registers : List Register) (names : List (Name A)) (deadlines : BTreeSet (ℕ × ℕ)) (count : ℕ)
+    (blocks : List (Block A)) (registers : List Register) (names : List (Name A)) (deadlines : Deadlines A) (count : ℕ)
     (first_mode mode : Bool) (first_moment moment : ℕ) : Type 0 where
   pub indexed : IsIndexed blocks registers names deadlines
   pub same : registers_after_clock now registers ≡ registers_after_clock now first
@@ -86,10 +86,10 @@ pub record IsClearing {A : Type 0} (now : ℕ) (first_blocks : List (Block A)) (
   pub moment_stays : moment ≡ first_moment
 
 -- after a write of one register
-pub indexed_write : {A : Type 0} → (blocks blocks' : List (Block A)) (registers registers' : List Register) (names : List (Name A)) (at : ℕ) (r : Register) (deadlines deadlines' : BTreeSet (ℕ × ℕ))
+pub indexed_write : {A : Type 0} → (blocks blocks' : List (Block A)) (registers registers' : List Register) (names : List (Name A)) (at : ℕ) (r : Register) (deadlines deadlines' : Deadlines A)
     → blocks' ≡ blocks → registers' ≡ set registers at r
     → IsIndexed blocks registers names deadlines
-    → AreDeadlinesOf deadlines' (set (helds registers) at r.held)
+    → KeepsDeadlinesOf deadlines' (set (helds registers) at r.held)
     → IsIndexed blocks' registers' names deadlines'
 indexed_write {A} blocks blocks' registers registers' names at r deadlines deadlines' b h i t =
     subst (λ (bs : List (Block A)). IsIndexed bs registers' names deadlines') (sym b)
@@ -99,7 +99,7 @@ indexed_write {A} blocks blocks' registers registers' names at r deadlines deadl
       apart = i.apart;
       sorted = i.sorted;
       named = i.named;
-      timed = subst (λ (hs : List (Option LiveState)). AreDeadlinesOf deadlines' hs) (sym (helds_set registers at r)) t;
+      timed = subst (λ (hs : List (Option LiveState)). KeepsDeadlinesOf deadlines' hs) (sym (helds_set registers at r)) t;
     }))
 
 pub due_within : (rs : List Register) (at now : ℕ) → is_dead (get_or (helds rs) at None) now ≡ true → at < length rs
@@ -111,14 +111,8 @@ due_within rs at now e =
           absurd (false≢true (sym (ap (λ (h : Option LiveState). is_dead h now) (get_or_past (helds rs) at None (omega arith))) ∙ e))
     ]
 
--- a set with the same keys
-pub indexed_keys : {A : Type 0} → (blocks : List (Block A)) (registers : List Register) (names : List (Name A)) (deadlines deadlines' : BTreeSet (ℕ × ℕ))
-    → deadlines'.keys ≡ deadlines.keys → IsIndexed blocks registers names deadlines → IsIndexed blocks registers names deadlines'
-indexed_keys blocks registers names deadlines deadlines' e i =
-    record {
-      sizes = i.sizes;
-      apart = i.apart;
-      sorted = i.sorted;
-      named = i.named;
-      timed = λ q. ap (λ (keys : List (ℕ × ℕ)). contains pair_cmp (record { keys = keys }) q) e ∙ i.timed q;
-    }
+-- after a change of the deadlines alone
+pub indexed_kept : {A : Type 0} → (blocks : List (Block A)) (registers : List Register) (names : List (Name A)) (deadlines deadlines' : Deadlines A)
+    → KeepsDeadlinesOf deadlines' (helds registers) → IsIndexed blocks registers names deadlines → IsIndexed blocks registers names deadlines'
+indexed_kept blocks registers names deadlines deadlines' k i =
+    record { sizes = i.sizes; apart = i.apart; sorted = i.sorted; named = i.named; timed = k }

@@ -1,12 +1,12 @@
 -- The pairs that are due, sorted by their positions, are the blocks that are due.
-use Rattle.std.proofs.Common.{◌≡◌, ℕ, zero, suc, ◌+◌, ◌-◌, ◌^◌, ◌<◌, ◌≤◌, Bool, true, false, ◌&&◌, not, Option, Some, None, List, [], ◌∷◌, ◌++◌, length, map, get_or, sym, ap, ◌∙◌, arith, subst, refl, inl, inr, nat_eq, zero-add}
-use Rattle.std.proofs.lemmas.Bool.{cases_Bool, cases_lt, false≢true, ne_eqb, eqb-true, eq-eqb, and_parts, and_from, le-ltb, lt-ltb}
-use Rattle.std.proofs.lemmas.List.{get_or-map, length-map, nil_from_length}
-use Rattle.std.proofs.lemmas.List.Elements.{Contains-get_or}
+use Rattle.std.proofs.Common.{◌≡◌, ℕ, zero, suc, ◌+◌, ◌-◌, ◌^◌, ◌<◌, ◌≤◌, Bool, true, false, ◌&&◌, not, if◌then◌else◌, Option, Some, None, List, [], ◌∷◌, ◌++◌, length, map, get_or, set, sym, ap, ◌∙◌, arith, subst, refl, inl, inr, nat_eq, zero-add, append-nil}
+use Rattle.std.proofs.lemmas.Bool.{cases_Bool, cases_eq, cases_lt, false≢true, ne_eqb, eqb-true, eq-eqb, and_parts, and_from, le-ltb, lt-ltb}
+use Rattle.std.proofs.lemmas.List.{get_or-map, get_or_append_left, get_or_push, length-map, length-set, length_push, nil_from_length}
+use Rattle.std.proofs.lemmas.List.Elements.{Contains-append_left, Contains-get_or, Contains-push, Contains-push_cases}
 use Rattle.std.proofs.lemmas.List.Kept.{IsStrictlySortedBy-filter}
 use Rattle.std.proofs.lemmas.List.Sorted.{Contains-permutation, IsPermutation-sym, IsNonDecreasingBy-from_sort}
 use Rattle.std.proofs.lemmas.Cmp.{nat_cmp_total, nat_eq_equiv, tied_itself}
-use Rattle.std.proofs.lemmas.Map.Keys.{IsDistinct-IsPermutation, IsDistinct-from_apart, IsStrictlyIncreasing-from_distinct, sorted_from_strictly_increasing, Less-from_sorted}
+use Rattle.std.proofs.lemmas.Map.Keys.{IsDistinct-IsPermutation, IsDistinct-from_apart, apart_from_distinct, IsStrictlyIncreasing-from_distinct, sorted_from_strictly_increasing, Less-from_sorted}
 use Rattle.std.proofs.lemmas.Map.Lookups.{btree_set_from_contains, exact_unsigned}
 use Rattle.std.proofs.lemmas.Map.Views.{any-filter_same, btree_set_contains_iff, tells_apart}
 use Rattle.std.specs.BTreeMap.{is_at}
@@ -17,13 +17,15 @@ use Rattle.std.specs.declared.cmp.Ordering.TheVariants.{Less, Equal}
 use Rattle.std.specs.Ordering.{nat_cmp, is_eq, is_lt, ordering_then}
 use Rattle.std.specs.List.{Contains, AllByRecursion, list_any, IsDistinct}
 use Rattle.std.specs.List.Sorted.{IsPermutation, IsSorted, IsStrictlySortedBy}
+use Rattle.subscribe_core.specs.declared.deadlines.Deadlines.{Deadlines}
 use Rattle.subscribe_core.specs.declared.registers.LiveState.{LiveState}
 use Rattle.subscribe_core.specs.declared.entry.Entry.{Entry}
 use Rattle.subscribe_core.specs.declared.entry.Entry.TheVariants as says
 use Rattle.subscribe_core.specs.declared.registers.Register.{Register}
 use Rattle.subscribe_core.specs.Looks.{expired_count}
 use Rattle.subscribe_core.specs.computed.Steps.{is_dead, expired_entries}
-use Rattle.subscribe_core.specs.computed.Deadlines.{pair_cmp, has_deadline, helds, AreDeadlinesOf, due_pairs, due_count, due_positions}
+use Rattle.subscribe_core.specs.computed.Deadlines.{pair_cmp, has_deadline, helds, AreDeadlinesOf, KeepsDeadlinesOf, due_pairs, due_count, due_positions, is_past}
+use Rattle.subscribe_core.proofs.KeptDeadlines.{apart_dead, cleared_other, dead_held, dead_other}
 use Rattle.subscribe_core.proofs.Pairs.{pair_total, at_same, due_has, due_from, within_from}
 
 -- the positions that are due, by recursion
@@ -210,15 +212,15 @@ due_distinct now set held agree up =
     let equal : pair_cmp p q ≡ Equal = rw (same, at) (tied_itself pair_total q) in
     less_equal (sym less ∙ equal)))
 
--- the positions, once sorted, are those of the blocks that are due, in block order
-pub due_is : (now : ℕ) (set : BTreeSet (ℕ × ℕ)) (held : List (Option LiveState)) (sorted : List ℕ)
-    → AreDeadlinesOf set held → IsOrdered pair_cmp set → length held < 2 ^ 64
-    → IsPermutation (map second (due_pairs now set)) sorted → IsSorted nat_cmp sorted
+-- positions of the blocks that are due, each once, are all of these in block order once they are sorted
+sorted_is : (now : ℕ) (held : List (Option LiveState)) (listed sorted : List ℕ) → IsDistinct nat_eq listed
+    → ((p : ℕ) → Contains listed p → is_dead (get_or held p None) now ≡ true)
+    → ((p : ℕ) → is_dead (get_or held p None) now ≡ true → Contains listed p)
+    → IsPermutation listed sorted → IsSorted nat_cmp sorted
     → sorted ≡ due_positions now 0 held
-due_is now set held sorted agree up small moved order =
-    let listed : List ℕ = map second (due_pairs now set) in
+sorted_is now held listed sorted once sound complete moved order =
     let apart : IsDistinct nat_eq sorted =
-    IsDistinct-IsPermutation nat_eq (λ x y. nat_eq_equiv.symm x y) listed sorted moved (due_distinct now set held agree up) in
+    IsDistinct-IsPermutation nat_eq (λ x y. nat_eq_equiv.symm x y) listed sorted moved once in
     let rising : IsStrictlySortedBy nat_cmp sorted =
     sorted_from_strictly_increasing sorted (IsStrictlyIncreasing-from_distinct sorted (IsNonDecreasingBy-from_sort (λ (x : ℕ). x) sorted order) apart) in
     btree_set_from_contains nat_cmp_total (record { keys = sorted }) (record { keys = due_positions now 0 held }) rising (due_sorted now 0 held)
@@ -227,10 +229,63 @@ due_is now set held sorted agree up small moved order =
     let from : list_any (is_at (nat_cmp q)) (due_positions now 0 held) ≡ is_dead (get_or held q None) now =
     subst (λ (x : ℕ). list_any (is_at (nat_cmp x)) (due_positions now 0 held) ≡ is_dead (get_or held q None) now) (zero-add q) (due_member now 0 held q) in
     same_bool (contains nat_cmp (record { keys = sorted }) q) (is_dead (get_or held q None) now)
-    (λ e. due_sound now set held q agree (Contains-permutation sorted listed q (IsPermutation-sym listed sorted moved) (iff.0 e)))
-    (λ e. iff.1 (Contains-permutation listed sorted q moved (due_complete now set held q agree small e)))
+    (λ e. sound q (Contains-permutation sorted listed q (IsPermutation-sym listed sorted moved) (iff.0 e)))
+    (λ e. iff.1 (Contains-permutation listed sorted q moved (complete q e)))
     ∙ sym from)
     exact_unsigned
+
+-- the block apart is listed behind others
+push_distinct : (xs : List ℕ) (a : ℕ) → IsDistinct nat_eq xs → ((p : ℕ) → Contains xs p → p ≡ a → ⊥) → IsDistinct nat_eq (xs ++ a ∷ [])
+push_distinct xs a once others =
+    IsDistinct-from_apart nat_eq (xs ++ a ∷ [])
+    (λ i j d lt bound.
+    let size = length_push xs a in
+    elim (cases_lt j (length xs)) [
+      | inl l ↦ rw (get_or_append_left xs (a ∷ []) d i (omega arith), get_or_append_left xs (a ∷ []) d j l) (apart_from_distinct nat_eq xs i j d once lt l)
+      | inr past ↦
+          let last : length xs ≡ j = omega (arith, size) in
+          let first : i < length xs = omega (arith, last) in
+          rw (get_or_append_left xs (a ∷ []) d i first, get_or_push xs a d j last)
+          (ne_eqb _ _ (others (get_or xs i d) (Contains-get_or xs i d first)))
+    ])
+
+-- the positions, once sorted, are those of the blocks that are due, in block order
+pub due_is : {A : Type 0} (now : ℕ) (d : Deadlines A) (held : List (Option LiveState)) (sorted : List ℕ)
+    → KeepsDeadlinesOf d held → IsOrdered pair_cmp d.others → length held < 2 ^ 64
+    → IsPermutation (map second (due_pairs now d.others) ++ (if is_past d.deadline now then d.apart ∷ [] else [])) sorted → IsSorted nat_cmp sorted
+    → sorted ≡ due_positions now 0 held
+due_is now d held sorted k up small moved order =
+    let others : List (Option LiveState) = set held d.apart None in
+    let size = length-set held d.apart None in
+    let listed : List ℕ = map second (due_pairs now d.others) in
+    let once : IsDistinct nat_eq listed = due_distinct now d.others others k.others up in
+    let dead : (p : ℕ) → Contains listed p → is_dead (get_or others p None) now ≡ true = λ p c. due_sound now d.others others p k.others c in
+    let found : (p : ℕ) → is_dead (get_or others p None) now ≡ true → Contains listed p = λ p e. due_complete now d.others others p k.others (omega (arith, size)) e in
+    let here : is_past d.deadline now ≡ is_dead (get_or held d.apart None) now = apart_dead (get_or held d.apart None) d.deadline now k.apart in
+    elim (cases_Bool (is_past d.deadline now)) [
+      | inl past ↦
+          sorted_is now held (listed ++ d.apart ∷ []) sorted (push_distinct listed d.apart once (λ p c. dead_other held d.apart p now (dead p c)))
+          (λ p c.
+          elim (Contains-push_cases listed d.apart p c) [
+            | inl among ↦ dead_held held d.apart p now (dead p among)
+            | inr same ↦ subst (λ (i : ℕ). is_dead (get_or held i None) now ≡ true) same (sym here ∙ past)
+          ])
+          (λ p e.
+          elim (cases_eq p d.apart) [
+            | inl same ↦ subst (λ (i : ℕ). Contains (listed ++ d.apart ∷ []) i) (sym same) (Contains-push listed d.apart)
+            | inr other ↦ Contains-append_left listed (d.apart ∷ []) p (found p (ap (λ (o : Option LiveState). is_dead o now) (cleared_other held d.apart p other) ∙ e))
+          ])
+          (subst (λ (b : Bool). IsPermutation (listed ++ (if b then d.apart ∷ [] else [])) sorted) past moved) order
+      | inr still ↦
+          sorted_is now held listed sorted once (λ p c. dead_held held d.apart p now (dead p c))
+          (λ p e.
+          elim (cases_eq p d.apart) [
+            | inl same ↦ absurd (false≢true (sym (sym here ∙ still) ∙ subst (λ (i : ℕ). is_dead (get_or held i None) now ≡ true) same e))
+            | inr other ↦ found p (ap (λ (o : Option LiveState). is_dead o now) (cleared_other held d.apart p other) ∙ e)
+          ])
+          (subst (λ (l : List ℕ). IsPermutation l sorted) (append-nil listed)
+          (subst (λ (b : Bool). IsPermutation (listed ++ (if b then d.apart ∷ [] else [])) sorted) still moved)) order
+    ]
 
 pub positions_none : (A : Type 0) (now : ℕ) (rs : List Register) → expired_entries {A = A} now 0 rs ≡ [] → due_positions now 0 (helds rs) ≡ []
 positions_none A now rs none =
@@ -238,15 +293,25 @@ positions_none A now rs none =
     sym (length-map (due_positions now 0 (helds rs)) (expired_at A)) ∙ ap length (entries_are A now 0 rs ∙ none) in
     nil_from_length (due_positions now 0 (helds rs)) size
 
--- where no entry is said, no pair is due
-pub due_none : (A : Type 0) (now : ℕ) (set : BTreeSet (ℕ × ℕ)) (rs : List Register) → AreDeadlinesOf set (helds rs) → expired_entries {A = A} now 0 rs ≡ [] → due_pairs now set ≡ []
-due_none A now set rs agree none =
-    let empty : due_positions now 0 (helds rs) ≡ [] = positions_none A now rs none in
+-- where none is due, no position is listed
+pub dead_none : (now : ℕ) (held : List (Option LiveState)) → due_positions now 0 held ≡ [] → (p : ℕ) → is_dead (get_or held p None) now ≡ false
+dead_none now held empty p = sym (due_member now 0 held p) ∙ ap (list_any (is_at (nat_cmp (0 + p)))) empty
+
+-- and no pair is due
+pub due_none : (now : ℕ) (set : BTreeSet (ℕ × ℕ)) (held : List (Option LiveState)) → AreDeadlinesOf set held → ((p : ℕ) → is_dead (get_or held p None) now ≡ false) → due_pairs now set ≡ []
+due_none now set held agree none =
     nil_from_none (due_pairs now set)
     (λ q c.
-    let w = due_pair now set (helds rs) q agree c in
-    let got = due_member now 0 (helds rs) q.1 in
-    false≢true (sym (ap (list_any (is_at (nat_cmp (0 + q.1)))) empty) ∙ (got ∙ due_from (get_or (helds rs) q.1 None) q.0 now w.1 w.0)))
+    let w = due_pair now set held q agree c in
+    false≢true (sym (none q.1) ∙ due_from (get_or held q.1 None) q.0 now w.1 w.0))
+
+-- and no entry is said
+pub expired_none : {A : Type 0} (now b : ℕ) (rs : List Register) → ((p : ℕ) → is_dead (get_or (helds rs) p None) now ≡ false) → expired_entries {A = A} now b rs ≡ []
+expired_none now b [] none = refl
+expired_none {A} now b (r ∷ rs) none =
+    let rest : expired_entries {A = A} now (b + 1) rs ≡ [] = expired_none now (b + 1) rs (λ p. none (suc p)) in
+    let first : is_dead r.held now ≡ false = none 0 in
+    rw first rest
 
 -- how many expire
 pub expired_counted : {A : Type 0} (now b : ℕ) (rs : List Register) (said : List (Entry A)) → due_count now (helds rs) ≤ expired_count (expired_entries now b rs ++ said)

@@ -17,7 +17,7 @@ use Rattle.subscribe_core.specs.declared.registers.Verdict.TheVariants.{Act, Ref
 use Rattle.subscribe_core.specs.computed.Deadlines.{due_count, helds}
 use Rattle.subscribe_core.specs.computed.Indexed.{registers_after_clock, register_after_clock, good_entries, good_held, good_register, good_renewal, switches}
 use Rattle.subscribe_core.specs.Matching.{facts_of_frame, holds, is_clear, is_of, reason_of}
-use Rattle.subscribe_core.specs.Reading.{FrameRead, OfGoose}
+use Rattle.subscribe_core.specs.EventsRead.{FrameRead, OfGoose}
 use Rattle.subscribe_core.specs.Simulation.{is_other_kind, is_plain_simulated}
 use Rattle.subscribe_core.specs.Apart.{AreApart}
 use Rattle.subscribe_core.specs.computed.Steps.{after_clock, after_switch, block_entry, block_held, flag_by, is_dead, register_by, registers_by, said_of, switch_by, switched_entries, held_after_frame, turned, verdict_on}

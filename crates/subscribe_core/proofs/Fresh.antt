@@ -1,17 +1,18 @@
 -- Blocks that are given twice, and a subscriber to which nothing has happened.
-use Rattle.std.proofs.Common.{◌≡◌, ℕ, zero, suc, ◌<◌, false, None, List, [], length, get_or, replicate, sym, ap, ◌∙◌, refl, inl, inr}
+use Rattle.std.proofs.Common.{◌≡◌, ℕ, zero, suc, ◌<◌, None, List, [], length, get_or, replicate, sym, ap, ◌∙◌, refl, inl, inr}
 use Rattle.std.proofs.lemmas.Bool.{cases_order}
 use Rattle.std.proofs.lemmas.Option.{slice_get_within}
 use Rattle.std.proofs.lemmas.List.{length-replicate}
-use Rattle.std.specs.BTreeSet.{BTreeSet}
 use Rattle.block_core.specs.declared.block.Block.{Block}
+use Rattle.subscribe_core.specs.declared.deadlines.Deadlines.{Deadlines}
 use Rattle.subscribe_core.specs.declared.names.Name.{Name}
 use Rattle.subscribe_core.specs.declared.registers.Register.{Register}
-use Rattle.subscribe_core.specs.computed.Deadlines.{has_deadline, helds}
+use Rattle.subscribe_core.specs.computed.Deadlines.{helds}
 use Rattle.subscribe_core.specs.computed.Indexed.{IsIndexed}
 use Rattle.subscribe_core.specs.computed.Names.{AreSorted, AreNamesOf}
 use Rattle.subscribe_core.specs.Apart.{AreApart, IsTwice}
 use Rattle.subscribe_core.specs.State.{idle}
+use Rattle.subscribe_core.proofs.KeptDeadlines.{keeps_none}
 
 pub apart_from : {A : Type 0} → (blocks : List (Block A)) → ((k : ℕ) → k < length blocks → ¬ IsTwice blocks k) → AreApart blocks
 apart_from blocks h i j a b p q e =
@@ -21,20 +22,20 @@ apart_from blocks h i j a b p q e =
       | inr (inr gt) ↦ absurd (h i (slice_get_within blocks i a p) (j, b, a, gt, q, p, (sym e.0, sym e.1)))
     ]
 
-idle_holds : (n p d : ℕ) → has_deadline (get_or (helds (replicate n idle)) p None) d ≡ false
-idle_holds zero p d = refl
-idle_holds (suc n) zero d = refl
-idle_holds (suc n) (suc p) d = idle_holds n p d
+idle_holds : (n p : ℕ) → get_or (helds (replicate n idle)) p None ≡ None
+idle_holds zero p = refl
+idle_holds (suc n) zero = refl
+idle_holds (suc n) (suc p) = idle_holds n p
 
 -- nothing is held and no deadline is kept
-pub fresh_indexed : {A : Type 0} → (blocks : List (Block A)) (registers : List Register) (names : List (Name A)) (deadlines : BTreeSet (ℕ × ℕ))
-    → registers ≡ replicate (length blocks) idle → deadlines.keys ≡ [] → AreApart blocks → AreSorted names → AreNamesOf names blocks
+pub fresh_indexed : {A : Type 0} → (blocks : List (Block A)) (registers : List Register) (names : List (Name A)) (deadlines : Deadlines A)
+    → registers ≡ replicate (length blocks) idle → deadlines.deadline ≡ None → deadlines.others.keys ≡ [] → AreApart blocks → AreSorted names → AreNamesOf names blocks
     → IsIndexed blocks registers names deadlines
-fresh_indexed blocks registers names deadlines is empty apart sorted named =
+fresh_indexed blocks registers names deadlines is none empty apart sorted named =
     record {
       sizes = ap length is ∙ length-replicate (length blocks) idle;
       apart = apart;
       sorted = sorted;
       named = named;
-      timed = λ q. rw (empty, is) (sym (idle_holds (length blocks) q.1 q.0));
+      timed = keeps_none deadlines (helds registers) none empty (λ p. rw is (idle_holds (length blocks) p));
     }

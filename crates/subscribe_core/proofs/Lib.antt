@@ -12,6 +12,7 @@ pub mod Stay
 pub mod Readings
 pub mod Runs
 pub mod Pairs
+pub mod KeptDeadlines
 pub mod Due
 pub mod NameLemmas
 pub mod Clearing

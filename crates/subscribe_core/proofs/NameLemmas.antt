@@ -17,7 +17,7 @@ use Rattle.std.specs.declared.cmp.Ordering.TheVariants.{Less, Equal, Greater}
 use Rattle.std.specs.List.{All}
 use Rattle.std.specs.List.Sorted.{IsPermutation, IsPartitionPoint}
 use Rattle.block_core.specs.declared.block.Block.{Block}
-use Rattle.subscribe_core.specs.Reading.{FrameRead}
+use Rattle.subscribe_core.specs.EventsRead.{FrameRead}
 use Rattle.subscribe_core.specs.declared.names.Name.{Name}
 use Rattle.subscribe_core.specs.Matching.{is_of}
 use Rattle.subscribe_core.specs.Apart.{AreApart}

@@ -60,14 +60,13 @@ first_apart k q apart e = apart (sym (ap (λ (p : ℕ × ℕ). p.0) e))
 second_apart : (k q : ℕ × ℕ) → (q.1 ≡ k.1 → ⊥) → k ≡ q → ⊥
 second_apart k q apart e = apart (sym (ap (λ (p : ℕ × ℕ). p.1) e))
 
--- the new deadline goes in where the old one was none or the same
-pub timed_put : (held : List (Option LiveState)) (at : ℕ) (new : LiveState) (old : Option LiveState) (s n : ℕ × ℕ → Bool) → at < length held
-    → get_or held at None ≡ old
-    → ((d : ℕ) → (d ≡ new.deadline → ⊥) → has_deadline old d ≡ false)
+-- a deadline goes in where there was none
+pub timed_put : (held : List (Option LiveState)) (at : ℕ) (new : LiveState) (s n : ℕ × ℕ → Bool) → at < length held
+    → get_or held at None ≡ None
     → Puts s n (new.deadline, at) true
     → ((q : ℕ × ℕ) → s q ≡ has_deadline (get_or held q.1 None) q.0)
     → (q : ℕ × ℕ) → n q ≡ has_deadline (get_or (set held at (Some new)) q.1 None) q.0
-timed_put held at new old s n lt was gone u agree =
+timed_put held at new s n lt was u agree =
     timed_set held at (Some new) s n lt agree
     (λ q other. puts_other s n (new.deadline, at) q true u (second_apart (new.deadline, at) q other))
     (λ d. elim (cases_eq d new.deadline) [
@@ -76,36 +75,7 @@ timed_put held at new old s n lt was gone u agree =
           (puts_here s n (new.deadline, at) true u ∙ sym (eq-eqb new.deadline new.deadline refl))
       | inr other ↦
           puts_other s n (new.deadline, at) (d, at) true u (first_apart (new.deadline, at) (d, at) other)
-          ∙ (agree (d, at) ∙ (ap (λ h. has_deadline h d) was ∙ (gone d other ∙ sym (ne_eqb new.deadline d (λ e. other (sym e))))))
-    ])
-
--- and the old one is taken out where it was another
-pub timed_swap : (held : List (Option LiveState)) (at : ℕ) (new old : LiveState) (s n m : ℕ × ℕ → Bool) → at < length held
-    → get_or held at None ≡ Some old
-    → (old.deadline ≡ new.deadline → ⊥)
-    → Puts s n (new.deadline, at) true
-    → Puts n m (old.deadline, at) false
-    → ((q : ℕ × ℕ) → s q ≡ has_deadline (get_or held q.1 None) q.0)
-    → (q : ℕ × ℕ) → m q ≡ has_deadline (get_or (set held at (Some new)) q.1 None) q.0
-timed_swap held at new old s n m lt was apart u v agree =
-    timed_set held at (Some new) s m lt agree
-    (λ q other.
-    puts_other n m (old.deadline, at) q false v (second_apart (old.deadline, at) q other)
-    ∙ puts_other s n (new.deadline, at) q true u (second_apart (new.deadline, at) q other))
-    (λ d. elim (cases_eq d old.deadline) [
-      | inl same ↦
-          subst (λ (x : ℕ). m (x, at) ≡ has_deadline (Some new) x) (sym same)
-          (puts_here n m (old.deadline, at) false v ∙ sym (ne_eqb new.deadline old.deadline (λ e. apart (sym e))))
-      | inr other ↦
-          puts_other n m (old.deadline, at) (d, at) false v (first_apart (old.deadline, at) (d, at) other)
-          ∙ elim (cases_eq d new.deadline) [
-            | inl same ↦
-                subst (λ (x : ℕ). n (x, at) ≡ has_deadline (Some new) x) (sym same)
-                (puts_here s n (new.deadline, at) true u ∙ sym (eq-eqb new.deadline new.deadline refl))
-            | inr third ↦
-                puts_other s n (new.deadline, at) (d, at) true u (first_apart (new.deadline, at) (d, at) third)
-                ∙ (agree (d, at) ∙ (ap (λ h. has_deadline h d) was ∙ (ne_eqb old.deadline d (λ e. other (sym e)) ∙ sym (ne_eqb new.deadline d (λ e. third (sym e))))))
-          ]
+          ∙ (agree (d, at) ∙ (ap (λ h. has_deadline h d) was ∙ sym (ne_eqb new.deadline d (λ e. other (sym e)))))
     ])
 
 -- what has a deadline

@@ -13,7 +13,7 @@ use Rattle.block_core.specs.declared.block.Block.{Block}
 use Rattle.subscribe_core.specs.declared.registers.Register.{Register}
 use Rattle.subscribe_core.specs.computed.Content.{content_by, content_of, content_with, reading_of}
 use Rattle.subscribe_core.specs.Entries.{AreEntriesAt}
-use Rattle.subscribe_core.specs.Reading.{IsFrame}
+use Rattle.subscribe_core.specs.computed.PrivateCalls.{IsFrame}
 use Rattle.subscribe_core.specs.Apart.{AreApart}
 use Rattle.subscribe_core.specs.State.{State, StandsAfter}
 use Rattle.subscribe_core.specs.computed.Steps.{said_of, step_entries}

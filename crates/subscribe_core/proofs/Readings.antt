@@ -9,7 +9,7 @@ use Rattle.list_core.specs.declared.event.Event.{Event}
 use Rattle.list_core.specs.declared.event.EventKind.{EventKind}
 use Rattle.list_core.specs.declared.event.EventKind.TheVariants as kinds
 use Rattle.frame_core.proofs.ReadingLaws.{frame_again, frame_read_found, frame_read_wrong, frame_wrong_again}
-use Rattle.subscribe_core.specs.Reading.{Content, OfGoose, OfSampled, OfFault, OfClock, OfMode, EventRead, IsContent, IsRead, AreRead}
+use Rattle.subscribe_core.specs.EventsRead.{Content, OfGoose, OfSampled, OfFault, OfClock, OfMode, EventRead, IsContent, IsRead, AreRead}
 use Rattle.subscribe_core.specs.computed.Content.{content_with, content_by, content_of, reading_of}
 
 -- the function reads what is there

@@ -7,7 +7,7 @@ use Rattle.block_core.specs.declared.block.Block.{Block}
 use Rattle.subscribe_core.specs.declared.entry.Entry.{Entry}
 use Rattle.subscribe_core.specs.declared.registers.Register.{Register}
 use Rattle.subscribe_core.specs.Epoch.{BlockHolds}
-use Rattle.subscribe_core.specs.Reading.{EventRead, IsRead, AreRead}
+use Rattle.subscribe_core.specs.EventsRead.{EventRead, IsRead, AreRead}
 use Rattle.subscribe_core.specs.computed.Content.{reading_of}
 use Rattle.subscribe_core.specs.Entries.{AreReadEntriesAt, AreEntriesAt, AreEntries}
 use Rattle.subscribe_core.specs.Laws.{BlocksAreAlone, EntriesAreOne, EntriesStay, EntriesExist}

@@ -1,15 +1,15 @@
 -- What switches no block, and the mode set off.
 use Rattle.std.proofs.Common.{◌≡◌, ℕ, zero, suc, ◌+◌, ◌≤◌, Bool, true, false, if◌then◌else◌, Some, None, List, [], ◌∷◌, ◌++◌, length, set, slice_get, drop, sym, ap, ap₂, ◌∙◌, arith, refl}
 use Rattle.std.proofs.lemmas.Option.{none-some, same_Some}
-use Rattle.std.specs.BTreeSet.{BTreeSet}
 use Rattle.ber_core.specs.declared.fault.Fault.{Fault}
 use Rattle.block_core.specs.declared.block.Block.{Block}
+use Rattle.subscribe_core.specs.declared.deadlines.Deadlines.{Deadlines}
 use Rattle.subscribe_core.specs.declared.entry.Entry.{Entry}
 use Rattle.subscribe_core.specs.declared.entry.Entry.TheVariants as says
 use Rattle.subscribe_core.specs.declared.names.Name.{Name}
 use Rattle.subscribe_core.specs.declared.registers.Register.{Register}
 use Rattle.subscribe_core.specs.computed.Indexed.{IsIndexed, registers_after_clock, register_after_clock, flagged_entries, switched_off, switched_off_one}
-use Rattle.subscribe_core.specs.Reading.{Content, OfClock, OfFault, OfMode, OfSampled}
+use Rattle.subscribe_core.specs.EventsRead.{Content, OfClock, OfFault, OfMode, OfSampled}
 use Rattle.subscribe_core.specs.computed.Steps.{register_by, registers_by, said_of, switch_by, switched_entries}
 
 -- what switches no block
@@ -91,7 +91,7 @@ off_all (suc n) (r ∷ rs) le = ap (λ (ys : List Register). switched_off_one r 
 
 -- what is so at each turn: those below `at` are switched
 pub record IsSwitching {A : Type 0} (at : ℕ) (first_blocks : List (Block A)) (first : List Register)
-    (blocks : List (Block A)) (registers : List Register) (names : List (Name A)) (deadlines : BTreeSet (ℕ × ℕ))
+    (blocks : List (Block A)) (registers : List Register) (names : List (Name A)) (deadlines : Deadlines A)
     (first_mode mode : Bool) (first_moment moment : ℕ) : Type 0 where
   pub indexed : IsIndexed blocks registers names deadlines
   pub off : registers ≡ off_to at first

@@ -3,7 +3,7 @@ use Rattle.std.proofs.Common.{◌≡◌, ℕ, zero, suc, ◌+◌, ◌<◌, ◌�
 use Rattle.std.proofs.lemmas.Bool.{false≢true}
 use Rattle.std.proofs.lemmas.List.{take-append-le}
 use Rattle.block_core.specs.declared.block.Block.{Block}
-use Rattle.subscribe_core.specs.Reading.{EventRead, Content, OfGoose, OfSampled, OfFault, OfClock, OfMode}
+use Rattle.subscribe_core.specs.EventsRead.{EventRead, Content, OfGoose, OfSampled, OfFault, OfClock, OfMode}
 use Rattle.subscribe_core.specs.Simulation.{some_below, holds_at, is_plain_simulated, is_off, mode_by, last_mode, mode_at, invites, sets_off, takes_simulated, is_switched}
 use Rattle.subscribe_core.specs.Sight.{facts_of, facts_at, greatest_event_moment, trace_of_block}
 use Rattle.subscribe_core.specs.computed.Steps.{switch_by, flag_by}

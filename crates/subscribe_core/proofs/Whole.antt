@@ -7,7 +7,7 @@ use Rattle.std.proofs.lemmas.List.Quantifiers.{position-Some}
 use Rattle.std.proofs.lemmas.Iterator.Adapters.{position_from-zero}
 use Rattle.std.specs.List.{position_from}
 use Rattle.block_core.specs.declared.block.Block.{Block}
-use Rattle.subscribe_core.specs.Reading.{FrameRead, EventRead, Content, OfGoose, OfSampled, OfFault, OfClock, OfMode}
+use Rattle.subscribe_core.specs.EventsRead.{FrameRead, EventRead, Content, OfGoose, OfSampled, OfFault, OfClock, OfMode}
 use Rattle.subscribe_core.specs.declared.registers.LiveState.{LiveState}
 use Rattle.subscribe_core.specs.declared.registers.Register.{Register}
 use Rattle.subscribe_core.specs.declared.entry.Reason.{Reason}

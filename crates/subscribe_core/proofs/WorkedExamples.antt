@@ -6,7 +6,7 @@ use Rattle.block_core.specs.declared.block.Block.{Block}
 use Rattle.subscribe_core.specs.declared.entry.Entry.{Entry}
 use Rattle.subscribe_core.specs.declared.entry.Entry.TheVariants as says
 use Rattle.subscribe_core.specs.declared.entry.Reason.TheVariants.{ConfRev, Simulated}
-use Rattle.subscribe_core.specs.Reading.{OfGoose, OfClock, OfMode, EventRead}
+use Rattle.subscribe_core.specs.EventsRead.{OfGoose, OfClock, OfMode, EventRead}
 use Rattle.subscribe_core.specs.State.{fresh_state}
 use Rattle.subscribe_core.specs.computed.Steps.{run_events}
 use Rattle.subscribe_core.specs.computed.WatchAnswers.{seen_all}

@@ -6,7 +6,7 @@ use Rattle.subscribe_core.specs.declared.entry.Entry.TheVariants as says
 use Rattle.list_core.specs.declared.event.Event.{Event}
 use Rattle.subscribe_core.specs.Epoch.{IsExpiry}
 use Rattle.subscribe_core.specs.FrameEntry.{IsFrameEntry}
-use Rattle.subscribe_core.specs.Reading.{Content, OfGoose, OfSampled, OfFault, OfClock, OfMode, EventRead, AreRead}
+use Rattle.subscribe_core.specs.EventsRead.{Content, OfGoose, OfSampled, OfFault, OfClock, OfMode, EventRead, AreRead}
 use Rattle.subscribe_core.specs.Sight.{trace_of_block}
 use Rattle.subscribe_core.specs.Simulation.{is_switched}
 
@@ -19,31 +19,31 @@ AreOfEach {A} holds entry b (block ∷ blocks) entries =
 
 -- i is an expiry of the block
 abbrev pub ExpiresAt : {A : Type 0} → List EventRead → ℕ → Block A → Type 0
-ExpiresAt events i block = IsExpiry (trace_of_block block events) i
+ExpiresAt readings i block = IsExpiry (trace_of_block block readings) i
 
 -- the block goes over to simulated frames at i, or back to real ones
 abbrev pub SwitchesAt : {A : Type 0} → List EventRead → ℕ → Block A → Type 0
-SwitchesAt events i block = is_switched block events i ≡ true
+SwitchesAt readings i block = is_switched block readings i ≡ true
 
 -- what is said of what is read at i, after the expiries and the switches
 abbrev pub AreOfContent : {A : Type 0} → List (Block A) → List EventRead → ℕ → Content → List (Entry A) → Type 0
-AreOfContent {A} blocks events i (OfGoose f) entries =
-    (entry : Entry A) × IsFrameEntry blocks events i f entry × (entries ≡ entry ∷ [])
-AreOfContent blocks events i OfSampled entries = entries ≡ says.Sampled ∷ []
-AreOfContent blocks events i (OfFault fault) entries = entries ≡ says.Faulty fault ∷ []
-AreOfContent blocks events i OfClock entries = entries ≡ []
-AreOfContent blocks events i (OfMode on) entries = entries ≡ []
+AreOfContent {A} blocks readings i (OfGoose f) entries =
+    (entry : Entry A) × IsFrameEntry blocks readings i f entry × (entries ≡ entry ∷ [])
+AreOfContent blocks readings i OfSampled entries = entries ≡ says.Sampled ∷ []
+AreOfContent blocks readings i (OfFault fault) entries = entries ≡ says.Faulty fault ∷ []
+AreOfContent blocks readings i OfClock entries = entries ≡ []
+AreOfContent blocks readings i (OfMode on) entries = entries ≡ []
 
 -- the entries at i of events as they are read: the expiries, then the switches, then what is said of the event
-pub record AreReadEntriesAt {A : Type 0} (blocks : List (Block A)) (events : List EventRead) (i : ℕ) (entries : List (Entry A)) : Type 0 where
+pub record AreReadEntriesAt {A : Type 0} (blocks : List (Block A)) (readings : List EventRead) (i : ℕ) (entries : List (Entry A)) : Type 0 where
   pub event : EventRead
-  pub at : slice_get events i ≡ Some event
+  pub at : slice_get readings i ≡ Some event
   pub expired : List (Entry A)
   pub switched : List (Entry A)
   pub said : List (Entry A)
-  pub are_expired : AreOfEach (ExpiresAt events i) says.Expired 0 blocks expired
-  pub are_switched : AreOfEach (SwitchesAt events i) says.Switched 0 blocks switched
-  pub are_said : AreOfContent blocks events i event.content said
+  pub are_expired : AreOfEach (ExpiresAt readings i) says.Expired 0 blocks expired
+  pub are_switched : AreOfEach (SwitchesAt readings i) says.Switched 0 blocks switched
+  pub are_said : AreOfContent blocks readings i event.content said
   pub whole : entries ≡ expired ++ (switched ++ said)
 
 -- the entries of event i of a list of frame octets, clock moments and mode events

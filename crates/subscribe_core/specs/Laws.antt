@@ -11,7 +11,7 @@ use Rattle.subscribe_core.specs.declared.registers.Verdict.TheVariants.{Act}
 use Rattle.subscribe_core.specs.Entries.{AreReadEntriesAt, AreEntriesAt, AreEntries}
 use Rattle.subscribe_core.specs.FrameEntry.{entry_of}
 use Rattle.subscribe_core.specs.Epoch.{Trace, IsLastStart, Acts}
-use Rattle.subscribe_core.specs.Reading.{FrameRead, OfGoose, EventRead}
+use Rattle.subscribe_core.specs.EventsRead.{FrameRead, OfGoose, EventRead}
 use Rattle.subscribe_core.specs.Sight.{trace_of_block}
 use Rattle.subscribe_core.specs.computed.Content.{reading_of}
 use Rattle.subscribe_core.specs.Simulation.{TakesSimulated, takes_simulated}
@@ -64,14 +64,14 @@ ActedWhereInTime t = (s number : ℕ) → IsActedOn t s number ↔ ComesInTime t
 -- a block takes simulated frames exactly where the test says so
 abbrev pub SimulatedAreTaken : Type 0 → Type 0
 SimulatedAreTaken A =
-    (block : Block A) (events : List EventRead) (i : ℕ) → (takes_simulated block events i ≡ true) ↔ TakesSimulated block events i
+    (block : Block A) (readings : List EventRead) (i : ℕ) → (takes_simulated block readings i ≡ true) ↔ TakesSimulated block readings i
 
 -- the good frames of one epoch are all simulated or all real
 abbrev pub OneKind : Type 0 → Type 0
 OneKind A =
-    (block : Block A) (events : List EventRead) (s i j : ℕ) (f g : Facts) (d e : EventRead) (x y : FrameRead) →
-    IsIn (trace_of_block block events) s i f → IsIn (trace_of_block block events) s j g →
-    slice_get events i ≡ Some d → d.content ≡ OfGoose x → slice_get events j ≡ Some e → e.content ≡ OfGoose y →
+    (block : Block A) (readings : List EventRead) (s i j : ℕ) (f g : Facts) (d e : EventRead) (x y : FrameRead) →
+    IsIn (trace_of_block block readings) s i f → IsIn (trace_of_block block readings) s j g →
+    slice_get readings i ≡ Some d → d.content ≡ OfGoose x → slice_get readings j ≡ Some e → e.content ≡ OfGoose y →
     x.pdu.simulation ≡ y.pdu.simulation
 
 -- the entry, if it is of block b, with the block's position read as 0
@@ -116,20 +116,20 @@ EntriesExist A =
     (blocks : List (Block A)) (events : List (Event A)) → AreEntries blocks events (run_events (fresh_state blocks) (map reading_of events))
 
 -- block b acts on event i, which is a frame of GOOSE, and this entry says so with the frame's own numbers, time and members
-pub record IsActOn {A : Type 0} (blocks : List (Block A)) (events : List EventRead) (i b : ℕ) (entry : Entry A) : Type 0 where
+pub record IsActOn {A : Type 0} (blocks : List (Block A)) (readings : List EventRead) (i b : ℕ) (entry : Entry A) : Type 0 where
   pub block : Block A
   pub at : slice_get blocks b ≡ Some block
   pub event : EventRead
-  pub read : slice_get events i ≡ Some event
+  pub read : slice_get readings i ≡ Some event
   pub frame : FrameRead
   pub goose : event.content ≡ OfGoose frame
-  pub acts : Acts (trace_of_block block events) i
+  pub acts : Acts (trace_of_block block readings) i
   pub told : entry ≡ entry_of b frame Act
 
 -- the actions among the entries of an event are exactly those of the blocks that act on it: of which its frame is a good one,
 -- with a status number above those of all good ones before it in their epoch
 abbrev pub ActsAreTold : Type 0 → Type 0
 ActsAreTold A =
-    (blocks : List (Block A)) (events : List EventRead) (i : ℕ) (es : List (Entry A)) (b st sq : ℕ) (t : UtcTime) (members : List Data) →
-    AreApart blocks → AreReadEntriesAt blocks events i es →
-    Contains es (says.Act b st sq t members) ↔ IsActOn blocks events i b (says.Act b st sq t members)
+    (blocks : List (Block A)) (readings : List EventRead) (i : ℕ) (es : List (Entry A)) (b st sq : ℕ) (t : UtcTime) (members : List Data) →
+    AreApart blocks → AreReadEntriesAt blocks readings i es →
+    Contains es (says.Act b st sq t members) ↔ IsActOn blocks readings i b (says.Act b st sq t members)

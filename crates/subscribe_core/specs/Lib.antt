@@ -1,5 +1,5 @@
 pub mod Epoch
-pub mod Reading
+pub mod EventsRead
 pub mod Matching
 pub mod Simulation
 pub mod Sight

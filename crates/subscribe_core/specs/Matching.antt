@@ -5,7 +5,7 @@ use Rattle.block_core.specs.declared.block.Block.{Block}
 use Rattle.subscribe_core.specs.declared.entry.Reason.{Reason}
 use Rattle.subscribe_core.specs.declared.entry.Reason.TheVariants.{DatSet, GoId, ConfRev, Commissioning, Simulated, Entries, StateZero, LiveZero}
 use Rattle.subscribe_core.specs.declared.registers.Facts.{Facts}
-use Rattle.subscribe_core.specs.Reading.{FrameRead}
+use Rattle.subscribe_core.specs.EventsRead.{FrameRead}
 
 -- the frame is one of the block: it has its APPID and its gocbRef
 abbrev pub is_of : {A : Type 0} → FrameRead → Block A → Bool

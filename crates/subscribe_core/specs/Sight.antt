@@ -4,7 +4,7 @@ use Rattle.block_core.specs.declared.block.Block.{Block}
 use Rattle.subscribe_core.specs.declared.registers.Facts.{Facts}
 use Rattle.subscribe_core.specs.Epoch.{Trace}
 use Rattle.subscribe_core.specs.Matching.{is_of, reason_of, facts_of_frame, facts_unless_refused}
-use Rattle.subscribe_core.specs.Reading.{Content, OfGoose, OfSampled, OfFault, OfClock, OfMode, EventRead}
+use Rattle.subscribe_core.specs.EventsRead.{Content, OfGoose, OfSampled, OfFault, OfClock, OfMode, EventRead}
 use Rattle.subscribe_core.specs.Simulation.{mode_at, takes_simulated, is_switched, is_other_kind}
 
 -- the facts of what is read, where it is a good frame of the block: one of the block against which no reason holds, by the
@@ -29,9 +29,9 @@ greatest_event_moment (e ∷ es) = max e.moment (greatest_event_moment es)
 
 -- what the block sees of the events
 abbrev pub trace_of_block : {A : Type 0} → Block A → List EventRead → Trace
-trace_of_block b events =
+trace_of_block b readings =
     record {
-      now = λ i. greatest_event_moment (take (i + 1) events);
-      good = λ i. facts_at b (mode_at events i) (takes_simulated b events i) (slice_get events i);
-      switched = is_switched b events;
+      now = λ i. greatest_event_moment (take (i + 1) readings);
+      good = λ i. facts_at b (mode_at readings i) (takes_simulated b readings i) (slice_get readings i);
+      switched = is_switched b readings;
     }

@@ -1,7 +1,7 @@
 -- The simulation mode, and which blocks take simulated frames (profile). All is said by positions in the list.
 use Rattle.std.specs.Prelude.{◌≡◌, ℕ, zero, suc, ◌<◌, Bool, true, false, not, ◌&&◌, ◌||◌, Option, Some, None, List, [], ◌∷◌, take, nat_lt, slice_get, if◌then◌else◌}
 use Rattle.block_core.specs.declared.block.Block.{Block}
-use Rattle.subscribe_core.specs.Reading.{FrameRead, Content, OfGoose, OfSampled, OfFault, OfClock, OfMode, EventRead}
+use Rattle.subscribe_core.specs.EventsRead.{FrameRead, Content, OfGoose, OfSampled, OfFault, OfClock, OfMode, EventRead}
 use Rattle.subscribe_core.specs.Matching.{is_of, reason_of, is_clear}
 
 -- the mode that an event leaves
@@ -19,7 +19,7 @@ last_mode mode (e ∷ es) = last_mode (mode_by e.content mode) es
 
 -- the mode at i: what the last mode event before i says, off if there is none
 abbrev pub mode_at : List EventRead → ℕ → Bool
-mode_at events i = last_mode false (take i events)
+mode_at readings i = last_mode false (take i readings)
 
 -- an event that sets the mode off
 abbrev pub is_off : Content → Bool
@@ -49,29 +49,29 @@ some_below (suc n) p = p n || some_below n p
 
 -- at j such a frame comes with the mode on
 abbrev pub invites : {A : Type 0} → Block A → List EventRead → ℕ → Bool
-invites b events j = holds_at (is_plain_simulated b) (slice_get events j) && mode_at events j
+invites b readings j = holds_at (is_plain_simulated b) (slice_get readings j) && mode_at readings j
 
 -- the event at k sets the mode off
 abbrev pub sets_off : List EventRead → ℕ → Bool
-sets_off events k = holds_at is_off (slice_get events k)
+sets_off readings k = holds_at is_off (slice_get readings k)
 
 -- the block takes simulated frames at i: at an earlier position such a frame comes with the mode on, and no event between sets
 -- the mode off
-pub record TakesSimulated {A : Type 0} (b : Block A) (events : List EventRead) (i : ℕ) : Type 0 where
+pub record TakesSimulated {A : Type 0} (b : Block A) (readings : List EventRead) (i : ℕ) : Type 0 where
   pub since : ℕ
   pub earlier : since < i
-  pub invited : invites b events since ≡ true
-  pub lasts : (k : ℕ) → since < k → k < i → ¬ (sets_off events k ≡ true)
+  pub invited : invites b readings since ≡ true
+  pub lasts : (k : ℕ) → since < k → k < i → ¬ (sets_off readings k ≡ true)
 
 -- the same as a test, by what a law says
 abbrev pub takes_simulated : {A : Type 0} → Block A → List EventRead → ℕ → Bool
-takes_simulated b events i =
-    some_below i (λ j. invites b events j && not (some_below i (λ k. nat_lt j k && sets_off events k)))
+takes_simulated b readings i =
+    some_below i (λ j. invites b readings j && not (some_below i (λ k. nat_lt j k && sets_off readings k)))
 
 -- the block goes over to simulated frames at i, or back to real ones
 abbrev pub is_switched : {A : Type 0} → Block A → List EventRead → ℕ → Bool
-is_switched b events i =
-    (invites b events i && not (takes_simulated b events i)) || (sets_off events i && takes_simulated b events i)
+is_switched b readings i =
+    (invites b readings i && not (takes_simulated b readings i)) || (sets_off readings i && takes_simulated b readings i)
 
 -- the frame is of the kind that isn't taken, so that `Simulated` holds: it is simulated and the mode is off, or it is real and
 -- the block takes simulated frames

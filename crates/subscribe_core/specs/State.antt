@@ -4,7 +4,7 @@ use Rattle.block_core.specs.declared.block.Block.{Block}
 use Rattle.subscribe_core.specs.declared.registers.Register.{Register}
 use Rattle.list_core.specs.declared.event.Event.{Event}
 use Rattle.subscribe_core.specs.Epoch.{BlockHolds}
-use Rattle.subscribe_core.specs.Reading.{EventRead, AreRead}
+use Rattle.subscribe_core.specs.EventsRead.{EventRead, AreRead}
 use Rattle.subscribe_core.specs.Sight.{greatest_event_moment, trace_of_block}
 use Rattle.subscribe_core.specs.Simulation.{last_mode, takes_simulated}
 
@@ -20,20 +20,13 @@ pub record StateAndLooks (A : Type 0) : Type 0 where
   pub state : State A
   pub looks : ℕ
 
--- what a subscriber keeps, how often the last event reached a block or its register, and how often one was reached in
--- all, up to 2^64 - 1
-pub record StateAndReaches (A : Type 0) : Type 0 where
-  pub state : State A
-  pub looks : ℕ
-  pub reaches : ℕ
-
 -- it keeps what the events say, as they are read: a register for each block, and each says what its block holds and takes
-pub record StandsAfterRead {A : Type 0} (events : List EventRead) (s : State A) : Type 0 where
+pub record StandsAfterRead {A : Type 0} (readings : List EventRead) (s : State A) : Type 0 where
   pub sizes : length s.registers ≡ length s.blocks
-  pub moment : s.moment ≡ greatest_event_moment events
-  pub mode : s.mode ≡ last_mode false events
-  pub holds : (b : ℕ) (block : Block A) (r : Register) → slice_get s.blocks b ≡ Some block → slice_get s.registers b ≡ Some r → BlockHolds (trace_of_block block events) (length events) r.held
-  pub flags : (b : ℕ) (block : Block A) (r : Register) → slice_get s.blocks b ≡ Some block → slice_get s.registers b ≡ Some r → r.takes_simulated ≡ takes_simulated block events (length events)
+  pub moment : s.moment ≡ greatest_event_moment readings
+  pub mode : s.mode ≡ last_mode false readings
+  pub holds : (b : ℕ) (block : Block A) (r : Register) → slice_get s.blocks b ≡ Some block → slice_get s.registers b ≡ Some r → BlockHolds (trace_of_block block readings) (length readings) r.held
+  pub flags : (b : ℕ) (block : Block A) (r : Register) → slice_get s.blocks b ≡ Some block → slice_get s.registers b ≡ Some r → r.takes_simulated ≡ takes_simulated block readings (length readings)
 
 -- it keeps what a list of frame octets, clock moments and mode events says
 abbrev pub StandsAfter : {A : Type 0} → List (Event A) → State A → Type 0

@@ -7,7 +7,8 @@ ghost use Rattle.subscribe_core.specs.Looks.{expired_count};
 ghost use Rattle.subscribe_core.specs.Faults.{IsFaultOf};
 ghost use Rattle.subscribe_core.specs.computed.Indexed.{registers_after_clock, flagged_entries, switched_off};
 ghost use Rattle.subscribe_core.specs.Matching.{is_of};
-ghost use Rattle.subscribe_core.specs.Reading.{IsFrame, IsMode, OfGoose, OfMode};
+ghost use Rattle.subscribe_core.specs.EventsRead.{IsMode, OfGoose, OfMode};
+ghost use Rattle.subscribe_core.specs.computed.PrivateCalls.{IsFrame};
 ghost use Rattle.subscribe_core.specs.computed.Received.{received_frame};
 ghost use Rattle.subscribe_core.specs.Simulation.{mode_by};
 ghost use Rattle.subscribe_core.specs.Apart.{AreApart};
@@ -17,7 +18,7 @@ ghost use Rattle.frame_core.specs.computed.FrameReading.{frame_at};
 ghost use Rattle.subscribe_core.specs.declared.registers.Register.{Register as SpecRegister};
 
 use crate::answering::push_good;
-use crate::deadlines;
+use crate::deadlines::Deadlines;
 use crate::entry::Entry;
 use crate::fault::SubscribeFault;
 use crate::matching::{Received, first_reason, is_other_kind};
@@ -28,7 +29,6 @@ use crate::twice::first_twice;
 use block_core::Block;
 use frame_core::{ApduView, Event, EventKind, view_frame};
 use std::alloc::{AllocError, Allocator};
-use std::collections::BTreeSet;
 use std::marker::Model;
 
 /// What a subscriber keeps, and how often the last event that was answered Ok reached a block or its register.
@@ -37,14 +37,14 @@ pub struct Keeper<A: Allocator> {
     alloc: A,
     rows: Rows<A>,
     names: Vec<Name<A>, A>,
-    deadlines: BTreeSet<(u128, usize), A>,
+    deadlines: Deadlines<A>,
     mode: bool,
     moment: u64,
     looks: u64,
 }
 
 impl<A: Allocator> Model for Keeper<A> {
-    ghost use Rattle.subscribe_core.specs.State.{StateAndReaches};
+    ghost use Rattle.subscribe_core.specs.computed.PrivateCalls.{StateAndReaches};
     ghost use Rattle.subscribe_core.specs.computed.Indexed.{IsIndexed};
 
     ghost Value = { StateAndReaches A };
@@ -92,7 +92,7 @@ impl<A: Allocator + Copy> Keeper<A> {
             alloc,
             rows: Rows::new(blocks, registers),
             names,
-            deadlines: BTreeSet::new(alloc),
+            deadlines: Deadlines::new(alloc),
             mode: false,
             moment: 0,
             looks: 0,
@@ -141,17 +141,19 @@ impl<A: Allocator + Copy> Keeper<A> {
         self.rows.look(reach)
     }
 
-    // An entry for each block that expires at the moment, in their order.
-    fn expired(&self, now: u64) -> Result<Vec<Entry<A>, A>, AllocError>
-        ensures entries { IfOk result (λ entries. entries.items ≡ expired_entries now 0 self.now.state.registers) }
+    // Appends an entry for each block that expires at the moment, in their order.
+    fn list_expired(&self, now: u64, entries: &mut Vec<Entry<A>, A>) -> Result<(), AllocError>
+        ensures entries { OnOk result (entries.new.items ≡ entries.old.items ++ expired_entries now 0 self.now.state.registers) }
         ensures quiet { expired_entries {A = A} now 0 self.now.state.registers ≡ [] → IsOk result }
     {
-        let mut entries = Vec::new(self.alloc);
-        let due = deadlines::due(self.alloc, &self.deadlines, now)?;
+        if !self.deadlines.has_due(now) {
+            return Ok(());
+        }
+        let due = self.deadlines.due(self.alloc, now)?;
         for at in due.iter() {
             entries.push(Entry::Expired { block: *at })?;
         }
-        Ok(entries)
+        Ok(())
     }
 
     // Lets go of what is over at the moment.
@@ -162,14 +164,14 @@ impl<A: Allocator + Copy> Keeper<A> {
         ensures moment { self.new.state.moment ≡ self.old.state.moment }
         ensures count { self.new.reaches ≤ self.old.reaches + due_count now (helds self.old.state.registers) }
     {
-        while let Some(at) = deadlines::take_due(&mut self.deadlines, now) {
+        while let Some(at) = self.deadlines.take_due(now) {
             self.rows.let_go(at);
         }
     }
 
     // Has a block hold something in place of what it held, and take simulated frames or real ones.
     //
-    // The new deadline goes in first, the one growth here. If it is the old one, it stays.
+    // The new deadline comes first, where memory may be refused.
     fn hold(
         &mut self,
         at: usize,
@@ -186,7 +188,7 @@ impl<A: Allocator + Copy> Keeper<A> {
         ensures err { OnErr result (self.new.state ≡ self.old.state) }
         ensures err_looks { OnErr result (self.new.looks ≡ self.old.looks) }
     {
-        deadlines::swap(&mut self.deadlines, at, old, held.deadline)?;
+        self.deadlines.renew(at, old, held.deadline)?;
         self.rows.write(
             at,
             Register {
@@ -198,7 +200,7 @@ impl<A: Allocator + Copy> Keeper<A> {
     }
 
     // The allocator of the subscriber.
-    fn alloc(&self) -> A
+    pub(crate) fn alloc(&self) -> A
         ensures { length self.now.state.registers ≡ length self.now.state.blocks }
     {
         self.alloc
@@ -316,7 +318,7 @@ impl<A: Allocator + Copy> Keeper<A> {
             let reach = self.rows.reach(at);
             let (_, old) = self.rows.look(reach);
             if old.takes_simulated {
-                deadlines::leave(&mut self.deadlines, at, old.held);
+                self.deadlines.let_go(at, old.held);
                 let idle = Register {
                     held: None,
                     takes_simulated: false,
@@ -383,38 +385,49 @@ impl<A: Allocator + Copy> Keeper<A> {
         }
     }
 
-    // Takes one event, by what is kept.
-    fn take_counted(&mut self, event: &Event<A>) -> Result<Vec<Entry<A>, A>, AllocError>
-        ensures entries { IfOk result (λ entries. entries.items ≡ step_entries self.old.state (reading_of event.now)) }
+    // Takes one event, by what is kept, and appends its entries.
+    fn take_counted(
+        &mut self,
+        event: &Event<A>,
+        entries: &mut Vec<Entry<A>, A>,
+    ) -> Result<(), AllocError>
+        ensures entries { OnOk result (entries.new.items ≡ entries.old.items ++ step_entries self.old.state (reading_of event.now)) }
         ensures state { OnOk result (self.new.state ≡ step_state self.old.state (reading_of event.now)) }
         ensures err { OnErr result (self.new.state ≡ self.old.state) }
         ensures err_looks { OnErr result (self.new.looks ≡ self.old.looks) }
         ensures quiet { IsFrame event.now.kind ⊎ (step_entries self.old.state (reading_of event.now) ≡ [] → IsOk result) }
-        ensures count { IsMode event.now.kind ⊎ IfOk result (λ entries. self.new.reaches ≤ self.old.reaches + (expired_count entries.items + 2)) }
+        ensures count { IsMode event.now.kind ⊎ OnOk result (self.new.reaches ≤ self.old.reaches + (expired_count (step_entries self.old.state (reading_of event.now)) + 2)) }
         ensures apart { AreApart self.old.state.blocks }
     {
         let now = self.moment.max(event.moment);
-        let mut entries = self.expired(now)?;
-        self.take_kind(now, &event.kind, &mut entries)?;
+        self.list_expired(now, entries)?;
+        self.take_kind(now, &event.kind, entries)?;
         self.expire(now);
         self.moment = now;
-        Ok(entries)
+        Ok(())
     }
 
-    // Takes one event, by what is kept. What `looks` then answers is by how much the count of all reaches grew.
-    pub(crate) fn step(&mut self, event: &Event<A>) -> Result<Vec<Entry<A>, A>, AllocError>
-        ensures entries { IfOk result (λ entries. entries.items ≡ step_entries self.old.state (reading_of event.now)) }
+    // Takes one event, by what is kept, and has a list be its entries.
+    //
+    // What `looks` then answers is by how much the count of all reaches grew.
+    pub(crate) fn step(
+        &mut self,
+        event: &Event<A>,
+        entries: &mut Vec<Entry<A>, A>,
+    ) -> Result<(), AllocError>
+        ensures entries { OnOk result (entries.new.items ≡ step_entries self.old.state (reading_of event.now)) }
         ensures state { OnOk result (self.new.state ≡ step_state self.old.state (reading_of event.now)) }
         ensures err { OnErr result (self.new.state ≡ self.old.state) }
         ensures err_looks { OnErr result (self.new.looks ≡ self.old.looks) }
         ensures quiet { IsFrame event.now.kind ⊎ (step_entries self.old.state (reading_of event.now) ≡ [] → IsOk result) }
         ensures counted { OnOk result (self.new.looks ≡ self.new.reaches - self.old.reaches) }
-        ensures looks { IsMode event.now.kind ⊎ IfOk result (λ entries. self.new.looks ≤ expired_count entries.items + 2) }
+        ensures looks { IsMode event.now.kind ⊎ OnOk result (self.new.looks ≤ expired_count entries.new.items + 2) }
         ensures apart { AreApart self.old.state.blocks }
     {
         let before = self.rows.reaches();
-        let entries = self.take_counted(event)?;
+        entries.clear();
+        self.take_counted(event, entries)?;
         self.looks = self.rows.reaches().saturating_sub(before); // the count of all reaches never falls
-        Ok(entries)
+        Ok(())
     }
 }

@@ -2,7 +2,7 @@
 
 ghost use Rattle.std.specs.Prelude.{List};
 ghost use Rattle.subscribe_core.specs.Laws.{ActedWhereInTime, ActsAreTold, BlocksAreAlone, EntriesAreOne, EntriesExist, EntriesStay, NumbersAreBelow, NumbersRise, OneKind, SimulatedAreTaken};
-ghost use Rattle.subscribe_core.specs.Reading.{EventRead};
+ghost use Rattle.subscribe_core.specs.EventsRead.{EventRead};
 ghost use Rattle.subscribe_core.specs.Sight.{trace_of_block};
 ghost use Rattle.subscribe_core.specs.WatchLaws.{SeenAreOne, SkipsAddUp};
 ghost use Rattle.block_core.specs.declared.block.Block.{Block};

@@ -5,7 +5,7 @@ ghost use Rattle.subscribe_core.specs.computed.Content.{reading_of};
 ghost use Rattle.subscribe_core.specs.Entries.{AreEntriesAt};
 ghost use Rattle.subscribe_core.specs.Looks.{expired_count};
 ghost use Rattle.subscribe_core.specs.Faults.{IsFaultOf};
-ghost use Rattle.subscribe_core.specs.Reading.{IsMode};
+ghost use Rattle.subscribe_core.specs.EventsRead.{IsMode};
 ghost use Rattle.subscribe_core.specs.Apart.{AreApart};
 ghost use Rattle.subscribe_core.specs.State.{StandsAfter, fresh_state};
 ghost use Rattle.subscribe_core.specs.computed.Steps.{step_entries, step_state};
@@ -54,7 +54,7 @@ impl<A: Allocator + Copy> Subscriber<A> {
         Ok(Subscriber { keeper })
     }
 
-    /// How often the last `take` that answered Ok reached a block or its register, 0 before the first.
+    /// How often the last `take` or `take_into` that answered Ok reached a block or its register, 0 before the first.
     pub fn looks(&self) -> u64
         ensures { result ≡ self.now.looks }
     {
@@ -94,6 +94,46 @@ impl<A: Allocator + Copy> Subscriber<A> {
         ensures state { OnOk result (self.new.state ≡ step_state self.old.state (reading_of event.now)) }
         ensures quiet_step { step_entries self.old.state (reading_of event.now) ≡ [] → IsOk result }
     {
-        self.keeper.step(event)
+        let mut entries = Vec::new(self.keeper.alloc());
+        self.take_into(event, &mut entries)?;
+        Ok(entries)
+    }
+
+    /// Takes one event as `take` does, and has a list be its entries. What stood in the list is let go, and its memory is used
+    /// again.
+    ///
+    /// # Errors
+    ///
+    /// As those of `take`. What the list then holds is not said.
+    pub fn take_into(
+        &mut self,
+        event: &Event<A>,
+        entries: &mut Vec<Entry<A>, A>,
+    ) -> Result<(), AllocError>
+        // For every list of events after which the subscriber stands, the entries are those that the list with this event has at
+        // it, and the subscriber then stands after that list.
+        ensures entries { (events : List (SpecEvent A)) → StandsAfter events self.old.state →
+            OnOk result (AreEntriesAt self.old.state.blocks (events ++ event.now ∷ []) (length events) entries.new.items) }
+        ensures stands { (events : List (SpecEvent A)) → StandsAfter events self.old.state →
+            OnOk result (StandsAfter (events ++ event.now ∷ []) self.new.state) }
+
+        // Where memory is refused nothing is changed; where the event has no entry no memory is asked for.
+        ensures unchanged { OnErr result (self.new ≡ self.old) }
+        ensures quiet { (events : List (SpecEvent A)) → StandsAfter events self.old.state →
+            AreEntriesAt self.old.state.blocks (events ++ event.now ∷ []) (length events) [] → IsOk result }
+
+        // How often a block or its register was reached.
+        ensures looks { IsMode event.now.kind ⊎ OnOk result (self.new.looks ≤ expired_count entries.new.items + 2) }
+
+        // The blocks stay, and no two have one name.
+        ensures blocks { self.new.state.blocks ≡ self.old.state.blocks }
+        ensures apart { AreApart self.old.state.blocks }
+
+        // For callers: the same by what is kept.
+        ensures step { OnOk result (entries.new.items ≡ step_entries self.old.state (reading_of event.now)) }
+        ensures state { OnOk result (self.new.state ≡ step_state self.old.state (reading_of event.now)) }
+        ensures quiet_step { step_entries self.old.state (reading_of event.now) ≡ [] → IsOk result }
+    {
+        self.keeper.step(event, entries)
     }
 }

@@ -1,12 +1,12 @@
 -- The texts of a few values and lines, computed, as docs/FORMATS.md shows them: a wrong definition does not check.
-use Rattle.std.proofs.Common.{◌≡◌, true, false, pos, negsuc, Some, None, [], ◌∷◌, refl}
+use Rattle.std.proofs.Common.{◌≡◌, true, pos, negsuc, [], ◌∷◌, refl}
 use Rattle.std.specs.Prelude.{codes}
 use Rattle.std.specs.Fmt.{digits}
 use Rattle.hex.specs.Hex.{encode_with}
 use Rattle.ber_core.specs.declared.fault.Cause.TheVariants as causes
 use Rattle.list_core.specs.declared.list_fault.ListCause.TheVariants as list
 use Rattle.mms_data.specs.Data.{boolean, bits, integer, unsigned, floating, octets, visible, binary_time, mms_text, utc, simple, array, structure, items_of}
-use Rattle.text_core.specs.LineText.{clock_line, fault_line, list_line}
+use Rattle.text_core.specs.LineText.{clock_line, fault_line, list_fault_line}
 use Rattle.text_core.specs.ValueText.{members_text, simple_text, value_text}
 
 pub record AreTexts : Type 0 where
@@ -34,7 +34,7 @@ texts = record { truth = refl; double_point = refl; no_bits = refl; below_zero =
 pub record AreShortLines : Type 0 where
   pub clock : clock_line 3 1500000 ≡ codes "3 clock 1500000\n"
   pub fault : fault_line 12 (record { place = 59; cause = causes.EntryCount }) ≡ codes "12 fault 59 EntryCount\n"
-  pub last : list_line (record { line = 7; cause = list.LineForm }) ≡ codes "7 list LineForm\n"
+  pub last : list_fault_line (record { line = 7; cause = list.LineForm }) ≡ codes "7 list LineForm\n"
 
 short_lines : AreShortLines
 unfolding digits

@@ -14,5 +14,5 @@ abbrev pub fault_line : ℕ → Fault → List ℕ
 fault_line n f = decimal n ++ codes " fault " ++ decimal f.place ++ (codes " " ++ name_of_cause f.cause) ++ codes "\n"
 
 -- the number of the bad line and its cause
-abbrev pub list_line : ListFault → List ℕ
-list_line f = decimal f.line ++ codes " list " ++ name_of_list_cause f.cause ++ codes "\n"
+abbrev pub list_fault_line : ListFault → List ℕ
+list_fault_line f = decimal f.line ++ codes " list " ++ name_of_list_cause f.cause ++ codes "\n"

@@ -1,7 +1,7 @@
 //! The short lines: of a clock moment, of a faulty frame, and the last one, of a fault of the list.
 ghost use Rattle.std.specs.Prelude.{◌++◌};
-ghost use Rattle.list_core.specs.EventLine.{mode_text};
-ghost use Rattle.text_core.specs.LineText.{clock_line, fault_line, list_line};
+ghost use Rattle.list_core.specs.EventText.{mode_text};
+ghost use Rattle.text_core.specs.LineText.{clock_line, fault_line, list_fault_line};
 ghost use Rattle.text_core.specs.Pieces.{AppendsText};
 
 use crate::names::{cause_name, list_cause_name};
@@ -44,8 +44,11 @@ pub fn put_fault_line<A: Allocator>(
 }
 
 /// Appends the last line, on a fault of the list.
-pub fn put_list_line<A: Allocator>(out: &mut Vec<u8, A>, fault: ListFault) -> Result<(), AllocError>
-    ensures { AppendsText result out.old.items out.new.items (list_line fault) }
+pub fn put_list_fault_line<A: Allocator>(
+    out: &mut Vec<u8, A>,
+    fault: ListFault,
+) -> Result<(), AllocError>
+    ensures { AppendsText result out.old.items out.new.items (list_fault_line fault) }
 {
     put_decimal(out, fault.line)?;
     out.extend_from_slice(b" list ")?;

@@ -14,7 +14,7 @@ use Rattle.clap.specs.Walk.{Names, Walk, answers_to, idle, nothing_held, stop_af
 use Rattle.clap.proofs.OnLiterals.{clap_on_literals}
 use Rattle.clap.proofs.WalkLemmas.{find-map}
 use Rattle.block_core.specs.declared.block.Block.{Block}
-use Rattle.words_core.specs.CommandLine.{Asked, Asks, AsksByName, Meaning, Subcommand, blocks_in, check, command_line, faults, first_bad, import, is_plain, list_blocks, name_of, number_said, plain, publish, replay, replay_of, replay_shape, replaying, rewrite, show, subcommands, task_asked, task_of_words, watch, watch_shape, watching}
+use Rattle.words_core.specs.CommandLine.{Asked, Asks, AsksByName, Meaning, Subcommand, blocks_in, check, command_line, faults, first_bad_block, import, is_plain, list_blocks, name_of, number_said, plain, publish, replay, replay_of, replay_shape, replaying, rewrite, show, subcommands, task_asked, task_of_words, watch, watch_shape, watching}
 use Rattle.words_core.proofs.KeptRows.{first_none, leaf, then_none}
 use Rattle.words_core.proofs.LoneFlags.{Behind, behind, dashes, help_flag, lone_mark, version_flag}
 
@@ -77,7 +77,7 @@ named_replay rows t e = go (all_of (codes "BLOCK") rows) e
   where
     go : (o : Option (List Text)) → option_map replay_of o ≡ Some (Ok t) → name_of t ≡ name_of (replay [])
     go None f = cc
-    go (Some texts) f = replay_named (first_bad texts) (blocks_in texts) t (ap (λ (m : Option Meaning). unwrap_or m (Ok t)) f)
+    go (Some texts) f = replay_named (first_bad_block texts) (blocks_in texts) t (ap (λ (m : Option Meaning). unwrap_or m (Ok t)) f)
 
 watch_named : (n : Option ℕ) (id : Option Text) (t : Asked) → option_and_then {U = Meaning} (λ k. option_map {U = Meaning} (λ x. Ok (watch k x)) id) n ≡ Some (Ok t)
     → name_of t ≡ name_of (watch 0 [])

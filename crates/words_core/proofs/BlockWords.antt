@@ -10,7 +10,7 @@ use Rattle.std.specs.Option.{option_map_or}
 use Rattle.clap.specs.Words.{Text}
 use Rattle.clap.specs.Walk.{texts}
 use Rattle.block_core.specs.declared.block.Block.{Block}
-use Rattle.words_core.specs.CommandLine.{block_at, blocks_in, first_bad, replay, replay_of}
+use Rattle.words_core.specs.CommandLine.{block_at, blocks_in, first_bad_block, replay, replay_of}
 
 abbrev says_none : Text → Bool
 says_none text = not (is_some (block_at text))
@@ -35,7 +35,7 @@ place (b ∷ bs) (x ∷ xs) text rest e none =
 
 -- the first text that says no block stands behind those that say one
 pub bad_at : (blocks : List (Block Global)) (before : List Text) (text : Text) (rest : List Text) → map Some blocks ≡ map block_at before → block_at text ≡ None
-    → first_bad (before ++ text ∷ rest) ≡ Some (length before)
+    → first_bad_block (before ++ text ∷ rest) ≡ Some (length before)
 bad_at blocks before text rest e none =
     let size = length-append before (text ∷ rest) in
     let inside : length before < length (before ++ text ∷ rest) = omega (arith, size) in
@@ -50,7 +50,7 @@ past (b ∷ bs) (x ∷ xs) e =
     let later = past bs xs first.1 in
     rw first.0 (omega (arith, later))
 
-none_bad : (blocks : List (Block Global)) (texts : List Text) → map Some blocks ≡ map block_at texts → first_bad texts ≡ None
+none_bad : (blocks : List (Block Global)) (texts : List Text) → map Some blocks ≡ map block_at texts → first_bad_block texts ≡ None
 none_bad blocks texts e =
     let behind : length texts ≤ length texts = omega arith in
     rw (past blocks texts e, le-ltb (length texts) (length texts) behind) refl

@@ -56,7 +56,7 @@ watches = record { two = refl; most = refl; joined = refl }
 pub record AreNoBlocks : Type 0 where
   pub five_fields : block_at (codes "0001,G,D,,1") ≡ None
   pub seven_fields : block_at (codes "0001,G,D,,1,2,3") ≡ None
-  pub first_bad : replay_of (codes "1" ∷ codes "2" ∷ []) ≡ Err 0
+  pub first_bad_block : replay_of (codes "1" ∷ codes "2" ∷ []) ≡ Err 0
 
 pub no_blocks : AreNoBlocks
-no_blocks = record { five_fields = refl; seven_fields = refl; first_bad = refl }
+no_blocks = record { five_fields = refl; seven_fields = refl; first_bad_block = refl }

@@ -22,7 +22,8 @@ use Rattle.words_core.specs.declared.words.WordsError.{WordsError}
 use Rattle.words_core.specs.declared.words.WordsError.TheVariants as refused
 use Rattle.words_core.proofs.KeptRows.{first_none, leaf, level_checked, then_none, wanted}
 use Rattle.words_core.proofs.WatchRows.{watch_says}
-use Rattle.words_core.specs.CommandLine.{Asked, AsksByName, HasPeriod, IsNoMistake, MayAnswer, MayRefuse, Meaning, blocks_in, check, command_line, faults, first_bad, import, is_plain, list_blocks, name_of, plain, publish, replay, replay_of, replay_shape, rewrite, said, show, task_asked, task_of_words, watch, watch_shape}
+use Rattle.words_core.specs.CommandLine.{Asked, AsksByName, HasPeriod, IsNoMistake, MayRefuse, Meaning, blocks_in, check, command_line, faults, first_bad_block, import, is_plain, list_blocks, name_of, plain, publish, replay, replay_of, replay_shape, rewrite, asked_by, show, task_asked, task_of_words, watch, watch_shape}
+use Rattle.words_core.specs.computed.PrivateCalls.{MayAnswer}
 
 -- where a subcommand is required and the last checks pass, there is one
 checked : (has help required argument : Bool) → required ≡ true → check_kinds (not has && help) (not has && required) argument ≡ [] → has ≡ true
@@ -93,7 +94,7 @@ given_row id rows e = go (find (λ r. bytes_eq r.id id) rows) refl
 
 replay_asked : (o : Option (List Text)) → is_some o ≡ true → IsAsked (option_map replay_of o)
 replay_asked None e = absurd (true≢false (sym e))
-replay_asked (Some texts) e = go (first_bad texts)
+replay_asked (Some texts) e = go (first_bad_block texts)
   where
     go : (o : Option ℕ) → IsAsked (Some (option_map_or Err o (Ok (replay (blocks_in texts)))))
     go None = tt
@@ -200,10 +201,10 @@ abbrev Answer : Type 0
 Answer = Result Task WordsError
 
 pub answers_found : (P : Asked → Type 0) (words : List Text) (answer : Answer) → ((t : Asked) → task_of_words words ≡ Some (Ok t) → P t)
-    → MayAnswer (task_of_words words) (Some answer) → IfOk answer (λ t. P (said t))
+    → MayAnswer (task_of_words words) (Some answer) → IfOk answer (λ t. P (asked_by t))
 answers_found P words answer h may = go (task_of_words words) refl answer may
   where
-    go : (o : Option Meaning) → task_of_words words ≡ o → (a : Answer) → MayAnswer o (Some a) → IfOk a (λ t. P (said t))
+    go : (o : Option Meaning) → task_of_words words ≡ o → (a : Answer) → MayAnswer o (Some a) → IfOk a (λ t. P (asked_by t))
     go None e a m = absurd m
     go (Some (Ok t)) e (Ok u) m = subst P (sym m) (h t e)
     go (Some (Ok t)) e (Err u) m = tt

@@ -29,16 +29,16 @@ pub data Asked : Type 0 where
   replay : List (Block Global) → Asked
   watch : ℕ → Text → Asked
 
--- what a task does, wherever its blocks and its svID stand in memory
-abbrev pub said : Task → Asked
-said Show = show
-said Check = check
-said Rewrite = rewrite
-said Blocks = list_blocks
-said Publish = publish
-said Import = import
-said (Replay blocks) = replay blocks.items
-said (Watch period id) = watch period id.items
+-- what is asked for by a task, wherever its blocks and its svID stand in memory
+abbrev pub asked_by : Task → Asked
+asked_by Show = show
+asked_by Check = check
+asked_by Rewrite = rewrite
+asked_by Blocks = list_blocks
+asked_by Publish = publish
+asked_by Import = import
+asked_by (Replay blocks) = replay blocks.items
+asked_by (Watch period id) = watch period id.items
 
 -- the name of the subcommand that asks for a task
 abbrev pub name_of : Asked → Text
@@ -81,8 +81,8 @@ abbrev pub block_at : Text → Option (Block Global)
 block_at = block_in
 
 -- the position, from 0, of the first text that says no control block
-abbrev pub first_bad : List Text → Option ℕ
-first_bad = position (λ text. not (is_some (block_at text)))
+abbrev pub first_bad_block : List Text → Option ℕ
+first_bad_block = position (λ text. not (is_some (block_at text)))
 
 -- the control blocks that texts say, in order
 abbrev pub blocks_in : List Text → List (Block Global)
@@ -90,7 +90,7 @@ blocks_in = filter_map block_at
 
 -- a replay of the control blocks that all these texts say
 abbrev pub replay_of : List Text → Meaning
-replay_of texts = option_map_or Err (first_bad texts) (Ok (replay (blocks_in texts)))
+replay_of texts = option_map_or Err (first_bad_block texts) (Ok (replay (blocks_in texts)))
 
 -- the argument BLOCK: one word or more
 abbrev pub block_rule : Rule
@@ -231,7 +231,7 @@ IsNoMistake _ = Unit {0}
 
 -- this task is answered, refused memory aside
 abbrev pub AnswersTask : Asked → Result Task WordsError → Type 0
-AnswersTask asked answer = MatchResult answer (λ t. said t ≡ asked) (λ error. error ≡ refused.Memory)
+AnswersTask asked answer = MatchResult answer (λ t. asked_by t ≡ asked) (λ error. error ≡ refused.Memory)
 
 -- the words are refused by the text at this position, refused memory aside
 abbrev pub IsBlockError : ℕ → WordsError → Type 0
@@ -242,14 +242,3 @@ IsBlockError i refused.Memory = Unit {0}
 -- no task is answered: the words are refused by the text of a control block at this position, refused memory aside
 abbrev pub AnswersBadBlock : ℕ → Result Task WordsError → Type 0
 AnswersBadBlock i answer = MatchResult answer (λ t. ⊥) (IsBlockError i)
-
--- what is asked for is answered, refused memory aside
-abbrev pub AnswersWords : Meaning → Result Task WordsError → Type 0
-AnswersWords (Ok asked) answer = AnswersTask asked answer
-AnswersWords (Err i) answer = AnswersBadBlock i answer
-
--- the same, where something is asked for
-abbrev pub MayAnswer : Option Meaning → Option (Result Task WordsError) → Type 0
-MayAnswer None None = Unit {0}
-MayAnswer (Some meaning) (Some answer) = AnswersWords meaning answer
-MayAnswer _ _ = ⊥

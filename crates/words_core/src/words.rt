@@ -3,7 +3,8 @@ ghost use Rattle.std.specs.Prelude.{◌≡◌, ◌≢◌, ℕ, true, false, code
 ghost use Rattle.clap.specs.Words.{all_of, app_of, found_of, kind_of, new_app, rows_of, rule_of, subcommand_rows_of, takes, with_subcommand};
 ghost use Rattle.clap.specs.Walk.{texts};
 ghost use Rattle.clap.specs.declared.error.kind.ErrorKind.TheVariants.{OutOfMemory};
-ghost use Rattle.words_core.specs.CommandLine.{AnswersWords, AnswersBadBlock, AnswersTask, Asked, Asks, HasPeriod, IsNoMistake, MayAnswer, MayRefuse, bare_program, block_rule, command_line, faults, id_rule, is_plain, name_of, period_rule, readers, replay_of, replay_shape, said, task_asked, task_of_words, watch, watch_asked, watch_shape};
+ghost use Rattle.words_core.specs.CommandLine.{AnswersBadBlock, AnswersTask, Asked, Asks, HasPeriod, IsNoMistake, MayRefuse, bare_program, block_rule, command_line, faults, id_rule, is_plain, name_of, period_rule, readers, replay_of, replay_shape, asked_by, task_asked, task_of_words, watch, watch_asked, watch_shape};
+ghost use Rattle.words_core.specs.computed.PrivateCalls.{AnswersWords, MayAnswer};
 
 use block_core::{Block, BlockError, read_block};
 use clap::error::ErrorKind;
@@ -40,7 +41,7 @@ pub enum Task {
 impl Task {
     /// The name of the subcommand that asks for it.
     pub fn name(&self) -> &'static str
-        ensures { result.now ≡ name_of (said self.now) }
+        ensures { result.now ≡ name_of (asked_by self.now) }
     {
         match self {
             Task::Show => "show",
@@ -349,10 +350,10 @@ fn refusal(error: clap::Error) -> WordsError
 /// `Words` where the words have a mistake or ask for help or the version; `Block` where they ask for a
 /// replay and some text says no control block; `Memory` where memory is refused.
 pub fn read_words<'a>(alloc: Global, words: &'a [&'a str]) -> Result<Task, WordsError>
-    ensures found { IfOk result (λ t. is_plain (said t) ≡ true → Asks (texts words.now) (said t)) }
+    ensures found { IfOk result (λ t. is_plain (asked_by t) ≡ true → Asks (texts words.now) (asked_by t)) }
     ensures only { (asked : Asked) → Asks (texts words.now) asked → AnswersTask asked result }
-    ensures period { IfOk result (λ t. HasPeriod (said t)) }
-    ensures task { IfOk result (λ t. task_of_words (texts words.now) ≡ Some (Ok (said t))) }
+    ensures period { IfOk result (λ t. HasPeriod (asked_by t)) }
+    ensures task { IfOk result (λ t. task_of_words (texts words.now) ≡ Some (Ok (asked_by t))) }
     ensures faultless { IfOk result (λ t. faults (texts words.now) ≡ []) }
     ensures taken { takes command_line (texts words.now) ≡ true → IfErr result IsNoMistake }
     ensures refused { IfErr result (MayRefuse (texts words.now)) }

@@ -5,7 +5,7 @@ use ber_core::{Cause, Fault};
 use mms_data::{Octets, PutFault, ReadFault, UtcTime, Value, View};
 use pdu_core::{
     GoosePdu, GooseView, are_spellable_parts, is_spellable, laws, put_goose, put_goose_parts,
-    put_goose_view, read_goose, see_goose, slice_if, view_goose,
+    put_goose_view, read_goose, see_goose, slice_if, view_goose, written_goose_length,
 };
 use std::alloc::Global;
 use std::test::Fail;
@@ -208,6 +208,23 @@ fn each_pdu_has_its_written_form(rt: HostRuntime) -> Result<(), Fail> {
             "{octets:?}"
         );
     }
+    Ok(())
+}
+
+#[test]
+fn the_written_form_is_measured_where_members_stand_in_theirs(rt: HostRuntime) -> Result<(), Fail> {
+    for (octets, length) in [
+        (&FRAME[22..], Some(45)),
+        (&LONG, Some(45)),
+        (&SHORT, Some(45)),
+        (&NESTED, Some(58)),
+        (&LOOSE, None),
+        (&TIGHT, Some(106)),
+    ] {
+        let view = see_goose(octets, 0, octets.len(), true)?;
+        assert!(rt; written_goose_length(&view) == length, "{octets:?}");
+    }
+    assert!(rt; written_goose_length(&view_goose(&FRAME, 22, 67)?).is_none());
     Ok(())
 }
 

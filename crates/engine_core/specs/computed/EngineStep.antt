@@ -14,9 +14,16 @@ use Rattle.engine_core.specs.declared.running.Next.TheVariants as next
 use Rattle.engine_core.specs.Ending.{ending_at}
 use Rattle.engine_core.specs.EngineText.{Text, step_text}
 
--- What an engine answers for an item after others, and appends to a line: its text, and then it stands after this item too; a refusal; or want of memory, where there is something to write.
+-- an engine took an item after others: its text was appended to a line, and the engine stands after this item too
+pub record ItemTaken {X C : Type 0} (t : Text X C) (stands : List (ℕ × X) → Type 0) (before : List (ℕ × X)) (e : ℕ × X) (found : Bool) (old new : List ℕ) : Type 0 where
+  pub text : List ℕ
+  pub has_text : t.of_item before e ≡ Ok (text, found)
+  pub appended : new ≡ old ++ text
+  pub stands_after : stands (before ++ e ∷ [])
+
+-- what an engine answers for an item after others: it was taken; or refused; or memory was wanted, where there is something to write
 abbrev pub Takes : {X C : Type 0} → Text X C → (List (ℕ × X) → Type 0) → List (ℕ × X) → ℕ × X → Result Bool (LineError C) → List ℕ → List ℕ → Type 0
-Takes t stands before e (Ok found) old new = (text : List ℕ) × (t.of_item before e ≡ Ok (text, found)) × (new ≡ old ++ text) × stands (before ++ e ∷ [])
+Takes t stands before e (Ok found) old new = ItemTaken t stands before e found old new
 Takes t stands before e (Err (line.Cause why)) old new = t.of_item before e ≡ Err why
 Takes t stands before e (Err (line.Memory m)) old new = step_text t e.0 (t.of_item before e) ≡ [] → ⊥
 
@@ -43,17 +50,40 @@ closes t before (Err None) = None
 abbrev pub WantsFor : {X C : Type 0} → Text X C → List (ℕ × X) → Answer X C → Type 0
 WantsFor t before answer = (answer ≡ Err None) ⊎ (due t before answer ≡ [] → ⊥)
 
--- The run stops: memory was wanted and refused, and nothing written; or the writer failed at a front of the text; or the text was written and ends by a fault.
-abbrev pub Stops : {C : Type 0} → Type 0 → List ℕ → Option (ItemFault C) → Ending → Option (List ℕ) → Option (List ℕ) → Type 0
-Stops {C = C} wants text closing ending old new =
-    ((ending ≡ Memory) × wants × (new ≡ old))
-    ⊎ (((ending ≡ WriteFault) × AppendsPrefix old new text)
-    ⊎ ((f : ItemFault C) × (closing ≡ Some f) × (ending ≡ ending_at f) × Appends old new text))
+-- memory was wanted, and refused: nothing was written
+pub record StopsUnwritten (wants : Type 0) (ending : Ending) (old new : Option (List ℕ)) : Type 0 where
+  pub for_memory : ending ≡ Memory
+  pub wanted : wants
+  pub unwritten : new ≡ old
 
--- what is written after an answer, and how the run goes on
+-- the writer failed at a prefix of the text
+pub record StopsInText (text : List ℕ) (ending : Ending) (old new : Option (List ℕ)) : Type 0 where
+  pub by_writer : ending ≡ WriteFault
+  pub written : AppendsPrefix old new text
+
+-- the text was written, and ends by a fault
+pub record StopsByFault {C : Type 0} (text : List ℕ) (closing : Option (ItemFault C)) (ending : Ending) (old new : Option (List ℕ)) : Type 0 where
+  pub why : ItemFault C
+  pub closes : closing ≡ Some why
+  pub has_ending : ending ≡ ending_at why
+  pub written : Appends old new text
+
+-- the run stops: for want of memory, because its writer failed, or by a fault
+abbrev pub Stops : {C : Type 0} → Type 0 → List ℕ → Option (ItemFault C) → Ending → Option (List ℕ) → Option (List ℕ) → Type 0
+Stops wants text closing ending old new = StopsUnwritten wants ending old new ⊎ (StopsInText text ending old new ⊎ StopsByFault text closing ending old new)
+
+-- an item was answered, and its text was written; the engine stands after this item too
+pub record ItemWritten {X C : Type 0} (t : Text X C) (stands : List (ℕ × X) → Type 0) (before : List (ℕ × X)) (answer : Answer X C) (found : Bool) (old new : Option (List ℕ)) : Type 0 where
+  pub item : ℕ × X
+  pub text : List ℕ
+  pub answered : answer ≡ Ok (Some item)
+  pub has_text : t.of_item before item ≡ Ok (text, found)
+  pub written : Appends old new text
+  pub stands_after : stands (before ++ item ∷ [])
+
+-- what is written after an answer, and how the run goes on: an item was written, the list has ended, or the run stops
 abbrev pub StepWrites : {X C : Type 0} → Text X C → (List (ℕ × X) → Type 0) → List (ℕ × X) → Answer X C → Next → Option (List ℕ) → Option (List ℕ) → Type 0
-StepWrites {X = X} t stands before answer (next.Wrote found) old new =
-    (e : ℕ × X) × (text : List ℕ) × (answer ≡ Ok (Some e)) × (t.of_item before e ≡ Ok (text, found)) × Appends old new text × stands (before ++ e ∷ [])
+StepWrites t stands before answer (next.Wrote found) old new = ItemWritten t stands before answer found old new
 StepWrites t stands before answer next.Ended old new = (answer ≡ Ok None) × (new ≡ old)
 StepWrites t stands before answer (next.Stop ending) old new = Stops (WantsFor t before answer) (due t before answer) (closes t before answer) ending old new
 

@@ -9,7 +9,7 @@ use Rattle.subscribe_core.specs.State.{State, fresh_state}
 use Rattle.subscribe_core.specs.computed.Steps.{step_entries, step_state}
 use Rattle.engine_core.specs.EngineText.{Text}
 use Rattle.exchange_engines.specs.EntryText.{entry_lines}
-use Rattle.text_core.specs.LineText.{list_line}
+use Rattle.text_core.specs.LineText.{list_fault_line}
 use Rattle.exchange_engines.specs.ReplayText.{events_of}
 
 -- what is kept after these events
@@ -25,5 +25,5 @@ abbrev pub replay_text : {A : Type 0} → List (Block A) → Text (Event A) List
 replay_text blocks = record {
   first = [];
   of_item = λ before e. Ok (entry_lines e.0 (step_entries (kept_after blocks before) (reading_of e.1)), false);
-  last = λ f. list_line (list_fault_of f);
+  last = λ f. list_fault_line (list_fault_of f);
 }

@@ -7,7 +7,7 @@ use Rattle.list_core.specs.ListReader.{list_fault_of}
 use Rattle.subscribe_core.specs.Watch.{seen_after}
 use Rattle.subscribe_core.specs.computed.WatchAnswers.{last_by, seen_all}
 use Rattle.engine_core.specs.EngineText.{Text}
-use Rattle.text_core.specs.LineText.{list_line}
+use Rattle.text_core.specs.LineText.{list_fault_line}
 use Rattle.exchange_engines.specs.SampleLine.{Sample}
 use Rattle.exchange_engines.specs.WatchText.{counts, counts_of, is_unexpected, sample_lines, samples_of, watched}
 
@@ -20,7 +20,7 @@ abbrev pub watch_text : {A : Type 0} → ℕ → List ℕ → Text (Event A) Lis
 watch_text period id = record {
   first = [];
   of_item = λ before e. Ok (watched e.0 id e.1.kind (seen_all period (last_of period None (counts_of id before)) (counts (samples_of id e.1.kind))));
-  last = λ f. list_line (list_fault_of f);
+  last = λ f. list_fault_line (list_fault_of f);
 }
 
 -- the lines of samples were appended, it is known whether one is unexpected, and the last count is kept

@@ -13,12 +13,12 @@ ghost use Rattle.exchange_engines.specs.PublishText.{IsPublishText, IsScriptSoun
 ghost use Rattle.exchange_engines.specs.computed.PublishStep.{Holds, Progress, Runs, TakesCall, TakesItem, progress_after, publish_text, setup_cause};
 ghost use Rattle.script_core.specs.Script.{script_rules};
 
-use crate::texts::script::put_script_line;
+use crate::texts::script::put_script_fault_line;
 use arrayvec::ArrayVec;
 use engine_core::{Ending, Engine, run};
 use frame_core::{ItemFault, LineError, Sink, Source};
 use mms_data::{UtcTime, ValueList};
-use publish_core::{Control, PublishFault, Publisher, Step, Table};
+use publish_core::{Control, MOST_STEPS, PublishFault, Publisher, Step, Table};
 use script_core::{ScriptCause, ScriptItem, ScriptLines};
 use std::alloc::{AllocError, Allocator};
 use std::mem;
@@ -30,7 +30,7 @@ pub enum Stage<A: Allocator> {
     /// Nothing was said.
     Start,
     /// The control line was read, with the status number of the first state, and these steps.
-    Setup(Control<A>, u32, ArrayVec<Step, 16>),
+    Setup(Control<A>, u32, ArrayVec<Step, MOST_STEPS>),
     /// A call was made.
     Running(Publisher<A>),
 }
@@ -223,6 +223,7 @@ impl<A: Allocator> Engine<A> for Publishing<A> {
         line: &mut Vec<u8, A>,
         _number: u64,
         item: ScriptItem<A>,
+        _spare: &mut Option<ScriptItem<A>>,
     ) -> Result<bool, LineError<ScriptCause>> {
         let stage = mem::replace(&mut self.stage, Stage::Start);
         match take_item(stage, line, item) {
@@ -239,7 +240,7 @@ impl<A: Allocator> Engine<A> for Publishing<A> {
         line: &mut Vec<u8, A>,
         fault: &ItemFault<ScriptCause>,
     ) -> Result<(), AllocError> {
-        put_script_line(line, fault)
+        put_script_fault_line(line, fault)
     }
 }
 
@@ -250,7 +251,7 @@ impl<A: Allocator> Engine<A> for Publishing<A> {
 /// of the line and the cause, and the run ends with `InputFault`.
 ///
 /// The reader is Open and the writer has not failed. The text is that of the octets that the reader
-/// gave: whole at `Done`, `InputFault` and `ReadFault`, a front of it at `WriteFault`, and the line
+/// gave: whole at `Done`, `InputFault` and `ReadFault`, a prefix of it at `WriteFault`, and the line
 /// `V2` with the lines of the earlier calls at `Memory`. At `Memory` and `WriteFault` at most 8,192
 /// of the octets given stand from the start of the line on at which the run stopped. `Memory` is for
 /// a control line, a change or a line to be written, never for a step, for a poll that gives no frame

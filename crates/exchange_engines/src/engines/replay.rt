@@ -12,14 +12,15 @@ use crate::texts::entry::put_entries;
 use engine_core::{Ending, Engine, refuse, run};
 use frame_core::{Event, EventLines, ItemFault, LineError, ListCause, Sink, Source, fault_of_list};
 use std::alloc::{AllocError, Allocator};
-use subscribe_core::{Block, SubscribeFault, Subscriber};
-use text_core::line::put_list_line;
+use subscribe_core::{Block, Entry, SubscribeFault, Subscriber};
+use text_core::line::put_list_fault_line;
 use text_core::pieces::put_decimal;
 
-/// What `replay` writes: what a subscriber answers.
+/// What `replay` writes: what a subscriber answers. The memory of the entries of an event is used again for those of the next.
 #[derive(Drop)]
 struct Replaying<A: Allocator> {
     subscriber: Subscriber<A>,
+    entries: Vec<Entry<A>, A>,
 }
 
 impl<A: Allocator + Copy> Engine<A> for Replaying<A> {
@@ -36,12 +37,15 @@ impl<A: Allocator + Copy> Engine<A> for Replaying<A> {
         line: &mut Vec<u8, A>,
         number: u64,
         event: Event<A>,
+        spare: &mut Option<Event<A>>,
     ) -> Result<bool, LineError<ListCause>> {
-        let entries = match self.subscriber.take(&event) {
-            Ok(entries) => entries,
+        let taken = self.subscriber.take_into(&event, &mut self.entries);
+        *spare = Some(event);
+        match taken {
+            Ok(()) => {}
             Err(error) => return Err(LineError::Memory(error)),
-        };
-        match put_entries(line, number, entries.as_slice()) {
+        }
+        match put_entries(line, number, self.entries.as_slice()) {
             Ok(()) => Ok(false),
             Err(error) => Err(LineError::Memory(error)),
         }
@@ -52,7 +56,7 @@ impl<A: Allocator + Copy> Engine<A> for Replaying<A> {
         line: &mut Vec<u8, A>,
         fault: &ItemFault<ListCause>,
     ) -> Result<(), AllocError> {
-        put_list_line(line, fault_of_list(fault))
+        put_list_fault_line(line, fault_of_list(fault))
     }
 }
 
@@ -77,7 +81,7 @@ fn put_position<A: Allocator>(
 /// read, and the run ends with `InputFault`.
 ///
 /// The reader is Open and the writer has not failed. The text is that of the octets that the reader
-/// gave: whole at `Done`, `InputFault` and `ReadFault`, a front of it at `WriteFault`, and whole lines of
+/// gave: whole at `Done`, `InputFault` and `ReadFault`, a prefix of it at `WriteFault`, and whole lines of
 /// the earlier events at `Memory`. At these two and at a fault at most 8,192 of the octets given stand
 /// from the start of the line on at which the run stopped. `Memory` is for a frame or a line to be
 /// written, never for a clock moment or a mode without entries or for the list's end; or it is for what the
@@ -100,7 +104,10 @@ pub fn replay<A: Allocator + Copy, R: Source, W: Sink>(
         Ok(subscriber) => run(
             alloc,
             EventLines::First,
-            Replaying { subscriber },
+            Replaying {
+                subscriber,
+                entries: Vec::new(alloc),
+            },
             b"",
             reader,
             writer,

@@ -21,7 +21,7 @@ use frame_core::{
 use pdu_core::{AsduView, SvView};
 use std::alloc::{AllocError, Allocator};
 use subscribe_core::{Seen, Watch};
-use text_core::line::{put_fault_line, put_list_line};
+use text_core::line::{put_fault_line, put_list_fault_line};
 
 // Whether a count is neither the first nor the next one.
 fn is_unexpected(seen: Seen) -> bool
@@ -132,8 +132,11 @@ impl<A: Allocator> Engine<A> for Watching<'_> {
         line: &mut Vec<u8, A>,
         number: u64,
         event: Event<A>,
+        spare: &mut Option<Event<A>>,
     ) -> Result<bool, LineError<ListCause>> {
-        match put_event(&mut self.watch, self.id, line, number, &event.kind) {
+        let put = put_event(&mut self.watch, self.id, line, number, &event.kind);
+        *spare = Some(event);
+        match put {
             Ok(found) => Ok(found),
             Err(error) => Err(LineError::Memory(error)),
         }
@@ -144,7 +147,7 @@ impl<A: Allocator> Engine<A> for Watching<'_> {
         line: &mut Vec<u8, A>,
         fault: &ItemFault<ListCause>,
     ) -> Result<(), AllocError> {
-        put_list_line(line, fault_of_list(fault))
+        put_list_fault_line(line, fault_of_list(fault))
     }
 }
 
@@ -158,7 +161,7 @@ impl<A: Allocator> Engine<A> for Watching<'_> {
 /// unless the list has a fault.
 ///
 /// The reader is Open and the writer has not failed. The text is that of the octets that the reader
-/// gave: whole at `Done`, `Findings`, `InputFault` and `ReadFault`, a front of it at `WriteFault`, and
+/// gave: whole at `Done`, `Findings`, `InputFault` and `ReadFault`, a prefix of it at `WriteFault`, and
 /// whole lines of the earlier events at `Memory`. At `Memory` and `WriteFault` at most 8,192 of the
 /// octets given stand from the start of the line on at which the run stopped. `Memory` is for a frame or a
 /// line to be written, never for the clock, a mode or the list's end.

@@ -2,7 +2,7 @@
 ghost use Rattle.std.specs.Prelude.{◌++◌, codes};
 ghost use Rattle.std.specs.Fmt.{decimal};
 ghost use Rattle.text_core.specs.Pieces.{AppendsText};
-ghost use Rattle.exchange_engines.specs.ScriptLine.{cause_detail, script_line};
+ghost use Rattle.exchange_engines.specs.ScriptFaultLine.{cause_detail, script_fault_line};
 
 use crate::texts::names::script_cause_name;
 use frame_core::ItemFault;
@@ -36,11 +36,11 @@ fn put_start<A: Allocator>(out: &mut Vec<u8, A>, number: u64) -> Result<(), Allo
 }
 
 /// Appends the last line, on a fault of the script or where a change is refused.
-pub fn put_script_line<A: Allocator>(
+pub fn put_script_fault_line<A: Allocator>(
     out: &mut Vec<u8, A>,
     fault: &ItemFault<ScriptCause>,
 ) -> Result<(), AllocError>
-    ensures { AppendsText result out.old.items out.new.items (script_line fault.now) }
+    ensures { AppendsText result out.old.items out.new.items (script_fault_line fault.now) }
 {
     match fault {
         ItemFault::Lines(fault) => {

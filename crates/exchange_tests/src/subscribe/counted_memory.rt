@@ -6,7 +6,7 @@ use arrayvec::ArrayVec;
 use refusing_alloc::RefusingAlloc;
 use std::alloc::Global;
 use std::test::Fail;
-use subscribe_core::Subscriber;
+use subscribe_core::{Entry, Subscriber};
 
 type Memory<'a> = &'a RefusingAlloc<Global>;
 
@@ -67,6 +67,48 @@ fn members_are_copied_for_an_action_alone(rt: HostRuntime) -> Result<(), Fail> {
             (&first, Told::Older(0, 1, 0), 1, 1),
         ] {
             let (told, grown) = told_and_grown(&alloc, &mut subscriber, octets.as_slice())?;
+            assert!(rt; told == Want::One(wanted), "by {grown} growths");
+            assert!(rt; least <= grown && grown <= most, "{grown} growths");
+        }
+    }
+    assert!(rt; alloc.blocks_out() == 0);
+    Ok(())
+}
+
+/// What is told of a frame in a list that is used again, and how many growths the subscriber takes for it.
+fn told_again<'a>(
+    alloc: Memory<'a>,
+    subscriber: &mut Subscriber<Memory<'a>>,
+    entries: &mut Vec<Entry<Memory<'a>>, Memory<'a>>,
+    octets: &[u8],
+) -> Result<(Want, usize), Fail> {
+    let event = event_with_frame(alloc, 0, octets)?;
+    let before = alloc.growths();
+    subscriber.take_into(&event, entries)?;
+    let grown = alloc.growths().saturating_sub(before);
+    Ok((tells(entries.as_slice()), grown))
+}
+
+// A block that is renewed again and again takes memory for its members alone, where the list of entries is used again.
+#[test]
+fn entries_are_told_in_one_list(rt: HostRuntime) -> Result<(), Fail> {
+    let alloc = RefusingAlloc::new(rt.alloc(), usize::MAX);
+    let (first, next) = two_frames(rt.alloc())?;
+    {
+        let mut subscriber = subscriber(&alloc)?;
+        let mut entries = Vec::new(&alloc);
+        for (octets, wanted, least, most) in [
+            (&first, Told::Act(0, 1, 0, None), 102usize, 103usize),
+            (&next, Told::Refreshed(0, 1, 1), 0, 0),
+            (&next, Told::Repeated(0, 1, 1), 0, 0),
+            (&first, Told::Older(0, 1, 0), 0, 0),
+        ] {
+            let (told, grown) = told_again(
+                &alloc,
+                &mut subscriber,
+                &mut entries,
+                octets.as_slice(),
+            )?;
             assert!(rt; told == Want::One(wanted), "by {grown} growths");
             assert!(rt; least <= grown && grown <= most, "{grown} growths");
         }

@@ -110,13 +110,13 @@ const EXAMPLES: [(Given, Want, usize, usize); 19] = [
     (
         Given::Goose(Numbers(0, 1, 0, 2000)),
         Want::One(Told::Act(0, 1, 0, TRUE)),
-        3,
+        2,
         9,
     ),
     (
         Given::Other(Numbers(500, 1, 0, 2000)),
         Want::One(Told::Act(1, 1, 0, TRUE)),
-        2,
+        3,
         9,
     ),
     (

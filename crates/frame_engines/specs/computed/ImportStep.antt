@@ -8,17 +8,17 @@ use Rattle.engine_core.specs.declared.ending.Ending.{Ending}
 use Rattle.engine_core.specs.declared.ending.Ending.TheVariants.{WriteFault}
 use Rattle.engine_core.specs.declared.running.Next.{Next}
 use Rattle.engine_core.specs.declared.running.Next.TheVariants as next
-use Rattle.frame_engines.specs.ImportText.{capture_line, ending_of_capture, is_left_out, record_line}
+use Rattle.frame_engines.specs.ImportText.{capture_fault_line, ending_of_capture, is_left_out, record_line}
 
 -- the text that an answer behind n records asks for
 abbrev pub import_due : ℕ → Result (Option CaptureRecord) CaptureFault → List ℕ
 import_due n (Ok (Some r)) = record_line (n + 1, r)
 import_due n (Ok None) = []
-import_due n (Err f) = capture_line f
+import_due n (Err f) = capture_fault_line f
 
--- the line of a fault was written, or a front of it where the writer failed
+-- the line of a fault was written, or a prefix of it where the writer failed
 abbrev pub FaultWrites : CaptureFault → Ending → Option (List ℕ) → Option (List ℕ) → Type 0
-FaultWrites f ending old new = ((ending ≡ WriteFault) × AppendsPrefix old new (capture_line f)) ⊎ ((ending ≡ ending_of_capture f.cause) × Appends old new (capture_line f))
+FaultWrites f ending old new = ((ending ≡ WriteFault) × AppendsPrefix old new (capture_fault_line f)) ⊎ ((ending ≡ ending_of_capture f.cause) × Appends old new (capture_fault_line f))
 
 -- what is written after an answer behind n records, and how the run goes on
 abbrev pub ImportWrites : ℕ → Result (Option CaptureRecord) CaptureFault → Next → Option (List ℕ) → Option (List ℕ) → Type 0

@@ -1,5 +1,5 @@
 //! `check`: a line for each note on a frame.
-ghost use Rattle.std.specs.Prelude.{◌≡◌, ◌++◌, [], ℕ, List, true, false, length, take, ⊤, IsOk, MatchResult, Ok};
+ghost use Rattle.std.specs.Prelude.{◌≡◌, ◌≢◌, ◌++◌, [], ℕ, List, true, false, length, take, ⊤, IsOk, MatchResult, Ok};
 ghost use Rattle.list_core.specs.declared.device.InputEnd.{InputEnd};
 ghost use Rattle.list_core.specs.declared.event_lines.EventLines.TheVariants.{First};
 ghost use Rattle.list_core.specs.Device.{GivesOctets};
@@ -18,10 +18,10 @@ use byteorder::{BigEndian, ByteOrder};
 use engine_core::{Ending, Engine, run};
 use frame_core::{
     ApduView, Event, EventKind, EventLines, FrameView, ItemFault, LineError, ListCause, Sink,
-    Source, encode_view, fault_of_list, see_frame,
+    Source, encode_view, fault_of_list, see_frame, written_length,
 };
 use std::alloc::{AllocError, Allocator};
-use text_core::line::{put_fault_line, put_list_line};
+use text_core::line::{put_fault_line, put_list_fault_line};
 use text_core::pieces::put_decimal;
 
 /// The first recommended destination of GOOSE, 01-0C-CD-01-00-00, and the last.
@@ -30,7 +30,8 @@ const GOOSE_DESTINATIONS: (u64, u64) = (0x010C_CD01_0000, 0x010C_CD01_01FF);
 /// The first recommended destination of Sampled Values, 01-0C-CD-04-00-00, and the last.
 const SAMPLED_DESTINATIONS: (u64, u64) = (0x010C_CD04_0000, 0x010C_CD04_01FF);
 
-// Whether octets are those of the written form of the frame that they spell, and this form fits.
+// Whether octets are those of the written form of the frame that they spell, and this form fits. Never inlined, so that
+// room for the form is made only where one is written.
 #[inline(never)]
 fn is_in_written_form(view: &FrameView<'_>, octets: &[u8]) -> bool
     requires { ApduIsSpellable (frame_of {A = Unit {0}} view.now).apdu }
@@ -43,7 +44,18 @@ fn is_in_written_form(view: &FrameView<'_>, octets: &[u8]) -> bool
     }
 }
 
-// The same, where the form is not made of a frame that is known to stand in it.
+// Whether the written form of the frame is known to have another count of octets.
+fn has_another_length(view: &FrameView<'_>, count: usize) -> bool
+    ensures { result ≡ true → length (written_frame (frame_of {A = Unit {0}} view.now)) ≢ count }
+{
+    match written_length(view) {
+        Some(written) => written != count,
+        None => false,
+    }
+}
+
+// Whether octets are those of the written form, and this form fits. It is not written where this is known, or where its length
+// differs.
 fn stands_in_written_form(view: &FrameView<'_>, octets: &[u8]) -> bool
     requires spellable { ApduIsSpellable (frame_of {A = Unit {0}} view.now).apdu }
     requires known { is_written view.now.apdu ≡ true → (octets.now ≡ written_frame (frame_of {A = Unit {0}} view.now)) × (fits (frame_of {A = Unit {0}} view.now) ≡ true) }
@@ -51,6 +63,9 @@ fn stands_in_written_form(view: &FrameView<'_>, octets: &[u8]) -> bool
 {
     if view.apdu.is_written() {
         return true;
+    }
+    if has_another_length(view, octets.len()) {
+        return false;
     }
     is_in_written_form(view, octets)
 }
@@ -67,7 +82,8 @@ fn has_recommended_destination(view: &FrameView<'_>) -> bool
     first <= destination && destination <= last
 }
 
-// Appends a line with this word where something does not hold.
+// Appends a line with this word where something does not hold. Inlined, so that where it holds no call is made.
+#[inline(always)]
 fn put_note<A: Allocator>(
     line: &mut Vec<u8, A>,
     holds: bool,
@@ -150,8 +166,11 @@ impl<A: Allocator> Engine<A> for CheckText {
         line: &mut Vec<u8, A>,
         number: u64,
         event: Event<A>,
+        spare: &mut Option<Event<A>>,
     ) -> Result<bool, LineError<ListCause>> {
-        match put_event_notes(line, number, &event.kind) {
+        let noted = put_event_notes(line, number, &event.kind);
+        *spare = Some(event);
+        match noted {
             Ok(found) => Ok(found),
             Err(error) => Err(LineError::Memory(error)),
         }
@@ -162,7 +181,7 @@ impl<A: Allocator> Engine<A> for CheckText {
         line: &mut Vec<u8, A>,
         fault: &ItemFault<ListCause>,
     ) -> Result<(), AllocError> {
-        put_list_line(line, fault_of_list(fault))
+        put_list_fault_line(line, fault_of_list(fault))
     }
 }
 
@@ -177,7 +196,7 @@ impl<A: Allocator> Engine<A> for CheckText {
 /// has a fault.
 ///
 /// The reader is Open and the writer has not failed. The text is that of the octets that the reader
-/// gave: whole at `Done`, `Findings`, `InputFault` and `ReadFault`, a front of it at `WriteFault`,
+/// gave: whole at `Done`, `Findings`, `InputFault` and `ReadFault`, a prefix of it at `WriteFault`,
 /// and whole lines of it at `Memory`. At `Memory`, and at `WriteFault` if anything was read, the
 /// lines of all earlier events stand written. Then, and at a fault, at most 8,192 of the octets given
 /// stand from the start of the line on at which the run stopped. `Memory` is for a frame or a line to

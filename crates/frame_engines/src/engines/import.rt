@@ -3,12 +3,12 @@ ghost use Rattle.std.specs.Prelude.{◌≡◌, ◌≤◌, ℕ, List, Option, Res
 ghost use Rattle.list_core.specs.declared.device.InputEnd.{InputEnd};
 ghost use Rattle.list_core.specs.Device.{GivesOctets};
 ghost use Rattle.capture_core.specs.Capture.{CaptureRecord};
-ghost use Rattle.capture_core.specs.Reading.{ReadsRecord};
+ghost use Rattle.capture_core.specs.RecordAnswers.{ReadsRecord};
 ghost use Rattle.capture_core.specs.declared.capture_fault.CaptureFault as fault;
 ghost use Rattle.engine_core.specs.computed.EngineStep.{stops_by};
 ghost use Rattle.engine_core.specs.Ending.{is_write_fault};
 ghost use Rattle.frame_engines.specs.computed.ImportStep.{FaultWrites, ImportWrites};
-ghost use Rattle.frame_engines.specs.ImportText.{Imports, capture_line, ending_of_capture, left_out_line};
+ghost use Rattle.frame_engines.specs.ImportText.{Imports, capture_fault_line, ending_of_capture, left_out_line};
 
 use crate::texts::names::capture_cause_name;
 use arrayvec::ArrayVec;
@@ -46,7 +46,7 @@ fn left_out_comment(number: u64, size: u64) -> ArrayVec<u8, LONGEST_COMMENT>
 // The comment on a fault.
 #[tactic(auto, using(list_core::proofs::Decimals::decimal_fits))]
 fn fault_comment(fault: CaptureFault) -> ArrayVec<u8, LONGEST_COMMENT>
-    ensures { result.items ≡ capture_line fault }
+    ensures { result.items ≡ capture_fault_line fault }
 {
     let mut comment = ArrayVec::new();
     comment.try_extend_from_slice(b"# ").unwrap();
@@ -152,7 +152,7 @@ fn import_all<R: Source, W: Sink>(reader: &mut R, writer: &mut W) -> Ending
 /// not that of a frame in a list; and where the capture has a fault, a comment with it at last.
 ///
 /// The writer has not failed. The text is that of the octets that the reader gave: whole at
-/// `Done`, `Findings`, `InputFault` and `ReadFault`, a front of it at `WriteFault`. `Findings` is answered where a record
+/// `Done`, `Findings`, `InputFault` and `ReadFault`, a prefix of it at `WriteFault`. `Findings` is answered where a record
 /// was left out. The line of a record is written before the next one is read, and nothing is read behind a fault's record.
 /// One record is held at a time, on the stack: no memory is taken of the allocator, and `Memory` is never answered.
 #[inline(never)]

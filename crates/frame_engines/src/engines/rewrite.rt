@@ -8,7 +8,8 @@ ghost use Rattle.frame_core.specs.Written.{ApduIsSpellable};
 ghost use Rattle.frame_core.specs.computed.FrameReading.{frame_at};
 ghost use Rattle.list_core.specs.declared.device.InputEnd.{InputEnd};
 ghost use Rattle.list_core.specs.Device.{GivesOctets};
-ghost use Rattle.list_core.specs.EventLine.{event_rules, kind_text, mode_text};
+ghost use Rattle.list_core.specs.EventLine.{event_rules};
+ghost use Rattle.list_core.specs.EventText.{kind_text, mode_text};
 ghost use Rattle.list_core.specs.declared.event_lines.EventLines.TheVariants.{First};
 ghost use Rattle.engine_core.specs.Ending.{is_write_fault};
 ghost use Rattle.engine_core.specs.Run.{Writes};
@@ -24,7 +25,7 @@ use frame_core::{
 };
 use std::alloc::{AllocError, Allocator};
 use text_core::event::put_frame_event;
-use text_core::line::{put_list_line, put_mode_word};
+use text_core::line::{put_list_fault_line, put_mode_word};
 use text_core::pieces::put_decimal;
 
 // Appends the line of a clock moment in a list.
@@ -146,8 +147,11 @@ impl<A: Allocator> Engine<A> for RewriteText {
         line: &mut Vec<u8, A>,
         _number: u64,
         event: Event<A>,
+        spare: &mut Option<Event<A>>,
     ) -> Result<bool, LineError<ListCause>> {
-        match put_event(line, &event) {
+        let put = put_event(line, &event);
+        *spare = Some(event);
+        match put {
             Ok(kept) => Ok(kept),
             Err(error) => Err(LineError::Memory(error)),
         }
@@ -159,7 +163,7 @@ impl<A: Allocator> Engine<A> for RewriteText {
         fault: &ItemFault<ListCause>,
     ) -> Result<(), AllocError> {
         line.extend_from_slice(b"# ")?;
-        put_list_line(line, fault_of_list(fault))
+        put_list_fault_line(line, fault_of_list(fault))
     }
 }
 
@@ -172,7 +176,7 @@ impl<A: Allocator> Engine<A> for RewriteText {
 /// with `Done`, unless the list has a fault.
 ///
 /// The reader is Open and the writer has not failed. The text is that of the octets that the reader
-/// gave: whole at `Done`, `Findings`, `InputFault` and `ReadFault`, a front of it at `WriteFault`,
+/// gave: whole at `Done`, `Findings`, `InputFault` and `ReadFault`, a prefix of it at `WriteFault`,
 /// and the line `V2` with the lines of the earlier events at `Memory`, which is for an event or a fault's line,
 /// never for the list's end.
 #[inline(never)]

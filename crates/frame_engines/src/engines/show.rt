@@ -1,14 +1,15 @@
 //! `show`: one line an event.
 ghost use Rattle.std.specs.Prelude.{◌≡◌, ◌++◌, ℕ, List, false, ⊤, codes};
 ghost use Rattle.std.specs.Fmt.{decimal};
-ghost use Rattle.list_core.specs.EventLine.{event_rules, mode_text};
+ghost use Rattle.list_core.specs.EventLine.{event_rules};
+ghost use Rattle.list_core.specs.EventText.{mode_text};
 ghost use Rattle.list_core.specs.declared.event_lines.EventLines.TheVariants.{First};
 ghost use Rattle.list_core.specs.declared.device.InputEnd.{InputEnd};
 ghost use Rattle.list_core.specs.Device.{GivesOctets};
 ghost use Rattle.engine_core.specs.Ending.{is_write_fault};
 ghost use Rattle.engine_core.specs.Run.{Writes};
 ghost use Rattle.text_core.specs.Pieces.{AppendsText};
-ghost use Rattle.frame_engines.specs.ShowText.{octets_line, show_text};
+ghost use Rattle.frame_engines.specs.ShowText.{kind_line, octets_line, show_text};
 
 use crate::texts::frame::put_frame;
 use engine_core::{Ending, Engine, run};
@@ -17,7 +18,7 @@ use frame_core::{
     view_frame,
 };
 use std::alloc::{AllocError, Allocator};
-use text_core::line::{put_clock_line, put_fault_line, put_list_line, put_mode_word};
+use text_core::line::{put_clock_line, put_fault_line, put_list_fault_line, put_mode_word};
 use text_core::pieces::put_decimal;
 
 // Appends the line of the octets of a frame.
@@ -53,6 +54,21 @@ fn put_mode<A: Allocator>(
     line.extend_from_slice(b"\n")
 }
 
+// Appends the line of an event.
+fn put_event<A: Allocator>(
+    line: &mut Vec<u8, A>,
+    number: u64,
+    event: &Event<A>,
+) -> Result<(), AllocError>
+    ensures { AppendsText result line.old.items line.new.items (kind_line number event.now.moment event.now.kind) }
+{
+    match &event.kind {
+        EventKind::Clock => put_clock_line(line, number, event.moment),
+        EventKind::Frame(octets) => put_octets(line, number, octets.as_slice()),
+        EventKind::Mode(on) => put_mode(line, number, event.moment, *on),
+    }
+}
+
 /// What `show` writes.
 #[derive(Drop)]
 struct ShowText;
@@ -71,12 +87,10 @@ impl<A: Allocator> Engine<A> for ShowText {
         line: &mut Vec<u8, A>,
         number: u64,
         event: Event<A>,
+        spare: &mut Option<Event<A>>,
     ) -> Result<bool, LineError<ListCause>> {
-        let put = match &event.kind {
-            EventKind::Clock => put_clock_line(line, number, event.moment),
-            EventKind::Frame(octets) => put_octets(line, number, octets.as_slice()),
-            EventKind::Mode(on) => put_mode(line, number, event.moment, *on),
-        };
+        let put = put_event(line, number, &event);
+        *spare = Some(event);
         match put {
             Ok(()) => Ok(false),
             Err(error) => Err(LineError::Memory(error)),
@@ -88,7 +102,7 @@ impl<A: Allocator> Engine<A> for ShowText {
         line: &mut Vec<u8, A>,
         fault: &ItemFault<ListCause>,
     ) -> Result<(), AllocError> {
-        put_list_line(line, fault_of_list(fault))
+        put_list_fault_line(line, fault_of_list(fault))
     }
 }
 
@@ -96,9 +110,9 @@ impl<A: Allocator> Engine<A> for ShowText {
 /// fault; and where the list has a fault, a last line with it. Moments are in microseconds.
 ///
 /// The reader is Open and the writer has not failed. The text is that of the octets that the reader
-/// gave: whole at `Done`, `InputFault` and `ReadFault`, a front of it at `WriteFault`, and whole
+/// gave: whole at `Done`, `InputFault` and `ReadFault`, a prefix of it at `WriteFault`, and whole
 /// lines of the earlier events at `Memory`, which is for an event or a fault's line, never for the list's end.
-/// One line of the list and one event are held at a time.
+/// One line of the list is held at a time, and one event beside the one whose memory is used again.
 #[inline(never)]
 pub fn show<A: Allocator + Copy, R: Source, W: Sink>(
     alloc: A,

@@ -5,7 +5,7 @@ use Rattle.list_core.specs.declared.event.Event.{Event}
 use Rattle.list_core.specs.declared.list_fault.ListCause.{ListCause}
 use Rattle.list_core.specs.ListReader.{list_fault_of}
 use Rattle.engine_core.specs.EngineText.{Text}
-use Rattle.text_core.specs.LineText.{list_line}
+use Rattle.text_core.specs.LineText.{list_fault_line}
 use Rattle.inventory_engine.specs.declared.known.Known.{Known}
 use Rattle.inventory_engine.specs.Sightings.{Key, Sighting, key_of, sightings_in, sightings_of}
 use Rattle.inventory_engine.specs.BlocksText.{line_after}
@@ -33,7 +33,7 @@ abbrev pub blocks_text : {A : Type 0} → Text (Event A) ListCause
 blocks_text = record {
   first = [];
   of_item = λ before e. Ok (written_of e.0 (sightings_in before) (sightings_of e.1.kind), false);
-  last = λ f. list_line (list_fault_of f);
+  last = λ f. list_fault_line (list_fault_of f);
 }
 
 -- what is held is the newest text of each key

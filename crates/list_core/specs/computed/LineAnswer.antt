@@ -14,9 +14,9 @@ Answers (Err (line.Cause why)) said keeps = said ≡ Err why
 Answers (Err (line.Memory e)) said keeps = keeps ≡ true
 
 -- these octets were read where they are written; or memory was wanted, where some are
-abbrev pub IsRead : {E : Type 0} → Result (List ℕ) E → Option (List ℕ) → Type 0
-IsRead (Ok octets) written = written ≡ Some octets
-IsRead (Err e) written = is_some written ≡ true
+abbrev pub OctetsAreRead : {E : Type 0} → Result (List ℕ) E → Option (List ℕ) → Type 0
+OctetsAreRead (Ok octets) written = written ≡ Some octets
+OctetsAreRead (Err e) written = is_some written ≡ true
 
 -- the fields after a first one, where a space follows it
 abbrev pub fields_after : Option (Bor (List ℕ)) → List (List ℕ)

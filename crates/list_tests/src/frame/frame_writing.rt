@@ -6,7 +6,7 @@ use arrayvec::ArrayVec;
 use ber_core::Full;
 use frame_core::{
     Apdu, EncodeFault, Frame, GooseFrame, decode, encode, encode_goose, encode_view, see_frame,
-    view_frame,
+    view_frame, written_length,
 };
 use mms_data::Octets;
 use pdu_core::{AsduList, SvPdu};
@@ -32,6 +32,14 @@ fn is_noted(octets: &[u8]) -> bool {
     view.apdu.is_written()
 }
 
+/// How many octets the written form has, where this is known of what is noted.
+fn noted_length(octets: &[u8]) -> Option<usize> {
+    match see_frame(octets, true) {
+        Ok(view) => written_length(&view),
+        Err(_) => None,
+    }
+}
+
 /// Whether these octets have this written form, as a frame and as a view.
 fn have_form(alloc: Global, octets: &[u8], form: &[u8]) -> bool {
     has_form(alloc, octets, form) && has_view_form(octets, form)
@@ -46,6 +54,18 @@ fn a_frame_has_one_written_form(rt: HostRuntime) {
             have_form(rt.alloc(), octets, octets) && is_noted(octets),
             "{octets:?}"
         );
+    }
+}
+
+#[test]
+fn the_written_form_is_measured(rt: HostRuntime) {
+    for (octets, length) in [
+        (FRAME.as_slice(), Some(67)),
+        (&LONG, Some(67)),
+        (&TAGGED, Some(TAGGED.len())),
+        (&SAMPLED, None),
+    ] {
+        assert!(rt; noted_length(octets) == length, "{octets:?}");
     }
 }
 

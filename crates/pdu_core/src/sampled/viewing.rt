@@ -1,6 +1,6 @@
 // Seeing a savPdu where it stands.
 
-ghost use Rattle.std.specs.Prelude.{◌≡◌, ◌<◌, ◌≤◌, Err, length, slice_range, true, pos, IfErr, IfOk, Some};
+ghost use Rattle.std.specs.Prelude.{◌≡◌, ◌<◌, ◌≤◌, Err, length, slice_range, true, false, pos, IfErr, IfOk, Some};
 ghost use Rattle.ber_core.specs.computed.FieldReading.{field_as};
 ghost use Rattle.ber_core.specs.Fields.{always};
 ghost use Rattle.ber_core.specs.computed.Reading.{Gives};
@@ -132,6 +132,7 @@ fn sv<'a, const NOTES: bool>(octets: &'a [u8], at: usize, end: usize) -> Result<
     ensures source { IfOk result (λ v. asdus_source v.asdus ≡ octets.entry) }
     ensures count { IfOk result (λ v. v.count ≡ length (asdus_left {A = Unit {0}} v.asdus)) }
     ensures written { IfOk result (λ v. v.written ≡ true → slice_range octets.now at end ≡ written_sv (sv_of {A = Unit {0}} v)) }
+    ensures asked { IfOk result (λ v. v.written ≡ true → NOTES ≡ true) }
 {
     let header = required(octets, at, end, 0x60)?;
     let to = header.contents_to;
@@ -148,23 +149,6 @@ fn sv<'a, const NOTES: bool>(octets: &'a [u8], at: usize, end: usize) -> Result<
     })
 }
 
-// The same, noted or not.
-#[inline(always)]
-fn noted_sv<'a>(octets: &'a [u8], at: usize, end: usize, notes: bool) -> Result<SvView<'a>, Fault>
-    requires ordered { at ≤ end }
-    requires inside { end ≤ length octets.now }
-    ensures exact { Gives (λ v. items_of_each (asdus_left {A = Unit {0}} v.asdus)) result (sv_at octets.now at end) }
-    ensures source { IfOk result (λ v. asdus_source v.asdus ≡ octets.entry) }
-    ensures count { IfOk result (λ v. v.count ≡ length (asdus_left {A = Unit {0}} v.asdus)) }
-    ensures written { IfOk result (λ v. v.written ≡ true → slice_range octets.now at end ≡ written_sv (sv_of {A = Unit {0}} v)) }
-{
-    if notes {
-        sv::<true>(octets, at, end)
-    } else {
-        sv::<false>(octets, at, end)
-    }
-}
-
 /// What `view_sv` answers, and where `notes` is true, whether the octets are known to be the written form of the APDU.
 /// Inlined, so that who does not ask for this does not pay for it.
 ///
@@ -176,25 +160,22 @@ pub fn see_sv<'a>(octets: &'a [u8], at: usize, end: usize, notes: bool) -> Resul
     requires ordered { at ≤ end }
     requires inside { end ≤ length octets.now }
 
-    // What is seen is spelled so, and what is spelled so is seen.
-    ensures found { IfOk result (λ v. SpellsSv {A = Unit {0}} (sv_of v) (slice_range octets.now at end)) }
-    ensures only { (p : SvPdu (Unit {0})) → SpellsSv p (slice_range octets.now at end) → ShowsSv result p }
-
-    // The fault that is answered is there, and the fault that is there is answered.
-    ensures fault { IfErr result (λ f. SvFault f at (slice_range octets.now at end)) }
-    ensures fault_only { (f : Fault) → SvFault f at (slice_range octets.now at end) → result ≡ Err f }
+    // The function on octets that it computes, as `view_sv` does, whose clauses say what it finds.
+    ensures exact { Gives (λ v. items_of_each (asdus_left {A = Unit {0}} v.asdus)) result (sv_at octets.now at end) }
 
     // The ASDUs are read from the octets themselves, and are counted.
     ensures source { IfOk result (λ v. asdus_source v.asdus ≡ octets.entry) }
     ensures count { IfOk result (λ v. v.count ≡ length (asdus_left {A = Unit {0}} v.asdus)) }
 
-    // The octets are the written form of the APDU, where the view says so.
+    // The octets are the written form of the APDU, where the view says so; it says so only where that was asked.
     ensures written { IfOk result (λ v. v.written ≡ true → slice_range octets.now at end ≡ written_sv (sv_of {A = Unit {0}} v)) }
-
-    // For callers: the function on octets that it computes.
-    ensures exact { Gives (λ v. items_of_each (asdus_left {A = Unit {0}} v.asdus)) result (sv_at octets.now at end) }
+    ensures asked { IfOk result (λ v. v.written ≡ true → notes ≡ true) }
 {
-    noted_sv(octets, at, end, notes)
+    if notes {
+        sv::<true>(octets, at, end)
+    } else {
+        sv::<false>(octets, at, end)
+    }
 }
 
 /// The APDU whose one element fills the octets from `at` to `end` (IEC 61850-9-2, savPdu).
@@ -219,8 +200,8 @@ pub fn view_sv<'a>(octets: &'a [u8], at: usize, end: usize) -> Result<SvView<'a>
     ensures source { IfOk result (λ v. asdus_source v.asdus ≡ octets.entry) }
     ensures count { IfOk result (λ v. v.count ≡ length (asdus_left {A = Unit {0}} v.asdus)) }
 
-    // The octets are the written form of the APDU, where the view says so.
-    ensures written { IfOk result (λ v. v.written ≡ true → slice_range octets.now at end ≡ written_sv (sv_of {A = Unit {0}} v)) }
+    // Whether the octets are the written form of the APDU is not noted.
+    ensures unnoted { IfOk result (λ v. v.written ≡ false) }
 
     // For callers: the function on octets that it computes.
     ensures exact { Gives (λ v. items_of_each (asdus_left {A = Unit {0}} v.asdus)) result (sv_at octets.now at end) }

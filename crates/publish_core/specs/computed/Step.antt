@@ -15,7 +15,7 @@ use Rattle.publish_core.specs.State.{PublisherState, change_of}
 
 -- the wait behind the frame that was given last is over
 abbrev pub is_due : {A : Type 0} → List Step → Last A → ℕ → Bool
-is_due table l now = nat_le (l.given + 1000 * (step_at table l.step).wait_ms) now
+is_due table l now = nat_le (l.given_at + 1000 * (step_at table l.step).wait_ms) now
 
 -- the frame that is held
 abbrev pub last_frame : {A : Type 0} → Control A → List Step → Last A → Frame A
@@ -23,7 +23,7 @@ last_frame control table l = frame_with control (change_of l) l.state l.sequence
 
 -- the next one, given now
 abbrev pub next_last : {A : Type 0} → List Step → Last A → ℕ → Last A
-next_last table l now = record l { sequence = number_behind l.sequence; step = min (l.step + 1) (length table - 1); given = now }
+next_last table l now = record l { sequence = number_behind l.sequence; step = min (l.step + 1) (length table - 1); given_at = now }
 
 -- what is held after a poll
 abbrev pub polled : {A : Type 0} → List Step → Option (Last A) → ℕ → Option (Last A)
@@ -43,7 +43,7 @@ poll_state s now = record s { moment = max s.moment now; last = polled s.table s
 
 -- the first frame of a state
 abbrev pub first_last : {A : Type 0} → ℕ → Change → ℕ → Last A
-first_last state change now = record { t = change.t; values = change.values; state = state; sequence = 0; step = 0; given = now }
+first_last state change now = record { t = change.t; values = change.values; state = state; sequence = 0; step = 0; given_at = now }
 
 abbrev pub change_frame : {A : Type 0} → PublisherState A → Change → ℕ → Frame A
 change_frame s change now = last_frame s.control s.table (first_last s.next change (max s.moment now))

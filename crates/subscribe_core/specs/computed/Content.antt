@@ -8,7 +8,7 @@ use Rattle.frame_core.specs.declared.frame.Apdu.TheVariants as apdus
 use Rattle.list_core.specs.declared.event.Event.{Event}
 use Rattle.list_core.specs.declared.event.EventKind.{EventKind}
 use Rattle.list_core.specs.declared.event.EventKind.TheVariants as kinds
-use Rattle.subscribe_core.specs.Reading.{Content, OfGoose, OfSampled, OfFault, OfClock, OfMode, EventRead}
+use Rattle.subscribe_core.specs.EventsRead.{Content, OfGoose, OfSampled, OfFault, OfClock, OfMode, EventRead}
 
 -- the content of a frame with this APPID and APDU
 abbrev pub content_with : ℕ → Apdu (Unit {0}) → Content

@@ -1,9 +1,10 @@
--- The set of deadlines agrees with what the blocks hold.
-use Rattle.std.specs.Prelude.{◌≡◌, ℕ, ◌+◌, ◌-◌, ◌^◌, Bool, false, ◌==◌, List, [], ◌∷◌, Option, Some, None, map, slice_index_or, if◌then◌else◌}
+-- The deadlines that are kept agree with what the blocks hold.
+use Rattle.std.specs.Prelude.{◌≡◌, ℕ, ◌+◌, ◌-◌, ◌^◌, Bool, false, ◌==◌, nat_le, List, [], ◌∷◌, Option, Some, None, is_some, map, slice_index_or, slice_set, if◌then◌else◌}
 use Rattle.std.specs.Ordering.{nat_cmp, ordering_then}
 use Rattle.std.specs.declared.cmp.Ordering.{Ordering}
-use Rattle.std.specs.BTreeSet.{BTreeSet, contains, keys_between}
+use Rattle.std.specs.BTreeSet.{BTreeSet, btree_set_len, contains, keys_between}
 use Rattle.std.specs.declared.ops.Bound.TheVariants.{Unbounded, Included}
+use Rattle.subscribe_core.specs.declared.deadlines.Deadlines.{Deadlines}
 use Rattle.subscribe_core.specs.declared.registers.LiveState.{LiveState}
 use Rattle.subscribe_core.specs.declared.registers.Register.{Register}
 use Rattle.subscribe_core.specs.computed.Steps.{is_dead}
@@ -24,6 +25,25 @@ helds rs = map (λ (r : Register). r.held) rs
 -- the set has exactly the deadline of each holding block, with its position
 abbrev pub AreDeadlinesOf : BTreeSet (ℕ × ℕ) → List (Option LiveState) → Type 0
 AreDeadlinesOf set held = (q : ℕ × ℕ) → contains pair_cmp set q ≡ has_deadline (slice_index_or held q.1 None) q.0
+
+-- the deadline of what is held
+abbrev pub deadline_of : Option LiveState → Option ℕ
+deadline_of None = None
+deadline_of (Some h) = Some h.deadline
+
+-- the deadline apart is that of the block apart, and the set has exactly those of the other blocks
+pub record KeepsDeadlinesOf {A : Type 0} (d : Deadlines A) (held : List (Option LiveState)) : Type 0 where
+  pub apart : deadline_of (slice_index_or held d.apart None) ≡ d.deadline
+  pub others : AreDeadlinesOf d.others (slice_set held d.apart None)
+
+-- how many deadlines are kept
+abbrev pub deadline_count : {A : Type 0} → Deadlines A → ℕ
+deadline_count d = btree_set_len d.others + (if is_some d.deadline then 1 else 0)
+
+-- it is a deadline, and at most the moment
+abbrev pub is_past : Option ℕ → ℕ → Bool
+is_past None now = false
+is_past (Some deadline) now = nat_le deadline now
 
 -- the pairs of the set that are due
 abbrev pub due_pairs : ℕ → BTreeSet (ℕ × ℕ) → List (ℕ × ℕ)

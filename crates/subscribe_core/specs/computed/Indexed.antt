@@ -1,29 +1,29 @@
 -- What a subscriber's fields keep to: the two indexes agree with the blocks and with what they hold.
 use Rattle.std.specs.Prelude.{◌≡◌, ℕ, ◌+◌, Bool, not, ◌&&◌, ◌||◌, List, [], ◌∷◌, ◌++◌, Option, None, length, map, if◌then◌else◌}
-use Rattle.std.specs.BTreeSet.{BTreeSet}
 use Rattle.block_core.specs.declared.block.Block.{Block}
+use Rattle.subscribe_core.specs.declared.deadlines.Deadlines.{Deadlines}
 use Rattle.subscribe_core.specs.declared.entry.Entry.{Entry}
 use Rattle.subscribe_core.specs.declared.entry.Entry.TheVariants as says
 use Rattle.subscribe_core.specs.declared.names.Name.{Name}
 use Rattle.subscribe_core.specs.declared.registers.LiveState.{LiveState}
 use Rattle.subscribe_core.specs.declared.registers.Register.{Register}
-use Rattle.subscribe_core.specs.computed.Deadlines.{AreDeadlinesOf, helds}
+use Rattle.subscribe_core.specs.computed.Deadlines.{KeepsDeadlinesOf, helds}
 use Rattle.subscribe_core.specs.FrameEntry.{entry_of}
 use Rattle.subscribe_core.specs.Matching.{facts_of_frame}
 use Rattle.subscribe_core.specs.computed.Names.{AreSorted, AreNamesOf}
-use Rattle.subscribe_core.specs.Reading.{FrameRead}
+use Rattle.subscribe_core.specs.EventsRead.{FrameRead}
 use Rattle.subscribe_core.specs.Apart.{AreApart}
 use Rattle.subscribe_core.specs.State.{idle}
 use Rattle.subscribe_core.specs.computed.Steps.{after_clock, after_switch, verdict_on, held_after_frame}
 
 -- What the private fields of a subscriber keep to: a register for each block, no two blocks of one name, the names of
 -- all blocks in order, and the deadlines of exactly those blocks that hold something
-pub record IsIndexed {A : Type 0} (blocks : List (Block A)) (registers : List Register) (names : List (Name A)) (deadlines : BTreeSet (ℕ × ℕ)) : Type 0 where
+pub record IsIndexed {A : Type 0} (blocks : List (Block A)) (registers : List Register) (names : List (Name A)) (deadlines : Deadlines A) : Type 0 where
   pub sizes : length registers ≡ length blocks
   pub apart : AreApart blocks
   pub sorted : AreSorted names
   pub named : AreNamesOf names blocks
-  pub timed : AreDeadlinesOf deadlines (helds registers)
+  pub timed : KeepsDeadlinesOf deadlines (helds registers)
 
 -- a register once what is over at the moment is let go
 abbrev pub register_after_clock : ℕ → Register → Register

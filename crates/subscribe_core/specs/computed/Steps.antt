@@ -11,7 +11,7 @@ use Rattle.subscribe_core.specs.declared.registers.Verdict.{Verdict}
 use Rattle.subscribe_core.specs.declared.registers.Verdict.TheVariants.{Act, Refreshed, Repeated, Older}
 use Rattle.subscribe_core.specs.FrameEntry.{entry_of}
 use Rattle.subscribe_core.specs.Matching.{is_of, reason_of, facts_of_frame}
-use Rattle.subscribe_core.specs.Reading.{FrameRead, Content, OfGoose, OfSampled, OfFault, OfClock, OfMode, EventRead}
+use Rattle.subscribe_core.specs.EventsRead.{FrameRead, Content, OfGoose, OfSampled, OfFault, OfClock, OfMode, EventRead}
 use Rattle.subscribe_core.specs.Simulation.{is_other_kind, is_plain_simulated, is_off, mode_by}
 use Rattle.subscribe_core.specs.State.{State}
 

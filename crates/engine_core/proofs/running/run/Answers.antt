@@ -21,8 +21,8 @@ answers-preserved g c = record {
       let p = c.answers.invariant.so_far in
       let s = c.in-Wrote.ensures.step in
       let w = rw c.answers.invariant.same at (s.2 p.0 p.1) in
-      let q = rw w.2 at s.1 in
-      (p.0 ++ w.0 ∷ [], w.5, go_on _ _ _ _ _ p.0 _ _ _ _ p.2 w.0 q w.1 _ w.3 w.4);
+      let q = rw w.answered at s.1 in
+      (p.0 ++ w.item ∷ [], w.stands_after, go_on _ _ _ _ _ p.0 _ _ _ _ p.2 w.item q w.text _ w.has_text w.written);
 }
 
 pub returns-in-Ended-clause-text : goal.returns-in-Ended-clause-text

@@ -2,7 +2,7 @@ use Rattle.std.proofs.Common.{◌∙◌, ◌++◌, List, map, ap, sym, subst}
 use Rattle.std.proofs.lemmas.List.{append-nil}
 use Rattle.pdu_core.specs.SampledViews.{asdu_of, asdus_left}
 use Rattle.pdu_core.specs.declared.sampled.asdu.Asdu.{Asdu}
-use Rattle.inventory_engine.specs.Sightings.{streams_seen}
+use Rattle.inventory_engine.specs.Sightings.{stream_sightings}
 use Rattle.inventory_engine.specs.computed.BlocksStep.{AppendsLines}
 use Rattle.text_core.proofs.Fronts.{front_twice}
 use Rattle.inventory_engine.proofs.Appending.{on_error, stream_more, streams_wanted}
@@ -27,4 +27,4 @@ returns-clause-written g c =
     let i = c.loop-asdu.invariant in
     let seen = map (asdu_of {A = Unit {0}}) c.loop-asdu.yielded in
     let all = sym (append-nil seen) ∙ ap (λ (l : List (Asdu (Unit {0}))). seen ++ l) (sym c.in-None.ensures.steps.0.0) ∙ i.2 in
-    subst (λ (l : List (Asdu (Unit {0}))). AppendsLines c.args.number (streams_seen l) c.args.known.now.items c.loop-asdu.known.items c.args.line.now.items c.loop-asdu.line.items) all i.3
+    subst (λ (l : List (Asdu (Unit {0}))). AppendsLines c.args.number (stream_sightings l) c.args.known.now.items c.loop-asdu.known.items c.args.line.now.items c.loop-asdu.line.items) all i.3

@@ -6,6 +6,7 @@ use Rattle.ber_core.specs.Length.{AreOctets}
 use Rattle.mms_data.specs.computed.Reading.{contents_at, members_at}
 use Rattle.mms_data.proofs.AsWritten.{nested_are, simple_are}
 use Rattle.mms_data.proofs.Loop.{member_there}
+use Rattle.mms_data.proofs.Booleans.{boolean_passed, boolean_stands}
 use Rattle.mms_data.proofs.Checked.{counts_none, counts_on, counts_wrong, counts_all, stand_all, member_stands, member_wrong, member_good}
 use Rattle.mms_data.proofs.checking.+checking.Goals as goal
 
@@ -58,3 +59,11 @@ pub check_contents-returns-in_ok-_view-in-Simple-clause-written : goal.check_con
 check_contents-returns-in_ok-_view-in-Simple-clause-written g t c = λ w d e.
     let read = ap (λ x. contents_at (members_at c.args.depth) x c.args.header.now (contents_of c.args.octets.now c.args.header.now)) (sym c.in-Simple.is) ∙ e in
     simple_are c.args.depth c.in-Simple.kind c.args.header.now _ d (c.is_simple_written.ensures (and_parts _ _ w).1) read
+
+pub pass_member-returns-in-Some-clause-exact : goal.pass_member-returns-in-Some-clause-exact
+pass_member-returns-in-Some-clause-exact g t c =
+    boolean_passed c.args.depth c.args.at c.args.octets.now c.args.end c.in-Some.octet (omega arith) c.in-Some.ensures.next c.in-Some.ensures.there
+
+pub pass_member-returns-in-Some-clause-written : goal.pass_member-returns-in-Some-clause-written
+pass_member-returns-in-Some-clause-written g t c = λ both.
+    boolean_stands c.args.depth c.args.at c.args.octets.now c.args.end c.in-Some.octet (omega arith) c.in-Some.ensures.next c.in-Some.ensures.there (c.is_written_truth.ensures (and_parts _ _ both).1)

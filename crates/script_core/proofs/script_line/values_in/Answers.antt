@@ -1,6 +1,6 @@
 use Rattle.std.proofs.Common.{refl, ap}
 use Rattle.mms_data.specs.Value.{datas}
-use Rattle.script_core.specs.CallLine.{change_to}
+use Rattle.script_core.specs.computed.CallLine.{change_to}
 use Rattle.script_core.proofs.ScriptLemmas.{members_read, members_fault, members_kept}
 use Rattle.script_core.proofs.script_line.values_in.Goals as goal
 

@@ -6,7 +6,8 @@ use Rattle.std.proofs.lemmas.Result.{IfErr-weaker}
 use Rattle.std.specs.Prelude.{Ok}
 use Rattle.clap.specs.Words.{App, HasKind, Row, Text, fault_of, is_simple, is_simple_and_free, subcommand_of, takes}
 use Rattle.clap.specs.Walk.{texts}
-use Rattle.words_core.specs.CommandLine.{Asks, HasPeriod, IsBlockError, IsNoMistake, MayAnswer, Meaning, faults, is_plain, task_asked, task_of_words}
+use Rattle.words_core.specs.CommandLine.{Asks, HasPeriod, IsBlockError, IsNoMistake, Meaning, faults, is_plain, task_asked, task_of_words}
+use Rattle.words_core.specs.computed.PrivateCalls.{MayAnswer}
 use Rattle.words_core.proofs.WordLemmas.{IsAsked, answers_found, answers_refused, faultless_asks, faultless_memory, may_refuse, nothing_answered}
 use Rattle.words_core.proofs.AskingWords.{words_ask}
 use Rattle.words_core.proofs.AskedWords.{asked}

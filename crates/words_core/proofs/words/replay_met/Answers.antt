@@ -2,7 +2,8 @@ use Rattle.std.proofs.Common.{◌≡◌, ◌∙◌, List, Option, Some, None, co
 use Rattle.clap.specs.Words.{Text, all_of, found_of, rows_of}
 use Rattle.clap.specs.Walk.{texts}
 use Rattle.clap.proofs.WalkLemmas.{raw_values-rows}
-use Rattle.words_core.specs.CommandLine.{MayAnswer, replay_of}
+use Rattle.words_core.specs.CommandLine.{replay_of}
+use Rattle.words_core.specs.computed.PrivateCalls.{MayAnswer}
 use Rattle.words_core.proofs.words.replay_met.Goals as goal
 
 pub returns-in-Some : goal.returns-in-Some

@@ -1,6 +1,7 @@
 use Rattle.std.proofs.Common.{◌≡◌, refl, sym, subst, rules, true, Ok, Err}
 use Rattle.std.specs.Result.{is_ok}
-use Rattle.words_core.specs.CommandLine.{AnswersWords, Meaning}
+use Rattle.words_core.specs.CommandLine.{Meaning}
+use Rattle.words_core.specs.computed.PrivateCalls.{AnswersWords}
 use Rattle.words_core.proofs.BlockWords.{said_all, said_more, said_none}
 use Rattle.words_core.specs.declared.words.Task.TheVariants.{Replay}
 use Rattle.words_core.specs.declared.words.WordsError.TheVariants as refused

@@ -1,6 +1,7 @@
 use Rattle.std.proofs.Common.{◌≡◌, List, Option, Some, option_and_then, option_map, sym, subst}
 use Rattle.clap.specs.Words.{Row, Text, found_of, rows_of, subcommand_name_of, subcommand_rows_of}
-use Rattle.words_core.specs.CommandLine.{MayAnswer, task_asked}
+use Rattle.words_core.specs.CommandLine.{task_asked}
+use Rattle.words_core.specs.computed.PrivateCalls.{MayAnswer}
 use Rattle.words_core.proofs.WordLemmas.{met}
 use Rattle.words_core.proofs.words.task_met.Goals as goal
 

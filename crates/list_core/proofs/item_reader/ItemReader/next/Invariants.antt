@@ -1,5 +1,6 @@
 use Rattle.std.proofs.Common.{◌≡◌, ◌-◌}
-use Rattle.list_core.specs.ItemReader.{SkipsLines, item_state, item_number}
+use Rattle.list_core.specs.ItemReader.{item_state, item_number}
+use Rattle.list_core.specs.computed.PrivateCalls.{SkipsLines}
 use Rattle.list_core.proofs.item_reader.ItemReader.next.Given as goal
 
 abbrev pub invariant-tries : goal.invariant-tries

@@ -18,7 +18,7 @@ returns-clause-refused g c = λ p calls w.
 pub returns-clause-published : goal.returns-clause-published
 returns-clause-published g c = λ p calls w.
     let x = change_ok p calls c.args.self.now (change c.args.t c.args.values) c.args.now w in
-    IfOk-weaker c.take_change.result _ _ (λ o e. (change_frame c.args.self.now (change c.args.t c.args.values) c.args.now, x.0, e)) c.take_change.ensures.given
+    IfOk-weaker c.take_change.result _ _ (λ o e. record { published = change_frame c.args.self.now (change c.args.t c.args.values) c.args.now; publishes = x.0; is_written = e }) c.take_change.ensures.given
 
 pub returns-clause-stands : goal.returns-clause-stands
 returns-clause-stands g c = λ p calls w.

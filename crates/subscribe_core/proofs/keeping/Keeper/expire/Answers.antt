@@ -2,7 +2,7 @@ use Rattle.std.proofs.Common.{List, ap, sym, ◌∙◌, arith}
 use Rattle.subscribe_core.specs.declared.registers.Register.{Register}
 use Rattle.subscribe_core.specs.computed.Deadlines.{due_count, helds}
 use Rattle.subscribe_core.specs.computed.Indexed.{registers_after_clock}
-use Rattle.subscribe_core.specs.State.{StateAndReaches}
+use Rattle.subscribe_core.specs.computed.PrivateCalls.{StateAndReaches}
 use Rattle.subscribe_core.proofs.Clearing.{cleared_set, count_set, cleared_none, due_within, helds_set, held_of, indexed_write, let_go, register_of}
 use Rattle.subscribe_core.proofs.keeping.Keeper.expire.Goals as goal
 

@@ -2,7 +2,7 @@ use Rattle.std.proofs.Common.{ap, ◌∙◌, subst, position}
 use Rattle.subscribe_core.specs.Matching.{is_of}
 use Rattle.subscribe_core.specs.computed.Received.{received_frame}
 use Rattle.subscribe_core.specs.Apart.{AreApart}
-use Rattle.subscribe_core.specs.State.{StateAndReaches}
+use Rattle.subscribe_core.specs.computed.PrivateCalls.{StateAndReaches}
 use Rattle.subscribe_core.proofs.NameLemmas.{find_is}
 use Rattle.subscribe_core.proofs.keeping.Keeper.find.Goals as goal
 

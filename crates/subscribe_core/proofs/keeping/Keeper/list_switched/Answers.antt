@@ -4,7 +4,7 @@ use Rattle.subscribe_core.specs.declared.entry.Entry.{Entry}
 use Rattle.subscribe_core.specs.declared.entry.Entry.TheVariants as says
 use Rattle.subscribe_core.specs.declared.registers.Register.{Register}
 use Rattle.subscribe_core.specs.computed.Indexed.{flagged_entries}
-use Rattle.subscribe_core.specs.State.{StateAndReaches}
+use Rattle.subscribe_core.specs.computed.PrivateCalls.{StateAndReaches}
 use Rattle.subscribe_core.proofs.Switching.{left_entries, left_more, left_same}
 use Rattle.subscribe_core.proofs.keeping.Keeper.list_switched.Goals.{then-register+in_ok-push, else-register}
 use Rattle.subscribe_core.proofs.keeping.Keeper.list_switched.Goals as goal

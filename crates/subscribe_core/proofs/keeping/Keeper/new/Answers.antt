@@ -24,7 +24,7 @@ invariant_of-result g c =
     let size = c.len.ensures ∙ c.args.blocks.ok.0 in
     rw c.new.ensures
     (fresh_indexed c.args.blocks.items c.in-Ok.registers.items c.in-Ok-sorted.names.items c.new-2.result
-    (c.in-Ok.ensures.registers ∙ ap (λ n. replicate n idle) size) c.new-2.ensures.empty
+    (c.in-Ok.ensures.registers ∙ ap (λ n. replicate n idle) size) c.new-2.ensures.deadline c.new-2.ensures.others
     (rw c.deref.ensures.value at c.in_default.ensures) c.in-Ok-sorted.ensures.order (rw c.deref-2.ensures.value at c.in-Ok-sorted.ensures.named))
 
 pub returns-clause-apart : goal.returns-clause-apart

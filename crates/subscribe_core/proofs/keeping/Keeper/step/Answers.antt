@@ -1,12 +1,15 @@
 use Rattle.std.proofs.Common.{inl, inr, ap, arith}
-use Rattle.subscribe_core.specs.State.{StateAndReaches}
+use Rattle.subscribe_core.specs.Looks.{expired_count}
+use Rattle.subscribe_core.specs.computed.PrivateCalls.{StateAndReaches}
 use Rattle.subscribe_core.proofs.keeping.Keeper.step.Goals as goal
 
 pub returns-clause-looks : goal.returns-clause-looks
 returns-clause-looks g c =
     let first = ap (λ (t : StateAndReaches _). t.reaches) c.self.view_is in
     let last = ap (λ (t : StateAndReaches _). t.reaches) c.self-2.view_is in
-    elim c.in_ok-entries.ensures.count [
+    elim c.in_ok-take_counted.ensures.count [
       | inl m ↦ inl m
-      | inr count ↦ inr (omega (arith, count, first, last, c.reaches-before.ensures, c.reaches.ensures, c.saturating_sub-self-inside.ensures))
+      | inr count ↦
+          let told = ap expired_count (rw c.clear.ensures.items at c.in_ok-take_counted.ensures.entries) in
+          inr (omega (arith, count, told, first, last, c.reaches-before.ensures, c.reaches.ensures, c.saturating_sub-self-inside.ensures))
     ]

@@ -1,24 +1,24 @@
-use Rattle.std.proofs.Common.{◌≡◌, ◌≤◌, ◌++◌, List, max, inl, inr, ap, ◌∙◌, subst, arith}
+use Rattle.std.proofs.Common.{◌≤◌, ◌++◌, ℕ, List, max, inl, inr, ap, ◌∙◌, subst, arith}
 use Rattle.std.proofs.lemmas.Bool.{false≢true}
 use Rattle.subscribe_core.specs.declared.entry.Entry.{Entry}
 use Rattle.subscribe_core.specs.computed.Deadlines.{due_count, helds}
 use Rattle.subscribe_core.specs.Looks.{expired_count}
 use Rattle.subscribe_core.specs.Apart.{AreApart}
-use Rattle.subscribe_core.specs.State.{StateAndReaches}
+use Rattle.subscribe_core.specs.computed.PrivateCalls.{StateAndReaches}
 use Rattle.subscribe_core.specs.computed.Steps.{expired_entries, said_of, switched_entries}
 use Rattle.subscribe_core.specs.computed.Content.{content_of}
 use Rattle.subscribe_core.proofs.Due.{expired_counted}
 use Rattle.list_core.proofs.Emptiness.{back_nil, front_nil}
 use Rattle.subscribe_core.proofs.keeping.Keeper.take_counted.Goals as goal
 
-pub returns-in_err-entries-clause-quiet : goal.returns-in_err-entries-clause-quiet
-returns-in_err-entries-clause-quiet g c =
+pub returns-in_err-list_expired-clause-quiet : goal.returns-in_err-list_expired-clause-quiet
+returns-in_err-list_expired-clause-quiet g c =
     let s = c.args.self.now.state in
     let now_is = c.max-now.ensures ∙ ap (λ (s : StateAndReaches _). max s.state.moment c.args.event.now.moment) c.self.view_is in
-    inr (λ none. absurd (false≢true (c.in_err-entries.ensures.quiet (ap (λ n. expired_entries n 0 s.registers) now_is ∙ front_nil _ _ none))))
+    inr (λ none. absurd (false≢true (c.in_err-list_expired.ensures.quiet (ap (λ n. expired_entries n 0 s.registers) now_is ∙ front_nil _ _ none))))
 
-pub returns-in_err-entries-clause-apart : goal.returns-in_err-entries-clause-apart
-returns-in_err-entries-clause-apart g c = subst (λ (s : StateAndReaches _). AreApart s.state.blocks) c.self.view_is c.self.invariant.apart
+pub returns-in_err-list_expired-clause-apart : goal.returns-in_err-list_expired-clause-apart
+returns-in_err-list_expired-clause-apart g c = subst (λ (s : StateAndReaches _). AreApart s.state.blocks) c.self.view_is c.self.invariant.apart
 
 pub returns-in_err-take_kind-clause-quiet : goal.returns-in_err-take_kind-clause-quiet
 returns-in_err-take_kind-clause-quiet g c =
@@ -39,12 +39,12 @@ returns-clause-count g c =
     let first = ap (λ (t : StateAndReaches _). t.reaches) c.self.view_is in
     let last = ap (λ (t : StateAndReaches _). t.reaches) c.self-2.view_is in
     let rest : List (Entry g.row.A.Denot) = switched_entries s.mode kind 0 s.blocks s.registers ++ said_of now s.mode s.blocks s.registers kind in
-    let items : c.take_kind.new.entries.items ≡ expired_entries now 0 s.registers ++ rest =
-    c.in_ok-take_kind.ensures.entries ∙ ap (λ (es : List (Entry g.row.A.Denot)). es ++ rest) c.in_ok-entries.ensures.entries in
     let said : due_count now (helds s.registers) ≤ expired_count (expired_entries now 0 s.registers ++ rest) = expired_counted now 0 s.registers rest in
+    let now_is = c.max-now.ensures ∙ ap (λ (t : StateAndReaches _). max t.state.moment c.args.event.now.moment) c.self.view_is in
+    let told = ap (λ (n : ℕ). expired_count (expired_entries n 0 s.registers ++ (switched_entries s.mode kind 0 s.blocks s.registers ++ said_of n s.mode s.blocks s.registers kind))) now_is in
     elim c.in_ok-take_kind.ensures.count [
       | inl m ↦ inl m
-      | inr count ↦ inr (rw items (omega (arith, count, spent, said, first, last)))
+      | inr count ↦ inr (omega (arith, count, spent, said, told, first, last))
     ]
 
 pub returns-clause-apart : goal.returns-clause-apart

@@ -2,7 +2,7 @@ use Rattle.std.proofs.Common.{◌++◌, Bool, List, length, ap, sym, ◌∙◌, 
 use Rattle.std.proofs.lemmas.Bool.{false≢true}
 use Rattle.subscribe_core.specs.declared.entry.Entry.{Entry}
 use Rattle.subscribe_core.specs.computed.Indexed.{registers_after_clock, switched_off}
-use Rattle.subscribe_core.specs.Reading.{OfMode}
+use Rattle.subscribe_core.specs.EventsRead.{OfMode}
 use Rattle.subscribe_core.specs.State.{State}
 use Rattle.subscribe_core.specs.computed.Steps.{registers_by, switched_entries}
 use Rattle.subscribe_core.proofs.Switching.{registers_off, registers_on, switched_off_entries, switched_on}

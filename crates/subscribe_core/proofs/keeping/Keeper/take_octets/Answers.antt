@@ -4,7 +4,7 @@ use Rattle.frame_core.specs.computed.FrameReading.{frame_at}
 use Rattle.frame_core.specs.declared.frame_view.ApduView.{ApduView}
 use Rattle.subscribe_core.specs.declared.entry.Entry.{Entry}
 use Rattle.subscribe_core.specs.computed.Content.{content_by, content_with}
-use Rattle.subscribe_core.specs.Reading.{Content, OfFault, OfSampled}
+use Rattle.subscribe_core.specs.EventsRead.{Content, OfFault, OfSampled}
 use Rattle.subscribe_core.specs.computed.Steps.{registers_by}
 use Rattle.subscribe_core.proofs.Switching.{answer_as, answer_fault, answer_sampled, registers_fault, registers_sampled}
 use Rattle.subscribe_core.proofs.keeping.Keeper.take_octets.Goals as goal

@@ -7,7 +7,7 @@ use Rattle.exchange_engines.proofs.engines.replay.ReplayingEngine.put_item.Goals
 
 pub returns-in-Ok-put_entries-clause-step : goal.returns-in-Ok-put_entries-clause-step
 returns-in-Ok-put_entries-clause-step g c = λ before stands.
-    replays c.args.self.now.subscriber.state c.take.new.self.state before c.args.number c.args.event c.in-Ok.entries.items c.args.line.now.items c.put_entries.new.out.items
+    replays c.args.self.now.subscriber.state c.take_into-taken.new.self.state before c.args.number c.args.event c.take_into-taken.new.entries.items c.args.line.now.items c.put_entries.new.out.items
     stands c.in-Ok.ensures.step c.in-Ok.ensures.state
     (c.in-Ok-put_entries.ensures.text ∙ ap (λ (es : List (Entry g.row.A.Denot)). c.args.line.now.items ++ entry_lines c.args.number es) c.as_slice.ensures.value)
 
@@ -16,7 +16,7 @@ returns-in-Err-clause-step g c = λ before stands none.
     let s = c.args.self.now.subscriber.state in
     false≢true (c.in-Err.ensures.quiet_step (no_entries s s.blocks before c.args.number c.args.event stands none))
 
-pub returns-clause-step : goal.returns-clause-step
-returns-clause-step g c = λ before stands none.
+pub returns-in-Err-put_entries-clause-step : goal.returns-in-Err-put_entries-clause-step
+returns-in-Err-put_entries-clause-step g c = λ before stands none.
     let s = c.args.self.now.subscriber.state in
     false≢true (c.in-Err-put_entries.ensures.quiet (c.as_slice.ensures.value ∙ c.in-Ok.ensures.step ∙ no_entries s s.blocks before c.args.number c.args.event stands none))

@@ -1,0 +1,54 @@
+-- Fields of three octets: an identifier, a length of 1, and one octet of contents.
+use Rattle.std.proofs.Common.{◌≡◌, ℕ, pos, ◌+◌, ◌%◌, ◌<◌, ◌≤◌, Bool, true, false, eqb, List, [], ◌∷◌, ◌++◌, length, drop, Ok, Some, refl, sym, ap, subst, ◌∙◌, arith, inl}
+use Rattle.std.proofs.lemmas.Bool.{eqb-true}
+use Rattle.std.specs.Prelude.{◌≢◌, slice_range}
+use Rattle.ber_core.specs.Element.{IsIdentifier}
+use Rattle.ber_core.specs.Fields.{Presence}
+use Rattle.ber_core.specs.Written.{short_integer, short_length, written_element}
+use Rattle.ber_core.specs.computed.FieldReading.{field_as}
+use Rattle.ber_core.proofs.FieldSound.{field_again}
+use Rattle.ber_core.proofs.Regions.{region-split}
+use Rattle.ber_core.proofs.WrittenLemmas.{written_integer, written_one}
+use Rattle.pdu_core.specs.Contents.{Kind, Item, SpellsContents, a_flag, a_number, contents_grammar}
+use Rattle.pdu_core.specs.Contents.{number as a_kind_of_number, flag as a_kind_of_flag}
+use Rattle.pdu_core.specs.Written.{written_field, written_item}
+use Rattle.pdu_core.specs.computed.ContentsReading.{item_at}
+use Rattle.pdu_core.proofs.Items.{items_sound}
+use Rattle.pdu_core.proofs.WrittenSpelled.{flag_written, number_written}
+
+not_equal : (a b : ℕ) → a ≢ b → eqb a b ≡ false
+not_equal a b differ = in_case (eqb a b) refl where
+  in_case : (t : Bool) → eqb a b ≡ t → eqb a b ≡ false
+  in_case true e = absurd (differ (eqb-true a b e))
+  in_case false e = e
+
+-- contents of one octet are a small number's
+one_written : (n : ℕ) → n < 128 → short_integer (pos n) ≡ n ∷ []
+one_written n small = ap (λ (l : List ℕ). drop 2 l) (sym (written_integer 0 (pos n)) ∙ written_one 0 n small)
+
+-- an element of one octet
+octet_written : (id n : ℕ) → written_element id (n ∷ []) ≡ id ∷ 1 ∷ n ∷ []
+unfolding written_element short_length
+octet_written id n = refl
+
+module _ (octets : List ℕ) (at end id n : ℕ) (ordered : at ≤ end) (inside : end ≤ length octets) (low : IsIdentifier id) (next : at + 3 ≤ end) (there : slice_range octets at (at + 3) ≡ id ∷ 1 ∷ n ∷ []) where
+  -- a value that its one octet spells is read
+  short_read : (k : Kind) (p : Presence Item) (x : Item) → SpellsContents k x (n ∷ []) → field_as item_at id k p octets at end ≡ Ok (Some x, at + 3)
+  short_read k p x spelled =
+      let rest = slice_range octets (at + 3) end in
+      let parts : slice_range octets at end ≡ id ∷ (1 ∷ []) ++ ((n ∷ []) ++ rest) = region-split octets at (at + 3) end (omega arith) next ∙ ap (λ (l : List ℕ). l ++ rest) there in
+      let behind : at + 1 + 1 + 1 ≡ at + 3 = omega arith in
+      field_again contents_grammar item_at items_sound octets end inside (record { identifier = id; kind = k; presence = p }) at ordered (not_equal (id % 32) 31 low) x (1 ∷ []) (n ∷ []) rest parts (inl (refl, refl, omega arith)) spelled
+      ∙ ap (λ (q : ℕ). Ok (Some x, q)) behind
+
+  pub number_read : (p : Presence Item) → n < 128 → field_as item_at id a_kind_of_number p octets at end ≡ Ok (Some (a_number n), at + 3)
+  number_read p small = short_read a_kind_of_number p (a_number n) (subst (λ (c : List ℕ). SpellsContents a_kind_of_number (a_number n) c) (one_written n small) (number_written n (omega (arith, small))))
+
+  pub number_stands : n < 128 → slice_range octets at (at + 3) ≡ written_field id (Some (a_number n))
+  number_stands small = there ∙ sym (written_one id n small)
+
+  pub flag_read : (p : Presence Item) (b : Bool) → written_item (a_flag b) ≡ n ∷ [] → field_as item_at id a_kind_of_flag p octets at end ≡ Ok (Some (a_flag b), at + 3)
+  flag_read p b is = short_read a_kind_of_flag p (a_flag b) (subst (λ (c : List ℕ). SpellsContents a_kind_of_flag (a_flag b) c) is (flag_written b))
+
+  pub flag_stands : (b : Bool) → written_item (a_flag b) ≡ n ∷ [] → slice_range octets at (at + 3) ≡ written_field id (Some (a_flag b))
+  flag_stands b is = there ∙ sym (ap (written_element id) is ∙ octet_written id n)
