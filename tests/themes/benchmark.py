@@ -27,6 +27,20 @@ class Beside:
         return why + ([] if {same for _, same in rows} == {self.same} else [f"another column Same text in {ran.stdout}"])
 
 
+class Growth:
+    """Each thing that can grow has its row."""
+
+    name = "what grows"
+
+    def why_wrong(self, program):
+        words = [TOP / "bench" / "run", "--frames", "40", "--repeat", "1", "--program", shlex.join(program), "--growth"]
+        ran = subprocess.run(words, stdin=subprocess.DEVNULL, stdout=subprocess.PIPE, stderr=subprocess.PIPE, timeout=SECONDS, text=True)
+        rows = re.findall(r"(?m)^\| (lines|members|control|octets)[^|]*(?:\| \d+ ){4}\| \d+\.\d\d \|$", ran.stdout)
+        why = [] if ran.returncode == 0 else [f"status {ran.returncode}: {ran.stderr}"]
+        return why + ([] if rows == ["lines", "members", "control", "octets"] else [f"other rows: {ran.stdout}"])
+
+
 def cases():
+    yield Growth()
     yield Beside("the program beside itself", None, "yes")
     yield Beside("the program beside one that writes another text", "echo", "no")

@@ -76,7 +76,7 @@ class DoesNotGrow:
 
 
 class WantsMemory:
-    """Where memory is refused, the whole lines of a front of the text stand written, and the status is 5."""
+    """Where memory is refused, the whole lines of a prefix of the text stand written, and the status is 5."""
 
     PAGE = 4096
     AMPLE = 64 * 2**20
