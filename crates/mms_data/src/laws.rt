@@ -10,7 +10,7 @@ pub fn one_reading()
     ensures fault { FaultIsOne }
 {}
 
-/// The function on octets, by which scripts are defined, gives the members that octets spell, and the first fault that
+/// The function on octets, by which proofs compute, gives the members that octets spell, and the first fault that
 /// they have; and the octets spell the members that it gives, and have the fault that it gives as their first.
 pub fn reading_tells()
     ensures told { ReadingTells }

@@ -117,7 +117,7 @@ impl<A: Allocator + Copy> Subscriber<A> {
         ensures stands { (events : List (SpecEvent A)) → StandsAfter events self.old.state →
             OnOk result (StandsAfter (events ++ event.now ∷ []) self.new.state) }
 
-        // Where memory is refused nothing is changed; where the event has no entry no memory is asked for.
+        // Where memory is refused the subscriber is as it was; where the event has no entry no memory is asked for.
         ensures unchanged { OnErr result (self.new ≡ self.old) }
         ensures quiet { (events : List (SpecEvent A)) → StandsAfter events self.old.state →
             AreEntriesAt self.old.state.blocks (events ++ event.now ∷ []) (length events) [] → IsOk result }
