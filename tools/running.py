@@ -32,7 +32,8 @@ def say(text):
 
 def goose():
     """The command of the program, as find_goose tells it."""
-    found = subprocess.run([FIND], stdin=subprocess.DEVNULL, stdout=subprocess.PIPE)
+    # bash quotes letters of a path by their numbers where its locale has none of them, and shlex does not read these.
+    found = subprocess.run([FIND], stdin=subprocess.DEVNULL, stdout=subprocess.PIPE, env={**os.environ, "LC_ALL": "C.UTF-8"})
     if found.returncode:
         raise Ended("there is no goose to ask", found.returncode)
     return shlex.split(found.stdout.decode())

@@ -73,7 +73,7 @@ def why_told(command, wrote, complained, status):
     name in the last line of its text, and else there is none."""
     if status != 3:
         return [f"standard error is not empty: {complained!r}"] if complained else []
-    number, _, name = wrote.removeprefix(b"# ").splitlines()[-1].removeprefix(b"# ").split(b" ")[:3]
+    number, _, name = wrote.splitlines()[-1].lstrip(b"# ").split(b" ")[:3]
     wanted = b"goose %s: line %s: %s: " % (command.encode(), number, name)
     return [] if complained.startswith(wanted) else [f"standard error begins not with {wanted!r}: {complained!r}"]
 

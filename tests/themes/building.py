@@ -5,6 +5,7 @@ import os
 import pathlib
 import pty
 import re
+import select
 import shutil
 import signal
 import subprocess
@@ -244,6 +245,8 @@ def sorted_in(names, runs):
 def lowest_first(tree):
     """The crates that the program stands on are proved before it, each after those that it stands on. Each of those with a
     long chain of others behind it has the processors that the others leave."""
+    if len(os.sched_getaffinity(0)) > 1:
+        want_two_checks()
     yield "output", (tree.program(), tree.begun(), 0), with_crates(tree).build()
     alone, beside = jobs_beside(0), jobs_beside(1)
     wanted = [f"low lib --jobs {alone} ", f"beside lib --jobs {beside} ", f"other lib --jobs {beside} ",
@@ -370,10 +373,12 @@ def two_builds(tree):
     first = with_crates(tree).start(tree.top / "tools" / "build")
     tree.wait_for("low")
     second = tree.start(tree.top / "tools" / "build")
-    time.sleep(0.5)
+    is_told = select.select([second.stderr], [], [], SECONDS / 2)[0]
+    waits = second.stderr.readline() if is_told else ""
     pathlib.Path(f"{tree.runs}.go").touch()
     yield "the first", (tree.program(), tree.begun(), 0), tree.ended(first)
-    yield "the second", (tree.program(), "waiting for another build to end\n", 0), tree.ended(second)
+    wrote, said, status = tree.ended(second)
+    yield "the second", (tree.program(), "waiting for another build to end\n", 0), (wrote, waits + said, status)
     yield "builds", 5, tree.built()
 
 

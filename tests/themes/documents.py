@@ -152,13 +152,21 @@ class Carried:
                     stated.setdefault(call, set()).update(re.findall(NAMED, contract))
         text = PROOFS.read_text()
         rows = re.findall(r"(?m)^\| .* \| (.*) \|$", part(text, "The headline") + part(text, "The promises"))
-        return [why for row in rows for claim in re.split(r"; |\. ", row) for why in self.why_claim_wrong(claim, stated)]
+        why = [why for row in rows for claim in re.split(r"; |\. ", row) for why in self.why_claim_wrong(claim, stated)]
+        return why if rows else ["there are no rows"]
 
     def why_claim_wrong(self, claim, stated):
         clauses, _, calls = claim.partition(" of ")
+        named = set(re.findall(r"`(\w+)`", clauses))
+        laws = re.findall(r"`(?:\w+::)?laws::(\w+)`", claim)
         for call in re.findall(r"`(?:\w+::)*(\w+)`", calls):
-            missing = set(re.findall(r"`(\w+)`", clauses)) - stated.get(call, set())
-            yield from (f"{call} has no clause {it}" for it in sorted(missing) if call in stated)
+            if call == "laws":
+                laws += sorted(named)
+            elif call in stated:
+                yield from (f"{call} has no clause {it}" for it in sorted(named - stated[call]))
+            elif call not in {*tables.crates(), "contents", "fields"}:
+                yield f"there is no call {call}"
+        yield from (f"there is no law {it}" for it in laws if it not in stated)
 
 
 class Judged:

@@ -104,6 +104,21 @@ class Installed:
             yield f"removed twice: {again!r}"
 
 
+class Completed:
+    name = "completion in a checkout asks the built program, and builds none"
+
+    def why_wrong(self, _program):
+        with tempfile.TemporaryDirectory() as folder:
+            top = pathlib.Path(folder)
+            for name, does in (("goose", "touch built"), ("tools/build", ""), ("crates/goose/out/goose", "printf 'Commands:\\n  show  frames\\n'")):
+                (top / name).parent.mkdir(parents=True, exist_ok=True)
+                (top / name).write_text(f"#!/bin/sh\n{does}\n")
+                (top / name).chmod(0o755)
+            completed = ran(["bash", "-c", COMPLETE, "bash", TOOLS / "completion.bash", "./goose", ""], cwd=top)
+            got = (set(completed.stdout.decode().split()), (top / "built").exists())
+        return [] if got == ({"show", "--help", "--version"}, False) else [f"{got}: {completed!r}"]
+
+
 class Kept:
     name = "a goose of somebody else is not written over"
 
@@ -117,6 +132,33 @@ class Kept:
             left = files(pathlib.Path(folder))
             is_well = made.returncode == 1 and left == ["bin/goose"] and other.read_text() == "another"
             return [] if is_well else [f"{made!r}, and there is {left}"]
+
+
+class Cut:
+    name = "an installation that is cut short, in a folder that is named from another one"
+
+    def why_wrong(self, program):
+        file = binary(program)
+        with tempfile.TemporaryDirectory() as folder:
+            return list(self.why_folder_wrong(file, pathlib.Path(folder)))
+
+    @staticmethod
+    def why_folder_wrong(file, folder):
+        (folder / "bin").mkdir()
+        (folder / "bin" / "python3").write_text("#!/bin/sh\nexit 9\n")
+        (folder / "bin" / "python3").chmod(0o755)
+        install, prefix = [TOOLS / "install", "--program", file, "here"], folder / "here"
+        cut = ran(install, cwd=folder, env={**os.environ, "PATH": f"{folder}/bin:{os.environ['PATH']}"})
+        if cut.returncode != 9 or not (prefix / "bin/goose").exists():
+            yield f"cut short: {cut!r}, and there is {files(folder)}"
+        again = ran(install, cwd=folder)
+        if again.returncode:
+            yield f"repeated: {again!r}"
+        ran([TOOLS / "install", "--remove", "here"], cwd=folder)
+        ran(install, cwd=folder, env={**os.environ, "PATH": f"{folder}/bin:{os.environ['PATH']}"})
+        removed = ran([TOOLS / "install", "--remove", "here"], cwd=folder)
+        if removed.returncode or files(prefix):
+            yield f"removal left {files(prefix)}: {removed!r}"
 
 
 class Packed:
@@ -142,6 +184,8 @@ class Packed:
     @staticmethod
     def packed(file, folder, mask, zone):
         made = ran([TOOLS / "package", "--program", file, folder], env={**os.environ, "TZ": zone}, preexec_fn=lambda: os.umask(mask))
+        if made.returncode or (b".deb\n" in made.stdout) != bool(shutil.which("dpkg-deb")):
+            return []
         return [pathlib.Path(it) for it in made.stdout.decode().splitlines()]
 
     @staticmethod
@@ -178,5 +222,7 @@ class Packed:
 
 def cases():
     yield Installed()
+    yield Completed()
     yield Kept()
+    yield Cut()
     yield Packed()

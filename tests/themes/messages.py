@@ -22,7 +22,9 @@ ERRORS = {
     "capture_core/src/capture_fault.rt": ("CaptureCause", "capture"), "subscribe_core/src/fault.rt": ("SubscribeFault", "blocks"),
     "block_core/src/block_text.rt": ("BlockError", "blocks"),
 }
-# No text ends with status 3 by this one, and status 4 has a text of its own.
+# What callers of the crates are told, where the program has words of its own.
+OWN = {"BlockForm": "a block is APPID,gocbRef,datSet,goID,confRev,entries, as 0001,IED1LD/LLN0$GO$gcb,IED1LD/LLN0$ds,,1,2"}
+# No text ends with status 3 by these: statuses 4 and 5 have texts of their own.
 UNTOLD = {"ReadFailed", "Memory"}
 
 
@@ -37,7 +39,7 @@ SAYS, ADVICE = tables()
 
 def said(name, sort):
     """The sentence of a name, in a list or a script where it has two."""
-    return SAYS.get(f"{name}, in a {sort}", SAYS.get(name))
+    return OWN.get(name) or SAYS.get(f"{name}, in a {sort}", SAYS.get(name))
 
 
 class Displayed:
@@ -66,8 +68,7 @@ class Tabled:
     def why_wrong(self, _program):
         stop, told = (SOURCES / "stop.rt").read_text(), (SOURCES / "advising.rt").read_text()
         sentences = re.findall(r'"(\w+)" => (?:Some\(|\{\s*Some\()\s*"(.*?)",?\s*\)', stop)
-        # Status 2 has words of its own.
-        wanted = {(name.split(",")[0], text.replace("NAME at offset OFFSET", "")) for name, text in SAYS.items() if name != "BlockForm"}
+        wanted = {(name.split(",")[0], text.replace("NAME at offset OFFSET", "")) for name, text in SAYS.items()}
         got = {(name, text) for name, text in sentences if name not in UNTOLD} | {("SameBlockTwice", SAYS["SameBlockTwice"])}
         advised = {text.replace("\\\\", "\\") for text in re.findall(r'(?s)const \w+: &str =\s*"(.*?)";', told)}
         return ([f"not alike: {sorted(wanted ^ got)}"] if wanted != got else []) + (
@@ -110,11 +111,11 @@ def lists():
     yield of_list("show", 1000001, "ListTooLong", b"\n" * 1000001, None, "a list that is too long")
     for size in (1000, 4095, 8192, 65536, 73727, 73728, 200000):
         before = b"#" * 62 + b"\n"
-        yield of_list("show", size // 63 + 1, "LineForm", before * (size // 63) + b"C\t0\n" + FRAME * 400, "has a tab in the line",
+        yield of_list("show", size // 63 + 1, "LineForm", before * (size // 63) + b"C\t0\n" + FRAME * 400, "has a tab, in a list",
                       f"a tab behind {size} octets")
-    yield of_list("show", 80001, "LineForm", b"\n" * 80000 + b"C\t0\n", "has a tab in the line", "a tab behind 80,000 empty lines")
+    yield of_list("show", 80001, "LineForm", b"\n" * 80000 + b"C\t0\n", "has a tab, in a list", "a tab behind 80,000 empty lines")
     parted = b"".join((before * 1000, b"C\t", b"0" * 4000, b"\n", FRAME * 400))
-    yield of_list("show", 1001, "LineForm", parted, "has a tab in the line", "a tab in a line that two reads give")
+    yield of_list("show", 1001, "LineForm", parted, "has a tab, in a list", "a tab in a line that two reads give")
 
 
 def shown_by_octets():
@@ -124,8 +125,8 @@ def shown_by_octets():
     yield of_list("show", 1, "LineForm", wide, "begins with a byte order mark of UTF-16", "UTF-16")
     yield of_list("show", 1, "LineForm", b"V2\rC 0\rC 1\r", "has a CR inside the line", "CR alone")
     yield of_list("show", 1, "LineTooLong", b"C 0\r" * 2000, "has a CR inside the line", "a long list with CR alone")
-    yield of_list("show", 2, "LineForm", b"V2\nC\t0\n", "has a tab in the line", "a tab")
-    yield of_list("show", 1, "Moment", b"C 0\t\n", "has a tab in the line", "a tab at the end")
+    yield of_list("show", 2, "LineForm", b"V2\nC\t0\n", "has a tab, in a list", "a tab")
+    yield of_list("show", 1, "Moment", b"C 0\t\n", "has a tab, in a list", "a tab at the end")
     yield of_list("show", 1, "LineForm", b"C 0 \r\n", "has a space at the end of the line", "a space at the end")
     yield of_list("show", 3, "LineForm", b"V2\nC 0\nV2\r\n", "has a line `V2` that is not the first", "a second version")
     apart = "has more than digits in the octets of a frame, as spaces, colons or hyphens between them"
@@ -133,8 +134,12 @@ def shown_by_octets():
     yield of_list("show", 1, "LineForm", b"F 0 01 0c\n", apart, "one space between octets")
     yield of_list("show", 1, "Hex", b"F 0 01:0c:cd\n", apart, "colons between octets")
     yield of_list("show", 1, "Hex", b"F 0 01-0c-cd\n", apart, "hyphens between octets")
+    yield of_list("show", 1, "Moment", b"F 2023-11-14T22:13:20Z 00\n", None, "a date as the time of a frame")
+    yield of_list("show", 1, "Moment", b"F -1 00\n", None, "a time below zero")
+    yield of_list("show", 1, "LineForm", b"F  0 00\n", FORM, "two spaces before a time")
     yield of_list("show", 1, "LineForm", SCRIPT, "is a script, and the command is not `publish`", "a script")
-    yield of_list("publish", 1, "ScriptForm", FRAME, "is a list, and the command is `publish`", "a list")
+    for line in (FRAME, b"C 0\n", b"M 0 on\n"):
+        yield of_list("publish", 1, "ScriptForm", line, "is a list, and the command is `publish`", f"a list that begins with {line[:3]!r}")
     pcapng = (TOP / "examples" / "two_frames.pcapng").read_bytes()
     yield Says("import of pcapng", ["import"], pcapng, "# 0 capture CaptureHeader",
                f"header: CaptureHeader: {SAYS['CaptureHeader']}", "begins as a pcapng capture")
@@ -153,6 +158,7 @@ def scripts():
     for what, number, name, stdin, advice in (
         ("an unrecognised line", 3, "ScriptForm", SCRIPT + b"X\n", OTHER),
         ("nothing at all", 1, "ScriptForm", b"", OTHER),
+        ("a tab before a number", 2, "ScriptForm", control + b"step,10,\t2000\n", OTHER),
         ("a state 0", 1, "FirstState", control.replace(b",1\n", b",0\n"), None),
         ("a step that waits for nothing", 2, "StepTimes", control + b"step,0,1\n", None),
         ("17 steps", 18, "StepCount", control + step * 17, None),

@@ -34,6 +34,40 @@ class OneBlock:
         return why + ([difference] if difference else [])
 
 
+class OneOfTwo:
+    """A list of two blocks: frames of the other one are shown, and nothing is missing between those of the two. A time that goes back
+    ends no lifetime earlier."""
+
+    name = "a picture of one block of two"
+
+    def why_wrong(self, program):
+        frames = [put(WORKED), put(WORKED, at15=2, at49=7), put(WORKED, at49=1), put(WORKED, at49=3)]
+        octets = text([f"F {at} {frame.hex()}" for at, frame in zip((5000, 5001, 5002, 0), frames)] + ["C 8000"])
+        with tempfile.NamedTemporaryFile() as recorded:
+            recorded.write(octets)
+            recorded.flush()
+            picture, why = drawn(program, "draw_recording", [recorded.name, "0001,G,D,,1,1"])
+        shown = picture.decode()
+        lost = re.findall(r">(state .*): lost<", shown)
+        ended = re.findall(r">([\d.]+)</text>\n<circle [^>]*/>\n<text [^>]*>the lifetime has ended<", shown)
+        return (why + ([] if lost == ["state 1, sq 2"] else [f"lost: {lost}"])
+                + ([] if ended == ["7.002"] else [f"the lifetime ended at {ended}: {shown}"]))
+
+
+class Undrawn:
+    """A list with an error, and one without an event, have no picture."""
+
+    def __init__(self, octets, why):
+        self.name, self.octets, self.said = f"no picture of {octets[-9:]}: {why}", octets, why
+
+    def why_wrong(self, program):
+        with tempfile.NamedTemporaryFile() as recorded:
+            recorded.write(self.octets)
+            recorded.flush()
+            picture, why = drawn(program, "draw_recording", [recorded.name, "0001,G,D,,1,1"])
+        return [] if not picture and why and f"draw_recording: {self.said}" in why[0] else [f"{picture!r}, {why}"]
+
+
 class TwoBlocks:
     """docs/two_bays.svg draws two blocks above each other."""
 
@@ -100,6 +134,10 @@ class Strange:
 
 def cases():
     yield OneBlock()
+    yield OneOfTwo()
+    yield Undrawn(f"F 0 {WORKED.hex()}\nx\n".encode(), "the list ends with an error: line 2: LineForm")
+    yield Undrawn(b"", "the list has no event")
+    yield Undrawn(b"V2\n# nothing\n", "the list has no event")
     yield TwoBlocks()
     yield Marked()
     yield Small()

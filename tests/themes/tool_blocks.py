@@ -1,5 +1,6 @@
 """tools/scl_blocks, compare_blocks and what_was_lost: configured blocks, those of a list, and what is
 missing."""
+import pathlib
 import random
 import re
 import resource
@@ -57,7 +58,26 @@ class Configured:
         resource.setrlimit(resource.RLIMIT_AS, (1 << 29, 1 << 29))
 
 
+class Apart:
+    """Files whose IEDs have one name, as templates do, say nothing of each other's blocks."""
+
+    name = "scl_blocks: two files"
+
+    def why_wrong(self, _program):
+        other = scl(address=ADDRESS.format("2b"), data_set=f'<DataSet name="d">{FCDA * 5}</DataSet>', control=CONTROL.replace("7", "9"))
+        with tempfile.TemporaryDirectory() as folder:
+            files = [pathlib.Path(folder) / name for name in ("one.icd", "other.icd", "bare.icd")]
+            for file, source in zip(files, (scl(), other, scl(address=""))):
+                file.write_text(source)
+            ran = subprocess.run([TOOLS / "scl_blocks", *files], stdin=subprocess.DEVNULL, stdout=subprocess.PIPE, stderr=subprocess.PIPE,
+                                 timeout=SECONDS)
+            got = (ran.stdout, ran.returncode, ran.stderr.startswith(f"scl_blocks: {files[2]}: line 2: IL/LLN0$GO$g: ".encode()))
+        wanted = (text([BLOCK, "002b,IL/LLN0$GO$g,IL/LLN0$d,ID,9,5"]), 1, True)
+        return [] if got == wanted else [f"wanted {wanted}, got {got}: {ran.stderr!r}"]
+
+
 def configured():
+    yield Apart()
     yield Configured("one block", scl(), [BLOCK])
     yield Configured("UTF-16", scl().replace('"1.0"', '"1.0" encoding="UTF-16"'), [BLOCK], encoding="utf-16")
     yield Configured("a logical device with a name of its own", scl(device='inst="L" ldName="MY"'), ["001a,MY/LLN0$GO$g,MY/LLN0$d,ID,7,2"])
@@ -91,6 +111,9 @@ def configured():
     yield Configured("an entity of another file", scl(within="&f;").replace("?>", f"?>{outside}"), status=3, stderr=[b"it has a document type"])
     yield Configured("a file that is cut", scl()[:-20], status=3, stderr=[b": "])
     yield Configured("no XML", "SCL", status=3, stderr=[b": "])
+    for encoding in ("GB2312", "no-such-encoding"):
+        yield Configured(f"a file in {encoding}", scl().replace('"1.0"', f'"1.0" encoding="{encoding}"'), status=3, stderr=[b": "])
+    yield Configured("a block without a name", scl(control=CONTROL.replace('name="g" ', "")), status=3, stderr=[b"an element lacks 'name'"])
     yield Configured("an IED without a name", scl().replace('<IED name="I"', "<IED"), status=3, stderr=[b"an element lacks 'name'"])
     yield Configured("elements in elements", HEAD + "<Private>" * 100000 + "</Private>" * 100000 + "</SCL>")
 
@@ -231,6 +254,10 @@ def lost():
     yield Lost("nothing", text([state(0, 1, 0), state(1000, 1, 1), state(1500, 2, 0)]), block, status=0, acts=2, states_lost=0, frames_lost=0,
                gap="1000/2000", restarts=0, delay="1500")
     yield Lost("states before an expiry and after it", text([state(0, 3, 0), state(5000, 7, 0)]), block, expired=1, states_lost=3, restarts=0)
+    yield Lost("a state after an expiry that comes late", text([state(0, 3, 0), state(5000, 6, 0), state(5100, 5, 0)]), block, expired=1, old=1,
+               states_lost=1)
+    late = [state(0, 3, 0), state(5000, 6, 0), state(5100, 5, 0), state(5200, 4, 0)]
+    yield Lost("all states after an expiry that come late", text(late), block, expired=1, old=2, states_lost=0, frames_lost=0)
     yield Lost("a restart", text([state(0, 3, 9), state(5000, 1, 1, 4)]), block, expired=1, states_lost=0, frames_lost=0, restarts=1)
     yield Lost("a link that was down", text([state(0, 3, 9), state(5000, 3, 14)]), block, expired=1, states_lost=0, frames_lost=0, restarts=0)
     yield Lost("delays", text([state(1, 1, 0), state(100, 2, 0), state(1002, 3, 0, 1), state(1100, 4, 1, 1)]), block, delay="100", frames_lost=1)

@@ -109,6 +109,16 @@ def cases():
                 text(["V2", "F 5 0102", "F 1005 0304", "F 2005 0506"]))
     heads = ["Frame (67 bytes):", *tshark(WORKED), "Reassembled PDU (3 bytes):", *tshark(b"abc"), "Frame (67 bytes):", *tshark(WORKED)]
     yield Asked("a dump that is no frame", "hex_to_list", stdin=text(heads), stdout=text(["V2", *[f"F 0 {WORKED.hex()}"] * 2]))
+    parted = ["Frame (67 bytes):", *tshark(WORKED), "Reassembled TCP (3 bytes):", *tshark(b"abc"), *tshark(WORKED) * 2]
+    yield Asked("frames after one of two parts", "hex_to_list", stdin=text(parted), stdout=text(["V2", *[f"F 0 {WORKED.hex()}"] * 3]))
+    for row, end in (("000000 {}", "000040"), ("00000000  {}", "00000040")):
+        yield Asked(f"rows that '*' stands for: {end}", "hex_to_list", stdin=text([row.format(" ".join(["00"] * 16)), "*", end]), stdout=b"V2\n",
+                    status=3, stderr=[b"line 2: a row stands for others like it"])
+    for row in ("\t0x0010:  0102 0304", "00000010: 0102 0304", "0010  01 02 03 04   ...."):
+        yield Asked(f"a dump without its first row: {row.strip()}", "hex_to_list", stdin=text([row]), stdout=b"V2\n", status=3,
+                    stderr=[b"line 1: offset 0010 comes after 0 octets"])
+    yield Asked("texts that look like offsets", "hex_to_list", stdin=text(["2026: a year", "2026: 12 events", "0102: 0304"]),
+                stdout=b"V2\nF 0 01020304\n", stderr=[b"2 lines of other text passed over"])
     yield Asked("a dump that lacks a row", "hex_to_list", stdin=text([*tshark(WORKED)[:2], *tshark(WORKED)[3:]]), stdout=b"V2\n", status=3,
                 stderr=[b"line 3: offset 0030 comes after 32 octets"])
     yield Asked("a frame that is too long", "hex_to_list", stdin=text(["00" * 2001, "00"]), status=1,

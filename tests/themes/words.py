@@ -19,7 +19,7 @@ UNITS = {
 # What help says of status 1, at each command that can end with it.
 FOUND = {
     "--help": b"1 something was found", "check": b"1 a line was written for some frame",
-    "rewrite": b"1 some frame was written with its own octets", "watch": b"1 some line says another word",
+    "rewrite": b"1 some frame could not be written anew", "watch": b"1 some line says another word",
     "import": b"1 a record was left out",
 }
 # What help says of a command's own words.

@@ -17,7 +17,7 @@ ghost use Rattle.list_core.specs.declared.list_fault.ListFault.{ListFault};
 
 use std::alloc::Allocator;
 
-/// What `write_event` writes reads back: wherever the line of an event stands in a list, it is
+/// What `write_event` writes reads back: wherever the line of an event stands behind a first line `V2`, it is
 /// listed as that event, with its line's number, before what follows.
 pub fn written_event_reads_back<A: Allocator>()
     ensures { (e : Event A) → IsListable e → HoldsOctets e.kind → (ending : InputEnd) (n : ℕ) (rest : List ℕ) → n < 1000000 →

@@ -1,6 +1,7 @@
 //! What to do about an input that ended a run, where its octets tell.
 
 use crate::stop::{Sort, Stop};
+use list_core::cut_first;
 
 /// What a person can look at of an input that ended a run.
 #[derive(Clone, Copy, Debug)]
@@ -28,16 +29,17 @@ const CARRIAGE_RETURNS: &str =
 const TABS: &str =
     "Fields are divided by one space, and here is a tab: tr '\\t' ' ' < FILE fixes that";
 
-const BLANKS: &str = "The line ends with a space: sed 's/ *$//' FILE leaves it out";
+const BLANKS: &str = "The line ends with a space: sed 's/ *\\r*$//' FILE leaves it out";
 
-const SECOND_VERSION: &str = "V2 can be the first line alone: when you join lists, leave it out";
+const SECOND_VERSION: &str =
+    "V2 must be the first line: join lists of one version alone, with V2 once";
 
 const APART: &str = "The octets of a frame are written in one piece, with nothing between them";
 
 const SCRIPT_AS_LIST: &str = "The input is a script: goose publish writes its frames as a list";
 
 const LIST_AS_SCRIPT: &str =
-    "The input is a list, and publish reads a script: 'control,..' comes first";
+    "The line is a list's, and publish reads a script: 'control,..' comes first";
 
 const LIST_FORMS: &str =
     "A line is 'F TIME OCTETS', 'C TIME', 'M TIME on', 'M TIME off', '# ..' or empty";
@@ -76,10 +78,25 @@ fn by_head(sort: Sort, head: &[u8]) -> Option<&'static str> {
     None
 }
 
-// Whether the line of a frame has something between its octets.
+// Whether the line of a frame has a time, and something between its octets.
 fn is_apart(line: &[u8]) -> bool {
-    let spaces = line.iter().filter(|octet| **octet == b' ').count();
-    line.starts_with(b"F ") && (spaces > 2 || line.contains(&b':') || line.contains(&b'-'))
+    let (mark, fields) = cut_first(line, b' ');
+    let (time, octets) = cut_first(fields.unwrap_or(b""), b' ');
+    let octets = octets.unwrap_or(b"");
+    let is_time = !time.is_empty() && time.iter().all(|octet| octet.is_ascii_digit());
+    mark == b"F".as_slice()
+        && is_time
+        && octets
+            .first()
+            .is_some_and(|octet| octet.is_ascii_hexdigit())
+        && octets
+            .iter()
+            .any(|octet| matches!(*octet, b' ' | b':' | b'-'))
+}
+
+// Whether a line begins as that of an event does.
+fn is_of_list(line: &[u8]) -> bool {
+    line.starts_with(b"F ") || line.starts_with(b"C ") || line.starts_with(b"M ")
 }
 
 // What the octets of a line without its CR tell.
@@ -90,7 +107,7 @@ fn by_line(stop: &Stop<'_>, line: &[u8]) -> Option<&'static str> {
     if stop.name == "LineTooLong" {
         return None;
     }
-    if line.contains(&b'\t') {
+    if stop.sort == Sort::List && line.contains(&b'\t') {
         return Some(TABS);
     }
     if line.ends_with(b" ") {
@@ -110,7 +127,7 @@ fn by_form(stop: &Stop<'_>, line: &[u8]) -> Option<&'static str> {
     match stop.name {
         "LineForm" if line.starts_with(b"control,") => Some(SCRIPT_AS_LIST),
         "LineForm" => Some(LIST_FORMS),
-        "ScriptForm" if line.starts_with(b"F ") => Some(LIST_AS_SCRIPT),
+        "ScriptForm" if is_of_list(line) => Some(LIST_AS_SCRIPT),
         "ScriptForm" => Some(SCRIPT_FORMS),
         _ => None,
     }

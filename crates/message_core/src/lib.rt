@@ -1,5 +1,5 @@
 //! What standard error says to a person: why an input ended a run, which field of a control block is wrong, and what to do.
-//! No program reads it, and no contract speaks of it: docs/FORMATS.md has each sentence, and the tests compare.
+//! No program reads it, and no contract speaks of it: docs/FORMATS.md has those of status 3, and the tests compare all.
 #![tactic(auto)]
 
 mod advising;

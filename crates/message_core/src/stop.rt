@@ -52,9 +52,7 @@ fn script_sentence(name: &str) -> Option<&'static str> {
         "ScriptForm" => Some("the line is none that a script has there"),
         "FirstState" => Some("the first stNum is 0"),
         "StepTimes" => Some("the step waits 0 ms, or does not live longer than it waits"),
-        "StepCount" => Some(
-            "there are 16 steps before this one, or none before the first change or poll",
-        ),
+        "StepCount" => Some("there are 16 steps before this one, or none at all"),
         "Hex" => Some("T is not 16 hexadecimal digits, or MEMBERS not an even count of them"),
         "Members" => Some("the members: "),
         "EntriesDiffer" => Some("the number of members differs from the control's entries"),

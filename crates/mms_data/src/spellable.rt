@@ -10,8 +10,8 @@ use crate::value::{Value, ValueList};
 use ber_core::contents::check_visible;
 use std::alloc::Allocator;
 
-/// Whether the value, standing at the level, has a spelling (ISO 9506-2): the level is at most 16, members have
-/// a spelling at the next level, the kinds that are kept raw have the counts of octets that the standard gives,
+/// Whether the value, standing at the level, has a spelling (ISO 9506-2): the level is at most 16 (profile), members
+/// have a spelling at the next level, a floating-point number has 1 to 16 octets (profile), a binary time 4 or 6,
 /// visible octets are 20 to 7E, the fraction of a UtcTime is below 2^24, and unused bits are at most 7, none
 /// where there are no octets, and zero.
 pub fn is_spellable<A: Allocator>(value: &Value<A>, level: u8) -> bool

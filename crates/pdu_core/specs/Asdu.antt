@@ -8,7 +8,7 @@ use Rattle.pdu_core.specs.declared.sampled.asdu.Asdu.{Asdu}
 
 -- the fields of an ASDU, in their order (IEC 61850-9-2, 8.5): svID, datSet (optional), smpCnt of two octets, confRev
 -- of four, refrTm (optional), smpSynch of one, smpRate of two (optional), sample, and smpMod and the field 89 (both
--- optional, of one to sixteen octets)
+-- optional, of one to sixteen octets: profile)
 abbrev pub asdu_fields : List (Field Kind Item)
 asdu_fields =
     record { identifier = 0x80; kind = text; presence = always }

@@ -61,7 +61,7 @@ goose_items p =
     ∷ []
 
 -- o is the element 61, and its contents are the fields in their order, with the values of the APDU, of which the count
--- of entries is that of its members
+-- of entries is that of its members (profile)
 abbrev pub SpellsGoose : {A : Type 0} → GoosePdu A → List ℕ → Type 0
 SpellsGoose p o = (c : List ℕ) × Elem 0x61 c o × SpellsFields contents_grammar goose_fields (goose_items p) c
 

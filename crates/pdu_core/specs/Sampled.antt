@@ -28,7 +28,7 @@ pub data SvItem : Type 0 where
   a_count : ℕ → SvItem
   some_asdus : List (List (Option Item)) → SvItem
 
--- the contents of a kind spell the value (profile: a count is 1 to 65535)
+-- the contents of a kind spell the value (a count is 1 to 65535)
 abbrev pub SpellsSvContents : SvKind → SvItem → List ℕ → Type 0
 SpellsSvContents asdu_count (a_count n) c = SpellsInteger (pos 1) (pos 65535) (pos n) c
 SpellsSvContents asdus (some_asdus vss) c = SpellsEach asdu_grammar 0x30 tt vss c
@@ -60,7 +60,7 @@ SpellsAsdus xs o = SpellsEach asdu_grammar 0x30 tt (items_of_each xs) o
 abbrev pub sv_items : {A : Type 0} → SvPdu A → List (Option SvItem)
 sv_items p = Some (a_count (length p.asdus)) ∷ Some (some_asdus (items_of_each p.asdus)) ∷ []
 
--- o is the element 60, and its contents are the count of the ASDUs, and the ASDUs
+-- o is the element 60, and its contents are the count of the ASDUs (profile), and the ASDUs
 abbrev pub SpellsSv : {A : Type 0} → SvPdu A → List ℕ → Type 0
 SpellsSv p o = (c : List ℕ) × Elem 0x60 c o × SpellsFields sv_grammar sv_fields (sv_items p) c
 

@@ -33,8 +33,8 @@ pub enum ScriptCause {
     /// The step waits for nothing, or lives no longer than it waits.
     #[error("the step waits 0 ms, or does not live longer than it waits")]
     StepTimes,
-    /// There are 16 steps before this one, or none before the first change or poll.
-    #[error("there are 16 steps before this one, or none before the first change or poll")]
+    /// There are 16 steps before this one, or none before the first change or poll or the end.
+    #[error("there are 16 steps before this one, or none at all")]
     StepCount,
     /// The moment has no such digits.
     #[error("the time is not 1 to 15 decimal digits (1 to 18 after a first line V2)")]

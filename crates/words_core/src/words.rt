@@ -81,7 +81,7 @@ const CHECK_MORE: &str =
 
 // What the help of `rewrite` ends with.
 const REWRITE_MORE: &str =
-    "Times in the input are microseconds where its first line is V2, else milliseconds; in the output they are always microseconds.\nExit status: 0 done, 1 some frame was written with its own octets, 2 wrong arguments, 3 an error in the input, 4 reading or writing failed, 5 out of memory.\nMore: man goose";
+    "Times in the input are microseconds where its first line is V2, else milliseconds; in the output they are always microseconds.\nExit status: 0 done, 1 some frame could not be written anew, 2 wrong arguments, 3 an error in the input, 4 reading or writing failed, 5 out of memory.\nMore: man goose";
 
 // What the help of `replay` ends with.
 const REPLAY_MORE: &str =

@@ -11,7 +11,7 @@ pub struct Asdu<A: Allocator> {
     pub sv_id: Octets<A>,
     /// datSet, the name of the data set, which may be absent.
     pub dat_set: Option<Octets<A>>,
-    /// smpCnt, the sample's place in its period.
+    /// smpCnt, which counts samples and in most streams begins at 0 again each second.
     pub smp_cnt: u16,
     /// confRev, which counts changes of the control block's configuration.
     pub conf_rev: u32,
@@ -19,7 +19,7 @@ pub struct Asdu<A: Allocator> {
     pub refr_tm: Option<UtcTime>,
     /// smpSynch: how the samples are synchronised.
     pub smp_synch: u8,
-    /// smpRate, the samples of a period or a second, which may be absent.
+    /// smpRate, in the unit that smpMod names, which may be absent.
     pub smp_rate: Option<u16>,
     /// sample, the data set's values, kept as the octets that they are.
     pub sample: Octets<A>,

@@ -14,7 +14,7 @@ pub struct AsduView<'a> {
     pub sv_id: &'a [u8],
     /// datSet, the name of the data set, which may be absent.
     pub dat_set: Option<&'a [u8]>,
-    /// smpCnt, the sample's place in its period.
+    /// smpCnt, which counts samples and in most streams begins at 0 again each second.
     pub smp_cnt: u16,
     /// confRev, which counts changes of the control block's configuration.
     pub conf_rev: u32,
@@ -22,7 +22,7 @@ pub struct AsduView<'a> {
     pub refr_tm: Option<UtcTime>,
     /// smpSynch: how the samples are synchronised.
     pub smp_synch: u8,
-    /// smpRate, the samples of a period or a second, which may be absent.
+    /// smpRate, in the unit that smpMod names, which may be absent.
     pub smp_rate: Option<u16>,
     /// sample, the data set's values, as the octets that they are.
     pub sample: &'a [u8],
