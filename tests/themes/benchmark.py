@@ -1,7 +1,9 @@
 """The benchmark runs, and tells a program that writes the same from one that does not."""
+import pathlib
 import re
 import shlex
 import subprocess
+import tempfile
 
 from helpers.asked_tools import TOP
 from helpers.harness import SECONDS
@@ -40,7 +42,40 @@ class Growth:
         return why + ([] if rows == ["lines", "members", "control", "octets"] else [f"other rows: {ran.stdout}"])
 
 
+class ByTurns:
+    """Two checkouts have a row for each workload, and are told apart where they print different text or fail."""
+
+    name = "two checkouts by turns"
+
+    def why_wrong(self, _program):
+        with tempfile.TemporaryDirectory() as folder:
+            old, new, other, failing = (self.checkout(pathlib.Path(folder, name), script) for name, script in (
+                ("old", 'echo "$@" $(basename $PWD)'), ("new", "sleep 0.01; echo $1 $2 bench"), ("other", "echo $1 2 bench"), ("failing", "exit 1")))
+            ran = self.run(old, new, "3")
+            rows = re.findall(r"(?m)^\| (\w+) \| \d+\.\d{3} \| \d+\.\d{3} \| \d+\.\d\d \|$", ran.stdout)
+            why = [] if ran.returncode == 0 and rows == ["one", "two"] else [f"status {ran.returncode}: {ran.stdout}{ran.stderr}"]
+            for wrong, at in ((other, "two: "), (failing, "one: ")):
+                ran = self.run(old, wrong, "3")
+                why += [] if ran.returncode == 1 and ran.stderr.startswith(at) else [f"{wrong.name}: {ran.stderr}"]
+            ran = self.run(old, new, "three")
+            return why + ([] if ran.returncode == 2 else [f"status {ran.returncode} of a seed that is no number"])
+
+    def checkout(self, folder, script):
+        """A checkout whose workloads run this script."""
+        (folder / "bench").mkdir(parents=True)
+        (folder / "bench" / "workloads.txt").write_text("one job a 2\ntwo job b SEED\n")
+        program = folder / "crates" / "job" / "out" / "job"
+        program.parent.mkdir(parents=True)
+        program.write_text(f"#!/usr/bin/env bash\n{script}\n")
+        program.chmod(0o755)
+        return folder
+
+    def run(self, *words):
+        return subprocess.run([TOP / "bench" / "run", *words], stdin=subprocess.DEVNULL, capture_output=True, timeout=SECONDS, text=True)
+
+
 def cases():
+    yield ByTurns()
     yield Growth()
     yield Beside("the program beside itself", None, "yes")
     yield Beside("the program beside one that writes another text", "echo", "no")
