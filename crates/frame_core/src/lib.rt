@@ -22,8 +22,8 @@ pub use crate::view_encoding::{encode_view, written_length};
 pub use crate::viewing::{see_frame, view_frame};
 pub use crate::vlan_tag::VlanTag;
 pub use list_core::{
-    DeviceFault, Event, EventKind, EventLines, FromRead, InputEnd, ItemError, ItemFault,
-    ItemReader, LineError, LineReader, LineRules, ListCause, ListError, ListFault, ListReader,
-    MomentUnit, Sink, Source, ToWrite, WriteFault, cut_first, decimal_in, fault_of_list,
-    hexadecimal_digit, moment_in, put_all, write_digits, write_event, write_frame,
+    DeviceFault, Event, EventKind, EventLines, FrameLines, FromRead, InputEnd, ItemError,
+    ItemFault, ItemReader, LineError, LineReader, LineRules, ListCause, ListError, ListFault,
+    ListReader, MomentUnit, Sink, Source, ToWrite, WriteFault, cut_first, decimal_in,
+    fault_of_list, hexadecimal_digit, moment_in, put_all, write_digits, write_event, write_frame,
 };

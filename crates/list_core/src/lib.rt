@@ -41,6 +41,6 @@ pub use crate::line_rules::{ItemFault, LineError, LineRules};
 pub use crate::list_fault::{ListCause, ListFault};
 pub use crate::list_line::moment_in;
 pub use crate::list_reader::{ListError, ListReader, fault_of_list};
-pub use crate::list_writer::{write_event, write_frame};
+pub use crate::list_writer::{FrameLines, write_event, write_frame};
 pub use crate::std_io::{FromRead, ToWrite};
 pub use crate::whole_write::{WriteFault, put_all};

@@ -152,16 +152,57 @@ pub fn write_frame<W: Sink>(writer: &mut W, moment: u64, frame: &[u8]) -> Result
     ensures unchanged { result ≡ Err WriteFault.NotListable → writer.new ≡ writer.old }
     ensures fault { W.failed writer.new ≡ write_failed result }
 {
-    if moment > LAST_MOMENT {
-        return Err(WriteFault::NotListable);
+    FrameLines::new().write_frame(writer, moment, frame)
+}
+
+/// Where the lines of frames are put together, one after the other.
+#[derive(Drop)]
+pub struct FrameLines {
+    line: ArrayVec<u8, LONGEST>,
+}
+
+impl FrameLines {
+    ghost use Rattle.std.specs.Prelude.{◌≡◌, ◌*◌, ◌^◌, ◌<◌, ◌≤◌, false, length, ◌++◌, ◌∷◌, [], codes};
+    ghost use Rattle.std.specs.Fmt.{decimal};
+    ghost use Rattle.hex.specs.Hex.{encode_lower};
+    ghost use Rattle.list_core.specs.WriteAnswer.{WritesListable, write_failed};
+
+    /// Room for a line, made once: clearing it for each line would take longer than what is written.
+    pub fn new() -> FrameLines {
+        FrameLines {
+            line: ArrayVec::new(),
+        }
     }
-    if frame.is_empty() {
-        return Err(WriteFault::NotListable);
+
+    /// Writes a frame as its one line, as the function `write_frame` does.
+    ///
+    /// # Errors
+    ///
+    /// `NotListable` exactly where the moment is over 999,999,999,999,999,999 microseconds or the frame has 0 octets or over
+    /// 2,000; nothing was written then. `WriteFailed` after a prefix of the line was written.
+    pub fn write_frame<W: Sink>(
+        &mut self,
+        writer: &mut W,
+        moment: u64,
+        frame: &[u8],
+    ) -> Result<(), WriteFault>
+        requires { W.failed writer.old ≡ false }
+        ensures written { WritesListable ((moment < 10 ^ 18) × ((0 < length frame.now) × (length frame.now ≤ 2000)))
+            (codes "F " ++ decimal moment ++ codes " " ++ encode_lower frame.now ++ 10 ∷ []) result (W.contents writer.old) (W.contents writer.new) }
+        ensures unchanged { result ≡ Err WriteFault.NotListable → writer.new ≡ writer.old }
+        ensures fault { W.failed writer.new ≡ write_failed result }
+    {
+        if moment > LAST_MOMENT {
+            return Err(WriteFault::NotListable);
+        }
+        if frame.is_empty() {
+            return Err(WriteFault::NotListable);
+        }
+        if frame.len() > LONGEST_FRAME {
+            return Err(WriteFault::NotListable);
+        }
+        self.line.clear();
+        list_frame(&mut self.line, moment, frame);
+        put_all(writer, self.line.as_slice())
     }
-    if frame.len() > LONGEST_FRAME {
-        return Err(WriteFault::NotListable);
-    }
-    let mut line = ArrayVec::new();
-    list_frame(&mut line, moment, frame);
-    put_all(writer, line.as_slice())
 }

@@ -16,7 +16,7 @@ use capture_core::{
     CaptureCause, CaptureFault, CaptureForm, Captured, LONGEST_FRAME, read_header, read_record,
 };
 use engine_core::{Ending, Next, ending_where};
-use frame_core::{Sink, Source, put_all, write_frame};
+use frame_core::{FrameLines, Sink, Source, put_all};
 use itoa::Buffer;
 use std::alloc::Allocator;
 
@@ -89,6 +89,7 @@ fn answer_record<R: Source, W: Sink>(
     form: CaptureForm,
     before: u64,
     frame: &mut [u8; LONGEST_FRAME],
+    lines: &mut FrameLines,
     writer: &mut W,
 ) -> Next
     requires few { before ≤ 999999 }
@@ -102,7 +103,7 @@ fn answer_record<R: Source, W: Sink>(
     match read_record(reader, form, before, frame) {
         Ok(None) => Next::Ended,
         Ok(Some(Captured::Frame { moment, size })) => {
-            match write_frame(writer, moment, &frame[..size]) {
+            match lines.write_frame(writer, moment, &frame[..size]) {
                 Ok(()) => Next::Wrote(false),
                 Err(_) => Next::Stop(Ending::WriteFault),
             }
@@ -134,10 +135,11 @@ fn import_all<R: Source, W: Sink>(reader: &mut R, writer: &mut W) -> Ending
         Err(fault) => return answer_fault(fault, writer),
     };
     let mut frame = [0u8; LONGEST_FRAME];
+    let mut lines = FrameLines::new();
     let mut count = 0;
     let mut found = false;
     'records: loop {
-        match answer_record(reader, form, count, &mut frame, writer) {
+        match answer_record(reader, form, count, &mut frame, &mut lines, writer) {
             Next::Wrote(is_left_out) => {
                 found |= is_left_out;
                 count += 1;
