@@ -21,6 +21,7 @@ pub mod SpelledSpellable
 pub mod Least
 pub mod ShortIntegers
 pub mod AsWritten
+pub mod PlainMembers
 pub mod Sizes
 pub mod Appends
 pub mod NoMemory

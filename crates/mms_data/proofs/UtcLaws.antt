@@ -26,7 +26,7 @@ last_of (a ∷ b ∷ c ∷ d ∷ e ∷ f ∷ g ∷ []) size = absurd (omega (ari
 last_of (a ∷ b ∷ c ∷ d ∷ e ∷ f ∷ g ∷ h ∷ i ∷ more) size = absurd (omega (arith, size))
 
 -- eight octets spell the time that is computed from them
-eight_spell : (c : List ℕ) → length c ≡ 8 → SpellsUtc (utc_of c) c
+pub eight_spell : (c : List ℕ) → length c ≡ 8 → SpellsUtc (utc_of c) c
 eight_spell c size =
     let four : length (take 4 c) ≡ 4 = omega (arith, length-take 4 c) in
     let three : length (take 3 (drop 4 c)) ≡ 3 = omega (arith, length-take 3 (drop 4 c), length-drop 4 c) in

@@ -9,3 +9,4 @@ pub mod Reading
 pub mod Left
 pub mod UtcReading
 pub mod SpellableTest
+pub mod Plain

@@ -1,15 +1,16 @@
 // Whether octets spell members, with no memory.
 
-ghost use Rattle.std.specs.Prelude.{◌≡◌, ◌<◌, ◌≤◌, ◌+◌, ◌-◌, ◌∷◌, ◌⊎◌, [], List, length, slice_range, true, Ok, Err, IfOk, IfErr, IfSome};
+ghost use Rattle.std.specs.Prelude.{◌≡◌, ◌<◌, ◌≤◌, ◌+◌, ◌++◌, ◌-◌, ◌∷◌, ◌⊎◌, [], ℕ, List, length, slice_range, true, Ok, Err, IfOk, IfErr, IfSome};
 ghost use Rattle.ber_core.specs.declared.fault.Fault.{Fault};
 ghost use Rattle.mms_data.specs.Data.{Data};
 ghost use Rattle.mms_data.specs.computed.Left.{less};
+ghost use Rattle.mms_data.specs.computed.Plain.{AnnouncesPlain, IsPlainMember};
 ghost use Rattle.mms_data.specs.computed.Reading.{contents_at, member_at, members_at};
 ghost use Rattle.mms_data.specs.Spelling.{SpellsAll, FaultIn};
 ghost use Rattle.mms_data.specs.Written.{written, written_all, written_contents};
 
 use crate::contents::simple;
-use crate::kinds::{Kind, member_kind};
+use crate::kinds::{Kind, announced, member_kind};
 use crate::standing::{has_short_length, is_simple_written};
 use ber_core::{Cause, Fault, Header, header};
 
@@ -123,6 +124,59 @@ fn is_written_truth(octet: u8) -> bool
     matches!(octet, 0 | 0xff)
 }
 
+// The least and the greatest count of octets, and the greatest first octet, of contents that these alone tell to be good;
+// no count lies between the two where more has to be looked at.
+#[inline(always)]
+fn plain_bounds(identifier: u8) -> (u8, u8, u8)
+    ensures { (n first : ℕ) → result.0 ≤ n → n ≤ result.1 → first ≤ result.2 → AnnouncesPlain identifier n first }
+{
+    match identifier {
+        0x83 => (1, 1, 0xff),
+        0x84 => (2, 0x7f, 7),
+        0x85 => (1, 8, 0xff),
+        0x86 => (1, 8, 0x7f),
+        0x87 => (1, 16, 0xff),
+        0x89 => (1, 0x7f, 0xff),
+        0x90 => (1, 0x7f, 0xff),
+        0x91 => (8, 8, 0xff),
+        _ => (1, 0, 0),
+    }
+}
+
+// The place after the simple value at `at`, where its first three octets tell that it is good.
+#[inline(always)]
+fn plain_end(octets: &[u8], at: usize, end: usize) -> Option<usize>
+    requires order { at ≤ end }
+    requires inside { end ≤ length octets.now }
+    ensures next { IfSome result (λ next. (at + 3 ≤ next) × (next ≤ end)) }
+    ensures plain { IfSome result (λ next. IsPlainMember (slice_range octets.now at next)) }
+{
+    match &octets[at..end] {
+        [identifier, size, first, ..] => {
+            let (least, most, greatest) = plain_bounds(*identifier);
+            let next = at + 2 + *size as usize;
+            if least <= *size && *size <= most && *first <= greatest && next <= end {
+                Some(next)
+            } else {
+                None
+            }
+        }
+        _ => None,
+    }
+}
+
+// Whether a simple value, whose length has one octet, is known to stand in its written form.
+#[inline(always)]
+fn is_plain_written(member: &[u8]) -> bool
+    requires plain { IsPlainMember member.now }
+    ensures written { result ≡ true → (depth p : ℕ) (rest : List ℕ) (d : Data) (next : ℕ) → member_at depth p (member.now ++ rest) ≡ Ok (d, next) → member.now ≡ written d }
+{
+    match announced(member[0]) {
+        Some(Kind::Simple(kind)) => is_simple_written(kind, &member[2..]),
+        _ => false,
+    }
+}
+
 // The place after the member at `at`, and whether that is known to stand in its written form.
 #[inline(always)]
 #[cycle(checking)]
@@ -145,6 +199,10 @@ fn pass_member<const NOTES: bool>(
     // Booleans, which are met most, are read at once.
     if let Some(octet) = short_boolean(octets, at, end) {
         return Ok((at + 3, NOTES & is_written_truth(octet)));
+    }
+    // Of most others little has to be looked at.
+    if let Some(next) = plain_end(octets, at, end) {
+        return Ok((next, NOTES & is_plain_written(&octets[at..next])));
     }
     // The header is read first, so that the contents are judged where the kind is told; but a fault of the kind comes
     // before one of the header.

@@ -32,7 +32,7 @@ pub enum Kind {
 // The kind that the identifier announces.
 #[inline(always)]
 #[tactic(auto, unfolding(crate::specs::computed::KindReading::kind_at))]
-fn announced(identifier: u8) -> Option<Kind>
+pub(crate) fn announced(identifier: u8) -> Option<Kind>
     ensures { result ≡ kind_at identifier }
 {
     match identifier {

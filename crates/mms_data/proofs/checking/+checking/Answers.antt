@@ -1,12 +1,15 @@
 use Rattle.std.proofs.Common.{sym, ap, ◌∙◌, rules, arith}
+use Rattle.std.specs.Prelude.{slice_range}
 use Rattle.std.proofs.lemmas.Bool.{and_parts}
 use Rattle.std.proofs.lemmas.Result.{err_from_is_err_and}
 use Rattle.ber_core.specs.Element.{contents_of}
 use Rattle.ber_core.specs.Length.{AreOctets}
-use Rattle.mms_data.specs.computed.Reading.{contents_at, members_at}
+use Rattle.ber_core.proofs.Regions.{region-split}
+use Rattle.mms_data.specs.computed.Reading.{contents_at, member_at, members_at}
 use Rattle.mms_data.proofs.AsWritten.{nested_are, simple_are}
 use Rattle.mms_data.proofs.Loop.{member_there}
 use Rattle.mms_data.proofs.Booleans.{boolean_passed, boolean_stands}
+use Rattle.mms_data.proofs.PlainMembers.{plain_passed}
 use Rattle.mms_data.proofs.Checked.{counts_none, counts_on, counts_wrong, counts_all, stand_all, member_stands, member_wrong, member_good}
 use Rattle.mms_data.proofs.checking.+checking.Goals as goal
 
@@ -67,3 +70,13 @@ pass_member-returns-in-Some-clause-exact g t c =
 pub pass_member-returns-in-Some-clause-written : goal.pass_member-returns-in-Some-clause-written
 pass_member-returns-in-Some-clause-written g t c = λ both.
     boolean_stands c.args.depth c.args.at c.args.octets.now c.args.end c.in-Some.octet (omega arith) c.in-Some.ensures.next c.in-Some.ensures.there (c.is_written_truth.ensures (and_parts _ _ both).1)
+
+pub pass_member-returns-in-Some-plain_end-clause-exact : goal.pass_member-returns-in-Some-plain_end-clause-exact
+pass_member-returns-in-Some-plain_end-clause-exact g t c =
+    let small : AreOctets c.args.octets.now = λ i. search rules in
+    plain_passed c.args.depth c.args.at c.in-Some-plain_end.next c.args.end c.args.octets.now (omega arith) small (omega (arith, c.in-Some-plain_end.ensures.next.0)) c.in-Some-plain_end.ensures.next.1 c.requires.inside c.in-Some-plain_end.ensures.plain
+
+pub pass_member-returns-in-Some-plain_end-clause-written : goal.pass_member-returns-in-Some-plain_end-clause-written
+pass_member-returns-in-Some-plain_end-clause-written g t c = λ both d read.
+    c.is_plain_written.ensures.written (and_parts _ _ both).1 c.args.depth c.args.at (slice_range c.args.octets.now c.in-Some-plain_end.next c.args.end) d c.in-Some-plain_end.next
+    (sym (ap (member_at c.args.depth c.args.at) (region-split c.args.octets.now c.args.at c.in-Some-plain_end.next c.args.end (omega (arith, c.in-Some-plain_end.ensures.next.0)) c.in-Some-plain_end.ensures.next.1)) ∙ read)
