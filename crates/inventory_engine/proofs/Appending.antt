@@ -14,11 +14,15 @@ use Rattle.pdu_core.specs.SampledViews.{asdu_of}
 use Rattle.pdu_core.specs.declared.sampled.asdu.Asdu.{Asdu}
 use Rattle.pdu_core.specs.declared.sampled.view.AsduView.{AsduView}
 use Rattle.text_core.proofs.NonEmpty.{ends}
+use Rattle.inventory_engine.specs.declared.inventory.Inventory.{Inventory}
+use Rattle.inventory_engine.specs.declared.inventory.Place.{Place}
 use Rattle.inventory_engine.specs.declared.known.Known.{Known}
 use Rattle.inventory_engine.specs.Sightings.{Sighting, key_of, sightings_in, sightings_of, stream_sighting, stream_sightings}
 use Rattle.inventory_engine.specs.BlocksText.{changed_word, first_word, line_after, sighting_line}
 use Rattle.inventory_engine.specs.computed.BlocksStep.{Keeps, AppendsLines, HasLines, blocks_text, lines_by, newest, written_of}
-use Rattle.inventory_engine.specs.computed.KnownTexts.{InOrder, IsAt, IsGap, known_key, known_text, same_key}
+use Rattle.inventory_engine.specs.computed.KnownTexts.{InOrder, IsAt, IsGap, known_key, known_text, same_key, text_by}
+use Rattle.inventory_engine.specs.computed.Runs.{NoneEmpty, PutsOne, WritesText, held, in_runs, position_of}
+use Rattle.std.specs.declared.vec.Vec.{Vec}
 use Rattle.inventory_engine.proofs.KnownLemmas.{Updates, absent, none_at_gap, none_before, order_insert, order_set, present, updates_insert, updates_same, updates_set}
 use Rattle.inventory_engine.proofs.Newest.{newest-push}
 
@@ -36,11 +40,11 @@ written_of-append : (n : ℕ) (e xs ys : List Sighting) → written_of n e (xs +
 written_of-append n e xs ys = ap concat (lines-append n e xs ys) ∙ concat-append (lines_by n e xs) (lines_by n (e ++ xs) ys)
 
 -- nothing was seen
-pub appends_none : {A : Type 0} (n : ℕ) (known : List (Known A)) (text : List ℕ) → AppendsLines n [] known known text text
+pub appends_none : {A : Type 0} (n : ℕ) (known : Inventory A) (text : List ℕ) → AppendsLines n [] known known text text
 appends_none n known text = λ e k. (sym (append-nil text), subst (λ (l : List Sighting). Keeps known l) (sym (append-nil e)) k)
 
 -- sightings, and others behind them
-pub appends_then : {A : Type 0} (n : ℕ) (xs ys : List Sighting) (a b c : List (Known A)) (o m t : List ℕ) → AppendsLines n xs a b o m → AppendsLines n ys b c m t → AppendsLines n (xs ++ ys) a c o t
+pub appends_then : {A : Type 0} (n : ℕ) (xs ys : List Sighting) (a b c : Inventory A) (o m t : List ℕ) → AppendsLines n xs a b o m → AppendsLines n ys b c m t → AppendsLines n (xs ++ ys) a c o t
 appends_then n xs ys a b c o m t f g = λ e k.
     let p = f e k in
     let q = g (e ++ xs) p.1 in (
@@ -49,7 +53,7 @@ appends_then n xs ys a b c o m t f g = λ e k.
     )
 
 -- something is to be written of some, behind others and before further ones
-pub wanted_then : {A : Type 0} (n : ℕ) (xs ys zs : List Sighting) (a b : List (Known A)) (o m : List ℕ) → AppendsLines n xs a b o m → HasLines n ys b → HasLines n (xs ++ (ys ++ zs)) a
+pub wanted_then : {A : Type 0} (n : ℕ) (xs ys zs : List Sighting) (a b : Inventory A) (o m : List ℕ) → AppendsLines n xs a b o m → HasLines n ys b → HasLines n (xs ++ (ys ++ zs)) a
 wanted_then n xs ys zs a b o m f g = λ e k none.
     let rest = written_of n (e ++ xs) (ys ++ zs) in
     let behind : rest ≡ [] = back_nil (written_of n e xs) rest (sym (written_of-append n e xs (ys ++ zs)) ∙ none) in
@@ -60,31 +64,36 @@ pub on_error : {T E : Type 0} (r : Result T E) (P : Type 0) → P → OnErr r P
 on_error (Ok t) P p = tt
 on_error (Err e) P p = p
 
+-- what follows from what holds of a success holds of it
+pub on_success : {T E : Type 0} (r : Result T E) (P Q : Type 0) → (P → Q) → OnOk r P → OnOk r Q
+on_success (Ok t) P Q f p = f p
+on_success (Err e) P Q f p = p
+
 -- the same of sightings that are these by an equation
-pub appends_as : {A T E : Type 0} (r : Result T E) (n : ℕ) (xs ys : List Sighting) (a b : List (Known A)) (o m : List ℕ) → xs ≡ ys → OnOk r (AppendsLines n xs a b o m) → OnOk r (AppendsLines n ys a b o m)
+pub appends_as : {A T E : Type 0} (r : Result T E) (n : ℕ) (xs ys : List Sighting) (a b : Inventory A) (o m : List ℕ) → xs ≡ ys → OnOk r (AppendsLines n xs a b o m) → OnOk r (AppendsLines n ys a b o m)
 appends_as r n xs ys a b o m e h = subst (λ (l : List Sighting). OnOk r (AppendsLines n l a b o m)) e h
 
-pub wanted_as : {A T E : Type 0} (r : Result T E) (n : ℕ) (xs ys : List Sighting) (a : List (Known A)) → xs ≡ ys → OnErr r (HasLines n xs a) → OnErr r (HasLines n ys a)
+pub wanted_as : {A T E : Type 0} (r : Result T E) (n : ℕ) (xs ys : List Sighting) (a : Inventory A) → xs ≡ ys → OnErr r (HasLines n xs a) → OnErr r (HasLines n ys a)
 wanted_as r n xs ys a e h = subst (λ (l : List Sighting). OnErr r (HasLines n l a)) e h
 
 -- the text that is held at a place was compared with another
-pub compared : {A : Type 0} (known : List (Known A)) (at : ℕ) (d : Known A) (t held : List ℕ) (a b : Bool) → d ≡ get_or known at d → held ≡ known_text d → a ≡ bytes_eq held t → a ≡ b → bytes_eq (known_text (get_or known at d)) t ≡ b
-compared known at d t held a b place same asked told =
-    ap (λ (k : Known _). bytes_eq (known_text k) t) (sym place) ∙ ap (λ (o : List ℕ). bytes_eq o t) (sym same) ∙ sym asked ∙ told
+pub compared : {A : Type 0} (known : Inventory A) (at : ℕ) (d : Known A) (text t : List ℕ) (a b : Bool) → text ≡ known_text (get_or (held known) at d) → a ≡ bytes_eq text t → a ≡ b → bytes_eq (known_text (get_or (held known) at d)) t ≡ b
+compared known at d text t a b is asked told = ap (λ (o : List ℕ). bytes_eq o t) (sym is) ∙ sym asked ∙ told
 
-module _ {A : Type 0} (n : ℕ) (s : Sighting) (known : List (Known A)) where
+module _ {A : Type 0} (n : ℕ) (s : Sighting) (known : Inventory A) where
   written_of_one : (e : List Sighting) → written_of n e (s ∷ []) ≡ line_after n s (newest e (key_of s))
   written_of_one e = append-nil (line_after n s (newest e (key_of s)))
 
-  newest_at : (e : List Sighting) (at : ℕ) (d : Known A) → Keeps known e → IsAt known (key_of s) at → newest e (key_of s) ≡ Some (known_text (get_or known at d))
+  newest_at : (e : List Sighting) (at : ℕ) (d : Known A) → Keeps known e → IsAt (held known) (key_of s) at → newest e (key_of s) ≡ Some (known_text (get_or (held known) at d))
   newest_at e at d k is =
-      sym (k.same (key_of s)) ∙ present known_key known_text known (key_of s) at d is.within (is.has d) (none_before known k.order (key_of s) at is d)
+      sym (k.same (key_of s)) ∙ present known_key known_text (held known) (key_of s) at d is.within (is.has d) (none_before (held known) k.order (key_of s) at is d)
 
-  newest_gap : (e : List Sighting) (at : ℕ) → Keeps known e → IsGap known (key_of s) at → newest e (key_of s) ≡ None
-  newest_gap e at k gap = sym (k.same (key_of s)) ∙ absent known_key known_text known (key_of s) (none_at_gap known k.order (key_of s) at gap)
+  newest_gap : (e : List Sighting) (at : ℕ) → Keeps known e → IsGap (held known) (key_of s) at → newest e (key_of s) ≡ None
+  newest_gap e at k gap = sym (k.same (key_of s)) ∙ absent known_key known_text (held known) (key_of s) (none_at_gap (held known) k.order (key_of s) at gap)
 
-  keeps_on : (e : List Sighting) (after : List (Known A)) → Keeps known e → InOrder after → Updates known_key known_text known after (key_of s) s.text → Keeps after (e ++ s ∷ [])
-  keeps_on e after k order up = record {
+  keeps_on : (e : List Sighting) (after : Inventory A) → Keeps known e → NoneEmpty after.runs.items → InOrder (held after) → Updates known_key known_text (held known) (held after) (key_of s) s.text → Keeps after (e ++ s ∷ [])
+  keeps_on e after k some order up = record {
+    none_empty = some;
     order = order;
     same = λ q. up q ∙ ap (λ (o : Option (List ℕ)). if same_key (key_of s) q then Some s.text else o) (k.same q) ∙ sym (newest-push e s q);
   }
@@ -93,58 +102,65 @@ module _ {A : Type 0} (n : ℕ) (s : Sighting) (known : List (Known A)) where
   line_same : (t : List ℕ) → bytes_eq t s.text ≡ true → line_after n s (Some t) ≡ []
   line_same t it_is = rw it_is refl
 
-  pub said_same : (at : ℕ) (d : Known A) (old : List ℕ) → IsAt known (key_of s) at → bytes_eq (known_text (get_or known at d)) s.text ≡ true
+  pub said_same : (at : ℕ) (d : Known A) (old : List ℕ) → IsAt (held known) (key_of s) at → bytes_eq (known_text (get_or (held known) at d)) s.text ≡ true
       → AppendsLines n (s ∷ []) known known old old
   said_same at d old is it_is = λ e k.
-      let same : known_text (get_or known at d) ≡ s.text = (bytes_eq-Decides (known_text (get_or known at d)) s.text).0 it_is in
+      let same : known_text (get_or (held known) at d) ≡ s.text = (bytes_eq-Decides (known_text (get_or (held known) at d)) s.text).0 it_is in
       let there = newest_at e at d k is in
       let none : written_of n e (s ∷ []) ≡ [] = written_of_one e ∙ ap (line_after n s) there ∙ line_same _ it_is in (
         sym (append-nil old) ∙ ap (λ (l : List ℕ). old ++ l) (sym none),
-        keeps_on e known k k.order (updates_same known_key known_text known (key_of s) s.text (k.same (key_of s) ∙ there ∙ ap Some same)),
+        keeps_on e known k k.none_empty k.order (updates_same known_key known_text (held known) (key_of s) s.text (k.same (key_of s) ∙ there ∙ ap Some same)),
       )
 
   line_other : (t : List ℕ) → bytes_eq t s.text ≡ false → line_after n s (Some t) ≡ sighting_line n (changed_word s.app_id) s.text
   line_other t differs = rw differs refl
 
   -- it is known with another text
-  pub said_changed : (at : ℕ) (d y : Known A) (old new : List ℕ) → IsAt known (key_of s) at → bytes_eq (known_text (get_or known at d)) s.text ≡ false
-      → known_key y ≡ key_of s → known_text y ≡ s.text → new ≡ old ++ sighting_line n (changed_word s.app_id) s.text → AppendsLines n (s ∷ []) known (set known at y) old new
-  said_changed at d y old new is differs same text wrote = λ e k.
-      let there = newest_at e at d k is in
-      let one : written_of n e (s ∷ []) ≡ sighting_line n (changed_word s.app_id) s.text = written_of_one e ∙ ap (line_after n s) there ∙ line_other _ differs in (
+  pub said_changed : (place : Place) (after : Inventory A) (old new : List ℕ) → IsAt (held known) (key_of s) (position_of known place) → ((d : Known A) → bytes_eq (known_text (get_or (held known) (position_of known place) d)) s.text ≡ false)
+      → WritesText known after place s.text → new ≡ old ++ sighting_line n (changed_word s.app_id) s.text → AppendsLines n (s ∷ []) known after old new
+  said_changed place after old new is differs writes wrote = λ e k.
+      let at = position_of known place in
+      let y = writes.one in
+      let same : known_key y ≡ key_of s = writes.same_key y ∙ is.has y in
+      let one : written_of n e (s ∷ []) ≡ sighting_line n (changed_word s.app_id) s.text = written_of_one e ∙ ap (line_after n s) (newest_at e at y k is) ∙ line_other _ (differs y) in (
         wrote ∙ ap (λ (l : List ℕ). old ++ l) (sym one),
-        keeps_on e (set known at y) k (order_set known k.order (key_of s) at is y same)
-            (subst (λ (t : List ℕ). Updates known_key known_text known (set known at y) (key_of s) t) text
-            (updates_set known_key known_text known (key_of s) at d y is.within (is.has d) (none_before known k.order (key_of s) at is d) same)),
+        keeps_on e after k (writes.none_empty k.none_empty)
+            (subst (λ (l : List (Known A)). InOrder l) (sym writes.written) (order_set (held known) k.order (key_of s) at is y same))
+            (subst (λ (l : List (Known A)). Updates known_key known_text (held known) l (key_of s) s.text) (sym writes.written)
+            (subst (λ (t : List ℕ). Updates known_key known_text (held known) (set (held known) at y) (key_of s) t) writes.has_text
+            (updates_set known_key known_text (held known) (key_of s) at y y is.within (is.has y) (none_before (held known) k.order (key_of s) at is y) same))),
       )
 
   -- it is not known
-  pub said_first : (at : ℕ) (y : Known A) (old new : List ℕ) → (InOrder known → IsGap known (key_of s) at)
-      → known_key y ≡ key_of s → known_text y ≡ s.text → new ≡ old ++ sighting_line n (first_word s.app_id) s.text → AppendsLines n (s ∷ []) known (insert known at y) old new
-  said_first at y old new gap same text wrote = λ e k.
-      let g = gap k.order in
+  pub said_first : (place : Place) (y : Known A) (after : Inventory A) (old new : List ℕ) → (NoneEmpty known.runs.items → InOrder (held known) → IsGap (held known) (key_of s) (position_of known place))
+      → known_key y ≡ key_of s → known_text y ≡ s.text → PutsOne known after place y → new ≡ old ++ sighting_line n (first_word s.app_id) s.text → AppendsLines n (s ∷ []) known after old new
+  said_first place y after old new gap same text puts wrote = λ e k.
+      let at = position_of known place in
+      let g = gap k.none_empty k.order in
       let one : written_of n e (s ∷ []) ≡ sighting_line n (first_word s.app_id) s.text = written_of_one e ∙ ap (line_after n s) (newest_gap e at k g) in (
         wrote ∙ ap (λ (l : List ℕ). old ++ l) (sym one),
-        keeps_on e (insert known at y) k (order_insert known k.order (key_of s) at g y same)
-            (subst (λ (t : List ℕ). Updates known_key known_text known (insert known at y) (key_of s) t) text
-            (updates_insert known_key known_text known (key_of s) at y y g.within (λ j lt. none_at_gap known k.order (key_of s) at g j y (within j lt g.within)) same)),
+        keeps_on e after k (puts.none_empty k.none_empty)
+            (subst (λ (l : List (Known A)). InOrder l) (sym puts.put) (order_insert (held known) k.order (key_of s) at g y same))
+            (subst (λ (l : List (Known A)). Updates known_key known_text (held known) l (key_of s) s.text) (sym puts.put)
+            (subst (λ (t : List ℕ). Updates known_key known_text (held known) (insert (held known) at y) (key_of s) t) text
+            (updates_insert known_key known_text (held known) (key_of s) at y y g.within (λ j lt. none_at_gap (held known) k.order (key_of s) at g j y (within j at lt g.within)) same))),
       )
     where
-      within : (j : ℕ) → j < at → at ≤ length known → j < length known
-      within j lt le = omega arith
+      within : (j at : ℕ) → j < at → at ≤ length (held known) → j < length (held known)
+      within j at lt le = omega arith
 
   -- there is something to write
-  pub wanted_changed : (at : ℕ) (d : Known A) → IsAt known (key_of s) at → bytes_eq (known_text (get_or known at d)) s.text ≡ false → HasLines n (s ∷ []) known
+  pub wanted_changed : (at : ℕ) (d : Known A) → IsAt (held known) (key_of s) at → bytes_eq (known_text (get_or (held known) at d)) s.text ≡ false → HasLines n (s ∷ []) known
   wanted_changed at d is differs = λ e k none. ends _ (sym (written_of_one e ∙ ap (line_after n s) (newest_at e at d k is) ∙ line_other _ differs) ∙ none)
 
-  pub wanted_first : (at : ℕ) → (InOrder known → IsGap known (key_of s) at) → HasLines n (s ∷ []) known
-  wanted_first at gap = λ e k none. ends _ (sym (written_of_one e ∙ ap (line_after n s) (newest_gap e at k (gap k.order))) ∙ none)
+  pub wanted_first : (at : ℕ) → (NoneEmpty known.runs.items → InOrder (held known) → IsGap (held known) (key_of s) at) → HasLines n (s ∷ []) known
+  wanted_first at gap = λ e k none. ends _ (sym (written_of_one e ∙ ap (line_after n s) (newest_gap e at k (gap k.none_empty k.order))) ∙ none)
 
 map-push : {X Y : Type 0} (f : X → Y) (xs : List X) (x : X) → map f (xs ++ x ∷ []) ≡ map f xs ++ f x ∷ []
 map-push f xs x = map-append f xs (x ∷ [])
 
 -- one ASDU more
-pub stream_more : {A : Type 0} (n : ℕ) (yielded : List AsduView) (asdu : AsduView) (all rest others : List (Asdu (Unit {0}))) (a b c : List (Known A)) (o m t : List ℕ) → map (asdu_of {A = Unit {0}}) yielded ++ rest ≡ all → rest ≡ asdu_of asdu ∷ others
+pub stream_more : {A : Type 0} (n : ℕ) (yielded : List AsduView) (asdu : AsduView) (all rest others : List (Asdu (Unit {0}))) (a b c : Inventory A) (o m t : List ℕ) → map (asdu_of {A = Unit {0}}) yielded ++ rest ≡ all → rest ≡ asdu_of asdu ∷ others
     → AppendsLines n (stream_sightings (map (asdu_of {A = Unit {0}}) yielded)) a b o m → AppendsLines n (stream_sighting (asdu_of {A = Unit {0}} asdu) ∷ []) b c m t
     → (map (asdu_of {A = Unit {0}}) (yielded ++ asdu ∷ []) ++ others ≡ all) × AppendsLines n (stream_sightings (map (asdu_of {A = Unit {0}}) (yielded ++ asdu ∷ []))) a c o t
 stream_more n yielded asdu all rest others a b c o m t parts first f g =
@@ -157,7 +173,7 @@ stream_more n yielded asdu all rest others a b c o m t parts first f g =
     )
 
 -- something is to be written of an ASDU among others
-pub streams_wanted : {A : Type 0} (n : ℕ) (yielded : List AsduView) (asdu : AsduView) (all rest others : List (Asdu (Unit {0}))) (a b : List (Known A)) (o m : List ℕ) → map (asdu_of {A = Unit {0}}) yielded ++ rest ≡ all → rest ≡ asdu_of asdu ∷ others
+pub streams_wanted : {A : Type 0} (n : ℕ) (yielded : List AsduView) (asdu : AsduView) (all rest others : List (Asdu (Unit {0}))) (a b : Inventory A) (o m : List ℕ) → map (asdu_of {A = Unit {0}}) yielded ++ rest ≡ all → rest ≡ asdu_of asdu ∷ others
     → AppendsLines n (stream_sightings (map (asdu_of {A = Unit {0}}) yielded)) a b o m → HasLines n (stream_sighting (asdu_of {A = Unit {0}} asdu) ∷ []) b → HasLines n (stream_sightings all) a
 streams_wanted n yielded asdu all rest others a b o m parts first f g =
     let one = asdu_of {A = Unit {0}} asdu in
@@ -178,7 +194,7 @@ sightings-push before e =
     flat_map-append (λ x. sightings_of x.1.kind) before (e ∷ []) ∙ ap (λ (l : List Sighting). sightings_in before ++ l) (append-nil (sightings_of e.1.kind))
 
 -- an event was written
-pub takes_event : {A : Type 0} (n : ℕ) (before : List (ℕ × Event A)) (event : Event A) (known after : List (Known A)) (old new : List ℕ) → AppendsLines n (sightings_of event.kind) known after old new → Keeps known (sightings_in before)
+pub takes_event : {A : Type 0} (n : ℕ) (before : List (ℕ × Event A)) (event : Event A) (known after : Inventory A) (old new : List ℕ) → AppendsLines n (sightings_of event.kind) known after old new → Keeps known (sightings_in before)
     → Takes (blocks_text {A = A}) (λ (items : List (ℕ × Event A)). Keeps after (sightings_in items)) before (n, event) (Ok false) old new
 takes_event n before event known after old new wrote k =
     let p = wrote (sightings_in before) k in
@@ -190,8 +206,12 @@ takes_event n before event known after old new wrote k =
     }
 
 -- nothing is held at first
-pub keeps_none : {A : Type 0} → Keeps {A = A} [] []
-keeps_none = record { order = λ i j d lt within. absurd (none_below within); same = λ key. refl }
+pub keeps_none : {A : Type 0} (known : Inventory A) → known.runs.items ≡ [] → Keeps known []
+keeps_none {A} known none = record {
+  none_empty = subst (λ (runs : List (Vec (Known A) A)). NoneEmpty runs) (sym none) (λ i d within. absurd (none_below within));
+  order = subst (λ (runs : List (Vec (Known A) A)). InOrder (in_runs runs)) (sym none) (λ i j d lt within. absurd (none_below within));
+  same = λ key. ap (λ (runs : List (Vec (Known A) A)). text_by known_key known_text (in_runs runs) key) none;
+}
   where
     none_below : {j : ℕ} → j < 0 → ⊥
     none_below h = omega arith

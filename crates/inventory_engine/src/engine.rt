@@ -11,7 +11,7 @@ ghost use Rattle.inventory_engine.specs.Sightings.{sightings_in};
 ghost use Rattle.inventory_engine.specs.BlocksText.{IsBlocksText};
 ghost use Rattle.inventory_engine.specs.computed.BlocksStep.{Keeps, blocks_text};
 
-use crate::known::Known;
+use crate::inventory::Inventory;
 use crate::sighting::put_event;
 use engine_core::{Ending, Engine, run};
 use frame_core::{Event, EventLines, ItemFault, LineError, ListCause, Sink, Source, fault_of_list};
@@ -22,7 +22,7 @@ use text_core::line::put_list_fault_line;
 #[derive(Drop)]
 struct Listing<A: Allocator> {
     alloc: A,
-    known: Vec<Known<A>, A>,
+    known: Inventory<A>,
 }
 
 impl<A: Allocator + Copy> Engine<A> for Listing<A> {
@@ -32,7 +32,7 @@ impl<A: Allocator + Copy> Engine<A> for Listing<A> {
 
     ghost text = { λ _. blocks_text };
 
-    ghost stands = { λ s before. Keeps s.known.items (sightings_in before) };
+    ghost stands = { λ s before. Keeps s.known (sightings_in before) };
 
     fn put_item(
         &mut self,
@@ -84,7 +84,7 @@ pub fn blocks<A: Allocator + Copy, R: Source, W: Sink>(
 {
     let listing = Listing {
         alloc,
-        known: Vec::new(alloc),
+        known: Inventory::new(alloc),
     };
     run(alloc, EventLines::First, listing, b"", reader, writer)
 }

@@ -25,8 +25,8 @@ fn rank(app_id: Option<u16>) -> u32
     }
 }
 
-// How one that is known stands to another.
-fn compare<A: Allocator>(known: &Known<A>, app_id: Option<u16>, name: &[u8]) -> Ordering
+/// How one that is known stands to another.
+pub fn compare<A: Allocator>(known: &Known<A>, app_id: Option<u16>, name: &[u8]) -> Ordering
     ensures { result ≡ key_cmp (known_key known.now) (app_id, name.now) }
 {
     match rank(known.app_id).cmp(&rank(app_id)) {

@@ -2,6 +2,7 @@
 #![tactic(auto, using(text_core::proofs::Fronts::front_before))]
 
 mod engine;
+mod inventory;
 mod known;
 pub mod laws;
 mod pieces;

@@ -11,7 +11,8 @@ ghost use Rattle.inventory_engine.specs.Sightings.{block_parts, block_sighting, 
 ghost use Rattle.inventory_engine.specs.BlocksText.{changed_word, first_word, sighting_line};
 ghost use Rattle.inventory_engine.specs.computed.BlocksStep.{AppendsLines, HasLines};
 
-use crate::known::{Known, find};
+use crate::inventory::Inventory;
+use crate::known::Known;
 use crate::pieces::{Piece, is_text, put_pieces, text_of};
 use ber_core::Octets;
 use frame_core::{ApduView, EventKind, view_frame};
@@ -57,32 +58,31 @@ fn put_line<A: Allocator>(
 // Appends what is written of a sighting, and keeps its text.
 fn put_sighting<A: Allocator + Copy>(
     alloc: A,
-    known: &mut Vec<Known<A>, A>,
+    known: &mut Inventory<A>,
     line: &mut Vec<u8, A>,
     number: u64,
     app_id: Option<u16>,
     name: &[u8],
     pieces: &[Piece<'_>],
 ) -> Result<(), AllocError>
-    ensures written { OnOk result (AppendsLines number (record { app_id = app_id; name = name.now; text = flat_map piece_text pieces.now } ∷ []) known.old.items known.new.items line.old.items line.new.items) }
-    ensures wants { OnErr result (HasLines number (record { app_id = app_id; name = name.now; text = flat_map piece_text pieces.now } ∷ []) known.old.items) }
+    ensures written { OnOk result (AppendsLines number (record { app_id = app_id; name = name.now; text = flat_map piece_text pieces.now } ∷ []) known.old known.new line.old.items line.new.items) }
+    ensures wants { OnErr result (HasLines number (record { app_id = app_id; name = name.now; text = flat_map piece_text pieces.now } ∷ []) known.old) }
     ensures kept { take (length line.old.items) line.new.items ≡ line.old.items }
 {
-    match find(known.as_slice(), app_id, name) {
-        Ok(at) => {
-            if is_text(known[at].text.as_slice(), pieces) {
+    match known.find(app_id, name) {
+        Ok(place) => {
+            if is_text(known.text(place), pieces) {
                 return Ok(());
             }
             put_line(line, number, changed(app_id), pieces)?;
-            known[at].text = text_of(alloc, pieces)?;
+            known.set_text(place, text_of(alloc, pieces)?);
             Ok(())
         }
-        Err(at) => {
+        Err(place) => {
             put_line(line, number, first(app_id), pieces)?;
             let name = Octets::try_from_slice(alloc, name)?;
             let text = text_of(alloc, pieces)?;
-            known.insert(at, Known { app_id, name, text })?;
-            Ok(())
+            known.insert(alloc, place, Known { app_id, name, text })
         }
     }
 }
@@ -172,14 +172,14 @@ fn stream_pieces<'a>(asdu: &AsduView<'a>) -> [Piece<'a>; 4]
 // Appends what is written of the control block of a frame.
 fn put_block<A: Allocator + Copy>(
     alloc: A,
-    known: &mut Vec<Known<A>, A>,
+    known: &mut Inventory<A>,
     line: &mut Vec<u8, A>,
     number: u64,
     app_id: u16,
     goose: &GooseView<'_>,
 ) -> Result<(), AllocError>
-    ensures written { OnOk result (AppendsLines number (block_sighting app_id (pdu_of {A = Unit {0}} goose.now) ∷ []) known.old.items known.new.items line.old.items line.new.items) }
-    ensures wants { OnErr result (HasLines number (block_sighting app_id (pdu_of {A = Unit {0}} goose.now) ∷ []) known.old.items) }
+    ensures written { OnOk result (AppendsLines number (block_sighting app_id (pdu_of {A = Unit {0}} goose.now) ∷ []) known.old known.new line.old.items line.new.items) }
+    ensures wants { OnErr result (HasLines number (block_sighting app_id (pdu_of {A = Unit {0}} goose.now) ∷ []) known.old) }
     ensures kept { take (length line.old.items) line.new.items ≡ line.old.items }
 {
     let name = goose.gocb_ref;
@@ -195,13 +195,13 @@ fn put_block<A: Allocator + Copy>(
 // Appends what is written of the stream of an ASDU.
 fn put_stream<A: Allocator + Copy>(
     alloc: A,
-    known: &mut Vec<Known<A>, A>,
+    known: &mut Inventory<A>,
     line: &mut Vec<u8, A>,
     number: u64,
     asdu: &AsduView<'_>,
 ) -> Result<(), AllocError>
-    ensures written { OnOk result (AppendsLines number (stream_sighting (asdu_of {A = Unit {0}} asdu.now) ∷ []) known.old.items known.new.items line.old.items line.new.items) }
-    ensures wants { OnErr result (HasLines number (stream_sighting (asdu_of {A = Unit {0}} asdu.now) ∷ []) known.old.items) }
+    ensures written { OnOk result (AppendsLines number (stream_sighting (asdu_of {A = Unit {0}} asdu.now) ∷ []) known.old known.new line.old.items line.new.items) }
+    ensures wants { OnErr result (HasLines number (stream_sighting (asdu_of {A = Unit {0}} asdu.now) ∷ []) known.old) }
     ensures kept { take (length line.old.items) line.new.items ≡ line.old.items }
 {
     let pieces = stream_pieces(asdu);
@@ -211,13 +211,13 @@ fn put_stream<A: Allocator + Copy>(
 // Appends what is written of the streams of a frame's ASDUs.
 fn put_streams<A: Allocator + Copy>(
     alloc: A,
-    known: &mut Vec<Known<A>, A>,
+    known: &mut Inventory<A>,
     line: &mut Vec<u8, A>,
     number: u64,
     sampled: &SvView<'_>,
 ) -> Result<(), AllocError>
-    ensures written { OnOk result (AppendsLines number (stream_sightings (asdus_left {A = Unit {0}} sampled.now.asdus)) known.old.items known.new.items line.old.items line.new.items) }
-    ensures wants { OnErr result (HasLines number (stream_sightings (asdus_left {A = Unit {0}} sampled.now.asdus)) known.old.items) }
+    ensures written { OnOk result (AppendsLines number (stream_sightings (asdus_left {A = Unit {0}} sampled.now.asdus)) known.old known.new line.old.items line.new.items) }
+    ensures wants { OnErr result (HasLines number (stream_sightings (asdus_left {A = Unit {0}} sampled.now.asdus)) known.old) }
     ensures kept { take (length line.old.items) line.new.items ≡ line.old.items }
 {
     for asdu in sampled.asdus {
@@ -229,13 +229,13 @@ fn put_streams<A: Allocator + Copy>(
 /// Appends what is written of an event.
 pub fn put_event<A: Allocator + Copy>(
     alloc: A,
-    known: &mut Vec<Known<A>, A>,
+    known: &mut Inventory<A>,
     line: &mut Vec<u8, A>,
     number: u64,
     kind: &EventKind<A>,
 ) -> Result<(), AllocError>
-    ensures written { OnOk result (AppendsLines number (sightings_of kind.now) known.old.items known.new.items line.old.items line.new.items) }
-    ensures wants { OnErr result (HasLines number (sightings_of kind.now) known.old.items) }
+    ensures written { OnOk result (AppendsLines number (sightings_of kind.now) known.old known.new line.old.items line.new.items) }
+    ensures wants { OnErr result (HasLines number (sightings_of kind.now) known.old) }
     ensures kept { take (length line.old.items) line.new.items ≡ line.old.items }
 {
     let EventKind::Frame(octets) = kind else {

@@ -6,10 +6,11 @@ use Rattle.list_core.specs.declared.list_fault.ListCause.{ListCause}
 use Rattle.list_core.specs.ListReader.{list_fault_of}
 use Rattle.engine_core.specs.EngineText.{Text}
 use Rattle.text_core.specs.LineText.{list_fault_line}
-use Rattle.inventory_engine.specs.declared.known.Known.{Known}
+use Rattle.inventory_engine.specs.declared.inventory.Inventory.{Inventory}
 use Rattle.inventory_engine.specs.Sightings.{Key, Sighting, key_of, sightings_in, sightings_of}
 use Rattle.inventory_engine.specs.BlocksText.{line_after}
 use Rattle.inventory_engine.specs.computed.KnownTexts.{InOrder, known_key, known_text, text_by}
+use Rattle.inventory_engine.specs.computed.Runs.{NoneEmpty, held}
 
 -- the text of a sighting
 abbrev pub text_seen : Sighting → List ℕ
@@ -37,14 +38,15 @@ blocks_text = record {
 }
 
 -- what is held is the newest text of each key
-pub record Keeps {A : Type 0} (known : List (Known A)) (seen : List Sighting) : Type 0 where
-  pub order : InOrder known
-  pub same : (key : Key) → text_by known_key known_text known key ≡ newest seen key
+pub record Keeps {A : Type 0} (known : Inventory A) (seen : List Sighting) : Type 0 where
+  pub none_empty : NoneEmpty known.runs.items
+  pub order : InOrder (held known)
+  pub same : (key : Key) → text_by known_key known_text (held known) key ≡ newest seen key
 
 -- what is written of sightings was appended, and what they show is held
-abbrev pub AppendsLines : {A : Type 0} → ℕ → List Sighting → List (Known A) → List (Known A) → List ℕ → List ℕ → Type 0
+abbrev pub AppendsLines : {A : Type 0} → ℕ → List Sighting → Inventory A → Inventory A → List ℕ → List ℕ → Type 0
 AppendsLines n seen known after old new = (earlier : List Sighting) → Keeps known earlier → (new ≡ old ++ written_of n earlier seen) × Keeps after (earlier ++ seen)
 
 -- there is something to write of sightings
-abbrev pub HasLines : {A : Type 0} → ℕ → List Sighting → List (Known A) → Type 0
+abbrev pub HasLines : {A : Type 0} → ℕ → List Sighting → Inventory A → Type 0
 HasLines n seen known = (earlier : List Sighting) → Keeps known earlier → written_of n earlier seen ≡ [] → ⊥

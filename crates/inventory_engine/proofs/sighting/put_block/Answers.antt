@@ -15,7 +15,7 @@ unfolding seen
 returns-then-has_fields-clause-written g c =
     let p = pdu_of {A = Unit {0}} c.args.goose.now in
     let text = by_test (has_fields p) (concat (block_parts c.args.app_id p)) (concat (named_parts c.args.app_id p)) (flat_map piece_text c.block_pieces-pieces.result) c.has_fields.result c.has_fields.ensures c.if-has_fields.true c.block_pieces-pieces.ensures in
-    appends_as c.put_sighting.result c.args.number _ (block_sighting c.args.app_id p ∷ []) c.args.known.now.items c.put_sighting.new.known.items c.args.line.now.items c.put_sighting.new.line.items
+    appends_as c.put_sighting.result c.args.number _ (block_sighting c.args.app_id p ∷ []) c.args.known.now c.put_sighting.new.known c.args.line.now.items c.put_sighting.new.line.items
     (ap (seen c.args.app_id p.gocb_ref) text) c.put_sighting.ensures.written
 
 pub returns-else-has_fields-clause-written : goal.returns-else-has_fields-clause-written
@@ -23,5 +23,5 @@ unfolding seen
 returns-else-has_fields-clause-written g c =
     let p = pdu_of {A = Unit {0}} c.args.goose.now in
     let text = by_test_not (has_fields p) (concat (block_parts c.args.app_id p)) (concat (named_parts c.args.app_id p)) (flat_map piece_text c.named_pieces-pieces.result) c.has_fields.result c.has_fields.ensures c.if-has_fields.false c.named_pieces-pieces.ensures in
-    appends_as c.put_sighting-else-has_fields.result c.args.number _ (block_sighting c.args.app_id p ∷ []) c.args.known.now.items c.put_sighting-else-has_fields.new.known.items c.args.line.now.items c.put_sighting-else-has_fields.new.line.items
+    appends_as c.put_sighting-else-has_fields.result c.args.number _ (block_sighting c.args.app_id p ∷ []) c.args.known.now c.put_sighting-else-has_fields.new.known c.args.line.now.items c.put_sighting-else-has_fields.new.line.items
     (ap (seen c.args.app_id p.gocb_ref) text) c.put_sighting-else-has_fields.ensures.written

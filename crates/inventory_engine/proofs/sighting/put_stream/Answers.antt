@@ -12,5 +12,5 @@ pub returns-clause-written : goal.returns-clause-written
 unfolding seen
 returns-clause-written g c =
     let a = asdu_of {A = Unit {0}} c.args.asdu.now in
-    appends_as c.put_sighting.result c.args.number _ (stream_sighting a ∷ []) c.args.known.now.items c.put_sighting.new.known.items c.args.line.now.items c.put_sighting.new.line.items
+    appends_as c.put_sighting.result c.args.number _ (stream_sighting a ∷ []) c.args.known.now c.put_sighting.new.known c.args.line.now.items c.put_sighting.new.line.items
     (ap (seen a.sv_id) c.stream_pieces-pieces.ensures) c.put_sighting.ensures.written

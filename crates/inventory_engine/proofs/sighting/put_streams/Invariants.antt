@@ -9,5 +9,5 @@ invariant-loop-asdu g l =
     (goal.iterator-loop-asdu g).can_next l.asdu-iterator ×
     (goal.iterator-loop-asdu g).is_finite l.asdu-iterator ×
     (map (asdu_of {A = Unit {0}}) l.yielded ++ asdus_left l.asdu-iterator ≡ asdus_left l.sampled.asdus) ×
-    AppendsLines l.number (stream_sightings (map (asdu_of {A = Unit {0}}) l.yielded)) l.initial.known.items l.known.items l.initial.line.items l.line.items ×
+    AppendsLines l.number (stream_sightings (map (asdu_of {A = Unit {0}}) l.yielded)) l.initial.known l.known l.initial.line.items l.line.items ×
     (take (length l.initial.line.items) l.line.items ≡ l.initial.line.items)

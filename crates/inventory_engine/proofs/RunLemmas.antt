@@ -1,0 +1,376 @@
+-- Entries in runs: what is held when one run changes or is cut, and what a search in one run tells of all.
+use Rattle.std.proofs.Common.{◌≡◌, ℕ, zero, suc, ◌+◌, ◌-◌, ◌<◌, ◌≤◌, Bool, true, false, List, [], ◌∷◌, ◌++◌, length, take, drop, get_or, set, Result, Ok, Err, ap, sym, ◌∙◌, refl, subst, arith, inl, inr, append_assoc, zero-add, add-one, drop-cons}
+use Rattle.std.specs.List.{flat_map, insert}
+use Rattle.std.specs.Ordering.{is_gt, ordering_reverse}
+use Rattle.std.specs.declared.cmp.Ordering.{Ordering}
+use Rattle.std.specs.declared.cmp.Ordering.TheVariants.{Less, Equal, Greater}
+use Rattle.std.specs.declared.vec.Vec.{Vec}
+use Rattle.std.proofs.lemmas.Bool.{cases_lt}
+use Rattle.std.proofs.lemmas.List.{append-nil, get_or-append-add, get_or_append_left, get_or_default, length-append, length-drop, length-set, length-take-le, set-append_left, set-append_right, take-append-drop, take_all}
+use Rattle.std.proofs.lemmas.List.Concat.{flat_map-append, get_or-flat_map}
+use Rattle.std.proofs.lemmas.List.Edits.{insert-append_left, insert-append_right, insert_end, length-insert}
+use Rattle.inventory_engine.specs.declared.inventory.Inventory.{Inventory}
+use Rattle.inventory_engine.specs.declared.inventory.Place.{Place}
+use Rattle.inventory_engine.specs.declared.known.Known.{Known}
+use Rattle.inventory_engine.specs.Sightings.{Key}
+use Rattle.inventory_engine.specs.computed.KnownTexts.{AnswersSearch, InOrder, IsAt, IsGap, key_cmp, known_key}
+use Rattle.inventory_engine.specs.computed.Runs.{IsRunOf, MovesPlace, NoneEmpty, begins_behind, held, in_run, in_runs}
+use Rattle.inventory_engine.proofs.KeyLemmas.{key_total, stand_as, turned}
+use Rattle.std.proofs.lemmas.Cmp.{alike_right}
+
+module _ {X Y : Type 0} (f : Y → List X) where
+  -- one run, and those before and behind it
+  pub parted : (ys : List Y) (i : ℕ) (d : Y) → i < length ys → flat_map f ys ≡ flat_map f (take i ys) ++ (f (get_or ys i d) ++ flat_map f (drop (suc i) ys))
+  parted ys i d lt =
+      ap (flat_map f) (sym (take-append-drop i ys)) ∙ flat_map-append f (take i ys) (drop i ys)
+      ∙ ap (λ (l : List Y). flat_map f (take i ys) ++ flat_map f l) (drop-cons ys i d lt)
+
+  -- a write in a run
+  pub written : (ys : List Y) (i at : ℕ) (d y : Y) (x : X) → i < length ys → at < length (f (get_or ys i d)) → f y ≡ set (f (get_or ys i d)) at x
+      → flat_map f (set ys i y) ≡ set (flat_map f ys) (length (flat_map f (take i ys)) + at) x
+  written [] i at d y x lt within is = absurd (omega arith)
+  written (z ∷ ys) zero at d y x lt within is =
+      ap (λ (l : List X). l ++ flat_map f ys) is ∙ sym (set-append_left (f z) (flat_map f ys) at x within) ∙ ap (λ (n : ℕ). set (f z ++ flat_map f ys) n x) (sym (zero-add at))
+  written (z ∷ ys) (suc i) at d y x lt within is =
+      let n = length (flat_map f (take i ys)) in
+      let size : length (f z ++ flat_map f (take i ys)) ≡ length (f z) + n = length-append (f z) (flat_map f (take i ys)) in
+      let left : length (f z ++ flat_map f (take i ys)) + at - length (f z) ≡ n + at = omega arith in
+      ap (λ (l : List X). f z ++ l) (written ys i at d y x (omega arith) within is)
+      ∙ ap (λ (m : ℕ). f z ++ set (flat_map f ys) m x) (sym left)
+      ∙ sym (set-append_right (f z) (flat_map f ys) (length (f z)) (length (f z ++ flat_map f (take i ys)) + at) x refl (omega arith))
+
+  -- one more in a run
+  pub put_in : (ys : List Y) (i at : ℕ) (d y : Y) (x : X) → i < length ys → at ≤ length (f (get_or ys i d)) → f y ≡ insert (f (get_or ys i d)) at x
+      → flat_map f (set ys i y) ≡ insert (flat_map f ys) (length (flat_map f (take i ys)) + at) x
+  put_in [] i at d y x lt within is = absurd (omega arith)
+  put_in (z ∷ ys) zero at d y x lt within is =
+      ap (λ (l : List X). l ++ flat_map f ys) is ∙ sym (insert-append_left (f z) (flat_map f ys) at x within) ∙ ap (λ (n : ℕ). insert (f z ++ flat_map f ys) n x) (sym (zero-add at))
+  put_in (z ∷ ys) (suc i) at d y x lt within is =
+      let n = length (flat_map f (take i ys)) in
+      let size : length (f z ++ flat_map f (take i ys)) ≡ length (f z) + n = length-append (f z) (flat_map f (take i ys)) in
+      let left : length (f z ++ flat_map f (take i ys)) + at - length (f z) ≡ n + at = omega arith in
+      ap (λ (l : List X). f z ++ l) (put_in ys i at d y x (omega arith) within is)
+      ∙ ap (λ (m : ℕ). f z ++ insert (flat_map f ys) m x) (sym left)
+      ∙ sym (insert-append_right (f z) (flat_map f ys) (length (f z)) (length (f z ++ flat_map f (take i ys)) + at) x refl (omega arith))
+
+  -- a run that is cut in two
+  pub cut_same : (ys : List Y) (i : ℕ) (d a b : Y) → i < length ys → f (get_or ys i d) ≡ f a ++ f b → flat_map f (insert (set ys i a) (suc i) b) ≡ flat_map f ys
+  cut_same [] i d a b lt is = absurd (omega arith)
+  cut_same (z ∷ ys) zero d a b lt is = sym (append_assoc (f a) (f b) (flat_map f ys)) ∙ ap (λ (l : List X). l ++ flat_map f ys) (sym is)
+  cut_same (z ∷ ys) (suc i) d a b lt is = ap (λ (l : List X). f z ++ l) (cut_same ys i d a b (omega arith) is)
+
+module _ {Y : Type 0} where
+  -- the runs before those that a cut leaves, and these
+  pub cut_before : (ys : List Y) (i : ℕ) (a b : Y) → i < length ys → take i (insert (set ys i a) (suc i) b) ≡ take i ys
+  cut_before [] i a b lt = absurd (omega arith)
+  cut_before (z ∷ ys) zero a b lt = refl
+  cut_before (z ∷ ys) (suc i) a b lt = ap (λ (l : List Y). z ∷ l) (cut_before ys i a b (omega arith))
+
+  pub cut_front : (ys : List Y) (i : ℕ) (a b : Y) → i < length ys → take (suc i) (insert (set ys i a) (suc i) b) ≡ take i ys ++ a ∷ []
+  cut_front [] i a b lt = absurd (omega arith)
+  cut_front (z ∷ ys) zero a b lt = refl
+  cut_front (z ∷ ys) (suc i) a b lt = ap (λ (l : List Y). z ∷ l) (cut_front ys i a b (omega arith))
+
+  pub cut_first : (ys : List Y) (i : ℕ) (a b d : Y) → i < length ys → get_or (insert (set ys i a) (suc i) b) i d ≡ a
+  cut_first [] i a b d lt = absurd (omega arith)
+  cut_first (z ∷ ys) zero a b d lt = refl
+  cut_first (z ∷ ys) (suc i) a b d lt = cut_first ys i a b d (omega arith)
+
+  pub cut_second : (ys : List Y) (i : ℕ) (a b d : Y) → i < length ys → get_or (insert (set ys i a) (suc i) b) (suc i) d ≡ b
+  cut_second [] i a b d lt = absurd (omega arith)
+  cut_second (z ∷ ys) zero a b d lt = refl
+  cut_second (z ∷ ys) (suc i) a b d lt = cut_second ys i a b d (omega arith)
+
+  pub cut_size : (ys : List Y) (i : ℕ) (a b : Y) → i < length ys → length (insert (set ys i a) (suc i) b) ≡ suc (length ys)
+  cut_size [] i a b lt = absurd (omega arith)
+  cut_size (z ∷ ys) zero a b lt = refl
+  cut_size (z ∷ ys) (suc i) a b lt = ap suc (cut_size ys i a b (omega arith))
+
+  -- what holds of each, if it holds of what is written and put in
+  pub each_set : (P : Y → Type 0) (ys : List Y) (i : ℕ) (a : Y) → P a → ((j : ℕ) (d : Y) → j < length ys → P (get_or ys j d)) → (j : ℕ) (d : Y) → j < length (set ys i a) → P (get_or (set ys i a) j d)
+  each_set P [] i a p each j d lt = each j d lt
+  each_set P (z ∷ ys) zero a p each zero d lt = p
+  each_set P (z ∷ ys) zero a p each (suc j) d lt = each (suc j) d lt
+  each_set P (z ∷ ys) (suc i) a p each zero d lt = each zero d (omega arith)
+  each_set P (z ∷ ys) (suc i) a p each (suc j) d lt = each_set P ys i a p (λ k e within. each (suc k) e (omega arith)) j d (omega arith)
+
+  pub each_cut : (P : Y → Type 0) (ys : List Y) (i : ℕ) (a b : Y) → i < length ys → P a → P b → ((j : ℕ) (d : Y) → j < length ys → P (get_or ys j d)) → (j : ℕ) (d : Y) → j < length (insert (set ys i a) (suc i) b) → P (get_or (insert (set ys i a) (suc i) b) j d)
+  each_cut P [] i a b in_it p q each j d lt = absurd (omega arith)
+  each_cut P (z ∷ ys) zero a b in_it p q each zero d lt = p
+  each_cut P (z ∷ ys) zero a b in_it p q each (suc zero) d lt = q
+  each_cut P (z ∷ ys) zero a b in_it p q each (suc (suc j)) d lt = each (suc j) d (omega arith)
+  each_cut P (z ∷ ys) (suc i) a b in_it p q each zero d lt = each zero d (omega arith)
+  each_cut P (z ∷ ys) (suc i) a b in_it p q each (suc j) d lt = each_cut P ys i a b (omega arith) p q (λ k e within. each (suc k) e (omega arith)) j d (omega arith)
+
+  pub each_push : (P : Y → Type 0) (ys : List Y) (a : Y) → P a → ((j : ℕ) (d : Y) → j < length ys → P (get_or ys j d)) → (j : ℕ) (d : Y) → j < length (ys ++ a ∷ []) → P (get_or (ys ++ a ∷ []) j d)
+  each_push P [] a p each zero d lt = p
+  each_push P [] a p each (suc j) d lt = absurd (omega arith)
+  each_push P (z ∷ ys) a p each zero d lt = each zero d (omega arith)
+  each_push P (z ∷ ys) a p each (suc j) d lt = each_push P ys a p (λ k e within. each (suc k) e (omega arith)) j d (omega arith)
+
+less_then : (x y z : Key) (o : Ordering) → key_cmp x y ≡ Less → o ≡ key_cmp y z → is_gt o ≡ false → key_cmp x z ≡ Less
+less_then x y z Less less e other = key_total.trans x y z less (sym e)
+less_then x y z Equal less e other = sym (alike_right key_total y z x (sym e)) ∙ less
+less_then x y z Greater less e other = cc
+
+greater_then : (x y z : Key) → key_cmp x y ≡ Less → key_cmp x z ≡ Greater → key_cmp y z ≡ Greater
+greater_then x y z less more = key_total.antisymm y z ∙ ap ordering_reverse (key_total.trans z x y (turned x z more) less)
+
+is_greater : (o : Ordering) → is_gt o ≡ true → o ≡ Greater
+is_greater Less e = cc
+is_greater Equal e = cc
+is_greater Greater e = refl
+
+-- a run among others: its entries, those before and those behind it
+module _ {A : Type 0} (before run behind : List (Known A)) where
+  in_it : (k : ℕ) (d : Known A) → k < length run → get_or (before ++ (run ++ behind)) (length before + k) d ≡ get_or run k d
+  in_it k d lt = get_or-append-add before (run ++ behind) k d ∙ get_or_append_left run behind d k lt
+
+  behind_it : (k : ℕ) (d : Known A) → get_or (before ++ (run ++ behind)) (length before + (length run + k)) d ≡ get_or behind k d
+  behind_it k d = get_or-append-add before (run ++ behind) (length run + k) d ∙ get_or-append-add run behind k d
+
+  size : length (before ++ (run ++ behind)) ≡ length before + (length run + length behind)
+  size = length-append before (run ++ behind) ∙ ap (λ (n : ℕ). length before + n) (length-append run behind)
+
+  key_in : (i : ℕ) (d : Known A) → length before ≤ i → i - length before < length run → known_key (get_or (before ++ (run ++ behind)) i d) ≡ known_key (get_or run (i - length before) d)
+  key_in i d le lt =
+      let there : i ≡ length before + (i - length before) = omega arith in
+      ap (λ (n : ℕ). known_key (get_or (before ++ (run ++ behind)) n d)) there ∙ ap known_key (in_it (i - length before) d lt)
+
+  key_behind : (i : ℕ) (d : Known A) → length before + length run ≤ i → known_key (get_or (before ++ (run ++ behind)) i d) ≡ known_key (get_or behind (i - length before - length run) d)
+  key_behind i d le =
+      let there : i ≡ length before + (length run + (i - length before - length run)) = omega arith in
+      ap (λ (n : ℕ). known_key (get_or (before ++ (run ++ behind)) n d)) there ∙ ap known_key (behind_it (i - length before - length run) d)
+
+  run_in_order : InOrder (before ++ (run ++ behind)) → InOrder run
+  run_in_order order i j d lt within =
+      let all : length (before ++ (run ++ behind)) ≡ length before + (length run + length behind) = size in
+      stand_as _ _ _ _ (ap known_key (sym (in_it i d (omega arith)))) (ap known_key (sym (in_it j d within))) (order (length before + i) (length before + j) d (omega arith) (omega arith))
+
+  pub at_among : (key : Key) (at : ℕ) → IsAt run key at → IsAt (before ++ (run ++ behind)) key (length before + at)
+  at_among key at is =
+      let all : length (before ++ (run ++ behind)) ≡ length before + (length run + length behind) = size in
+      let lt : at < length run = is.within in
+      record { within = omega arith; has = λ d. ap known_key (in_it at d is.within) ∙ is.has d }
+
+  pub gap_among : (key : Key) (at : ℕ) → at ≤ length run → (InOrder run → IsGap run key at) → 0 < length run
+      → (0 < length before → (d : Known A) → is_gt (key_cmp (known_key (get_or run 0 d)) key) ≡ false) → (0 < length behind → (d : Known A) → is_gt (key_cmp (known_key (get_or behind 0 d)) key) ≡ true)
+      → InOrder (before ++ (run ++ behind)) → IsGap (before ++ (run ++ behind)) key (length before + at)
+  gap_among key at le gap_in some here next order =
+      let all : length (before ++ (run ++ behind)) ≡ length before + (length run + length behind) = size in
+      let gap = gap_in (run_in_order order) in
+      record {
+        within = omega arith;
+        below = λ i d lt. elim (cases_lt i (length before)) [
+          | inl front ↦
+              less_then (known_key (get_or (before ++ (run ++ behind)) i d)) (known_key (get_or run 0 d)) key _
+              (stand_as _ _ _ _ refl (ap known_key (sym (in_it 0 d some))) (order i (length before + 0) d (omega arith) (omega arith)))
+              refl (here (omega arith) d)
+          | inr from ↦ ap (λ (q : Key). key_cmp q key) (key_in i d from (omega arith)) ∙ gap.below (i - length before) d (omega arith)
+        ];
+        above = λ i d from lt. elim (cases_lt i (length before + length run)) [
+          | inl inside ↦ ap (λ (q : Key). key_cmp q key) (key_in i d (omega arith) (omega arith)) ∙ gap.above (i - length before) d (omega arith) (omega arith)
+          | inr past ↦
+              let first = is_greater (key_cmp (known_key (get_or behind 0 d)) key) (next (omega arith) d) in
+              elim (cases_lt (length before + length run) i) [
+                | inl further ↦
+                    greater_then (known_key (get_or behind 0 d)) (known_key (get_or (before ++ (run ++ behind)) i d)) key
+                    (stand_as _ _ _ _ (ap known_key (sym (behind_it 0 d))) refl (order (length before + (length run + 0)) i d (omega arith) lt))
+                    first
+                | inr last ↦
+                    ap (λ (q : Key). key_cmp q key) (key_behind i d past ∙ ap (λ (n : ℕ). known_key (get_or behind n d)) (none_further i past last)) ∙ first
+              ]
+        ];
+      }
+    where
+      none_further : (i : ℕ) → length before + length run ≤ i → i ≤ length before + length run → i - length before - length run ≡ 0
+      none_further i le ge = omega arith
+
+-- the test whether a run begins behind a key asks its first entry
+begins_by : {A : Type 0} (run : List (Known A)) (key : Key) (d : Known A) → 0 < length run → begins_behind run key ≡ is_gt (key_cmp (known_key (get_or run 0 d)) key)
+begins_by [] key d some = absurd (omega arith)
+begins_by (x ∷ xs) key d some = refl
+
+none_before_first : {A : Type 0} (runs : List (Vec (Known A) A)) (r : ℕ) → 0 < length (in_runs (take r runs)) → 0 < r
+none_before_first runs zero some = absurd (omega arith)
+none_before_first runs (suc r) some = omega arith
+
+some_left : {A : Type 0} (runs : List (Vec (Known A) A)) → 0 < length (in_runs runs) → 0 < length runs
+some_left [] some = absurd (omega arith)
+some_left (x ∷ runs) some = omega arith
+
+front_first : {A : Type 0} (xs ys : List (Known A)) (d : Known A) → 0 < length xs → get_or (xs ++ ys) 0 d ≡ get_or xs 0 d
+front_first xs ys d some = get_or_append_left xs ys d 0 some
+
+module _ {A : Type 0} (runs : List (Vec (Known A) A)) (r : ℕ) (run : Vec (Known A) A) (within : r < length runs) (is : run ≡ get_or runs r run) where
+  whole : in_runs runs ≡ in_runs (take r runs) ++ (in_run run ++ in_runs (drop (suc r) runs))
+  whole = parted in_run runs r run within ∙ ap (λ (v : Vec (Known A) A). in_runs (take r runs) ++ (in_run v ++ in_runs (drop (suc r) runs))) (sym is)
+
+  pub found_at : (key : Key) (at : ℕ) → IsAt (in_run run) key at → IsAt (in_runs runs) key (length (in_runs (take r runs)) + at)
+  found_at key at there =
+      subst (λ (l : List (Known A)). IsAt l key (length (in_runs (take r runs)) + at)) (sym whole) (at_among (in_runs (take r runs)) (in_run run) (in_runs (drop (suc r) runs)) key at there)
+
+  pub gap_at : (key : Key) (at : ℕ) → at ≤ length (in_run run) → (InOrder (in_run run) → IsGap (in_run run) key at) → IsRunOf runs key r → NoneEmpty runs → InOrder (in_runs runs) → IsGap (in_runs runs) key (length (in_runs (take r runs)) + at)
+  gap_at key at le gap of none_empty order =
+      let some : 0 < length (in_run run) = subst (λ (v : Vec (Known A) A). 0 < length (in_run v)) (sym is) (none_empty r run within) in
+      subst (λ (l : List (Known A)). IsGap l key (length (in_runs (take r runs)) + at)) (sym whole)
+      (gap_among (in_runs (take r runs)) (in_run run) (in_runs (drop (suc r) runs)) key at le gap some
+      (λ front d. sym (begins_by (in_run run) key d some) ∙ ap (λ (v : Vec (Known A) A). begins_behind (in_run v) key) is ∙ of.here (none_before_first runs r front) run)
+      (λ rest d. next_first of none_empty d (some_left (drop (suc r) runs) rest))
+      (subst (λ (l : List (Known A)). InOrder l) whole order))
+    where
+      next_first : IsRunOf runs key r → NoneEmpty runs → (d : Known A) → 0 < length (drop (suc r) runs) → is_gt (key_cmp (known_key (get_or (in_runs (drop (suc r) runs)) 0 d)) key) ≡ true
+      next_first of none_empty d left =
+          let size : length (drop (suc r) runs) ≡ length runs - suc r = length-drop (suc r) runs in
+          let there : suc r < length runs = omega arith in
+          let next = get_or runs (suc r) run in
+          let some : 0 < length (in_run next) = none_empty (suc r) run there in
+          let parts : in_runs (drop (suc r) runs) ≡ in_run next ++ in_runs (drop (suc (suc r)) runs) = ap in_runs (drop-cons runs (suc r) run there) in
+          ap (λ (l : List (Known A)). is_gt (key_cmp (known_key (get_or l 0 d)) key)) parts
+          ∙ ap (λ (k : Known A). is_gt (key_cmp (known_key k) key)) (front_first (in_run next) (in_runs (drop (suc (suc r)) runs)) d some)
+          ∙ sym (begins_by (in_run next) key d some) ∙ ap (λ (n : ℕ). begins_behind (in_run (get_or runs n run)) key) (sym (add-one r)) ∙ of.next (omega arith) run
+
+-- what holds of a thing that was read at a place holds of the thing there
+pub read_any : {Y : Type 0} (P : Y → Type 0) (ys : List Y) (i : ℕ) (y : Y) → i < length ys → y ≡ get_or ys i y → P y → (d : Y) → P (get_or ys i d)
+read_any P ys i y lt is p d = subst P (is ∙ get_or_default ys i y d lt) p
+
+-- where there are no runs, the first place is a gap
+pub gap_of_none : {A : Type 0} (runs : List (Vec (Known A) A)) (key : Key) (r : ℕ) → IsRunOf runs key r → length runs ≤ r → IsGap (in_runs runs) key (length (in_runs (take r runs)) + 0)
+gap_of_none {A} [] key zero of past = record {
+  within = nothing;
+  below = λ i d lt. absurd (none_below i lt);
+  above = λ i d le lt. absurd (none_below i lt);
+}
+  where
+    nothing : 0 + 0 ≤ 0
+    nothing = omega arith
+
+    none_below : (i : ℕ) → i < 0 → ⊥
+    none_below i h = omega arith
+gap_of_none {A} [] key (suc r) of past = record {
+  within = nothing;
+  below = λ i d lt. absurd (none_below i lt);
+  above = λ i d le lt. absurd (none_below i lt);
+}
+  where
+    nothing : 0 + 0 ≤ 0
+    nothing = omega arith
+
+    none_below : (i : ℕ) → i < 0 → ⊥
+    none_below i h = omega arith
+gap_of_none (x ∷ runs) key r of past = let lt : r < suc (length runs) = of.within (omega arith) in absurd (omega arith)
+
+module _ {A : Type 0} (runs : List (Vec (Known A) A)) (r : ℕ) (run : Vec (Known A) A) (within : r < length runs) (is : run ≡ get_or runs r run) where
+  -- the one at a place
+  pub one_at : (at : ℕ) (one : Known A) → at < length (in_run (get_or runs r run)) → one ≡ get_or (in_run run) at one → (d : Known A) → get_or (in_runs runs) (length (in_runs (take r runs)) + at) d ≡ one
+  one_at at one lt there d =
+      get_or-flat_map in_run runs r at run d within lt ∙ ap (λ (v : Vec (Known A) A). get_or (in_run v) at d) (sym is)
+      ∙ get_or_default (in_run run) at d one (subst (λ (v : Vec (Known A) A). at < length (in_run v)) (sym is) lt) ∙ sym there
+
+  -- another in its place
+  pub one_written : (at : ℕ) (after : Vec (Known A) A) (one : Known A) → at < length (in_run (get_or runs r run)) → in_run after ≡ set (in_run run) at one
+      → (in_runs (set runs r after) ≡ set (in_runs runs) (length (in_runs (take r runs)) + at) one) × (NoneEmpty runs → NoneEmpty (set runs r after))
+  one_written at after one lt same =
+      let lt_here : at < length (in_run run) = subst (λ (v : Vec (Known A) A). at < length (in_run v)) (sym is) lt in
+      let size : length (in_run after) ≡ length (in_run run) = ap length same ∙ length-set (in_run run) at one in
+      let some : 0 < length (in_run after) = omega arith in (
+        written in_run runs r at run after one within lt (same ∙ ap (λ (v : Vec (Known A) A). set (in_run v) at one) is),
+        λ none_empty. each_set (λ (v : Vec (Known A) A). 0 < length (in_run v)) runs r after some none_empty,
+      )
+
+  -- one more at a place
+  pub one_put : (at : ℕ) (after : Vec (Known A) A) (one : Known A) → at ≤ length (in_run (get_or runs r run)) → in_run after ≡ insert (in_run run) at one
+      → (in_runs (set runs r after) ≡ insert (in_runs runs) (length (in_runs (take r runs)) + at) one) × (NoneEmpty runs → NoneEmpty (set runs r after))
+  one_put at after one le same =
+      let le_here : at ≤ length (in_run run) = subst (λ (v : Vec (Known A) A). at ≤ length (in_run v)) (sym is) le in
+      let size : length (in_run after) ≡ length (in_run run) + 1 = ap length same ∙ length-insert (in_run run) at one le_here in
+      let some : 0 < length (in_run after) = omega arith in (
+        put_in in_run runs r at run after one within le (same ∙ ap (λ (v : Vec (Known A) A). insert (in_run v) at one) is),
+        λ none_empty. each_set (λ (v : Vec (Known A) A). 0 < length (in_run v)) runs r after some none_empty,
+      )
+
+-- one in a run of its own, behind all others
+pub one_begun : {A : Type 0} (runs : List (Vec (Known A) A)) (r at : ℕ) (run : Vec (Known A) A) (one : Known A) → length runs ≤ r → at ≡ 0 → in_run run ≡ one ∷ []
+    → (in_runs (runs ++ run ∷ []) ≡ insert (in_runs runs) (length (in_runs (take r runs)) + at) one) × (NoneEmpty runs → NoneEmpty (runs ++ run ∷ []))
+one_begun {A} runs r at run one past first alone =
+    let all : take r runs ≡ runs = take_all r runs past in
+    let place : length (in_runs (take r runs)) + at ≡ length (in_runs runs) = ap (λ (l : List (Vec (Known A) A)). length (in_runs l) + at) all ∙ with_none first in
+    let size : length (in_run run) ≡ 1 = ap length alone in
+    let some : 0 < length (in_run run) = omega arith in (
+      flat_map-append in_run runs (run ∷ []) ∙ ap (λ (l : List (Known A)). in_runs runs ++ l) (append-nil (in_run run) ∙ alone)
+          ∙ sym (insert_end (in_runs runs) one) ∙ ap (λ (n : ℕ). insert (in_runs runs) n one) (sym place),
+      λ none_empty. each_push (λ (v : Vec (Known A) A). 0 < length (in_run v)) runs run some none_empty,
+    )
+  where
+    with_none : {n : ℕ} → at ≡ 0 → n + at ≡ n
+    with_none e = omega arith
+
+-- a run is cut in two
+module _ {A : Type 0} (old new : Inventory A) (place : Place) (run front behind : Vec (Known A) A) (half : ℕ) (within : place.run < length old.runs.items) (is : run ≡ get_or old.runs.items place.run run) (in_front : in_run front ≡ take half (in_run run)) (in_behind : in_run behind ≡ drop half (in_run run)) (some : 0 < half) (less : half < length (in_run run)) (le : place.at ≤ length (in_run run)) (cut : new.runs.items ≡ insert (set old.runs.items place.run front) (place.run + 1) behind) where
+  cut_is : new.runs.items ≡ insert (set old.runs.items place.run front) (suc place.run) behind
+  cut_is = cut ∙ ap (λ (n : ℕ). insert (set old.runs.items place.run front) n behind) (add-one place.run)
+
+  front_size : length (in_run front) ≡ half
+  front_size = ap length in_front ∙ length-take-le half (in_run run) (omega arith)
+
+  behind_size : length (in_run behind) ≡ length (in_run run) - half
+  behind_size = ap length in_behind ∙ length-drop half (in_run run)
+
+  same_held : held new ≡ held old
+  same_held =
+      ap in_runs cut_is
+      ∙ cut_same in_run old.runs.items place.run run front behind within
+      (ap in_run (sym is) ∙ sym (take-append-drop half (in_run run)) ∙ ap (λ (l : List (Known A)). l ++ drop half (in_run run)) (sym in_front) ∙ ap (λ (l : List (Known A)). in_run front ++ l) (sym in_behind))
+
+  runs_more : length new.runs.items ≡ suc (length old.runs.items)
+  runs_more = ap length cut_is ∙ cut_size old.runs.items place.run front behind within
+
+  none_empty_then : NoneEmpty old.runs.items → NoneEmpty new.runs.items
+  none_empty_then none_empty =
+      let a : length (in_run front) ≡ half = front_size in
+      let b : length (in_run behind) ≡ length (in_run run) - half = behind_size in
+      subst (λ (l : List (Vec (Known A) A)). NoneEmpty l) (sym cut_is)
+      (each_cut (λ (v : Vec (Known A) A). 0 < length (in_run v)) old.runs.items place.run front behind within (omega arith) (omega arith) none_empty)
+
+  cut_low : place.at ≤ half → MovesPlace old new place place
+  cut_low low =
+      let more : length new.runs.items ≡ suc (length old.runs.items) = runs_more in record {
+        same = same_held;
+        position = ap (λ (l : List (Vec (Known A) A)). length (in_runs l) + place.at) (ap (take place.run) cut_is ∙ cut_before old.runs.items place.run front behind within);
+        takes = record {
+          in_run = λ d lt.
+              let there : get_or new.runs.items place.run d ≡ front = ap (λ (l : List (Vec (Known A) A)). get_or l place.run d) cut_is ∙ cut_first old.runs.items place.run front behind d within in
+              let size : length (in_run (get_or new.runs.items place.run d)) ≡ half = ap (λ (v : Vec (Known A) A). length (in_run v)) there ∙ front_size in omega arith;
+          behind = λ past. absurd (omega arith);
+        };
+        within = omega arith;
+        none_empty = none_empty_then;
+      }
+
+  cut_high : half < place.at → MovesPlace old new place (record { run = place.run + 1; at = place.at - half })
+  cut_high high =
+      let more : length new.runs.items ≡ suc (length old.runs.items) = runs_more in
+      let fronts : take (place.run + 1) new.runs.items ≡ take place.run old.runs.items ++ front ∷ [] =
+      ap (λ (n : ℕ). take n new.runs.items) (add-one place.run) ∙ ap (take (suc place.run)) cut_is ∙ cut_front old.runs.items place.run front behind within in
+      let joined : in_runs (take place.run old.runs.items ++ front ∷ []) ≡ in_runs (take place.run old.runs.items) ++ in_run front =
+      flat_map-append in_run (take place.run old.runs.items) (front ∷ []) ∙ ap (λ (l : List (Known A)). in_runs (take place.run old.runs.items) ++ l) (append-nil (in_run front)) in
+      let size : length (in_runs (take (place.run + 1) new.runs.items)) ≡ length (in_runs (take place.run old.runs.items)) + half =
+      ap (λ (l : List (Vec (Known A) A)). length (in_runs l)) fronts ∙ ap length joined ∙ length-append (in_runs (take place.run old.runs.items)) (in_run front) ∙ ap (λ (n : ℕ). length (in_runs (take place.run old.runs.items)) + n) front_size in record {
+        same = same_held;
+        position = omega arith;
+        takes = record {
+          in_run = λ d lt.
+              let there : get_or new.runs.items (place.run + 1) d ≡ behind =
+              ap (λ (n : ℕ). get_or new.runs.items n d) (add-one place.run) ∙ ap (λ (l : List (Vec (Known A) A)). get_or l (suc place.run) d) cut_is ∙ cut_second old.runs.items place.run front behind d within in
+              let left : length (in_run (get_or new.runs.items (place.run + 1) d)) ≡ length (in_run run) - half = ap (λ (v : Vec (Known A) A). length (in_run v)) there ∙ behind_size in omega arith;
+          behind = λ past. absurd (omega arith);
+        };
+        within = omega arith;
+        none_empty = none_empty_then;
+      }
+
+  pub cut_moves : (moved : Place) → (place.at ≤ half → moved ≡ place) → (half < place.at → moved ≡ record { run = place.run + 1; at = place.at - half }) → MovesPlace old new place moved
+  cut_moves moved before past = elim (cases_lt half place.at) [
+    | inl high ↦ subst (λ (p : Place). MovesPlace old new place p) (sym (past high)) (cut_high high)
+    | inr low ↦ subst (λ (p : Place). MovesPlace old new place p) (sym (before low)) (cut_low low)
+  ]
