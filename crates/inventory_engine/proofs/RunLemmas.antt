@@ -1,19 +1,19 @@
 -- Entries in runs: what is held when one run changes or is cut, and what a search in one run tells of all.
-use Rattle.std.proofs.Common.{◌≡◌, ℕ, zero, suc, ◌+◌, ◌-◌, ◌<◌, ◌≤◌, Bool, true, false, List, [], ◌∷◌, ◌++◌, length, take, drop, get_or, set, Result, Ok, Err, ap, sym, ◌∙◌, refl, subst, arith, inl, inr, append_assoc, zero-add, add-one, drop-cons}
+use Rattle.std.proofs.Common.{◌≡◌, ℕ, zero, suc, ◌+◌, ◌-◌, ◌<◌, ◌≤◌, true, false, List, [], ◌∷◌, ◌++◌, length, take, drop, get_or, set, ap, sym, ◌∙◌, refl, subst, arith, inl, inr, append_assoc, zero-add, add-one, drop-cons}
 use Rattle.std.specs.List.{flat_map, insert}
 use Rattle.std.specs.Ordering.{is_gt, ordering_reverse}
 use Rattle.std.specs.declared.cmp.Ordering.{Ordering}
 use Rattle.std.specs.declared.cmp.Ordering.TheVariants.{Less, Equal, Greater}
 use Rattle.std.specs.declared.vec.Vec.{Vec}
 use Rattle.std.proofs.lemmas.Bool.{cases_lt}
-use Rattle.std.proofs.lemmas.List.{append-nil, get_or-append-add, get_or_append_left, get_or_default, length-append, length-drop, length-set, length-take-le, set-append_left, set-append_right, take-append-drop, take_all}
+use Rattle.std.proofs.lemmas.List.{append-nil, get_or-append-add, get_or_append_left, get_or_default, length-append, length-drop, length-set, length-take-le, set-append_left, set-append_right, take-append-drop}
 use Rattle.std.proofs.lemmas.List.Concat.{flat_map-append, get_or-flat_map}
 use Rattle.std.proofs.lemmas.List.Edits.{insert-append_left, insert-append_right, insert_end, length-insert}
 use Rattle.inventory_engine.specs.declared.inventory.Inventory.{Inventory}
 use Rattle.inventory_engine.specs.declared.inventory.Place.{Place}
 use Rattle.inventory_engine.specs.declared.known.Known.{Known}
 use Rattle.inventory_engine.specs.Sightings.{Key}
-use Rattle.inventory_engine.specs.computed.KnownTexts.{AnswersSearch, InOrder, IsAt, IsGap, key_cmp, known_key}
+use Rattle.inventory_engine.specs.computed.KnownTexts.{InOrder, IsAt, IsGap, key_cmp, known_key}
 use Rattle.inventory_engine.specs.computed.Runs.{IsRunOf, MovesPlace, NoneEmpty, begins_behind, held, in_run, in_runs}
 use Rattle.inventory_engine.proofs.KeyLemmas.{key_total, stand_as, turned}
 use Rattle.std.proofs.lemmas.Cmp.{alike_right}
@@ -234,32 +234,6 @@ module _ {A : Type 0} (runs : List (Vec (Known A) A)) (r : ℕ) (run : Vec (Know
 pub read_any : {Y : Type 0} (P : Y → Type 0) (ys : List Y) (i : ℕ) (y : Y) → i < length ys → y ≡ get_or ys i y → P y → (d : Y) → P (get_or ys i d)
 read_any P ys i y lt is p d = subst P (is ∙ get_or_default ys i y d lt) p
 
--- where there are no runs, the first place is a gap
-pub gap_of_none : {A : Type 0} (runs : List (Vec (Known A) A)) (key : Key) (r : ℕ) → IsRunOf runs key r → length runs ≤ r → IsGap (in_runs runs) key (length (in_runs (take r runs)) + 0)
-gap_of_none {A} [] key zero of past = record {
-  within = nothing;
-  below = λ i d lt. absurd (none_below i lt);
-  above = λ i d le lt. absurd (none_below i lt);
-}
-  where
-    nothing : 0 + 0 ≤ 0
-    nothing = omega arith
-
-    none_below : (i : ℕ) → i < 0 → ⊥
-    none_below i h = omega arith
-gap_of_none {A} [] key (suc r) of past = record {
-  within = nothing;
-  below = λ i d lt. absurd (none_below i lt);
-  above = λ i d le lt. absurd (none_below i lt);
-}
-  where
-    nothing : 0 + 0 ≤ 0
-    nothing = omega arith
-
-    none_below : (i : ℕ) → i < 0 → ⊥
-    none_below i h = omega arith
-gap_of_none (x ∷ runs) key r of past = let lt : r < suc (length runs) = of.within (omega arith) in absurd (omega arith)
-
 module _ {A : Type 0} (runs : List (Vec (Known A) A)) (r : ℕ) (run : Vec (Known A) A) (within : r < length runs) (is : run ≡ get_or runs r run) where
   -- the one at a place
   pub one_at : (at : ℕ) (one : Known A) → at < length (in_run (get_or runs r run)) → one ≡ get_or (in_run run) at one → (d : Known A) → get_or (in_runs runs) (length (in_runs (take r runs)) + at) d ≡ one
@@ -290,20 +264,15 @@ module _ {A : Type 0} (runs : List (Vec (Known A) A)) (r : ℕ) (run : Vec (Know
       )
 
 -- one in a run of its own, behind all others
-pub one_begun : {A : Type 0} (runs : List (Vec (Known A) A)) (r at : ℕ) (run : Vec (Known A) A) (one : Known A) → length runs ≤ r → at ≡ 0 → in_run run ≡ one ∷ []
-    → (in_runs (runs ++ run ∷ []) ≡ insert (in_runs runs) (length (in_runs (take r runs)) + at) one) × (NoneEmpty runs → NoneEmpty (runs ++ run ∷ []))
-one_begun {A} runs r at run one past first alone =
-    let all : take r runs ≡ runs = take_all r runs past in
-    let place : length (in_runs (take r runs)) + at ≡ length (in_runs runs) = ap (λ (l : List (Vec (Known A) A)). length (in_runs l) + at) all ∙ with_none first in
+pub one_begun : {A : Type 0} (runs : List (Vec (Known A) A)) (at : ℕ) (run : Vec (Known A) A) (one : Known A) → at ≡ length (in_runs runs) → in_run run ≡ one ∷ []
+    → (in_runs (runs ++ run ∷ []) ≡ insert (in_runs runs) at one) × (NoneEmpty runs → NoneEmpty (runs ++ run ∷ []))
+one_begun {A} runs at run one last alone =
     let size : length (in_run run) ≡ 1 = ap length alone in
     let some : 0 < length (in_run run) = omega arith in (
       flat_map-append in_run runs (run ∷ []) ∙ ap (λ (l : List (Known A)). in_runs runs ++ l) (append-nil (in_run run) ∙ alone)
-          ∙ sym (insert_end (in_runs runs) one) ∙ ap (λ (n : ℕ). insert (in_runs runs) n one) (sym place),
+          ∙ sym (insert_end (in_runs runs) one) ∙ ap (λ (n : ℕ). insert (in_runs runs) n one) (sym last),
       λ none_empty. each_push (λ (v : Vec (Known A) A). 0 < length (in_run v)) runs run some none_empty,
     )
-  where
-    with_none : {n : ℕ} → at ≡ 0 → n + at ≡ n
-    with_none e = omega arith
 
 -- a run is cut in two
 module _ {A : Type 0} (old new : Inventory A) (place : Place) (run front behind : Vec (Known A) A) (half : ℕ) (within : place.run < length old.runs.items) (is : run ≡ get_or old.runs.items place.run run) (in_front : in_run front ≡ take half (in_run run)) (in_behind : in_run behind ≡ drop half (in_run run)) (some : 0 < half) (less : half < length (in_run run)) (le : place.at ≤ length (in_run run)) (cut : new.runs.items ≡ insert (set old.runs.items place.run front) (place.run + 1) behind) where

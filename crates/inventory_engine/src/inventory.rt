@@ -1,7 +1,7 @@
 // What is known, in runs of entries that stand in order over all of them. No run is empty, and one that is full is cut in
 // two: so a place more moves the entries of one run behind it, and not all that are known.
 
-ghost use Rattle.std.specs.Prelude.{◌≡◌, ◌+◌, ◌-◌, ◌<◌, ◌≤◌, [], IfOk, OnOk, Vec, length, slice_index_or};
+ghost use Rattle.std.specs.Prelude.{◌≡◌, ◌+◌, ◌-◌, ◌<◌, ◌≤◌, [], false, IfOk, IsTrue, OnOk, Vec, length, slice_index_or};
 ghost use Rattle.inventory_engine.specs.computed.KnownTexts.{known_text};
 ghost use Rattle.inventory_engine.specs.computed.Runs.{AnswersPlace, IsPlace, IsRunOf, MovesPlace, PutsOne, TakesPlace, WritesText, begins_behind as stands_behind, held, in_run, position_of};
 
@@ -122,10 +122,27 @@ impl<A: Allocator + Copy> Inventory<A> {
         self.runs[place.run][place.at].text = text;
     }
 
+    // Whether a place is behind all that is known, and not in a run that has room: then one there begins a run, so that those
+    // that come in order leave runs that are full.
+    fn is_past(&self, place: Place) -> bool
+        requires { TakesPlace self.now place }
+        ensures past { IsTrue result → position_of self.now place ≡ length (held self.now) }
+        ensures in_runs { result ≡ false → place.run < length self.now.runs.items }
+    {
+        let runs = self.runs.len();
+        if place.run >= runs {
+            return true;
+        }
+        if runs - place.run > 1 {
+            return false;
+        }
+        let size = self.runs[place.run].len();
+        size <= place.at && full(runs) <= size
+    }
+
     // Puts one into a run of its own, behind all others.
     fn begin(&mut self, alloc: A, place: Place, one: Known<A>) -> Result<(), AllocError>
-        requires behind { length self.old.runs.items ≤ place.run }
-        requires first { place.at ≡ 0 }
+        requires { position_of self.old place ≡ length (held self.old) }
         ensures { OnOk result (PutsOne self.old self.new place one) }
     {
         let mut run = Vec::new(alloc);
@@ -167,7 +184,7 @@ impl<A: Allocator + Copy> Inventory<A> {
         requires { TakesPlace self.old place }
         ensures { OnOk result (PutsOne self.old self.new place one) }
     {
-        if place.run >= self.runs.len() {
+        if self.is_past(place) {
             return self.begin(alloc, place, one);
         }
         let place = self.with_room(place)?;

@@ -1,7 +1,7 @@
 // The pieces of which the text of a sighting is made. It is compared with a text that is held piece by piece, so that
 // a sighting of which nothing is written asks for no memory.
 
-ghost use Rattle.std.specs.Prelude.{◌≡◌, IfOk};
+ghost use Rattle.std.specs.Prelude.{◌≡◌, ◌∷◌, [], IfOk};
 ghost use Rattle.std.specs.List.{flat_map};
 ghost use Rattle.std.specs.Str.{bytes_eq};
 ghost use Rattle.std.specs.Fmt.{decimal};
@@ -19,6 +19,8 @@ use text_core::pieces::{put_decimal, put_four_digits, put_quoted};
 /// A piece of a text.
 #[derive(Clone, Copy)]
 pub enum Piece<'a> {
+    /// This octet.
+    Octet(u8),
     /// These octets.
     Octets(&'a [u8]),
     /// A text between quotation marks.
@@ -36,6 +38,10 @@ fn put_piece<A: Allocator>(out: &mut Vec<u8, A>, piece: &Piece<'_>) -> Result<()
     ensures { AppendsText result out.old.items out.new.items (piece_text piece.now) }
 {
     match piece {
+        Piece::Octet(octet) => {
+            out.push(*octet)?;
+            Ok(())
+        }
         Piece::Octets(octets) => out.extend_from_slice(octets),
         Piece::Quoted(text) => put_quoted(out, text),
         Piece::Optional(text) => put_optional(out, b"", *text),
@@ -73,6 +79,16 @@ fn after<'a>(text: &'a [u8], front: &[u8]) -> Option<&'a [u8]>
     text.strip_prefix(front)
 }
 
+// What follows this octet.
+fn after_one(text: &[u8], octet: u8) -> Option<&[u8]>
+    ensures { IsAfter text.now (octet ∷ []) result }
+{
+    match text.split_first() {
+        Some((first, rest)) if *first == octet => Some(rest),
+        _ => None,
+    }
+}
+
 // What follows a number in decimal.
 fn after_decimal(text: &[u8], number: u64) -> Option<&[u8]>
     ensures { IsAfter text.now (decimal number) result }
@@ -99,7 +115,7 @@ fn after_octet(text: &[u8], octet: u8) -> Option<&[u8]>
 {
     match octet {
         b'"' | b'\\' => after(text, &[b'\\', octet]),
-        _ => after(text, &[octet]),
+        _ => after_one(text, octet),
     }
 }
 
@@ -121,9 +137,9 @@ fn after_escaped<'a>(text: &'a [u8], octets: &[u8]) -> Option<&'a [u8]>
 fn after_quoted<'a>(text: &'a [u8], octets: &[u8]) -> Option<&'a [u8]>
     ensures { IsAfter text.now (quoted octets.now) result }
 {
-    let opened = after(text, b"\"")?;
+    let opened = after_one(text, b'"')?;
     let behind = after_escaped(opened, octets)?;
-    after(behind, b"\"")
+    after_one(behind, b'"')
 }
 
 // What follows a text between quotation marks, or a dash where it is absent.
@@ -132,7 +148,7 @@ fn after_optional<'a>(text: &'a [u8], octets: Option<&[u8]>) -> Option<&'a [u8]>
 {
     match octets {
         Some(octets) => after_quoted(text, octets),
-        None => after(text, b"-"),
+        None => after_one(text, b'-'),
     }
 }
 
@@ -141,6 +157,7 @@ fn after_piece<'a>(text: &'a [u8], piece: &Piece<'_>) -> Option<&'a [u8]>
     ensures { IsAfter text.now (piece_text piece.now) result }
 {
     match piece {
+        Piece::Octet(octet) => after_one(text, *octet),
         Piece::Octets(octets) => after(text, octets),
         Piece::Quoted(octets) => after_quoted(text, octets),
         Piece::Optional(octets) => after_optional(text, *octets),

@@ -94,11 +94,32 @@ fn is_field_octet(octet: u8) -> bool
     octet >= 0x20 && octet <= 0x7E && octet != b','
 }
 
-// Whether a text can.
+// Whether a text can. The octets are passed eight at a time, which the compiler looks at together.
 fn is_field(text: &[u8]) -> bool
     ensures { result ≡ field_is text.now }
 {
-    text.iter().all(|octet| is_field_octet(*octet))
+    let mut others = text;
+    'eights: while 8 <= others.len() {
+        let (eight, rest) = others.split_at(8);
+        if !are_field_octets(eight) {
+            return false;
+        }
+        others = rest;
+    }
+    are_field_octets(others)
+}
+
+// Whether each of these octets can. It looks at each, also behind one that cannot, so that the compiler compares several
+// octets at once.
+#[inline(always)]
+fn are_field_octets(octets: &[u8]) -> bool
+    ensures { result ≡ field_is octets.now }
+{
+    let mut can_stand = true;
+    for octet in octets {
+        can_stand &= is_field_octet(*octet);
+    }
+    can_stand
 }
 
 // A text, which is empty where it is absent.
@@ -124,15 +145,15 @@ fn block_pieces<'a>(app_id: u16, goose: &GooseView<'a>) -> [Piece<'a>; 11]
 {
     [
         Piece::Digits(app_id),
-        Piece::Octets(b","),
+        Piece::Octet(b','),
         Piece::Octets(goose.gocb_ref),
-        Piece::Octets(b","),
+        Piece::Octet(b','),
         Piece::Octets(goose.dat_set),
-        Piece::Octets(b","),
+        Piece::Octet(b','),
         Piece::Octets(present(goose.go_id)),
-        Piece::Octets(b","),
+        Piece::Octet(b','),
         Piece::Decimal(u64::from(goose.conf_rev)),
-        Piece::Octets(b","),
+        Piece::Octet(b','),
         Piece::Decimal(goose.entries as u64),
     ]
 }

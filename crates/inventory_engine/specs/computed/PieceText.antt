@@ -1,5 +1,5 @@
 -- The text of a piece, and what follows a text at the start of another.
-use Rattle.std.specs.Prelude.{◌≡◌, ℕ, List, ◌++◌, Option, Some, None}
+use Rattle.std.specs.Prelude.{◌≡◌, ℕ, List, [], ◌∷◌, ◌++◌, Option, Some, None}
 use Rattle.std.specs.Borrow.{Bor}
 use Rattle.std.specs.Fmt.{decimal}
 use Rattle.pdu_core.specs.Views.{octets_if}
@@ -9,6 +9,7 @@ use Rattle.inventory_engine.specs.declared.pieces.Piece.TheVariants as piece
 
 -- the text that a piece stands for
 abbrev pub piece_text : Piece → List ℕ
+piece_text (piece.Octet octet) = octet ∷ []
 piece_text (piece.Octets octets) = octets.now
 piece_text (piece.Quoted text) = quoted text.now
 piece_text (piece.Optional text) = quoted_or_dash (octets_if text)

@@ -1,5 +1,5 @@
 -- The runs in which entries are held.
-use Rattle.std.specs.Prelude.{◌≡◌, ℕ, ◌+◌, ◌<◌, ◌≤◌, List, [], ◌∷◌, length, take, slice_index_or, slice_set, Bool, true, false, Option, Result, Ok, Err}
+use Rattle.std.specs.Prelude.{◌≡◌, ℕ, ◌+◌, ◌<◌, ◌≤◌, List, [], ◌∷◌, length, take, slice_index_or, slice_set, Bool, true, false, Result, Ok, Err}
 use Rattle.std.specs.List.{flat_map, insert}
 use Rattle.std.specs.Ordering.{is_gt}
 use Rattle.std.specs.declared.vec.Vec.{Vec}

@@ -7,5 +7,5 @@ use Rattle.inventory_engine.proofs.pieces.after_quoted.Goals as goal
 pub returns : goal.returns
 returns c =
     let inside = flat_map escaped c.args.octets.now in
-    after_both c.args.text.now (34 ∷ []) (inside ++ 34 ∷ []) c.in_ok-opened.opened.now c.after-2.result c.in_ok-opened.ensures
-    (after_both c.in_ok-opened.opened.now inside (34 ∷ []) c.in_ok-behind.behind.now c.after-2.result c.in_ok-behind.ensures c.after-2.ensures)
+    after_both c.args.text.now (34 ∷ []) (inside ++ 34 ∷ []) c.in_ok-opened.opened.now c.after_one-2.result c.in_ok-opened.ensures
+    (after_both c.in_ok-opened.opened.now inside (34 ∷ []) c.in_ok-behind.behind.now c.after_one-2.result c.in_ok-behind.ensures c.after_one-2.ensures)

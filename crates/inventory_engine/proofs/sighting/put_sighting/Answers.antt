@@ -4,7 +4,7 @@ use Rattle.inventory_engine.specs.declared.known.Known.{Known}
 use Rattle.inventory_engine.specs.computed.PieceText.{piece_text}
 use Rattle.inventory_engine.specs.computed.Runs.{PutsOne, WritesText, position_of}
 use Rattle.inventory_engine.specs.computed.BlocksStep.{AppendsLines}
-use Rattle.inventory_engine.specs.Sightings.{Sighting, key_of}
+use Rattle.inventory_engine.specs.Sightings.{Sighting}
 use Rattle.inventory_engine.specs.BlocksText.{sighting_line}
 use Rattle.inventory_engine.proofs.Appending.{compared, on_error, on_success, said_changed, said_first, said_same, wanted_changed, wanted_first}
 use Rattle.inventory_engine.proofs.sighting.put_sighting.Goals as goal

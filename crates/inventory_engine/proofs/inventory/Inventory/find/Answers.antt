@@ -1,4 +1,4 @@
-use Rattle.std.proofs.Common.{List, ◌<◌, ◌≤◌, length, ap, arith, subst}
+use Rattle.std.proofs.Common.{List, ◌<◌, ◌≤◌, length, arith, subst}
 use Rattle.std.specs.declared.vec.Vec.{Vec}
 use Rattle.inventory_engine.specs.declared.known.Known.{Known}
 use Rattle.inventory_engine.specs.computed.KnownTexts.{InOrder, IsAt, IsGap}
