@@ -94,19 +94,24 @@ fn is_field_octet(octet: u8) -> bool
     octet >= 0x20 && octet <= 0x7E && octet != b','
 }
 
-// Whether a text can. The octets are passed eight at a time, which the compiler looks at together.
+// Whether a text can. A long one is passed eight octets at a time, which the compiler looks at together; the last eight may
+// be some of those before them.
 fn is_field(text: &[u8]) -> bool
     ensures { result ≡ field_is text.now }
 {
+    if text.len() < 8 {
+        return text.iter().all(|octet| is_field_octet(*octet));
+    }
+    let (_front, last) = text.split_at(text.len() - 8);
     let mut others = text;
-    'eights: while 8 <= others.len() {
+    'eights: while 8 < others.len() {
         let (eight, rest) = others.split_at(8);
         if !are_field_octets(eight) {
             return false;
         }
         others = rest;
     }
-    are_field_octets(others)
+    are_field_octets(last)
 }
 
 // Whether each of these octets can. It looks at each, also behind one that cannot, so that the compiler compares several
