@@ -63,11 +63,15 @@ pub fn put_pieces<A: Allocator>(
     Ok(())
 }
 
-/// The text of pieces, in memory of its own.
-pub fn text_of<A: Allocator>(alloc: A, pieces: &[Piece<'_>]) -> Result<Octets<A>, AllocError>
+/// The text of pieces, in memory of its own, which is asked for at once where it has this size.
+pub fn text_of<A: Allocator>(
+    alloc: A,
+    pieces: &[Piece<'_>],
+    size: usize,
+) -> Result<Octets<A>, AllocError>
     ensures { IfOk result (λ text. text ≡ flat_map piece_text pieces.now) }
 {
-    let mut text = Vec::new(alloc);
+    let mut text = Vec::with_capacity(alloc, size)?;
     put_pieces(&mut text, pieces)?;
     Ok(Octets::from(text))
 }

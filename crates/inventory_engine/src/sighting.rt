@@ -40,19 +40,22 @@ fn changed(app_id: Option<u16>) -> &'static [u8]
     }
 }
 
-// Appends the line of a sighting.
+// Appends the line of a sighting, and gives the size of its text.
 fn put_line<A: Allocator>(
     line: &mut Vec<u8, A>,
     number: u64,
     word: &[u8],
     pieces: &[Piece<'_>],
-) -> Result<(), AllocError>
+) -> Result<usize, AllocError>
     ensures { AppendsText result line.old.items line.new.items (sighting_line number word.now (flat_map piece_text pieces.now)) }
 {
     put_decimal(line, number)?;
     line.extend_from_slice(word)?;
+    let start = line.len();
     put_pieces(line, pieces)?;
-    line.extend_from_slice(b"\n")
+    let size = line.len().saturating_sub(start);
+    line.extend_from_slice(b"\n")?;
+    Ok(size)
 }
 
 // Appends what is written of a sighting, and keeps its text.
@@ -74,14 +77,14 @@ fn put_sighting<A: Allocator + Copy>(
             if is_text(known.text(place), pieces) {
                 return Ok(());
             }
-            put_line(line, number, changed(app_id), pieces)?;
-            known.set_text(place, text_of(alloc, pieces)?);
+            let size = put_line(line, number, changed(app_id), pieces)?;
+            known.set_text(place, text_of(alloc, pieces, size)?);
             Ok(())
         }
         Err(place) => {
-            put_line(line, number, first(app_id), pieces)?;
+            let size = put_line(line, number, first(app_id), pieces)?;
             let name = Octets::try_from_slice(alloc, name)?;
-            let text = text_of(alloc, pieces)?;
+            let text = text_of(alloc, pieces, size)?;
             known.insert(alloc, place, Known { app_id, name, text })
         }
     }

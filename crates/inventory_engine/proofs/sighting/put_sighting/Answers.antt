@@ -17,8 +17,8 @@ returns-then-is_text-clause-written g c =
     said_same c.args.number s c.args.known.now at one c.args.line.now.items c.in-Ok.ensures.1
     (compared c.args.known.now at one c.text.result.now s.text c.is_text.result true (c.text.ensures one) c.is_text.ensures c.if-is_text.true)
 
-pub returns-in_err-put_line-in-Ok-clause-wants : goal.returns-in_err-put_line-in-Ok-clause-wants
-returns-in_err-put_line-in-Ok-clause-wants g c =
+pub returns-in_err-size-in-Ok-clause-wants : goal.returns-in_err-size-in-Ok-clause-wants
+returns-in_err-size-in-Ok-clause-wants g c =
     let s : Sighting = record { app_id = c.args.app_id; name = c.args.name.now; text = flat_map piece_text c.args.pieces.now } in
     let at = position_of c.args.known.now c.in-Ok.place in
     let one : Known g.row.A.Denot = record { app_id = c.args.app_id; name = c.args.name.now; text = s.text } in
@@ -39,10 +39,10 @@ returns-in_ok-text_of-in-Ok-clause-written g c =
     let at = position_of c.args.known.now c.in-Ok.place in
     said_changed c.args.number s c.args.known.now c.in-Ok.place c.set_text.new.self c.args.line.now.items c.put_line.new.line.items c.in-Ok.ensures.1
     (λ d. compared c.args.known.now at d c.text.result.now s.text c.is_text.result false (c.text.ensures d) c.is_text.ensures c.if-is_text.false) (subst (λ (t : List ℕ). WritesText c.args.known.now c.set_text.new.self c.in-Ok.place t) c.in_ok-text_of-in-Ok.ensures c.set_text.ensures)
-    (c.in_ok-put_line-in-Ok.ensures ∙ ap (λ (w : List ℕ). c.args.line.now.items ++ sighting_line c.args.number w s.text) c.changed.ensures)
+    (c.in_ok-size-in-Ok.ensures ∙ ap (λ (w : List ℕ). c.args.line.now.items ++ sighting_line c.args.number w s.text) c.changed.ensures)
 
-pub returns-in_err-put_line-in-Err-clause-wants : goal.returns-in_err-put_line-in-Err-clause-wants
-returns-in_err-put_line-in-Err-clause-wants g c =
+pub returns-in_err-size-in-Err-clause-wants : goal.returns-in_err-size-in-Err-clause-wants
+returns-in_err-size-in-Err-clause-wants g c =
     let s : Sighting = record { app_id = c.args.app_id; name = c.args.name.now; text = flat_map piece_text c.args.pieces.now } in
     on_error _ _ (wanted_first c.args.number s c.args.known.now (position_of c.args.known.now c.in-Err.place) c.in-Err.ensures.1)
 
@@ -70,5 +70,5 @@ returns-in_ok-text-in-Err-clause-written g c =
     on_success c.insert.result (PutsOne known after c.in-Err.place one) (AppendsLines c.args.number (s ∷ []) known after c.args.line.now.items c.put_line-in-Err.new.line.items)
     (λ puts. said_first c.args.number s known c.in-Err.place one after c.args.line.now.items c.put_line-in-Err.new.line.items c.in-Err.ensures.1
     (ap (λ (o : List ℕ). (c.args.app_id, o)) c.in_ok-name-in-Err.ensures.value) c.in_ok-text-in-Err.ensures puts
-    (c.in_ok-put_line-in-Err.ensures ∙ ap (λ (w : List ℕ). c.args.line.now.items ++ sighting_line c.args.number w s.text) c.first.ensures))
+    (c.in_ok-size-in-Err.ensures ∙ ap (λ (w : List ℕ). c.args.line.now.items ++ sighting_line c.args.number w s.text) c.first.ensures))
     c.insert.ensures
