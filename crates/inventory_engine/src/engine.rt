@@ -67,8 +67,8 @@ impl<A: Allocator + Copy> Engine<A> for Listing<A> {
 /// The reader is Open and the writer has not failed. The text is that of the octets that the reader gave: whole at
 /// `Done`, `InputFault` and `ReadFault`, a prefix of it at `WriteFault`, and whole lines of the earlier events at
 /// `Memory`, which is for a frame or a line to be written, never for a frame's control block or stream that is
-/// configured as before. What is held grows with the control blocks and streams alone; a frame is looked up in so many
-/// steps as their number has binary digits.
+/// configured as before. What is held grows with the control blocks and streams alone; a frame is looked up in about so
+/// many steps as their number has binary digits.
 #[inline(never)]
 pub fn blocks<A: Allocator + Copy, R: Source, W: Sink>(
     alloc: A,
