@@ -32,7 +32,7 @@ use Rattle.list_core.specs.declared.line_rules.LineError.TheVariants as line
 use Rattle.engine_core.specs.computed.EngineStep.{Takes}
 use Rattle.engine_core.specs.EngineText.{step_text}
 use Rattle.exchange_engines.specs.PublishText.{IsCallText, IsPublishText, IsScriptSound, answer_text, item_of_request, item_of_call, items_of_lines, script_cause, script_of}
-use Rattle.exchange_engines.specs.computed.PublishStep.{Progress, nothing, setting_up, calling, Holds, Runs, TakesCall, TakesItem, call_at, call_written, called, is_good, item_written, next_progress, progress_after, progress_from, publish_text, setup_cause, state_after_calls, text_unless_refused, unless_unsound, with_step}
+use Rattle.exchange_engines.specs.computed.PublishStep.{Progress, nothing, setting_up, calling, Holds, Runs, RunsPublisher, TakesCall, TakesItem, call_at, call_written, called, is_good, item_written, next_progress, progress_after, progress_from, publish_text, setup_cause, state_after_calls, text_unless_refused, unless_unsound, with_step}
 
 -- ---- how far a script has come
 
@@ -251,13 +251,22 @@ polled_there {A} p calls m octets sound published n none =
     let same = answer_one p (trace_of_calls (calls ++ c ∷ [])) (length calls) (Some published.published) _ published.publishes (answered p calls c sound) in
     let h = ap (answer_text {A = A} (greatest_call_moment (calls ++ c ∷ []))) same ∙ none in cc
 
--- a poll that is not taken leaves the item so
-pub poll_fails : {A : Type 0} (g : Progress A) (p : Setup A) (calls : List Call) (m : ℕ) (e : LineError ScriptCause) (old new : List ℕ) (s : PublisherState A) →
-    call_at g (call m Polled) ≡ call_written p calls (call m Polled) → TakesCall p calls (call m Polled) (Err e) old new s → TakesItem g (item.Poll m) (Err e) old new
-poll_fails g p calls m (line.Cause why) old new s same t = same ∙ t
-poll_fails {A} g p calls m (line.Memory x) old new s same t = λ n none. t n (ap (step_text (publish_text {A = A}) n) (sym same) ∙ none)
+-- a poll of a publisher that runs is the item's
+pub poll_is : {A : Type 0} (g : Progress A) (held s : PublisherState A) (m : ℕ) (r : Result (Unit {0}) (LineError ScriptCause)) (old new : List ℕ) → RunsPublisher g held →
+    ((p : Setup A) (calls : List Call) → IsScriptSound p → PublisherStandsAfter p calls held → TakesCall p calls (call m Polled) r old new s) → TakesItem g (item.Poll m) r (stage.Running s) old new
+poll_is g held s m (Ok u) old new w takes =
+    let t = takes w.p w.calls w.is_sound w.stands in
+    record {
+      text = t.text;
+      has_text = w.writes (call m Polled) ∙ t.has_text;
+      appended = t.appended;
+      holds = subst (Holds (stage.Running s)) (sym (w.goes_on (call m Polled))) (w.is_sound, t.stands_after);
+    }
+poll_is g held s m (Err (line.Cause why)) old new w takes = w.writes (call m Polled) ∙ takes w.p w.calls w.is_sound w.stands
+poll_is {A} g held s m (Err (line.Memory x)) old new w takes = λ n none.
+    takes w.p w.calls w.is_sound w.stands n (ap (step_text (publish_text {A = A}) n) (sym (w.writes (call m Polled))) ∙ none)
 
 -- an item was taken, and the engine stands after it
-pub publishes : {A : Type 0} (before : List (ℕ × ScriptItem A)) (n : ℕ) (i : ScriptItem A) (s : Stage A) (old new : List ℕ) → TakesItem (progress_after before) i (Ok s) old new →
+pub publishes : {A : Type 0} (before : List (ℕ × ScriptItem A)) (n : ℕ) (i : ScriptItem A) (s : Stage A) (old new : List ℕ) → TakesItem (progress_after before) i (Ok tt) s old new →
     Takes publish_text (λ (items : List (ℕ × ScriptItem A)). Holds s (progress_after items)) before (n, i) (Ok false) old new
 publishes before n i s old new t = record { text = t.text; has_text = t.has_text; appended = t.appended; stands_after = subst (Holds s) (sym (progress-push before (n, i))) t.holds }

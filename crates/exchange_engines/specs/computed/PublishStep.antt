@@ -132,10 +132,10 @@ pub record ScriptItemTaken {A : Type 0} (g : Progress A) (i : ScriptItem A) (s :
   pub holds : Holds s (next_progress i g)
 
 -- an item was taken after this; or refused; or memory was wanted, where there is something to write
-abbrev pub TakesItem : {A : Type 0} → Progress A → ScriptItem A → Result (Stage A) (LineError ScriptCause) → List ℕ → List ℕ → Type 0
-TakesItem g i (Ok s) old new = ScriptItemTaken g i s old new
-TakesItem g i (Err (line.Cause why)) old new = item_written i g ≡ Err why
-TakesItem {A} g i (Err (line.Memory e)) old new = (n : ℕ) → step_text (publish_text {A = A}) n (item_written i g) ≡ [] → ⊥
+abbrev pub TakesItem : {A : Type 0} → Progress A → ScriptItem A → Result (Unit {0}) (LineError ScriptCause) → Stage A → List ℕ → List ℕ → Type 0
+TakesItem g i (Ok u) s old new = ScriptItemTaken g i s old new
+TakesItem g i (Err (line.Cause why)) s old new = item_written i g ≡ Err why
+TakesItem {A} g i (Err (line.Memory e)) s old new = (n : ℕ) → step_text (publish_text {A = A}) n (item_written i g) ≡ [] → ⊥
 
 -- a call was taken after these: its text was appended, and the publisher stands after it too
 pub record CallTaken {A : Type 0} (p : Setup A) (calls : List Call) (c : Call) (old new : List ℕ) (s : PublisherState A) : Type 0 where
@@ -163,3 +163,13 @@ pub record RunsPublisher {A : Type 0} (g : Progress A) (s : PublisherState A) : 
 abbrev pub Runs : {A : Type 0} → Progress A → Result (PublisherState A) ScriptCause → Type 0
 Runs g (Ok s) = RunsPublisher g s
 Runs g (Err why) = (c : Call) → call_at g c ≡ Err why
+
+-- the publisher runs after this, where the engine holds it
+abbrev pub IsRunning : {A : Type 0} → Progress A → Stage A → Type 0
+IsRunning g (stage.Running publisher) = RunsPublisher g publisher
+IsRunning g _ = ⊥
+
+-- the engine holds the publisher that runs after this, or none runs
+abbrev pub Begins : {A : Type 0} → Progress A → Result (Unit {0}) ScriptCause → Stage A → Type 0
+Begins g (Ok u) s = IsRunning g s
+Begins g (Err why) s = (c : Call) → call_at g c ≡ Err why

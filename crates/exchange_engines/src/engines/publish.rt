@@ -10,7 +10,7 @@ ghost use Rattle.script_core.specs.declared.script.ScriptLines.TheVariants.{Firs
 ghost use Rattle.engine_core.specs.Ending.{is_write_fault};
 ghost use Rattle.engine_core.specs.Run.{WritesSome};
 ghost use Rattle.exchange_engines.specs.PublishText.{IsPublishText, IsScriptSound, script_cause};
-ghost use Rattle.exchange_engines.specs.computed.PublishStep.{Holds, Progress, Runs, TakesCall, TakesItem, progress_after, publish_text, setup_cause};
+ghost use Rattle.exchange_engines.specs.computed.PublishStep.{Begins, Holds, Progress, Runs, TakesCall, TakesItem, progress_after, publish_text, setup_cause};
 ghost use Rattle.script_core.specs.Script.{script_rules};
 
 use crate::texts::script::put_script_fault_line;
@@ -80,6 +80,31 @@ fn running<A: Allocator>(stage: Stage<A>) -> Result<Publisher<A>, ScriptCause>
     }
 }
 
+// Has the publisher run from the first call on. One that runs stays where it stands: it is too large to be moved at each
+// call.
+fn begin<A: Allocator>(stage: &mut Stage<A>) -> Result<(), ScriptCause>
+    ensures { (g : Progress A) → Holds stage.old g → Begins g result stage.new }
+{
+    match stage {
+        Stage::Running(_) => Ok(()),
+        _ => set_running(stage),
+    }
+}
+
+// The same of one that does not run yet.
+#[inline(never)]
+fn set_running<A: Allocator>(stage: &mut Stage<A>) -> Result<(), ScriptCause>
+    ensures { (g : Progress A) → Holds stage.old g → Begins g result stage.new }
+{
+    match running(mem::replace(stage, Stage::Start)) {
+        Ok(publisher) => {
+            *stage = Stage::Running(publisher);
+            Ok(())
+        }
+        Err(cause) => Err(cause),
+    }
+}
+
 // Changes the data set, and appends the line of the frame that this gives.
 fn put_change<A: Allocator>(
     publisher: &mut Publisher<A>,
@@ -123,25 +148,28 @@ fn put_poll<A: Allocator>(
 
 // Takes the control line.
 fn take_control<A: Allocator>(
-    stage: Stage<A>,
+    stage: &mut Stage<A>,
     control: Control<A>,
     first: u32,
-) -> Result<Stage<A>, LineError<ScriptCause>>
-    ensures { (g : Progress A) → Holds stage g → (text : List ℕ) → TakesItem g (SpecItem.Control control first) result text text }
+) -> Result<(), LineError<ScriptCause>>
+    ensures { (g : Progress A) → Holds stage.old g → (text : List ℕ) → TakesItem g (SpecItem.Control control first) result stage.new text text }
 {
     match stage {
-        Stage::Start => Ok(Stage::Setup(control, first, ArrayVec::new())),
+        Stage::Start => {
+            *stage = Stage::Setup(control, first, ArrayVec::new());
+            Ok(())
+        }
         _ => Err(LineError::Cause(ScriptCause::ScriptForm)),
     }
 }
 
 // Takes a step of the table.
-fn take_step<A: Allocator>(stage: Stage<A>, step: Step) -> Result<Stage<A>, LineError<ScriptCause>>
-    ensures { (g : Progress A) → Holds stage g → (text : List ℕ) → TakesItem g (SpecItem.Step step) result text text }
+fn take_step<A: Allocator>(stage: &mut Stage<A>, step: Step) -> Result<(), LineError<ScriptCause>>
+    ensures { (g : Progress A) → Holds stage.old g → (text : List ℕ) → TakesItem g (SpecItem.Step step) result stage.new text text }
 {
     match stage {
-        Stage::Setup(control, first, mut steps) => match steps.try_push(step) {
-            Ok(()) => Ok(Stage::Setup(control, first, steps)),
+        Stage::Setup(_, _, steps) => match steps.try_push(step) {
+            Ok(()) => Ok(()),
             Err(_) => Err(LineError::Cause(ScriptCause::StepCount)),
         },
         _ => Err(LineError::Cause(ScriptCause::ScriptForm)),
@@ -150,49 +178,49 @@ fn take_step<A: Allocator>(stage: Stage<A>, step: Step) -> Result<Stage<A>, Line
 
 // Takes a change, and appends what it writes.
 fn take_change<A: Allocator>(
-    stage: Stage<A>,
+    stage: &mut Stage<A>,
     line: &mut Vec<u8, A>,
     moment: u64,
     t: UtcTime,
     values: ValueList<A>,
-) -> Result<Stage<A>, LineError<ScriptCause>>
-    ensures item { (g : Progress A) → Holds stage g → TakesItem g (SpecItem.Change moment t values) result line.old.items line.new.items }
+) -> Result<(), LineError<ScriptCause>>
+    ensures item { (g : Progress A) → Holds stage.old g → TakesItem g (SpecItem.Change moment t values) result stage.new line.old.items line.new.items }
     ensures kept { OnErr result (take (length line.old.items) line.new.items ≡ line.old.items) }
 {
-    match running(stage) {
-        Ok(mut publisher) => match put_change(&mut publisher, line, moment, t, values) {
-            Ok(()) => Ok(Stage::Running(publisher)),
-            Err(error) => Err(error),
-        },
-        Err(cause) => Err(LineError::Cause(cause)),
+    if let Err(cause) = begin(stage) {
+        return Err(LineError::Cause(cause));
+    }
+    match stage {
+        Stage::Running(publisher) => put_change(publisher, line, moment, t, values),
+        _ => Err(LineError::Cause(ScriptCause::ScriptForm)),
     }
 }
 
 // Takes a poll, and appends what it writes.
 fn take_poll<A: Allocator>(
-    stage: Stage<A>,
+    stage: &mut Stage<A>,
     line: &mut Vec<u8, A>,
     moment: u64,
-) -> Result<Stage<A>, LineError<ScriptCause>>
-    ensures item { (g : Progress A) → Holds stage g → TakesItem g (SpecItem.Poll moment) result line.old.items line.new.items }
+) -> Result<(), LineError<ScriptCause>>
+    ensures item { (g : Progress A) → Holds stage.old g → TakesItem g (SpecItem.Poll moment) result stage.new line.old.items line.new.items }
     ensures kept { OnErr result (take (length line.old.items) line.new.items ≡ line.old.items) }
 {
-    match running(stage) {
-        Ok(mut publisher) => match put_poll(&mut publisher, line, moment) {
-            Ok(()) => Ok(Stage::Running(publisher)),
-            Err(error) => Err(error),
-        },
-        Err(cause) => Err(LineError::Cause(cause)),
+    if let Err(cause) = begin(stage) {
+        return Err(LineError::Cause(cause));
+    }
+    match stage {
+        Stage::Running(publisher) => put_poll(publisher, line, moment),
+        _ => Err(LineError::Cause(ScriptCause::ScriptForm)),
     }
 }
 
 // Takes an item, and appends what it writes.
 fn take_item<A: Allocator>(
-    stage: Stage<A>,
+    stage: &mut Stage<A>,
     line: &mut Vec<u8, A>,
     item: ScriptItem<A>,
-) -> Result<Stage<A>, LineError<ScriptCause>>
-    ensures item { (g : Progress A) → Holds stage g → TakesItem g item result line.old.items line.new.items }
+) -> Result<(), LineError<ScriptCause>>
+    ensures item { (g : Progress A) → Holds stage.old g → TakesItem g item result stage.new line.old.items line.new.items }
     ensures kept { OnErr result (take (length line.old.items) line.new.items ≡ line.old.items) }
 {
     match item {
@@ -225,12 +253,8 @@ impl<A: Allocator> Engine<A> for Publishing<A> {
         item: ScriptItem<A>,
         _spare: &mut Option<ScriptItem<A>>,
     ) -> Result<bool, LineError<ScriptCause>> {
-        let stage = mem::replace(&mut self.stage, Stage::Start);
-        match take_item(stage, line, item) {
-            Ok(stage) => {
-                self.stage = stage;
-                Ok(false)
-            }
+        match take_item(&mut self.stage, line, item) {
+            Ok(()) => Ok(false),
             Err(error) => Err(error),
         }
     }

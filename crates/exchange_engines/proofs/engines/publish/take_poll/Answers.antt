@@ -1,8 +1,7 @@
-use Rattle.publish_core.specs.Run.{Polled, call}
-use Rattle.exchange_engines.proofs.PublishLemmas.{poll_fails}
+use Rattle.exchange_engines.proofs.PublishLemmas.{poll_is}
 use Rattle.exchange_engines.proofs.engines.publish.take_poll.Goals as goal
 
-pub returns-in-Err-put_poll-clause-item : goal.returns-in-Err-put_poll-clause-item
-returns-in-Err-put_poll-clause-item g c = λ progress holds.
-    let r = c.in-Ok.ensures progress holds in
-    poll_fails progress r.p r.calls c.args.moment _ _ _ _ (r.writes (call c.args.moment Polled)) (c.in-Err-put_poll.ensures.call r.p r.calls r.is_sound r.stands)
+pub returns-in-Running-clause-item : goal.returns-in-Running-clause-item
+returns-in-Running-clause-item g c = λ progress holds.
+    let runs = rw c.in-Running.is at c.in_default.ensures progress holds in
+    poll_is progress c.in-Running.publisher c.put_poll.new.publisher c.args.moment c.put_poll.result c.args.line.now.items c.put_poll.new.line.items runs c.put_poll.ensures.call

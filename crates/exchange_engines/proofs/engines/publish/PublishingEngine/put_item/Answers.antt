@@ -1,10 +1,7 @@
-use Rattle.std.proofs.Common.{subst, sym}
-use Rattle.exchange_engines.specs.declared.engines.publish.Stage.{Stage}
-use Rattle.exchange_engines.specs.computed.PublishStep.{Holds, progress_after}
+use Rattle.exchange_engines.specs.computed.PublishStep.{progress_after}
 use Rattle.exchange_engines.proofs.PublishLemmas.{publishes}
 use Rattle.exchange_engines.proofs.engines.publish.PublishingEngine.put_item.Goals as goal
 
 pub returns-in-Ok-clause-step : goal.returns-in-Ok-clause-step
 returns-in-Ok-clause-step g c = λ before stands.
-    publishes before c.args._number c.args.item c.in-Ok.stage c.args.line.now.items c.take_item.new.line.items
-    (c.in-Ok.ensures.item (progress_after before) (subst (λ (s : Stage g.row.A.Denot). Holds s (progress_after before)) (sym c.replace-stage.ensures.value) stands))
+    publishes before c.args._number c.args.item c.take_item.new.stage c.args.line.now.items c.take_item.new.line.items (c.in-Ok.ensures.item (progress_after before) stands)
