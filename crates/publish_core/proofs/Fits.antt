@@ -1,7 +1,7 @@
 -- Every frame of a state fits exactly where the longest frame of each step does.
 use Rattle.std.proofs.Common.{◌≡◌, ℕ, ◌+◌, ◌-◌, ◌<◌, ◌≤◌, ◌==◌, Bool, true, false, if◌then◌else◌, List, length, inl, inr, sym, refl, ◌∙◌, subst, arith}
 use Rattle.std.proofs.lemmas.Bool.{cases_lt, eqb-true, eqb-false}
-use Rattle.frame_core.specs.Written.{IsTooLong}
+use Rattle.frame_core.specs.Written.{IsTooLong, written_apdu}
 use Rattle.publish_core.specs.declared.table.Step.{Step}
 use Rattle.publish_core.specs.declared.control.Control.{Control}
 use Rattle.publish_core.specs.Numbers.{sequence_number}
@@ -10,7 +10,9 @@ use Rattle.publish_core.specs.Frames.{Change, frame, frame_with}
 use Rattle.publish_core.specs.Refusal.{EveryFrameFits}
 use Rattle.publish_core.specs.computed.Step.{judged_frame, judged_number}
 use Rattle.publish_core.proofs.NumberLaws.{sequence_number_low, sequence_number_most}
-use Rattle.publish_core.proofs.Sizes.{sequence_shorter, too_long_grows}
+use Rattle.ber_core.specs.Written.{signed_size}
+use Rattle.publish_core.specs.computed.Sizes.{StepFits, head_size}
+use Rattle.publish_core.proofs.Sizes.{frame_fits, frame_long, sequence_shorter, too_long_grows}
 
 judged_before : (table : List Step) (i : ℕ) → i + 1 < length table → judged_number table i ≡ i
 judged_before table i lt = in_case (i + 1 == length table) refl
@@ -67,3 +69,26 @@ module _ {A : Type 0} (control : Control A) (table : List Step) (state : ℕ) (c
             let low : sequence_number 4294967295 ≡ 4294967295 = sequence_number_low 4294967295 (omega arith) in
             (4294967295, moved (judged_number table i) (sequence_number 4294967295) i (step_of table 4294967295) (judged_last table i end ∙ sym low) (sym step) long)
       ]
+
+  -- a first frame that is too long is one of them
+  pub first_frame : at 0 0 → (k : ℕ) × IsTooLong (frame control table state change k)
+  first_frame long =
+      let first : 0 ≡ step_of table 0 = omega arith in
+      (0, moved 0 0 0 (step_of table 0) refl first long)
+
+  -- a first frame that fits tells of all others by the octets that these have more
+  module _ (size : ℕ) (head : head_size control ≤ 26) (fit : ¬ at 0 0) (is_size : size ≡ length (written_apdu (frame_with control change state 0 (step_at table 0).live_ms).apdu)) where
+    pub every_step : ((i : ℕ) → i < length table → StepFits table size i) → EveryFrameFits control table state change
+    every_step fits =
+        every_frame
+        (λ i lt.
+        let le = fits i lt in
+        frame_fits control change state (step_at table i).live_ms (judged_number table i) (step_at table 0).live_ms head fit (omega (arith, le, is_size)))
+
+    pub some_step : (i : ℕ) × (i < length table) × ¬ StepFits table size i → (k : ℕ) × IsTooLong (frame control table state change k)
+    some_step (i, lt, over) =
+        elim (cases_lt (1493 + signed_size (step_at table 0).live_ms) (size + signed_size (step_at table i).live_ms + signed_size (judged_number table i))) [
+          | inl more ↦
+              some_frame i lt (frame_long control change state (step_at table i).live_ms (judged_number table i) (step_at table 0).live_ms head fit (omega (arith, more, is_size)))
+          | inr le ↦ absurd (over le)
+        ]

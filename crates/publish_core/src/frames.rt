@@ -1,16 +1,18 @@
-// Frames of a state: their octets, and whether they can be written.
+// Frames of a state: their octets, and how many these are.
 
-ghost use Rattle.std.specs.Prelude.{◌≡◌, ◌<◌, ◌^◌, ◌↔◌, IsTrue, length};
+ghost use Rattle.std.specs.Prelude.{◌≡◌, ◌<◌, ◌≤◌, ◌^◌, IfErr, IfOk, OnOk, length};
+ghost use Rattle.ber_core.specs.Written.{signed_size};
 ghost use Rattle.frame_core.specs.GooseFrame.{frame_of_parts};
 ghost use Rattle.frame_core.specs.Written.{IsTooLong, written_frame};
 ghost use Rattle.publish_core.specs.Frames.{change, frame_with, simulation_word};
 ghost use Rattle.publish_core.specs.Refusal.{CanBeSpelled};
+ghost use Rattle.publish_core.specs.computed.Sizes.{IsEncodeFault, head_size};
 
 use crate::control::Control;
 use arrayvec::ArrayVec;
-use frame_core::{GooseFrame, encode_goose};
+use frame_core::{EncodeFault, GooseFrame, encode_goose};
 use mms_data::{UtcTime, ValueList};
-use pdu_core::{GooseParts, are_spellable_parts, slice_if};
+use pdu_core::{GooseParts, slice_if};
 use std::alloc::Allocator;
 
 // The numbers of a frame: status number, sequence number, and how long it lives, in milliseconds.
@@ -71,48 +73,48 @@ fn know_ranges(numbers: FrameNumbers, conf_rev: u32, entries: u32)
     let _ = (numbers.state, numbers.sequence, numbers.live_ms);
 }
 
-// Whether what the frames of the change say can be spelled.
-pub fn can_be_spelled<A: Allocator>(control: &Control<A>, t: UtcTime, values: &ValueList<A>) -> bool
-    requires { length values.now ≡ control.now.entries }
-    ensures { IsTrue result ↔ CanBeSpelled control.now (change t values.now) }
-{
-    let numbers = FrameNumbers {
-        state: 1,
-        sequence: 0,
-        live_ms: 0,
-    };
-    know_ranges(numbers, control.conf_rev, control.entries);
-    let frame = frame_with(control, t, values, numbers);
-    are_spellable_parts(&frame.parts)
-}
-
-// Whether the frame with these numbers is too long to be written.
-pub fn is_too_long<A: Allocator>(
-    control: &Control<A>,
-    t: UtcTime,
-    values: &ValueList<A>,
-    numbers: FrameNumbers,
-) -> bool
-    requires entries { length values.now ≡ control.now.entries }
-    requires spelled { CanBeSpelled control.now (change t values.now) }
-    ensures { IsTrue result ↔ IsTooLong (frame_with control.now (change t values.now) numbers.state numbers.sequence numbers.live_ms) }
-{
-    know_ranges(numbers, control.conf_rev, control.entries);
-    encode_goose(&frame_with(control, t, values, numbers)).is_err()
-}
-
-// The octets of the frame with these numbers.
+// The octets of the frame with these numbers, or why it has none.
 pub fn encode_state<A: Allocator>(
     control: &Control<A>,
     t: UtcTime,
     values: &ValueList<A>,
     numbers: FrameNumbers,
-) -> ArrayVec<u8, 1600>
-    requires entries { length values.now ≡ control.now.entries }
-    requires spelled { CanBeSpelled control.now (change t values.now) }
-    requires fits { ¬ IsTooLong (frame_with control.now (change t values.now) numbers.state numbers.sequence numbers.live_ms) }
-    ensures { result.items ≡ written_frame (frame_with control.now (change t values.now) numbers.state numbers.sequence numbers.live_ms) }
+) -> Result<ArrayVec<u8, 1600>, EncodeFault>
+    requires { length values.now ≡ control.now.entries }
+    ensures fault { IfErr result (λ e. IsEncodeFault control.now (change t values.now) numbers.state numbers.sequence numbers.live_ms e) }
+    ensures spelled { OnOk result (CanBeSpelled control.now (change t values.now)) }
+    ensures short { OnOk result (¬ IsTooLong (frame_with control.now (change t values.now) numbers.state numbers.sequence numbers.live_ms)) }
+    ensures written { IfOk result (λ o. o.items ≡ written_frame (frame_with control.now (change t values.now) numbers.state numbers.sequence numbers.live_ms)) }
 {
     know_ranges(numbers, control.conf_rev, control.entries);
-    encode_goose(&frame_with(control, t, values, numbers)).unwrap()
+    encode_goose(&frame_with(control, t, values, numbers))
+}
+
+// How many octets stand before the APDU of a frame.
+pub fn head_length<A: Allocator>(control: &Control<A>) -> usize
+    ensures size { result ≡ head_size control.now }
+    ensures most { result ≤ 26 }
+{
+    let addresses = control.destination.len() + control.source.len();
+    if control.tag.is_some() {
+        addresses + 14
+    } else {
+        addresses + 10
+    }
+}
+
+// How many octets a number has in a frame, from 1 to 5.
+#[tactic(auto, unfolding(ber_core::specs::Written::integer_size))]
+pub fn number_length(number: u32) -> usize
+    ensures size { result ≡ signed_size number }
+    ensures least { 1 ≤ result }
+    ensures most { result ≤ 5 }
+{
+    match number {
+        0..=0x7f => 1,
+        0x80..=0x7fff => 2,
+        0x8000..=0x7f_ffff => 3,
+        0x80_0000..=0x7fff_ffff => 4,
+        _ => 5,
+    }
 }

@@ -3,20 +3,21 @@
 ghost use Rattle.std.specs.Prelude.{◌≡◌, ◌<◌, ◌≤◌, ◌+◌, ◌*◌, ◌↔◌, ◌∷◌, ◌++◌, [], List, IfErr, IfOk, IsTrue, MatchOption, OnErr, OnOk, Err, None, length};
 ghost use Rattle.frame_core.specs.Written.{written_frame};
 ghost use Rattle.publish_core.specs.declared.fault.PublishFault.TheVariants.{FirstState};
-ghost use Rattle.publish_core.specs.Frames.{Setup, change, setup};
+ghost use Rattle.publish_core.specs.Frames.{Setup, change, frame_with, setup};
 ghost use Rattle.publish_core.specs.Numbers.{number_behind};
 ghost use Rattle.publish_core.specs.Refusal.{Accepts, IsAccepted, IsRefusal, Refuses};
 ghost use Rattle.publish_core.specs.Run.{Call, Changed, Polled, PublishesNone, PublishesOctets, call, greatest_call_moment};
 ghost use Rattle.publish_core.specs.State.{PublisherStandsAfter};
 ghost use Rattle.publish_core.specs.computed.Step.{IsFrameOf, IsWritten, change_frame, change_state, last_frame, poll_frame, poll_state};
-ghost use Rattle.publish_core.specs.Table.{AreSteps};
+ghost use Rattle.publish_core.specs.Table.{AreSteps, step_at};
 
 use crate::control::Control;
 use crate::fault::PublishFault;
 use crate::fitting::every_frame_fits;
-use crate::frames::{FrameNumbers, can_be_spelled, encode_state};
+use crate::frames::{FrameNumbers, encode_state, head_length};
 use crate::table::Table;
 use arrayvec::ArrayVec;
+use frame_core::EncodeFault;
 use mms_data::{UtcTime, ValueList};
 use std::alloc::Allocator;
 use std::marker::Model;
@@ -81,6 +82,40 @@ fn wait_is_over(given_at: u64, wait_ms: u32, now: u64) -> bool
     u128::from(given_at) + 1000 * u128::from(wait_ms) <= u128::from(now)
 }
 
+// The octets of the first frame of a state, or why the change to it is refused.
+fn write_first<A: Allocator>(
+    control: &Control<A>,
+    table: &Table,
+    state: u32,
+    t: UtcTime,
+    values: &ValueList<A>,
+) -> Result<ArrayVec<u8, 1600>, PublishFault>
+    ensures accepted { OnOk result (IsAccepted control.now table.now state (change t values.now)) }
+    ensures refused { IfErr result (λ e. IsRefusal control.now table.now state (change t values.now) e) }
+    ensures written { IfOk result (λ o. o.items ≡ written_frame (frame_with control.now (change t values.now) state 0 (step_at table.now 0).live_ms)) }
+{
+    if values.as_slice().len() != control.entries as usize {
+        return Err(PublishFault::EntriesDiffer);
+    }
+    know_steps(table);
+    let numbers = FrameNumbers {
+        state,
+        sequence: 0,
+        live_ms: table.at(0).live_ms,
+    };
+    match encode_state(control, t, values, numbers) {
+        Ok(frame) => {
+            if every_frame_fits(table, frame.len() - head_length(control)) {
+                Ok(frame)
+            } else {
+                Err(PublishFault::WouldNotFit)
+            }
+        }
+        Err(EncodeFault::NotSpellable) => Err(PublishFault::NotSpellable),
+        Err(EncodeFault::TooLong) => Err(PublishFault::WouldNotFit),
+    }
+}
+
 // The octets of the frame that is held.
 fn write_last<A: Allocator>(
     control: &Control<A>,
@@ -96,7 +131,7 @@ fn write_last<A: Allocator>(
         sequence: last.sequence,
         live_ms: table.at(last.step).live_ms,
     };
-    encode_state(control, last.t, &last.values, numbers)
+    encode_state(control, last.t, &last.values, numbers).unwrap()
 }
 
 impl<A: Allocator> Publisher<A> {
@@ -193,15 +228,10 @@ impl<A: Allocator> Publisher<A> {
         ensures handed_back { IfErr result (λ e. e.1 ≡ values) }
         ensures unchanged { OnErr result (self.new ≡ self.old) }
     {
-        if values.as_slice().len() != self.control.entries as usize {
-            return Err((PublishFault::EntriesDiffer, values));
-        }
-        if !can_be_spelled(&self.control, t, &values) {
-            return Err((PublishFault::NotSpellable, values));
-        }
-        if !every_frame_fits(&self.control, &self.table, self.next, t, &values) {
-            return Err((PublishFault::WouldNotFit, values));
-        }
+        let frame = match write_first(&self.control, &self.table, self.next, t, &values) {
+            Ok(frame) => frame,
+            Err(fault) => return Err((fault, values)),
+        };
         let now = self.moment.max(now);
         let last = Last {
             t,
@@ -211,7 +241,6 @@ impl<A: Allocator> Publisher<A> {
             step: 0,
             given_at: now,
         };
-        let frame = write_last(&self.control, &self.table, &last);
         self.next = next_number(self.next);
         self.moment = now;
         self.last = Some(last);
