@@ -2,6 +2,7 @@ pub mod NumberLaws
 pub mod GivesOne
 pub mod Steps
 pub mod Sizes
+pub mod Places
 pub mod Encoded
 pub mod Fits
 pub mod Sound

@@ -139,7 +139,7 @@ module _ {A : Type 0} (control : Control A) (change : Change) (state live q r : 
 -- ---- all frames of a state
 
 -- no number has more octets
-size_most : (n : ℕ) → signed_size n ≤ 9
+pub size_most : (n : ℕ) → signed_size n ≤ 9
 size_most n = in_case (nat_lt n (2 ^ 7)) (nat_lt n (2 ^ 15)) (nat_lt n (2 ^ 23)) (nat_lt n (2 ^ 31)) (nat_lt n (2 ^ 39)) (nat_lt n (2 ^ 47)) (nat_lt n (2 ^ 55)) (nat_lt n (2 ^ 63))
   where
     in_case : (a b c d e f g h : Bool) → (if a then 1 else (if b then 2 else (if c then 3 else (if d then 4 else (if e then 5 else (if f then 6 else (if g then 7 else (if h then 8 else 9)))))))) ≤ 9
@@ -211,7 +211,7 @@ overgrown m n h k x y (longest a) (longer b b1) first few some same lt = omega a
 overgrown m n h k x y (longest a) (long b b1) first few some same lt = omega arith
 overgrown m n h k x y (longest a) (longest b) first few some same lt = omega arith
 
-small_header : (n : ℕ) → n < 128 → header_size n ≡ 2
+pub small_header : (n : ℕ) → n < 128 → header_size n ≡ 2
 small_header n lt = rw (lt-ltb n 128 lt) refl
 
 words_length : (tag : Option VlanTag) (e a w r s : List ℕ) → length e ≡ 2 → length a ≡ 2 → length w ≡ 2 → length r ≡ 2 → length s ≡ 2 → length (written_tag tag ++ (e ++ (a ++ (w ++ (r ++ s))))) ≡ words_size tag
@@ -223,10 +223,10 @@ words_length (Some tag) e a w r s p q t u v =
 
 module _ {A : Type 0} (control : Control A) (change : Change) (state : ℕ) where
   -- the element of a number
-  abbrev numbered_element : ℕ → ℕ → List ℕ
+  abbrev pub numbered_element : ℕ → ℕ → List ℕ
   numbered_element id n = written_element id (short_integer (pos n))
 
-  numbered_size : (id n : ℕ) → length (numbered_element id n) ≡ 2 + signed_size n
+  pub numbered_size : (id n : ℕ) → length (numbered_element id n) ≡ 2 + signed_size n
   numbered_size id n =
       let count : length (short_integer (pos n)) ≡ signed_size n = number_count n in
       let most : signed_size n ≤ 9 = size_most n in
@@ -234,11 +234,11 @@ module _ {A : Type 0} (control : Control A) (change : Change) (state : ℕ) wher
       omega (arith, element_size id (short_integer (pos n)), count, header)
 
   -- all fields, by the lifetime and the sequence number
-  pub fields : ℕ → ℕ → List ℕ
+  unfoldable pub fields : ℕ → ℕ → List ℕ
   fields live q = written_field 0x80 (Some (a_text control.gocb_ref)) ++ (numbered_element 0x81 live ++ (written_field 0x82 (Some (a_text control.dat_set)) ++ (written_field 0x83 (text_if control.go_id) ++ (written_field 0x84 (Some (a_time change.t)) ++ (written_field 0x85 (Some (a_number state)) ++ (numbered_element 0x86 q ++ (written_field 0x87 (Some (a_flag control.simulation)) ++ (written_field 0x88 (Some (a_number control.conf_rev)) ++ (written_field 0x89 (Some (a_flag control.nds_com)) ++ (written_field 0x8a (Some (a_number (length change.values))) ++ (written_field 0xab (Some (some_members change.values)) ++ [])))))))))))
 
   -- what two frames have more or fewer
-  fields_apart : (live q live' q' : ℕ) → length (fields live q) + (signed_size live' + signed_size q') ≡ length (fields live' q') + (signed_size live + signed_size q)
+  pub fields_apart : (live q live' q' : ℕ) → length (fields live q) + (signed_size live' + signed_size q') ≡ length (fields live' q') + (signed_size live + signed_size q)
   unfolding fields
   fields_apart live q live' q' = simp length-append (omega (arith, numbered_size 0x81 live, numbered_size 0x86 q, numbered_size 0x81 live', numbered_size 0x86 q'))
 
@@ -246,7 +246,7 @@ module _ {A : Type 0} (control : Control A) (change : Change) (state : ℕ) wher
   unfolding fields
   apdu_size live q = element_size 0x61 (fields live q)
 
-  head_is : (f : Frame A) (n : ℕ) → f.destination ≡ control.destination → f.source ≡ control.source → f.tag ≡ control.tag → length (written_head f n) ≡ head_size control
+  pub head_is : (f : Frame A) (n : ℕ) → f.destination ≡ control.destination → f.source ≡ control.source → f.tag ≡ control.tag → length (written_head f n) ≡ head_size control
   head_is f n to from tag =
       let words = words_length f.tag (written_word (ether_type_of f.apdu)) (written_word f.app_id) (written_word (8 + n)) (written_word f.reserved1) (written_word f.reserved2) (word_length (ether_type_of f.apdu)) (word_length f.app_id) (word_length (8 + n)) (word_length f.reserved1) (word_length f.reserved2) in
       rw (← to, ← from, ← tag) (omega (arith, length-append f.destination (f.source ++ (written_tag f.tag ++ (written_word (ether_type_of f.apdu) ++ (written_word f.app_id ++ (written_word (8 + n) ++ (written_word f.reserved1 ++ written_word f.reserved2)))))), length-append f.source (written_tag f.tag ++ (written_word (ether_type_of f.apdu) ++ (written_word f.app_id ++ (written_word (8 + n) ++ (written_word f.reserved1 ++ written_word f.reserved2))))), words))

@@ -1,11 +1,13 @@
 -- What is held is a frame of a state that was accepted, and so is what is held next.
-use Rattle.std.proofs.Common.{◌≡◌, ℕ, suc, ◌+◌, ◌-◌, min, List, length, refl, sym, ap, ◌∙◌, arith}
+use Rattle.std.proofs.Common.{◌≡◌, ℕ, suc, ◌+◌, ◌-◌, min, List, length, refl, sym, ap, ◌∙◌, subst, arith}
 use Rattle.publish_core.specs.declared.table.Step.{Step}
 use Rattle.publish_core.specs.declared.control.Control.{Control}
 use Rattle.publish_core.specs.declared.publisher.Last.{Last}
-use Rattle.publish_core.specs.Numbers.{number_behind}
-use Rattle.publish_core.specs.Table.{step_of}
-use Rattle.publish_core.specs.Frames.{Change}
+use Rattle.frame_core.specs.Written.{IsTooLong}
+use Rattle.publish_core.specs.Numbers.{number_behind, sequence_number}
+use Rattle.publish_core.specs.Table.{step_at, step_of}
+use Rattle.publish_core.specs.Frames.{Change, frame_with}
+use Rattle.publish_core.specs.State.{change_of}
 use Rattle.publish_core.specs.Refusal.{IsAccepted}
 use Rattle.publish_core.specs.computed.Step.{IsFrameOf, first_last}
 use Rattle.publish_core.proofs.NumberLaws.{sequence_number_next}
@@ -25,3 +27,10 @@ pub first_held : {A : Type 0} (control : Control A) (table : List Step) (state :
 first_held control table state change now accepted =
     let first : 0 ≡ step_of table 0 = omega arith in
     record { k = 0; sequence = refl; step = first; accepted = accepted }
+
+-- what is held can be written
+pub held_fits : {A : Type 0} (control : Control A) (table : List Step) (l : Last A) (live : Step) → live ≡ step_at table l.step → IsFrameOf control table l → ¬ IsTooLong (frame_with control (change_of l) l.state l.sequence live.live_ms)
+held_fits control table l live e s long =
+    let at_step = subst (λ (x : Step). IsTooLong (frame_with control (change_of l) l.state l.sequence x.live_ms)) e long in
+    let at_number = subst (λ (q : ℕ). IsTooLong (frame_with control (change_of l) l.state q (step_at table l.step).live_ms)) s.sequence at_step in
+    s.accepted.fit s.k (subst (λ (i : ℕ). IsTooLong (frame_with control (change_of l) l.state (sequence_number s.k) (step_at table i).live_ms)) s.step at_number)

@@ -4,5 +4,6 @@ pub mod Frames
 pub mod Run
 pub mod Refusal
 pub mod State
+pub mod Held
 pub mod Laws
 pub mod computed

@@ -17,6 +17,7 @@ mod fitting;
 mod frames;
 pub mod laws;
 mod publisher;
+mod renewing;
 mod table;
 
 pub use crate::control::Control;

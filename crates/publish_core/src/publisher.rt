@@ -1,20 +1,22 @@
 // Publishers.
 
-ghost use Rattle.std.specs.Prelude.{◌≡◌, ◌<◌, ◌≤◌, ◌+◌, ◌*◌, ◌↔◌, ◌∷◌, ◌++◌, [], List, IfErr, IfOk, IsTrue, MatchOption, OnErr, OnOk, Err, None, length};
+ghost use Rattle.std.specs.Prelude.{◌≡◌, ◌<◌, ◌≤◌, ◌+◌, ◌*◌, ◌↔◌, ◌∷◌, ◌++◌, [], List, IfErr, IfOk, IsTrue, MatchOption, OnErr, OnOk, Err, None, false, is_some, length};
 ghost use Rattle.frame_core.specs.Written.{written_frame};
 ghost use Rattle.publish_core.specs.declared.fault.PublishFault.TheVariants.{FirstState};
 ghost use Rattle.publish_core.specs.Frames.{Setup, change, frame_with, setup};
 ghost use Rattle.publish_core.specs.Numbers.{number_behind};
 ghost use Rattle.publish_core.specs.Refusal.{Accepts, IsAccepted, IsRefusal, Refuses};
 ghost use Rattle.publish_core.specs.Run.{Call, Changed, Polled, PublishesNone, PublishesOctets, call, greatest_call_moment};
+ghost use Rattle.publish_core.specs.Held.{octets_held};
 ghost use Rattle.publish_core.specs.State.{PublisherStandsAfter};
-ghost use Rattle.publish_core.specs.computed.Step.{IsFrameOf, IsWritten, change_frame, change_state, last_frame, poll_frame, poll_state};
+ghost use Rattle.publish_core.specs.computed.Step.{IsFrameOf, change_state, last_frame, next_last, poll_frame, poll_state};
 ghost use Rattle.publish_core.specs.Table.{AreSteps, step_at};
 
 use crate::control::Control;
 use crate::fault::PublishFault;
 use crate::fitting::every_frame_fits;
 use crate::frames::{FrameNumbers, encode_state, head_length};
+use crate::renewing::renew;
 use crate::table::Table;
 use arrayvec::ArrayVec;
 use frame_core::EncodeFault;
@@ -35,7 +37,7 @@ struct Last<A: Allocator> {
 }
 
 /// A publisher of one control block. A contract sees its control, its table, the status number of its next state, its
-/// moment, and what it gave last.
+/// moment, and what it gave last. The octets of that frame are kept, since the next one differs in two numbers alone.
 #[derive(Drop)]
 pub struct Publisher<A: Allocator> {
     control: Control<A>,
@@ -43,10 +45,12 @@ pub struct Publisher<A: Allocator> {
     next: u32,
     moment: u64,
     last: Option<Last<A>>,
+    kept: ArrayVec<u8, 1600>,
 }
 
 impl<A: Allocator> Model for Publisher<A> {
-    ghost use Rattle.std.specs.Prelude.{◌<◌};
+    ghost use Rattle.std.specs.Prelude.{◌≡◌, ◌<◌};
+    ghost use Rattle.publish_core.specs.Held.{octets_of};
     ghost use Rattle.publish_core.specs.State.{PublisherState};
     ghost use Rattle.publish_core.specs.computed.Step.{IsLastSound};
     ghost use Rattle.std.specs.Coded.{codes};
@@ -58,7 +62,7 @@ impl<A: Allocator> Model for Publisher<A> {
 
     ghost view = { λ p. record { control = p.control; table = p.table; next = p.next; moment = p.moment; last = p.last } };
 
-    ghost invariant = { λ p. (0 < p.next) × IsLastSound p.control p.table p.last };
+    ghost invariant = { λ p. (0 < p.next) × IsLastSound p.control p.table p.last × (p.kept.items ≡ octets_of p.control p.table p.last) };
 }
 
 // A table has its steps; nothing is computed.
@@ -116,22 +120,46 @@ fn write_first<A: Allocator>(
     }
 }
 
-// The octets of the frame that is held.
-fn write_last<A: Allocator>(
+// Goes on to the next frame of the state, whose octets are then kept.
+fn go_on<A: Allocator>(
     control: &Control<A>,
     table: &Table,
-    last: &Last<A>,
-) -> ArrayVec<u8, 1600>
+    last: &mut Last<A>,
+    now: u64,
+    kept: &mut ArrayVec<u8, 1600>,
+)
     requires steps { AreSteps table.now }
-    requires frame { IsFrameOf control.now table.now last.now }
-    ensures { result.items ≡ written_frame (last_frame control.now table.now last.now) }
+    requires frame { IsFrameOf control.now table.now last.old }
+    requires kept { kept.old.items ≡ written_frame (last_frame control.now table.now last.old) }
+    ensures last { last.new ≡ next_last table.now last.old now }
+    ensures frame { IsFrameOf control.now table.now last.new }
+    ensures kept { kept.new.items ≡ written_frame (last_frame control.now table.now last.new) }
 {
+    let steps = table.len();
+    let before = FrameNumbers {
+        state: last.state,
+        sequence: last.sequence,
+        live_ms: table.at(last.step).live_ms,
+    };
+    last.sequence = next_number(last.sequence);
+    last.step = (last.step + 1).min(steps - 1);
+    last.given_at = now;
     let numbers = FrameNumbers {
         state: last.state,
         sequence: last.sequence,
         live_ms: table.at(last.step).live_ms,
     };
-    encode_state(control, last.t, &last.values, numbers).unwrap()
+    renew(kept, control, last.t, &last.values, before, numbers);
+}
+
+// The octets of a frame once more.
+fn copied(octets: &[u8]) -> ArrayVec<u8, 1600>
+    requires { length octets.now ≤ 1600 }
+    ensures { result.items ≡ octets.now }
+{
+    let mut copy = ArrayVec::new();
+    copy.try_extend_from_slice(octets).unwrap();
+    copy
 }
 
 impl<A: Allocator> Publisher<A> {
@@ -160,6 +188,7 @@ impl<A: Allocator> Publisher<A> {
             next: first_state,
             moment: 0,
             last: None,
+            kept: ArrayVec::new(),
         })
     }
 
@@ -197,6 +226,34 @@ impl<A: Allocator> Publisher<A> {
         ensures stands { (p : Setup A) (calls : List Call) → PublisherStandsAfter p calls self.old →
             OnOk result (PublisherStandsAfter p (calls ++ call now (Changed (change t values)) ∷ []) self.new) }
     {
+        match self.change_held(now, t, values) {
+            Ok(()) => Ok(self.held()),
+            Err(refused) => Err(refused),
+        }
+    }
+
+    /// Changes the data set as `change` does. `held_frame` then lends the octets of the first frame of the new state.
+    ///
+    /// # Errors
+    ///
+    /// Those of `change`; what is lent is then as it was, too.
+    pub fn change_held(
+        &mut self,
+        now: u64,
+        t: UtcTime,
+        values: ValueList<A>,
+    ) -> Result<(), (PublishFault, ValueList<A>)>
+        ensures accepted { (p : Setup A) (calls : List Call) → PublisherStandsAfter p calls self.old →
+            OnOk result (Accepts p calls (change t values)) }
+        ensures refused { (p : Setup A) (calls : List Call) → PublisherStandsAfter p calls self.old →
+            IfErr result (λ e. Refuses p calls (change t values) e.0) }
+        ensures handed_back { IfErr result (λ e. e.1 ≡ values) }
+        ensures unchanged { OnErr result (self.new ≡ self.old) }
+        ensures published { (p : Setup A) (calls : List Call) → PublisherStandsAfter p calls self.old →
+            OnOk result (PublishesOctets p (calls ++ call now (Changed (change t values)) ∷ []) (length calls) (octets_held self.new)) }
+        ensures stands { (p : Setup A) (calls : List Call) → PublisherStandsAfter p calls self.old →
+            OnOk result (PublisherStandsAfter p (calls ++ call now (Changed (change t values)) ∷ []) self.new) }
+    {
         self.take_change(now, t, values)
     }
 
@@ -211,7 +268,39 @@ impl<A: Allocator> Publisher<A> {
         ensures stands { (p : Setup A) (calls : List Call) → PublisherStandsAfter p calls self.old →
             PublisherStandsAfter p (calls ++ call now Polled ∷ []) self.new }
     {
+        if self.poll_held(now) {
+            Some(self.held())
+        } else {
+            None
+        }
+    }
+
+    /// Asks for a frame as `poll` does, and answers whether there is one. `held_frame` then lends its octets.
+    pub fn poll_held(&mut self, now: u64) -> bool
+        ensures published { (p : Setup A) (calls : List Call) → PublisherStandsAfter p calls self.old → IsTrue result →
+            PublishesOctets p (calls ++ call now Polled ∷ []) (length calls) (octets_held self.new) }
+        ensures none { (p : Setup A) (calls : List Call) → PublisherStandsAfter p calls self.old → result ≡ false →
+            PublishesNone p (calls ++ call now Polled ∷ []) (length calls) }
+        ensures stands { (p : Setup A) (calls : List Call) → PublisherStandsAfter p calls self.old →
+            PublisherStandsAfter p (calls ++ call now Polled ∷ []) self.new }
+    {
         self.take_poll(now)
+    }
+
+    /// The octets of the frame that was given last, by a change or a poll; none before the first.
+    pub fn held_frame(&self) -> &[u8]
+        ensures { result.now ≡ octets_held self.now }
+    {
+        let Publisher { kept, .. } = self;
+        kept.as_slice()
+    }
+
+    // The octets of the frame that was given last, once more.
+    fn held(&self) -> ArrayVec<u8, 1600>
+        ensures { result.items ≡ octets_held self.now }
+    {
+        let Publisher { kept, .. } = self;
+        copied(kept.as_slice())
     }
 
     // A change, by what is held.
@@ -220,8 +309,7 @@ impl<A: Allocator> Publisher<A> {
         now: u64,
         t: UtcTime,
         values: ValueList<A>,
-    ) -> Result<ArrayVec<u8, 1600>, (PublishFault, ValueList<A>)>
-        ensures given { IfOk result (λ o. o.items ≡ written_frame (change_frame self.old (change t values) now)) }
+    ) -> Result<(), (PublishFault, ValueList<A>)>
         ensures state { OnOk result (self.new ≡ change_state self.old (change t values) now) }
         ensures accepted { OnOk result (IsAccepted self.old.control self.old.table self.old.next (change t values)) }
         ensures refused { IfErr result (λ e. IsRefusal self.old.control self.old.table self.old.next (change t values) e.0) }
@@ -244,28 +332,27 @@ impl<A: Allocator> Publisher<A> {
         self.next = next_number(self.next);
         self.moment = now;
         self.last = Some(last);
-        Ok(frame)
+        self.kept = frame;
+        Ok(())
     }
 
     // A poll, by what is held.
-    fn take_poll(&mut self, now: u64) -> Option<ArrayVec<u8, 1600>>
-        ensures given { MatchOption result (poll_frame self.old now ≡ None) (λ o. IsWritten (poll_frame self.old now) o.items) }
+    fn take_poll(&mut self, now: u64) -> bool
+        ensures given { result ≡ is_some (poll_frame self.old now) }
         ensures state { self.new ≡ poll_state self.old now }
     {
         let now = self.moment.max(now);
         self.moment = now;
         match &mut self.last {
-            None => None,
+            None => false,
             Some(last) => {
-                let steps = self.table.len();
+                know_steps(&self.table);
                 let wait_ms = self.table.at(last.step).wait_ms;
                 if wait_is_over(last.given_at, wait_ms, now) {
-                    last.sequence = next_number(last.sequence);
-                    last.step = (last.step + 1).min(steps - 1);
-                    last.given_at = now;
-                    Some(write_last(&self.control, &self.table, last))
+                    go_on(&self.control, &self.table, last, now, &mut self.kept);
+                    true
                 } else {
-                    None
+                    false
                 }
             }
         }

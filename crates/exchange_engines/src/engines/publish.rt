@@ -117,11 +117,12 @@ fn put_change<A: Allocator>(
         TakesCall p calls (call moment (Changed (change t values))) result line.old.items line.new.items publisher.new }
     ensures kept { OnErr result (take (length line.old.items) line.new.items ≡ line.old.items) }
 {
-    let first = match publisher.change(moment, t, values) {
-        Ok(first) => first,
+    match publisher.change_held(moment, t, values) {
+        Ok(()) => {}
         Err((fault, _values)) => return Err(LineError::Cause(cause_of(fault))),
-    };
-    match put_frame_event(line, publisher.moment(), first.as_slice()) {
+    }
+    let first = publisher.held_frame();
+    match put_frame_event(line, publisher.moment(), first) {
         Ok(()) => Ok(()),
         Err(error) => Err(LineError::Memory(error)),
     }
@@ -137,10 +138,11 @@ fn put_poll<A: Allocator>(
         TakesCall p calls (call moment Polled) result line.old.items line.new.items publisher.new }
     ensures kept { OnErr result (take (length line.old.items) line.new.items ≡ line.old.items) }
 {
-    let Some(next) = publisher.poll(moment) else {
+    if !publisher.poll_held(moment) {
         return Ok(());
-    };
-    match put_frame_event(line, publisher.moment(), next.as_slice()) {
+    }
+    let next = publisher.held_frame();
+    match put_frame_event(line, publisher.moment(), next) {
         Ok(()) => Ok(()),
         Err(error) => Err(LineError::Memory(error)),
     }

@@ -2,7 +2,6 @@
 -- contracts tie it.
 use Rattle.std.specs.Prelude.{◌≡◌, ℕ, ◌+◌, ◌-◌, ◌*◌, ◌==◌, Option, Some, None, Bool, nat_le, max, min, List, [], ◌∷◌, length, if◌then◌else◌}
 use Rattle.frame_core.specs.declared.frame.Frame.{Frame}
-use Rattle.frame_core.specs.Written.{written_frame}
 use Rattle.publish_core.specs.declared.control.Control.{Control}
 use Rattle.publish_core.specs.declared.publisher.Last.{Last}
 use Rattle.publish_core.specs.declared.table.Step.{Step}
@@ -63,10 +62,6 @@ judged_number table i = if i + 1 == length table then 4294967295 else i
 -- the longest frame of step i
 abbrev pub judged_frame : {A : Type 0} → Control A → List Step → ℕ → Change → ℕ → Frame A
 judged_frame control table state change i = frame_with control change state (judged_number table i) (step_at table i).live_ms
-
--- the frame is there, and these are its octets
-abbrev pub IsWritten : {A : Type 0} → Option (Frame A) → List ℕ → Type 0
-IsWritten {A = A} answer octets = (f : Frame A) × (answer ≡ Some f) × (octets ≡ written_frame f)
 
 -- what is held is some frame k of a state that was accepted
 pub record IsFrameOf {A : Type 0} (control : Control A) (table : List Step) (l : Last A) : Type 0 where

@@ -1,6 +1,6 @@
-use Rattle.std.proofs.Common.{◌≡◌, ◌≤◌, ◌-◌, ℕ, List, length, refl, subst, arith}
+use Rattle.std.proofs.Common.{◌≡◌, ◌≤◌, ◌-◌, length, subst, arith}
 use Rattle.std.proofs.lemmas.Grind.{common_steps}
-use Rattle.frame_core.specs.Written.{IsTooLong, written_apdu, written_frame}
+use Rattle.frame_core.specs.Written.{IsTooLong, written_frame}
 use Rattle.publish_core.specs.declared.table.Step.{Step}
 use Rattle.publish_core.specs.Frames.{change, frame_with}
 use Rattle.publish_core.specs.Table.{step_at}

@@ -12,7 +12,7 @@ pub returns-in-Ok-put_frame_event-clause-call : goal.returns-in-Ok-put_frame_eve
 returns-in-Ok-put_frame_event-clause-call g c = λ p calls sound stands.
     let more = calls ++ call c.args.moment (Changed (change c.args.t c.args.values)) ∷ [] in
     let after = c.in-Ok.ensures.stands p calls stands in
-    changed p calls sound c.args.line.now.items c.put_frame_event.new.out.items c.change.new.self c.args.moment (change c.args.t c.args.values) c.moment.result c.as_slice.result.now
+    changed p calls sound c.args.line.now.items c.put_frame_event.new.out.items c.change_held.new.self c.args.moment (change c.args.t c.args.values) c.moment.result c.held_frame-first.result.now
     (c.in-Ok.ensures.accepted p calls stands)
-    (subst (λ (octets : List ℕ). PublishesOctets p more (length calls) octets) (sym c.as_slice.ensures.value) (c.in-Ok.ensures.published p calls stands))
+    (subst (λ (octets : List ℕ). PublishesOctets p more (length calls) octets) (sym c.held_frame-first.ensures) (c.in-Ok.ensures.published p calls stands))
     after (c.moment.ensures p more after) c.in-Ok-put_frame_event.ensures

@@ -1,14 +1,19 @@
 use Rattle.std.proofs.Common.{◌++◌, ◌∷◌, [], sym, subst}
 use Rattle.publish_core.specs.Run.{Polled, call}
 use Rattle.publish_core.specs.State.{PublisherStandsAfter}
-use Rattle.publish_core.proofs.PollLaws.{poll_given}
+use Rattle.publish_core.proofs.PollLaws.{poll_gives, poll_none}
 use Rattle.publish_core.proofs.Whole.{poll_ok}
-use Rattle.publish_core.proofs.publisher.Publisher.poll.Goals as goal
+use Rattle.publish_core.proofs.publisher.Publisher.poll_held.Goals as goal
 
 pub returns-clause-published : goal.returns-clause-published
-returns-clause-published g c = λ p calls w.
+returns-clause-published g c = λ p calls w gives.
     let x = poll_ok p calls c.args.self.now c.args.now w in
-    poll_given p calls c.args.self.now c.args.now c.take_poll.result x.0 c.take_poll.ensures.given
+    poll_gives p calls c.args.self.now c.take_poll.new.self c.args.now c.take_poll.result x.0 c.take_poll.ensures.given c.take_poll.ensures.state gives
+
+pub returns-clause-none : goal.returns-clause-none
+returns-clause-none g c = λ p calls w none.
+    let x = poll_ok p calls c.args.self.now c.args.now w in
+    poll_none p calls c.args.self.now c.args.now c.take_poll.result x.0 c.take_poll.ensures.given none
 
 pub returns-clause-stands : goal.returns-clause-stands
 returns-clause-stands g c = λ p calls w.

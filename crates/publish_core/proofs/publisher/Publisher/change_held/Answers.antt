@@ -1,11 +1,12 @@
-use Rattle.std.proofs.Common.{◌++◌, ◌∷◌, [], sym, subst}
-use Rattle.std.proofs.lemmas.Result.{IfErr-weaker, IfOk-weaker, on_ok_weaker}
+use Rattle.std.proofs.Common.{◌++◌, ◌∷◌, [], ap, sym, subst}
+use Rattle.std.proofs.lemmas.Result.{IfErr-weaker, on_ok_weaker}
 use Rattle.publish_core.specs.Frames.{change}
+use Rattle.publish_core.specs.Held.{octets_held}
 use Rattle.publish_core.specs.Run.{Changed, call}
 use Rattle.publish_core.specs.State.{PublisherStandsAfter}
 use Rattle.publish_core.specs.computed.Step.{change_frame}
 use Rattle.publish_core.proofs.Whole.{accepts_behind, change_ok, refuses_behind}
-use Rattle.publish_core.proofs.publisher.Publisher.change.Goals as goal
+use Rattle.publish_core.proofs.publisher.Publisher.change_held.Goals as goal
 
 pub returns-clause-accepted : goal.returns-clause-accepted
 returns-clause-accepted g c = λ p calls w.
@@ -18,7 +19,9 @@ returns-clause-refused g c = λ p calls w.
 pub returns-clause-published : goal.returns-clause-published
 returns-clause-published g c = λ p calls w.
     let x = change_ok p calls c.args.self.now (change c.args.t c.args.values) c.args.now w in
-    IfOk-weaker c.take_change.result _ _ (λ o e. record { published = change_frame c.args.self.now (change c.args.t c.args.values) c.args.now; publishes = x.0; is_written = e }) c.take_change.ensures.given
+    on_ok_weaker c.take_change.result
+    (λ e. record { published = change_frame c.args.self.now (change c.args.t c.args.values) c.args.now; publishes = x.0; is_written = ap octets_held e })
+    c.take_change.ensures.state
 
 pub returns-clause-stands : goal.returns-clause-stands
 returns-clause-stands g c = λ p calls w.
