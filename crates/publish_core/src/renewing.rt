@@ -112,6 +112,23 @@ fn write_numbers<A: Allocator>(
     write_kept(kept, sequence, numbers.sequence);
 }
 
+// Has the frame with these numbers kept, made anew. Never inlined, since the room for another frame would be cleared at each call.
+#[inline(never)]
+fn write_anew<A: Allocator>(
+    kept: &mut ArrayVec<u8, 1600>,
+    control: &Control<A>,
+    t: UtcTime,
+    values: &ValueList<A>,
+    numbers: FrameNumbers,
+)
+    requires entries { length values.now ≡ control.now.entries }
+    requires spelled { CanBeSpelled control.now (change t values.now) }
+    requires fits { ¬ IsTooLong (frame_with control.now (change t values.now) numbers.state numbers.sequence numbers.live_ms) }
+    ensures { kept.new.items ≡ written_frame (frame_with control.now (change t values.now) numbers.state numbers.sequence numbers.live_ms) }
+{
+    *kept = encode_state(control, t, values, numbers).unwrap();
+}
+
 // Has the frame with these numbers kept in place of the one before, which differs in its lifetime and its sequence number. All
 // other octets stay where each of the two has as many octets as before.
 pub fn renew<A: Allocator>(
@@ -134,6 +151,6 @@ pub fn renew<A: Allocator>(
     {
         write_numbers(kept, control, t, values, before, numbers);
     } else {
-        *kept = encode_state(control, t, values, numbers).unwrap();
+        write_anew(kept, control, t, values, numbers);
     }
 }
