@@ -1,6 +1,7 @@
 //! The text of a value of Data, from the octets in which it stands.
 ghost use Rattle.std.specs.Prelude.{◌++◌, ◌∷◌, []};
 ghost use Rattle.std.specs.List.{flat_map};
+ghost use Rattle.hex.specs.Hex.{encode_lower};
 ghost use Rattle.mms_data.specs.Meaning.{left as still_to_come, meaning};
 ghost use Rattle.mms_data.specs.Contents.{cleared};
 ghost use Rattle.text_core.specs.Pieces.{AppendsText, after_space, bits_text, spaced};
@@ -8,7 +9,8 @@ ghost use Rattle.text_core.specs.ValueText.{time_text, value_text, members_text}
 
 use crate::fields::{put_octets, put_time};
 use crate::pieces::{
-    put_bits, put_boolean, put_decimal, put_quoted, put_short_hexadecimal, put_signed,
+    put_bits, put_boolean, put_decimal, put_hexadecimal, put_quoted, put_short_hexadecimal,
+    put_signed,
 };
 use mms_data::{BitView, Members, UtcTime, View};
 use std::alloc::{AllocError, Allocator};
@@ -25,6 +27,16 @@ fn put_bit_view<A: Allocator>(out: &mut Vec<u8, A>, bits: BitView<'_>) -> Result
     ensures { AppendsText result out.old.items out.new.items (bits_text bits.entry.unused (cleared bits.entry.unused bits.entry.octets.now)) }
 {
     put_bits(out, bits.unused, bits.octets)
+}
+
+// Appends the octets of a float. Those of single precision are five, and their digits are made without a call.
+fn put_float<A: Allocator>(out: &mut Vec<u8, A>, octets: &[u8]) -> Result<(), AllocError>
+    ensures { AppendsText result out.old.items out.new.items (encode_lower octets.now) }
+{
+    match octets {
+        [a, b, c, d, e] => put_short_hexadecimal(out, &[*a, *b, *c, *d, *e]),
+        _ => put_hexadecimal(out, octets),
+    }
 }
 
 /// Appends the text of a value. Inlined, so that a member is told apart by its kind without another call.
@@ -59,7 +71,49 @@ pub fn put_view<A: Allocator>(out: &mut Vec<u8, A>, view: &View<'_>) -> Result<(
     }
 }
 
-// Appends the texts of members between two signs.
+// Appends a sign and the text of a value. The sign and the word of a kind are appended as one, and a member is told apart
+// by its kind once.
+#[inline(always)]
+#[tactic(auto, using(crate::proofs::ValueLemmas::item_texts_items_of, crate::proofs::Fronts::front_before))]
+#[cycle(texts)]
+fn put_member<A: Allocator>(
+    out: &mut Vec<u8, A>,
+    sign: u8,
+    view: &View<'_>,
+) -> Result<(), AllocError>
+    ensures { AppendsText result out.old.items out.new.items (sign ∷ value_text (meaning view.now)) }
+{
+    match view {
+        View::Boolean(true) => out.extend_from_slice(&[sign, b't', b'r', b'u', b'e']),
+        View::Boolean(false) => out.extend_from_slice(&[sign, b'f', b'a', b'l', b's', b'e']),
+        View::Bits(bits) => {
+            out.extend_from_slice(&[sign, b'b', b'i', b't', b's', b':'])?;
+            put_bit_view(out, *bits)
+        }
+        View::Integer(number) => {
+            out.extend_from_slice(&[sign, b'i', b'n', b't', b':'])?;
+            put_signed(out, *number)
+        }
+        View::Unsigned(number) => {
+            out.extend_from_slice(&[sign, b'u', b'i', b'n', b't', b':'])?;
+            put_decimal(out, *number)
+        }
+        View::Floating(octets) => {
+            out.extend_from_slice(&[sign, b'f', b'l', b'o', b'a', b't', b':'])?;
+            put_float(out, octets)
+        }
+        View::Utc(time) => {
+            out.extend_from_slice(&[sign, b'u', b't', b'c', b':'])?;
+            put_utc(out, *time)
+        }
+        other => {
+            out.push(sign)?;
+            put_view(out, other)
+        }
+    }
+}
+
+// Appends the texts of members between two signs, divided by one space.
 #[cycle(texts)]
 fn put_between<A: Allocator>(
     out: &mut Vec<u8, A>,
@@ -69,23 +123,14 @@ fn put_between<A: Allocator>(
 ) -> Result<(), AllocError>
     ensures { AppendsText result out.old.items out.new.items (before ∷ spaced value_text (still_to_come members.entry) ++ after ∷ []) }
 {
-    out.push(before)?;
-    put_spaced(out, members)?;
-    out.push(after)?;
-    Ok(())
-}
-
-// Appends the texts of members, divided by one space.
-#[cycle(texts)]
-fn put_spaced<A: Allocator>(out: &mut Vec<u8, A>, members: Members<'_>) -> Result<(), AllocError>
-    ensures { AppendsText result out.old.items out.new.items (spaced value_text (still_to_come members.entry)) }
-{
     let mut others = members;
     let Some(first) = others.next() else {
-        return Ok(());
+        return out.extend_from_slice(&[before, after]);
     };
-    put_view(out, &first)?;
-    put_others(out, others)
+    put_member(out, before, &first)?;
+    put_others(out, others)?;
+    out.push(after)?;
+    Ok(())
 }
 
 // Appends the text of each member after a space.
@@ -94,8 +139,7 @@ fn put_others<A: Allocator>(out: &mut Vec<u8, A>, others: Members<'_>) -> Result
     ensures { AppendsText result out.old.items out.new.items (flat_map (after_space value_text) (still_to_come others.entry)) }
 {
     for view in others {
-        out.push(b' ')?;
-        put_view(out, &view)?;
+        put_member(out, b' ', &view)?;
     }
     Ok(())
 }

@@ -12,11 +12,11 @@ decreases-put_view g l = 3 * weight (meaning l.view.now) + 2
 abbrev pub decreases-put_between : goal.decreases-put_between
 decreases-put_between g l = 3 * weight_of_all (left l.members) + 1
 
-abbrev pub decreases-put_spaced : goal.decreases-put_spaced
-decreases-put_spaced g l = 3 * weight_of_all (left l.members)
+abbrev pub decreases-put_member : goal.decreases-put_member
+decreases-put_member g l = 3 * weight (meaning l.view.now) + 3
 
 abbrev pub decreases-put_others : goal.decreases-put_others
-decreases-put_others g l = 3 * weight_of_all (left l.others)
+decreases-put_others g l = 3 * weight_of_all (left l.others) + 1
 
 abbrev pub invariant-put_others-loop-view : goal.invariant-put_others-loop-view
 invariant-put_others-loop-view g l =
