@@ -1,5 +1,5 @@
 -- Bits without the unused ones do not hang on what these are.
-use Rattle.std.proofs.Common.{◌≡◌, ℕ, zero, suc, ◌+◌, ◌-◌, ◌*◌, ◌/◌, ◌%◌, ◌^◌, ◌≤◌, List, [], ◌∷◌, ◌++◌, length, take, ap, refl, sym, ◌∙◌, arith, length-append}
+use Rattle.std.proofs.Common.{◌≡◌, ℕ, zero, suc, ◌+◌, ◌-◌, ◌*◌, ◌/◌, ◌%◌, ◌^◌, ◌≤◌, List, [], ◌∷◌, ◌++◌, length, get_or, take, ap, refl, sym, ◌∙◌, arith, length-append}
 use Rattle.std.specs.List.{flat_map}
 use Rattle.std.proofs.Math.Seq.{take-append-add}
 use Rattle.mms_data.specs.Contents.{cleared}
@@ -76,3 +76,13 @@ bits_cleared unused (x ∷ y ∷ ys) h =
     behind unused (octet_bits x) (flat_map octet_bits (cleared unused (y ∷ ys))) many_cleared
     ∙ ap (λ (l : List ℕ). octet_bits x ++ l) (bits_cleared unused (y ∷ ys) h)
     ∙ sym (behind unused (octet_bits x) (flat_map octet_bits (y ∷ ys)) many)
+
+-- bits of two octets
+pub bits_of_two : (unused x y : ℕ) → unused ≤ 7 → octet_bits x ++ take (8 - unused) (octet_bits y) ≡ bits_text unused (x ∷ y ∷ [])
+bits_of_two unused x y h = sym (behind unused (octet_bits x) (octet_bits y) (omega arith))
+
+pub these_two : (octets : List ℕ) → length octets ≡ 2 → octets ≡ get_or octets 0 0 ∷ get_or octets 1 0 ∷ []
+these_two [] h = absurd (omega arith)
+these_two (x ∷ []) h = absurd (omega arith)
+these_two (x ∷ y ∷ []) h = refl
+these_two (x ∷ y ∷ z ∷ zs) h = absurd (omega arith)

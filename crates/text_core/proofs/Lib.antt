@@ -1,4 +1,6 @@
 pub mod Fronts
+pub mod Cuts
+pub mod PlainTexts
 pub mod HexPieces
 pub mod PieceLemmas
 pub mod ValueLemmas

@@ -1,26 +1,88 @@
 //! The small texts of which lines are made. Each call appends to `out`.
-ghost use Rattle.std.specs.Prelude.{◌≡◌, ◌<◌, ◌≤◌, ◌+◌, ◌/◌, ◌%◌, ◌∷◌, [], length, IsTrue};
+ghost use Rattle.std.specs.Prelude.{◌≡◌, ◌<◌, ◌≤◌, ◌+◌, ◌/◌, ◌%◌, ◌-◌, ◌∷◌, [], ◌++◌, drop, length, take, IsTrue};
 ghost use Rattle.std.specs.List.{flat_map};
 ghost use Rattle.std.specs.Fmt.{decimal, signed_decimal};
 ghost use Rattle.hex.specs.Hex.{encode_lower};
 ghost use Rattle.text_core.specs.Pieces.{AppendsText, octet_bits, bits_text, escaped, quoted, boolean_text, four_digits};
 
-use itoa::Buffer;
+use itoa::write_digits;
 use list_core::hexadecimal_digit;
 use std::alloc::{AllocError, Allocator};
+
+/// How many octets are copied at once where the line has room for so many: the compiler copies them without a call.
+const REACH: usize = 32;
+
+// Appends the first octets of several: all of them, and cuts off those behind. The compiler copies a count that it knows
+// without a call.
+#[inline(always)]
+fn put_cut<A: Allocator>(out: &mut Vec<u8, A>, octets: &[u8], size: usize) -> Result<(), AllocError>
+    requires { size ≤ length octets.now }
+    ensures { AppendsText result out.old.items out.new.items (take size octets.now) }
+{
+    let start = out.len();
+    out.extend_from_slice(octets)?;
+    out.truncate(start + size);
+    Ok(())
+}
+
+// Appends the first octets of so many, and takes no more memory than those want.
+#[inline(always)]
+fn put_front<A: Allocator>(
+    out: &mut Vec<u8, A>,
+    octets: &[u8; REACH],
+    size: usize,
+) -> Result<(), AllocError>
+    requires { size ≤ 32 }
+    ensures { AppendsText result out.old.items out.new.items (take size octets.now) }
+{
+    if out.capacity().saturating_sub(out.len()) < REACH {
+        return out.extend_from_slice(&octets[..size]);
+    }
+    put_cut(out, octets, size)
+}
+
+// The octets behind a place, as many as are copied at once.
+#[inline(always)]
+fn reached(octets: &[u8; 2 * REACH], start: usize) -> &[u8; REACH]
+    requires { start ≤ 32 }
+    ensures { result.now ≡ take 32 (drop start octets.now) }
+{
+    let Some((reached, _)) = octets[start..].split_first_chunk::<REACH>() else {
+        unreachable!()
+    };
+    reached
+}
 
 /// Appends a number in decimal.
 pub fn put_decimal<A: Allocator>(out: &mut Vec<u8, A>, number: u64) -> Result<(), AllocError>
     ensures { AppendsText result out.old.items out.new.items (decimal number) }
 {
-    out.extend_from_slice(Buffer::new().format(number).as_bytes())
+    let mut digits = [0; 2 * REACH];
+    let start = write_digits(number, &mut digits, REACH);
+    put_front(out, reached(&digits, start), REACH - start)
+}
+
+// Puts a minus sign in front of digits.
+#[inline(always)]
+fn put_minus(digits: &mut [u8; 2 * REACH], start: usize)
+    requires least { 1 ≤ start }
+    requires most { start ≤ 32 }
+    ensures { drop (start - 1) digits.new ≡ 45 ∷ drop start digits.old }
+{
+    digits[start - 1] = b'-';
 }
 
 /// Appends an integer in decimal, a negative one after a minus sign.
 pub fn put_signed<A: Allocator>(out: &mut Vec<u8, A>, integer: i64) -> Result<(), AllocError>
     ensures { AppendsText result out.old.items out.new.items (signed_decimal integer) }
 {
-    out.extend_from_slice(Buffer::new().format(integer).as_bytes())
+    let mut digits = [0; 2 * REACH];
+    let start = write_digits(integer.unsigned_abs(), &mut digits, REACH);
+    if 0 <= integer {
+        return put_front(out, reached(&digits, start), REACH - start);
+    }
+    put_minus(&mut digits, start);
+    put_front(out, reached(&digits, start - 1), REACH + 1 - start)
 }
 
 /// How many octets are written at once.
@@ -132,6 +194,55 @@ pub fn put_bits<A: Allocator>(
     Ok(())
 }
 
+// Appends the bits of an octet without the last `unused` ones.
+#[inline(always)]
+fn put_octet_bits<A: Allocator>(
+    out: &mut Vec<u8, A>,
+    unused: u8,
+    octet: u8,
+) -> Result<(), AllocError>
+    ensures { AppendsText result out.old.items out.new.items (take (8 - unused) (octet_bits octet)) }
+{
+    put_cut(
+        out,
+        &bit_digits(octet),
+        8_u8.saturating_sub(unused) as usize,
+    )
+}
+
+/// Appends the bits of two octets without the last `unused` ones.
+#[inline(always)]
+fn put_two_bits<A: Allocator>(
+    out: &mut Vec<u8, A>,
+    unused: u8,
+    first: u8,
+    last: u8,
+) -> Result<(), AllocError>
+    requires { unused ≤ 7 }
+    ensures { AppendsText result out.old.items out.new.items (bits_text unused (first ∷ last ∷ [])) }
+{
+    out.extend_from_slice(&bit_digits(first))?;
+    put_octet_bits(out, unused, last)
+}
+
+// Appends the bits of octets without the last `unused` ones, of which there are at most seven. Nearly all bits stand in one
+/// octet or two, and are appended without a call.
+#[inline(always)]
+pub(crate) fn put_few_bits<A: Allocator>(
+    out: &mut Vec<u8, A>,
+    unused: u8,
+    octets: &[u8],
+) -> Result<(), AllocError>
+    requires { unused ≤ 7 }
+    ensures { AppendsText result out.old.items out.new.items (bits_text unused octets.now) }
+{
+    match octets {
+        [octet] => put_octet_bits(out, unused, *octet),
+        [first, last] => put_two_bits(out, unused, *first, *last),
+        _ => put_bits(out, unused, octets),
+    }
+}
+
 // Whether no octet of a text is written after a backslash. The octets are passed eight at a time, which the compiler
 // looks at together.
 fn is_plain(text: &[u8]) -> bool
@@ -176,16 +287,67 @@ fn put_escaped<A: Allocator>(out: &mut Vec<u8, A>, text: &[u8]) -> Result<(), Al
     Ok(())
 }
 
+// Appends the octets of a text of any length as they are written. Nearly every text is plain, and is appended as a whole.
+fn put_written<A: Allocator>(out: &mut Vec<u8, A>, text: &[u8]) -> Result<(), AllocError>
+    ensures { AppendsText result out.old.items out.new.items (flat_map escaped text.now) }
+{
+    if is_plain(text) {
+        out.extend_from_slice(text)
+    } else {
+        put_escaped(out, text)
+    }
+}
+
+// Appends the first octets of a text up to a place, and the last ones, which go on from there. The compiler copies so many
+// without a call.
+#[inline(always)]
+fn put_halves<const N: usize, A: Allocator>(
+    out: &mut Vec<u8, A>,
+    first: [u8; N],
+    from: usize,
+    last: [u8; N],
+) -> Result<(), AllocError>
+    requires { from ≤ N }
+    ensures { AppendsText result out.old.items out.new.items (take from first.entry ++ last.entry) }
+{
+    put_cut(out, &first, from)?;
+    out.extend_from_slice(&last)
+}
+
+// Appends a text of `N` octets to twice as many as it is written: by its first ones and its last ones, of which some may be
+// the same. The compiler looks at so many at once. A call of its own, in which it takes no copy for a rare one.
+#[inline(never)]
+fn put_short_text<const N: usize, A: Allocator>(
+    out: &mut Vec<u8, A>,
+    text: &[u8],
+) -> Result<(), AllocError>
+    requires least { N ≤ length text.now }
+    requires most { length text.now ≤ N + N }
+    ensures { AppendsText result out.old.items out.new.items (flat_map escaped text.now) }
+{
+    let Some((first, _)) = text.split_first_chunk::<N>() else {
+        unreachable!()
+    };
+    let Some((_, last)) = text.split_last_chunk::<N>() else {
+        unreachable!()
+    };
+    if are_plain(first) && are_plain(last) {
+        put_halves::<N, A>(out, *first, text.len() - N, *last)
+    } else {
+        put_escaped(out, text)
+    }
+}
+
 /// Appends a text between quotation marks.
 pub fn put_quoted<A: Allocator>(out: &mut Vec<u8, A>, text: &[u8]) -> Result<(), AllocError>
     ensures { AppendsText result out.old.items out.new.items (quoted text.now) }
 {
     out.push(b'"')?;
-    // Nearly every text is plain, and is appended as a whole.
-    if is_plain(text) {
-        out.extend_from_slice(text)?;
-    } else {
-        put_escaped(out, text)?;
+    match text.len() {
+        4..=7 => put_short_text::<4, A>(out, text)?,
+        8..=16 => put_short_text::<8, A>(out, text)?,
+        17..=32 => put_short_text::<16, A>(out, text)?,
+        _ => put_written(out, text)?,
     }
     out.push(b'"')?;
     Ok(())

@@ -9,7 +9,7 @@ ghost use Rattle.text_core.specs.ValueText.{time_text, value_text, members_text}
 
 use crate::fields::{put_octets, put_time};
 use crate::pieces::{
-    put_bits, put_boolean, put_decimal, put_hexadecimal, put_quoted, put_short_hexadecimal,
+    put_boolean, put_decimal, put_few_bits, put_hexadecimal, put_quoted, put_short_hexadecimal,
     put_signed,
 };
 use mms_data::{BitView, Members, UtcTime, View};
@@ -23,10 +23,11 @@ pub fn put_utc<A: Allocator>(out: &mut Vec<u8, A>, time: UtcTime) -> Result<(), 
 }
 
 // Appends bits. The unused ones, which have any value where they stand, are no part of them.
+#[inline(always)]
 fn put_bit_view<A: Allocator>(out: &mut Vec<u8, A>, bits: BitView<'_>) -> Result<(), AllocError>
     ensures { AppendsText result out.old.items out.new.items (bits_text bits.entry.unused (cleared bits.entry.unused bits.entry.octets.now)) }
 {
-    put_bits(out, bits.unused, bits.octets)
+    put_few_bits(out, bits.unused, bits.octets)
 }
 
 // Appends the octets of a float. Those of single precision are five, and their digits are made without a call.
