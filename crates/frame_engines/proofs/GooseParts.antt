@@ -6,7 +6,7 @@ use Rattle.pdu_core.specs.declared.goose.GoosePdu.{GoosePdu}
 use Rattle.text_core.specs.Pieces.{boolean_text, quoted, quoted_or_dash}
 use Rattle.text_core.specs.ValueText.{time_text}
 
--- from its time up to ndsCom
+-- from its time up to ndsCom, and a space
 abbrev pub state_parts : {A : Type 0} → GoosePdu A → List (List ℕ)
 state_parts p =
     codes " t="
@@ -16,9 +16,10 @@ state_parts p =
     ∷ (codes " sim=" ++ boolean_text p.simulation)
     ∷ (codes " rev=" ++ decimal p.conf_rev)
     ∷ (codes " com=" ++ boolean_text p.nds_com)
+    ∷ codes " "
     ∷ []
 
--- up to ndsCom
+-- up to its members
 abbrev pub front_parts : {A : Type 0} → GoosePdu A → List (List ℕ)
 front_parts p =
     (codes " ref=" ++ quoted p.gocb_ref)

@@ -42,25 +42,24 @@ fn put_kind(text: &mut ShortText, apdu: &ApduView<'_>)
     }
 }
 
-// The envelope.
+// Puts the envelope into a text of no octets, which stays where it is: to hand out one would copy it.
 #[inline(always)]
-fn envelope(frame: &FrameView<'_>) -> ShortText
-    ensures text { result ≡ envelope_text (frame_of {A = Unit {0}} frame.now) }
-    ensures size { length result ≤ 100 }
+fn put_envelope(text: &mut ShortText, frame: &FrameView<'_>)
+    requires { text.old ≡ [] }
+    ensures text { text.new ≡ envelope_text (frame_of {A = Unit {0}} frame.now) }
+    ensures size { length text.new ≤ 100 }
 {
-    let mut text = ShortText::new();
     text.put_four_digits(frame.reserved2);
     text.put(b" r2=");
     text.put_four_digits(frame.reserved1);
     text.put(b" r1=");
     text.put_four_digits(frame.app_id);
     text.put(b" appid=");
-    put_tag(&mut text, frame.tag);
+    put_tag(text, frame.tag);
     text.put(b" tag=");
     text.put_hexadecimal(&frame.source);
     text.put(b" ");
     text.put_hexadecimal(&frame.destination);
-    text
 }
 
 // Appends what stands before the APDU: the number of the line, the kind of APDU, and the envelope.
@@ -72,20 +71,22 @@ fn put_head<A: Allocator>(
     ensures { AppendsText result out.old.items out.new.items
         (decimal number ++ (apdu_word (apdu_of {A = Unit {0}} frame.now.apdu) ++ envelope_text (frame_of {A = Unit {0}} frame.now))) }
 {
-    let mut text = envelope(frame);
+    let mut text = ShortText::new();
+    put_envelope(&mut text, frame);
     put_kind(&mut text, &frame.apdu);
     text.put_decimal(number);
     text.append_to(out)
 }
 
-// Appends the fields of a GOOSE APDU from its time up to ndsCom.
+// Appends the fields of a GOOSE APDU from its time up to ndsCom, and the space before its members.
 fn put_state<A: Allocator>(out: &mut Vec<u8, A>, goose: &GooseView<'_>) -> Result<(), AllocError>
     ensures { AppendsText result out.old.items out.new.items (concat (codes " t=" ∷ time_text goose.now.t
         ∷ (codes " st=" ++ decimal goose.now.st_num) ∷ (codes " sq=" ++ decimal goose.now.sq_num)
         ∷ (codes " sim=" ++ boolean_text goose.now.simulation) ∷ (codes " rev=" ++ decimal goose.now.conf_rev)
-        ∷ (codes " com=" ++ boolean_text goose.now.nds_com) ∷ [])) }
+        ∷ (codes " com=" ++ boolean_text goose.now.nds_com) ∷ codes " " ∷ [])) }
 {
     let mut text = ShortText::new();
+    text.put(b" ");
     text.put_boolean(goose.nds_com);
     text.put(b" com=");
     text.put_decimal(goose.conf_rev as u64);
@@ -110,7 +111,6 @@ fn put_goose<A: Allocator>(out: &mut Vec<u8, A>, goose: &GooseView<'_>) -> Resul
     put_text(out, b" set=", goose.dat_set)?;
     put_optional(out, b" id=", goose.go_id)?;
     put_state(out, goose)?;
-    out.extend_from_slice(b" ")?;
     put_members_text(out, goose.members)
 }
 

@@ -3,7 +3,7 @@ use Rattle.hex.specs.Hex.{encode_lower}
 use Rattle.text_core.specs.Pieces.{four_digits}
 use Rattle.frame_engines.specs.FrameText.{tag_text}
 use Rattle.text_core.proofs.PieceLemmas.{before}
-use Rattle.frame_engines.proofs.texts.frame.envelope.Goals as goal
+use Rattle.frame_engines.proofs.texts.frame.put_envelope.Goals as goal
 
 pub returns-clause-text : goal.returns-clause-text
 returns-clause-text c =
@@ -18,4 +18,4 @@ returns-clause-text c =
     before (codes " r1=") c.put-2.ensures.text (
     before (four_digits frame.reserved1) c.put_four_digits-2.ensures.text (
     before (codes " r2=") c.put.ensures.text (
-    before (four_digits frame.reserved2) c.put_four_digits.ensures.text c.new-text.ensures))))))))))
+    before (four_digits frame.reserved2) c.put_four_digits.ensures.text c.requires))))))))))
