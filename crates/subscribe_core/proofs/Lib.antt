@@ -17,6 +17,7 @@ pub mod Due
 pub mod NameLemmas
 pub mod Clearing
 pub mod Fresh
+pub mod Again
 pub mod Frames
 pub mod Switching
 pub mod Quiet

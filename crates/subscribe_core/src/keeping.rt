@@ -25,7 +25,7 @@ use crate::matching::{Received, first_reason, is_other_kind};
 use crate::names::{self, Name};
 use crate::registers::{LiveState, Register};
 use crate::rows::{Reach, Rows};
-use crate::twice::first_twice;
+use crate::twice::{fault_of, first_twice_of_few};
 use block_core::Block;
 use frame_core::{ApduView, Event, EventKind, view_frame};
 use std::alloc::{AllocError, Allocator};
@@ -77,17 +77,20 @@ impl<A: Allocator + Copy> Keeper<A> {
         ensures apart { OnOk result (AreApart blocks.items) }
         ensures fault { IfErr result (λ e. IsFaultOf blocks.items e) }
     {
-        if let Some(i) = first_twice(&blocks) {
+        if let Some(i) = first_twice_of_few(&blocks) {
             return Err(SubscribeFault::SameBlockTwice(i));
         }
         let registers = match idle_registers(alloc, blocks.len()) {
             Ok(registers) => registers,
-            Err(e) => return Err(SubscribeFault::Memory(e)),
+            Err(refused) => return Err(fault_of(&blocks, refused)),
         };
         let names = match names::sorted(alloc, &blocks) {
             Ok(names) => names,
-            Err(e) => return Err(SubscribeFault::Memory(e)),
+            Err(refused) => return Err(fault_of(&blocks, refused)),
         };
+        if let Some(i) = names::first_twice(&names) {
+            return Err(SubscribeFault::SameBlockTwice(i));
+        }
         Ok(Keeper {
             alloc,
             rows: Rows::new(blocks, registers),

@@ -1,8 +1,10 @@
-// The names of the blocks in order, by which a frame's block is found.
+// The names of the blocks in order, by which a frame's block is found, and a block that is given twice.
 
-ghost use Rattle.std.specs.Prelude.{◌≡◌, [], IfOk, IsOk, MatchOption};
+ghost use Rattle.std.specs.Prelude.{◌≡◌, ◌<◌, ◌↔◌, [], List, IfOk, IsOk, IsTrue, MatchOption, length};
 ghost use Rattle.std.specs.List.{All};
-ghost use Rattle.subscribe_core.specs.computed.Names.{key_cmp, key_of, AreSorted, HasName, AreNamesOf};
+ghost use Rattle.block_core.specs.declared.block.Block.{Block as SpecBlock};
+ghost use Rattle.subscribe_core.specs.Apart.{AreApart, IsFirstTwice};
+ghost use Rattle.subscribe_core.specs.computed.Names.{key_cmp, key_of, place_cmp, place_of, lesser_of, AreSorted, ArePlaced, IsLeastAgain, HasName, AreNamesOf};
 
 use block_core::Block;
 use mms_data::Octets;
@@ -27,6 +29,16 @@ fn compare<A: Allocator>(name: &Name<A>, app_id: u16, gocb_ref: &[u8]) -> Orderi
     }
 }
 
+// How two names stand: those of one APPID and gocbRef by their positions.
+fn compare_places<A: Allocator>(a: &Name<A>, b: &Name<A>) -> Ordering
+    ensures { result ≡ place_cmp (place_of a.now) (place_of b.now) }
+{
+    match compare(a, b.app_id, b.gocb_ref.as_slice()) {
+        Ordering::Equal => a.position.cmp(&b.position),
+        other => other,
+    }
+}
+
 // The names as the blocks stand.
 fn listed<A: Allocator + Copy>(alloc: A, blocks: &[Block<A>]) -> Result<Vec<Name<A>, A>, AllocError>
     ensures named { IfOk result (λ names. AreNamesOf names.items blocks.now) }
@@ -43,18 +55,59 @@ fn listed<A: Allocator + Copy>(alloc: A, blocks: &[Block<A>]) -> Result<Vec<Name
     Ok(names)
 }
 
-// The names of the blocks, in order.
+// The names of the blocks, in order. Those that are the same are in the order of their blocks.
 pub(crate) fn sorted<A: Allocator + Copy>(
     alloc: A,
     blocks: &[Block<A>],
 ) -> Result<Vec<Name<A>, A>, AllocError>
     ensures order { IfOk result (λ names. AreSorted names.items) }
+    ensures placed { IfOk result (λ names. ArePlaced names.items) }
     ensures named { IfOk result (λ names. AreNamesOf names.items blocks.now) }
     ensures quiet { blocks.now ≡ [] → IsOk result }
 {
     let mut names = listed(alloc, blocks)?;
-    names.sort_unstable_by(|a, b| compare(a, b.app_id, b.gocb_ref.as_slice()));
+    names.sort_unstable_by(|a, b| compare_places(a, b));
     Ok(names)
+}
+
+// Whether two names are the same, the first for an earlier block.
+fn is_again<A: Allocator>(a: &Name<A>, b: &Name<A>) -> bool
+    ensures { IsTrue result ↔ (key_of a.now ≡ key_of b.now) × (a.now.position < b.now.position) }
+{
+    a.position < b.position
+        && a.app_id == b.app_id
+        && a.gocb_ref.as_slice() == b.gocb_ref.as_slice()
+}
+
+// The lesser of a position and one that may be there.
+fn lesser(least: Option<usize>, at: usize) -> Option<usize>
+    ensures { result ≡ lesser_of least at }
+{
+    match least {
+        None => Some(at),
+        Some(least) => Some(least.min(at)),
+    }
+}
+
+// The least position of a name that stands behind the same name.
+fn least_again<A: Allocator>(names: &[Name<A>]) -> Option<usize>
+    ensures { IsLeastAgain names.now (length names.now) result }
+{
+    let mut least = None;
+    for k in 1..names.len() {
+        if is_again(&names[k - 1], &names[k]) {
+            least = lesser(least, names[k].position);
+        }
+    }
+    least
+}
+
+// The first block that has the name of an earlier one, by the names of all.
+pub(crate) fn first_twice<A: Allocator>(names: &[Name<A>]) -> Option<usize>
+    requires { ArePlaced names.now }
+    ensures { (blocks : List (SpecBlock A)) → AreNamesOf names.now blocks → MatchOption result (AreApart blocks) (λ i. IsFirstTwice blocks i) }
+{
+    least_again(names)
 }
 
 // The position of the block with this name.

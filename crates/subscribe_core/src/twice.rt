@@ -1,11 +1,16 @@
-// Blocks that are given twice. Each block is compared with those before it, n (n - 1) / 2 times for n blocks, once, when a
-// subscriber is made.
+// Blocks that are given twice, found without memory: each block is compared with those before it, n (n - 1) / 2 times for n
+// blocks. So are the first few; of more blocks their names in order tell it, and this serves only where memory was refused.
 
-ghost use Rattle.std.specs.Prelude.{◌<◌, IsTrue, ◌↔◌, MatchOption, length};
-ghost use Rattle.subscribe_core.specs.Apart.{AreApart, HasNameOf, IsTwice, IsFirstTwice};
+ghost use Rattle.std.specs.Prelude.{◌≡◌, ℕ, ◌<◌, ◌≤◌, [], IsTrue, ◌↔◌, IfSome, MatchOption, length};
+ghost use Rattle.subscribe_core.specs.Apart.{HasNameOf, IsTwice, IsFirstTwice};
+ghost use Rattle.subscribe_core.specs.Faults.{IsFaultOf};
 
+use crate::fault::SubscribeFault;
 use block_core::Block;
-use std::alloc::Allocator;
+use std::alloc::{AllocError, Allocator};
+
+// So many blocks are compared sooner than their names are put in order.
+const FEW: usize = 64;
 
 // Whether two blocks have one name.
 fn have_one_name<A: Allocator>(a: &Block<A>, b: &Block<A>) -> bool
@@ -28,14 +33,33 @@ fn is_twice<A: Allocator>(blocks: &[Block<A>], i: usize) -> bool
     false
 }
 
-// The first block that has the name of an earlier one.
-pub(crate) fn first_twice<A: Allocator>(blocks: &[Block<A>]) -> Option<usize>
-    ensures { MatchOption result (AreApart blocks.now) (λ i. IsFirstTwice blocks.now i) }
+// The first of so many blocks that has the name of an earlier one.
+fn first_twice<A: Allocator>(blocks: &[Block<A>], count: usize) -> Option<usize>
+    requires { count ≤ length blocks.now }
+    ensures { MatchOption result ((i : ℕ) → i < count → ¬ IsTwice blocks.now i) (λ i. IsFirstTwice blocks.now i) }
 {
-    for i in 0..blocks.len() {
+    for i in 0..count {
         if is_twice(blocks, i) {
             return Some(i);
         }
     }
     None
+}
+
+// The first block that has the name of an earlier one, if it is among the first few.
+pub(crate) fn first_twice_of_few<A: Allocator>(blocks: &[Block<A>]) -> Option<usize>
+    ensures { IfSome result (λ i. IsFirstTwice blocks.now i) }
+{
+    first_twice(blocks, blocks.len().min(FEW))
+}
+
+// Why there is no subscriber of these blocks where memory was refused: a block that is given twice comes first.
+pub(crate) fn fault_of<A: Allocator>(blocks: &[Block<A>], refused: AllocError) -> SubscribeFault
+    requires { blocks.now ≡ [] → ⊥ }
+    ensures { IsFaultOf blocks.now result }
+{
+    match first_twice(blocks, blocks.len()) {
+        Some(i) => SubscribeFault::SameBlockTwice(i),
+        None => SubscribeFault::Memory(refused),
+    }
 }
