@@ -1,18 +1,18 @@
 -- Blocks that are given twice, and a subscriber to which nothing has happened.
-use Rattle.std.proofs.Common.{◌≡◌, ℕ, zero, suc, ◌<◌, None, List, [], length, get_or, replicate, sym, ap, ◌∙◌, refl, inl, inr}
+use Rattle.std.proofs.Common.{◌≡◌, ℕ, zero, suc, ◌<◌, Option, None, List, length, get_or, replicate, sym, ap, ◌∙◌, refl, inl, inr}
 use Rattle.std.proofs.lemmas.Bool.{cases_order}
 use Rattle.std.proofs.lemmas.Option.{slice_get_within}
-use Rattle.std.proofs.lemmas.List.{length-replicate}
+use Rattle.std.proofs.lemmas.List.{length-map, length-replicate}
 use Rattle.block_core.specs.declared.block.Block.{Block}
 use Rattle.subscribe_core.specs.declared.deadlines.Deadlines.{Deadlines}
 use Rattle.subscribe_core.specs.declared.names.Name.{Name}
+use Rattle.subscribe_core.specs.declared.registers.LiveState.{LiveState}
 use Rattle.subscribe_core.specs.declared.registers.Register.{Register}
-use Rattle.subscribe_core.specs.computed.Deadlines.{helds}
+use Rattle.subscribe_core.specs.computed.Deadlines.{KeepsDeadlinesOf, helds}
 use Rattle.subscribe_core.specs.computed.Indexed.{IsIndexed}
 use Rattle.subscribe_core.specs.computed.Names.{AreSorted, AreNamesOf}
 use Rattle.subscribe_core.specs.Apart.{AreApart, IsTwice}
 use Rattle.subscribe_core.specs.State.{idle}
-use Rattle.subscribe_core.proofs.KeptDeadlines.{keeps_none}
 
 pub apart_from : {A : Type 0} → (blocks : List (Block A)) → ((k : ℕ) → k < length blocks → ¬ IsTwice blocks k) → AreApart blocks
 apart_from blocks h i j a b p q e =
@@ -29,13 +29,16 @@ idle_holds (suc n) (suc p) = idle_holds n p
 
 -- nothing is held and no deadline is kept
 pub fresh_indexed : {A : Type 0} → (blocks : List (Block A)) (registers : List Register) (names : List (Name A)) (deadlines : Deadlines A)
-    → registers ≡ replicate (length blocks) idle → deadlines.deadline ≡ None → deadlines.others.keys ≡ [] → AreApart blocks → AreSorted names → AreNamesOf names blocks
+    → registers ≡ replicate (length blocks) idle
+    → ((held : List (Option LiveState)) → length held ≡ length blocks → ((p : ℕ) → get_or held p None ≡ None) → KeepsDeadlinesOf deadlines held)
+    → AreApart blocks → AreSorted names → AreNamesOf names blocks
     → IsIndexed blocks registers names deadlines
-fresh_indexed blocks registers names deadlines is none empty apart sorted named =
+fresh_indexed blocks registers names deadlines is kept apart sorted named =
+    let size : length registers ≡ length blocks = ap length is ∙ length-replicate (length blocks) idle in
     record {
-      sizes = ap length is ∙ length-replicate (length blocks) idle;
+      sizes = size;
       apart = apart;
       sorted = sorted;
       named = named;
-      timed = keeps_none deadlines (helds registers) none empty (λ p. rw is (idle_holds (length blocks) p));
+      timed = kept (helds registers) (length-map registers (λ (r : Register). r.held) ∙ size) (λ p. rw is (idle_holds (length blocks) p));
     }

@@ -11,8 +11,7 @@ pub mod Alone
 pub mod Stay
 pub mod Readings
 pub mod Runs
-pub mod Pairs
-pub mod KeptDeadlines
+pub mod Nodes
 pub mod Due
 pub mod NameLemmas
 pub mod Clearing

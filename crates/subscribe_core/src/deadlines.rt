@@ -1,200 +1,171 @@
-// The deadlines of the holding blocks: one apart, the others in order, each with its block's position.
+// The deadlines of the holding blocks: one for each block, and above them the least of ever more of them.
 
-ghost use Rattle.std.specs.Prelude.{◌≡◌, ℕ, ◌<◌, ◌+◌, ◌^◌, [], ◌∷◌, ◌++◌, List, Option, Some, None, true, false, IfOk, OnOk, OnErr, IsOk, IsTrue, IfSome, IfNone, is_some, if◌then◌else◌, length, map, slice_set, slice_index_or};
-ghost use Rattle.std.specs.BTreeSet.{btree_set_len, IsOrdered};
+ghost use Rattle.std.specs.Prelude.{◌≡◌, ◌↔◌, ℕ, ◌<◌, ◌≤◌, ◌+◌, ◌*◌, ◌^◌, ◌⊎◌, [], ◌++◌, List, Option, Some, None, true, false, IfOk, OnOk, IsOk, IsTrue, IfSome, IfNone, length, slice_set, slice_index, slice_index_or};
 ghost use Rattle.subscribe_core.specs.declared.registers.LiveState.{LiveState as SpecLiveState};
 ghost use Rattle.subscribe_core.specs.computed.Steps.{is_dead};
-ghost use Rattle.subscribe_core.specs.computed.Deadlines.{AreDeadlinesOf, KeepsDeadlinesOf, deadline_count, due_pairs, due_positions, is_past, pair_cmp};
+ghost use Rattle.subscribe_core.specs.computed.Deadlines.{AreLesser, AreLesserBut, KeepsDeadlinesOf, due_from, due_positions, half};
 
-use crate::registers::LiveState;
 use std::alloc::{AllocError, Allocator};
-use std::collections::BTreeSet;
 
-// The positions of the blocks whose deadline is at most the moment, by their deadlines.
-fn listed<A: Allocator + Copy>(
-    alloc: A,
-    deadlines: &BTreeSet<(u128, usize), A>,
-    now: u64,
-) -> Result<Vec<usize, A>, AllocError>
-    ensures positions { IfOk result (λ at. at.items ≡ map (λ q. q.1) (due_pairs now deadlines.now)) }
-    ensures quiet { due_pairs now deadlines.now ≡ [] → IsOk result }
-    ensures ordered { IsOrdered pair_cmp deadlines.now }
-{
-    let mut positions = Vec::new(alloc);
-    for pair in deadlines.range(..=(u128::from(now), usize::MAX)) {
-        positions.push(pair.1)?;
-    }
-    Ok(positions)
-}
+// Stands for no deadline: no moment comes near it.
+const NONE: u128 = u128::MAX;
 
-// Puts in the deadline of a block that has none there.
-fn put_in<A: Allocator + Copy>(
-    deadlines: &mut BTreeSet<(u128, usize), A>,
-    at: usize,
-    deadline: u128,
-) -> Result<(), AllocError>
-    ensures put { OnOk result ((held : List (Option SpecLiveState)) (new : SpecLiveState) → at < length held → slice_index_or held at None ≡ None
-        → new.deadline ≡ deadline → AreDeadlinesOf deadlines.old held → AreDeadlinesOf deadlines.new (slice_set held at (Some new))) }
-    ensures err { OnErr result (deadlines.new.keys ≡ deadlines.old.keys) }
+// For how many blocks there is room, where there are so many: a power of two, or none.
+fn room_for(count: usize) -> usize
+    requires { count ≤ 2 ^ 63 }
+    ensures room { count ≤ result }
+    ensures power { 0 < result → (k : ℕ) × (result ≡ 2 ^ k) }
+    ensures none { count ≡ 0 → result ≡ 0 }
 {
-    deadlines.insert((deadline, at))?;
-    Ok(())
-}
-
-// Takes out a block's deadline, if it has one.
-fn leave<A: Allocator + Copy>(
-    deadlines: &mut BTreeSet<(u128, usize), A>,
-    at: usize,
-    old: Option<LiveState>,
-)
-    ensures { (held : List (Option SpecLiveState)) → slice_index_or held at None ≡ old → AreDeadlinesOf deadlines.old held → AreDeadlinesOf deadlines.new (slice_set held at None) }
-{
-    if let Some(old) = old {
-        deadlines.remove(&(old.deadline, at));
+    if count == 0 {
+        0
+    } else {
+        count.next_power_of_two()
     }
 }
 
-// Takes out the least deadline, if it is at most the moment, and gives its block's position.
-fn take_due<A: Allocator + Copy>(
-    deadlines: &mut BTreeSet<(u128, usize), A>,
-    now: u64,
-) -> Option<usize>
-    ensures due { IfSome result (λ at. (held : List (Option SpecLiveState)) → AreDeadlinesOf deadlines.old held → IsTrue (is_dead (slice_index_or held at None) now)) }
-    ensures taken { IfSome result (λ at. (held : List (Option SpecLiveState)) → AreDeadlinesOf deadlines.old held → AreDeadlinesOf deadlines.new (slice_set held at None)) }
-    ensures none { IfNone result ((held : List (Option SpecLiveState)) (at : ℕ) → AreDeadlinesOf deadlines.old held → is_dead (slice_index_or held at None) now ≡ false) }
-    ensures len { btree_set_len deadlines.new + (if is_some result then 1 else 0) ≡ btree_set_len deadlines.old }
-    ensures unchanged { IfNone result (deadlines.new.keys ≡ deadlines.old.keys) }
-{
-    let Some(&(deadline, at)) = deadlines.first() else {
-        return None;
-    };
-    if u128::from(now) < deadline {
-        return None;
-    }
-    deadlines.pop_first();
-    Some(at)
-}
-
-// Whether the least deadline is at most the moment.
-fn is_first_due<A: Allocator + Copy>(deadlines: &BTreeSet<(u128, usize), A>, now: u64) -> bool
-    ensures found { result ≡ true → (held : List (Option SpecLiveState)) → AreDeadlinesOf deadlines.now held → (at : ℕ) × IsTrue (is_dead (slice_index_or held at None) now) }
-    ensures none { result ≡ false → (held : List (Option SpecLiveState)) (at : ℕ) → AreDeadlinesOf deadlines.now held → is_dead (slice_index_or held at None) now ≡ false }
-{
-    let Some(&(deadline, _)) = deadlines.first() else {
-        return false;
-    };
-    deadline <= u128::from(now)
-}
-
-/// The deadlines of the blocks that hold something: that of one block apart, and those of all others in order. The block apart
-/// is the one that was renewed last, so where it is renewed again, nothing is moved and no memory is taken.
+/// The deadlines of the blocks that hold something, as nodes of a tree. The second half of the nodes are the blocks', in their
+/// order, with the greatest number where nothing is held. Before them each node i has the lesser of the nodes 2 i and 2 i + 1,
+/// so node 1 has the least deadline. Node 0 is not used. All nodes are made at once, so a renewal takes no memory; it writes
+/// those above its block that change.
 #[derive(Drop)]
 pub struct Deadlines<A: Allocator> {
-    apart: usize,
-    deadline: Option<u128>,
-    others: BTreeSet<(u128, usize), A>,
+    nodes: Vec<u128, A>,
 }
 
 impl<A: Allocator + Copy> Deadlines<A> {
-    // Those of blocks that hold nothing.
-    pub(crate) fn new(alloc: A) -> Deadlines<A>
-        ensures apart { result.apart ≡ 0 }
-        ensures deadline { result.deadline ≡ None }
-        ensures others { result.others.keys ≡ [] }
+    // Those of so many blocks that hold nothing.
+    pub(crate) fn new(alloc: A, count: usize) -> Result<Deadlines<A>, AllocError>
+        requires { count ≤ 2 ^ 63 }
+        ensures kept { IfOk result (λ d. (held : List (Option SpecLiveState)) → length held ≡ count → ((p : ℕ) → slice_index_or held p None ≡ None) → KeepsDeadlinesOf d held) }
+        ensures quiet { count ≡ 0 → IsOk result }
     {
-        Deadlines {
-            apart: 0,
-            deadline: None,
-            others: BTreeSet::new(alloc),
-        }
+        let mut nodes = Vec::new(alloc);
+        nodes.resize(room_for(count).saturating_mul(2), NONE)?;
+        Ok(Deadlines { nodes })
     }
 
-    // Whether the deadline apart is at most the moment.
-    fn is_apart_due(&self, now: u64) -> bool
-        ensures { result ≡ is_past self.now.deadline now }
+    // Whether a node is there and at most the moment.
+    fn is_due_at(&self, node: usize, now: u64) -> bool
+        ensures { IsTrue result ↔ (node < length self.now.nodes.items) × (slice_index self.now.nodes.items node ≤ now) }
     {
-        match self.deadline {
-            None => false,
-            Some(deadline) => deadline <= u128::from(now),
-        }
+        node < self.nodes.len() && self.nodes[node] <= u128::from(now)
     }
 
     // Whether some deadline is at most the moment.
     pub(crate) fn has_due(&self, now: u64) -> bool
+        ensures least { result ≡ true → (0 < half self.now.nodes.items) × (slice_index self.now.nodes.items 1 ≤ now) }
         ensures found { result ≡ true → (held : List (Option SpecLiveState)) → KeepsDeadlinesOf self.now held → (at : ℕ) × IsTrue (is_dead (slice_index_or held at None) now) }
         ensures none { result ≡ false → (held : List (Option SpecLiveState)) (at : ℕ) → KeepsDeadlinesOf self.now held → is_dead (slice_index_or held at None) now ≡ false }
     {
-        self.is_apart_due(now) || is_first_due(&self.others, now)
+        self.is_due_at(1, now)
     }
 
-    // The positions of the blocks whose deadline is at most the moment, by their deadlines, and the block apart last.
-    fn listed(&self, alloc: A, now: u64) -> Result<Vec<usize, A>, AllocError>
-        ensures positions { IfOk result (λ at. at.items ≡ map (λ q. q.1) (due_pairs now self.now.others) ++ (if is_past self.now.deadline now then self.now.apart ∷ [] else [])) }
-        ensures quiet { due_pairs now self.now.others ≡ [] → is_past self.now.deadline now ≡ false → IsOk result }
-        ensures ordered { IsOrdered pair_cmp self.now.others }
+    // Appends the positions of those blocks below a node whose deadline is at most the moment, in their order. It calls itself
+    // no deeper than the tree is, which has at most 64 levels.
+    fn list(&self, node: usize, now: u64, positions: &mut Vec<usize, A>) -> Result<(), AllocError>
+        requires { 0 < node }
+        ensures positions { OnOk result ((held : List (Option SpecLiveState)) (b k : ℕ) → KeepsDeadlinesOf self.now held → node * 2 ^ k ≡ half self.now.nodes.items + b → b + 2 ^ k ≤ half self.now.nodes.items
+            → positions.new.items ≡ positions.old.items ++ due_from now held b (2 ^ k)) }
+        ensures quiet { (held : List (Option SpecLiveState)) (b k : ℕ) → KeepsDeadlinesOf self.now held → node * 2 ^ k ≡ half self.now.nodes.items + b → b + 2 ^ k ≤ half self.now.nodes.items
+            → due_from now held b (2 ^ k) ≡ [] → IsOk result }
     {
-        let mut positions = listed(alloc, &self.others, now)?;
-        if self.is_apart_due(now) {
-            positions.push(self.apart)?;
+        if !self.is_due_at(node, now) {
+            return Ok(());
         }
-        Ok(positions)
+        let half = self.nodes.len() / 2;
+        if half <= node {
+            positions.push(node - half)?;
+            return Ok(());
+        }
+        self.list(2 * node, now, positions)?;
+        self.list(2 * node + 1, now, positions)
     }
 
     // The positions of the blocks whose deadline is at most the moment, in their order.
     pub(crate) fn due(&self, alloc: A, now: u64) -> Result<Vec<usize, A>, AllocError>
-        ensures positions { (held : List (Option SpecLiveState)) → length held < 2 ^ 64 → KeepsDeadlinesOf self.now held → IfOk result (λ at. at.items ≡ due_positions now 0 held) }
+        ensures positions { (held : List (Option SpecLiveState)) → KeepsDeadlinesOf self.now held → IfOk result (λ at. at.items ≡ due_positions now 0 held) }
         ensures quiet { (held : List (Option SpecLiveState)) → KeepsDeadlinesOf self.now held → due_positions now 0 held ≡ [] → IsOk result }
     {
-        let mut positions = self.listed(alloc, now)?;
-        positions.sort_unstable();
+        let mut positions = Vec::new(alloc);
+        if !self.has_due(now) {
+            return Ok(positions);
+        }
+        self.list(1, now, &mut positions)?;
         Ok(positions)
     }
 
-    // Puts the deadline apart among the others.
-    fn rejoin(&mut self) -> Result<(), AllocError>
-        ensures joined { OnOk result ((held : List (Option SpecLiveState)) → KeepsDeadlinesOf self.old held → AreDeadlinesOf self.new.others held) }
-        ensures apart { self.new.apart ≡ self.old.apart }
-        ensures deadline { self.new.deadline ≡ self.old.deadline }
-        ensures err { OnErr result (self.new.others.keys ≡ self.old.others.keys) }
+    // Has an inner node and those above it have the lesser of the nodes below them again.
+    fn settle(&mut self, from: usize)
+        requires { from < half self.old.nodes.items }
+        ensures length { length self.new.nodes.items ≡ length self.old.nodes.items }
+        ensures lesser { AreLesserBut self.old.nodes.items from → AreLesser self.new.nodes.items }
+        ensures blocks { (i : ℕ) → half self.old.nodes.items ≤ i → slice_index self.new.nodes.items i ≡ slice_index self.old.nodes.items i }
     {
-        match self.deadline {
-            None => Ok(()),
-            Some(deadline) => put_in(&mut self.others, self.apart, deadline),
+        let mut node = from;
+        while 0 < node {
+            let lesser = self.nodes[2 * node].min(self.nodes[2 * node + 1]);
+            if self.nodes[node] == lesser {
+                return;
+            }
+            self.nodes[node] = lesser;
+            node /= 2;
         }
     }
 
-    // Gives a block a deadline in place of the one that it had. The block is then the one apart. Memory is wanted only
-    // where another block's deadline was apart, and before anything is changed.
-    pub(crate) fn renew(
-        &mut self,
-        at: usize,
-        old: Option<LiveState>,
-        deadline: u128,
-    ) -> Result<(), AllocError>
-        ensures renewed { OnOk result ((held : List (Option SpecLiveState)) (new : SpecLiveState) → at < length held → slice_index_or held at None ≡ old
-            → new.deadline ≡ deadline → KeepsDeadlinesOf self.old held → KeepsDeadlinesOf self.new (slice_set held at (Some new))) }
-        ensures err { OnErr result ((held : List (Option SpecLiveState)) → KeepsDeadlinesOf self.old held → KeepsDeadlinesOf self.new held) }
+    // Writes the deadline of the block at a position.
+    fn put(&mut self, at: usize, deadline: u128)
+        ensures length { length self.new.nodes.items ≡ length self.old.nodes.items }
+        ensures lesser { AreLesser self.old.nodes.items → AreLesser self.new.nodes.items }
+        ensures here { at < half self.old.nodes.items → slice_index self.new.nodes.items (half self.old.nodes.items + at) ≡ deadline }
+        ensures others { (p : ℕ) → (p ≡ at → ⊥) → slice_index self.new.nodes.items (half self.old.nodes.items + p) ≡ slice_index self.old.nodes.items (half self.old.nodes.items + p) }
     {
-        if at == self.apart {
-            self.deadline = Some(deadline);
-            return Ok(());
+        let half = self.nodes.len() / 2;
+        if at < half {
+            self.nodes[half + at] = deadline;
+            self.settle((half + at) / 2);
         }
-        self.rejoin()?;
-        leave(&mut self.others, at, old);
-        self.apart = at;
-        self.deadline = Some(deadline);
-        Ok(())
+    }
+
+    // Gives a block a deadline in place of the one that it had.
+    pub(crate) fn renew(&mut self, at: usize, deadline: u128)
+        ensures { (held : List (Option SpecLiveState)) (new : SpecLiveState) → at < length held → new.deadline ≡ deadline
+            → KeepsDeadlinesOf self.old held → KeepsDeadlinesOf self.new (slice_set held at (Some new)) }
+    {
+        self.put(at, deadline);
     }
 
     // Takes out a block's deadline, if it has one.
-    pub(crate) fn let_go(&mut self, at: usize, old: Option<LiveState>)
-        ensures { (held : List (Option SpecLiveState)) → slice_index_or held at None ≡ old → KeepsDeadlinesOf self.old held → KeepsDeadlinesOf self.new (slice_set held at None) }
+    pub(crate) fn let_go(&mut self, at: usize)
+        ensures { (held : List (Option SpecLiveState)) → KeepsDeadlinesOf self.old held → KeepsDeadlinesOf self.new (slice_set held at None) }
     {
-        if at == self.apart {
-            self.deadline = None;
+        self.put(at, NONE);
+    }
+
+    // Of the two nodes below an inner one, one that is at most the moment where that is.
+    fn due_below(&self, node: usize, now: u64) -> usize
+        requires { node < half self.now.nodes.items }
+        ensures below { (result ≡ 2 * node) ⊎ (result ≡ 2 * node + 1) }
+        ensures due { AreLesser self.now.nodes.items → 0 < node → slice_index self.now.nodes.items node ≤ now → slice_index self.now.nodes.items result ≤ now }
+    {
+        if self.is_due_at(2 * node, now) {
+            2 * node
         } else {
-            leave(&mut self.others, at, old);
+            2 * node + 1
         }
+    }
+
+    // The position of a block whose deadline is at most the moment, where node 1 is.
+    fn first_due(&self, now: u64) -> usize
+        ensures { 0 < half self.now.nodes.items → AreLesser self.now.nodes.items → slice_index self.now.nodes.items 1 ≤ now
+            → (result < half self.now.nodes.items) × (slice_index self.now.nodes.items (half self.now.nodes.items + result) ≤ now) }
+    {
+        let half = self.nodes.len() / 2;
+        let mut node = 1;
+        while node < half {
+            node = self.due_below(node, now);
+        }
+        node - half
     }
 
     // Takes out a deadline that is at most the moment, if there is one, and gives its block's position.
@@ -202,13 +173,13 @@ impl<A: Allocator + Copy> Deadlines<A> {
         ensures due { IfSome result (λ at. (held : List (Option SpecLiveState)) → KeepsDeadlinesOf self.old held → IsTrue (is_dead (slice_index_or held at None) now)) }
         ensures taken { IfSome result (λ at. (held : List (Option SpecLiveState)) → KeepsDeadlinesOf self.old held → KeepsDeadlinesOf self.new (slice_set held at None)) }
         ensures none { IfNone result ((held : List (Option SpecLiveState)) (at : ℕ) → KeepsDeadlinesOf self.old held → is_dead (slice_index_or held at None) now ≡ false) }
-        ensures count { deadline_count self.new + (if is_some result then 1 else 0) ≡ deadline_count self.old }
         ensures unchanged { IfNone result (self.new ≡ self.old) }
     {
-        if self.is_apart_due(now) {
-            self.deadline = None;
-            return Some(self.apart);
+        if !self.has_due(now) {
+            return None;
         }
-        take_due(&mut self.others, now)
+        let at = self.first_due(now);
+        self.let_go(at);
+        Some(at)
     }
 }

@@ -91,11 +91,15 @@ impl<A: Allocator + Copy> Keeper<A> {
         if let Some(i) = names::first_twice(&names) {
             return Err(SubscribeFault::SameBlockTwice(i));
         }
+        let deadlines = match Deadlines::new(alloc, blocks.len()) {
+            Ok(deadlines) => deadlines,
+            Err(refused) => return Err(SubscribeFault::Memory(refused)),
+        };
         Ok(Keeper {
             alloc,
             rows: Rows::new(blocks, registers),
             names,
-            deadlines: Deadlines::new(alloc),
+            deadlines,
             mode: false,
             moment: 0,
             looks: 0,
@@ -173,25 +177,15 @@ impl<A: Allocator + Copy> Keeper<A> {
     }
 
     // Has a block hold something in place of what it held, and take simulated frames or real ones.
-    //
-    // The new deadline comes first, where memory may be refused.
-    fn hold(
-        &mut self,
-        at: usize,
-        old: Option<LiveState>,
-        held: LiveState,
-        takes_simulated: bool,
-    ) -> Result<(), AllocError>
-        requires was { (r : SpecRegister) × (slice_get self.old.state.registers at ≡ Some r) × (r.held ≡ old) }
-        ensures registers { OnOk result (self.new.state.registers ≡ slice_set self.old.state.registers at (record { held = Some held; takes_simulated = takes_simulated })) }
-        ensures blocks { OnOk result (self.new.state.blocks ≡ self.old.state.blocks) }
-        ensures mode { OnOk result (self.new.state.mode ≡ self.old.state.mode) }
-        ensures moment { OnOk result (self.new.state.moment ≡ self.old.state.moment) }
-        ensures count { OnOk result (self.new.reaches ≤ self.old.reaches + 1) }
-        ensures err { OnErr result (self.new.state ≡ self.old.state) }
-        ensures err_looks { OnErr result (self.new.looks ≡ self.old.looks) }
+    fn hold(&mut self, at: usize, held: LiveState, takes_simulated: bool)
+        requires { at < length self.old.state.registers }
+        ensures registers { self.new.state.registers ≡ slice_set self.old.state.registers at (record { held = Some held; takes_simulated = takes_simulated }) }
+        ensures blocks { self.new.state.blocks ≡ self.old.state.blocks }
+        ensures mode { self.new.state.mode ≡ self.old.state.mode }
+        ensures moment { self.new.state.moment ≡ self.old.state.moment }
+        ensures count { self.new.reaches ≤ self.old.reaches + 1 }
     {
-        self.deadlines.renew(at, old, held.deadline)?;
+        self.deadlines.renew(at, held.deadline);
         self.rows.write(
             at,
             Register {
@@ -199,7 +193,6 @@ impl<A: Allocator + Copy> Keeper<A> {
                 takes_simulated,
             },
         );
-        Ok(())
     }
 
     // The allocator of the subscriber.
@@ -249,7 +242,8 @@ impl<A: Allocator + Copy> Keeper<A> {
             None => Ok(()),
             Some(held) => {
                 let takes_simulated = old.takes_simulated || frame.goose.simulation;
-                self.hold(at, old.held, held, takes_simulated)
+                self.hold(at, held, takes_simulated);
+                Ok(())
             }
         }
     }
@@ -321,7 +315,7 @@ impl<A: Allocator + Copy> Keeper<A> {
             let reach = self.rows.reach(at);
             let (_, old) = self.rows.look(reach);
             if old.takes_simulated {
-                self.deadlines.let_go(at, old.held);
+                self.deadlines.let_go(at);
                 let idle = Register {
                     held: None,
                     takes_simulated: false,

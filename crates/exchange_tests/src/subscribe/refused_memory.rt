@@ -116,8 +116,8 @@ const EXAMPLES: [(Given, Want, usize, usize); 19] = [
     (
         Given::Other(Numbers(500, 1, 0, 2000)),
         Want::One(Told::Act(1, 1, 0, TRUE)),
-        3,
-        9,
+        2,
+        2,
     ),
     (
         Given::Other(Numbers(2000, 1, 1, 2000)),

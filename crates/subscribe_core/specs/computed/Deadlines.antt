@@ -1,53 +1,47 @@
 -- The deadlines that are kept agree with what the blocks hold.
-use Rattle.std.specs.Prelude.{◌≡◌, ℕ, ◌+◌, ◌-◌, ◌^◌, Bool, false, ◌==◌, nat_le, List, [], ◌∷◌, Option, Some, None, is_some, map, slice_index_or, slice_set, if◌then◌else◌}
-use Rattle.std.specs.Ordering.{nat_cmp, ordering_then}
-use Rattle.std.specs.declared.cmp.Ordering.{Ordering}
-use Rattle.std.specs.BTreeSet.{BTreeSet, btree_set_len, contains, keys_between}
-use Rattle.std.specs.declared.ops.Bound.TheVariants.{Unbounded, Included}
+use Rattle.std.specs.Prelude.{◌≡◌, ℕ, zero, suc, ◌+◌, ◌-◌, ◌*◌, ◌/◌, ◌^◌, ◌<◌, ◌≤◌, min, List, [], ◌∷◌, Option, Some, None, map, length, slice_index, slice_index_or, if◌then◌else◌}
 use Rattle.subscribe_core.specs.declared.deadlines.Deadlines.{Deadlines}
 use Rattle.subscribe_core.specs.declared.registers.LiveState.{LiveState}
 use Rattle.subscribe_core.specs.declared.registers.Register.{Register}
 use Rattle.subscribe_core.specs.computed.Steps.{is_dead}
 
--- deadlines in order, and at one deadline the positions
-abbrev pub pair_cmp : ℕ × ℕ → ℕ × ℕ → Ordering
-pair_cmp x y = ordering_then (nat_cmp x.0 y.0) (nat_cmp x.1 y.1)
-
--- what is held has this deadline
-abbrev pub has_deadline : Option LiveState → ℕ → Bool
-has_deadline None deadline = false
-has_deadline (Some h) deadline = h.deadline == deadline
-
 -- what is held, register by register
 abbrev pub helds : List Register → List (Option LiveState)
 helds rs = map (λ (r : Register). r.held) rs
 
--- the set has exactly the deadline of each holding block, with its position
-abbrev pub AreDeadlinesOf : BTreeSet (ℕ × ℕ) → List (Option LiveState) → Type 0
-AreDeadlinesOf set held = (q : ℕ × ℕ) → contains pair_cmp set q ≡ has_deadline (slice_index_or held q.1 None) q.0
+-- the deadline of what is held, and for none a number that no moment comes near
+abbrev pub deadline_of : Option LiveState → ℕ
+deadline_of None = 2 ^ 128 - 1
+deadline_of (Some h) = h.deadline
 
--- the deadline of what is held
-abbrev pub deadline_of : Option LiveState → Option ℕ
-deadline_of None = None
-deadline_of (Some h) = Some h.deadline
+-- how many nodes are inner ones or before them; as many come behind them
+abbrev pub half : List ℕ → ℕ
+half nodes = length nodes / 2
 
--- the deadline apart is that of the block apart, and the set has exactly those of the other blocks
+-- an inner node has the lesser of the two nodes below it
+abbrev pub IsLesser : List ℕ → ℕ → Type 0
+IsLesser nodes i = slice_index nodes i ≡ min (slice_index nodes (2 * i)) (slice_index nodes (2 * i + 1))
+
+-- each inner node does
+abbrev pub AreLesser : List ℕ → Type 0
+AreLesser nodes = (i : ℕ) → 0 < i → i < half nodes → IsLesser nodes i
+
+-- each but one does
+abbrev pub AreLesserBut : List ℕ → ℕ → Type 0
+AreLesserBut nodes but = (i : ℕ) → 0 < i → i < half nodes → (i ≡ but → ⊥) → IsLesser nodes i
+
+-- behind the inner nodes each block's deadline stands, and each inner node has the least of those below it
 pub record KeepsDeadlinesOf {A : Type 0} (d : Deadlines A) (held : List (Option LiveState)) : Type 0 where
-  pub apart : deadline_of (slice_index_or held d.apart None) ≡ d.deadline
-  pub others : AreDeadlinesOf d.others (slice_set held d.apart None)
+  pub room : length held ≤ half d.nodes.items
+  pub power : 0 < half d.nodes.items → (k : ℕ) × (half d.nodes.items ≡ 2 ^ k)
+  pub lesser : AreLesser d.nodes.items
+  pub each : (p : ℕ) → p < half d.nodes.items → slice_index d.nodes.items (half d.nodes.items + p) ≡ deadline_of (slice_index_or held p None)
 
--- how many deadlines are kept
-abbrev pub deadline_count : {A : Type 0} → Deadlines A → ℕ
-deadline_count d = btree_set_len d.others + (if is_some d.deadline then 1 else 0)
-
--- it is a deadline, and at most the moment
-abbrev pub is_past : Option ℕ → ℕ → Bool
-is_past None now = false
-is_past (Some deadline) now = nat_le deadline now
-
--- the pairs of the set that are due
-abbrev pub due_pairs : ℕ → BTreeSet (ℕ × ℕ) → List (ℕ × ℕ)
-due_pairs now set = keys_between pair_cmp Unbounded (Included (now, 2 ^ 64 - 1)) set
+-- the positions from b on, so many, of the blocks that are due
+abbrev pub due_from : ℕ → List (Option LiveState) → ℕ → ℕ → List ℕ
+due_from now held b zero = []
+due_from now held b (suc n) =
+    if is_dead (slice_index_or held b None) now then b ∷ due_from now held (b + 1) n else due_from now held (b + 1) n
 
 -- how many of the blocks are due
 abbrev pub due_count : ℕ → List (Option LiveState) → ℕ

@@ -31,6 +31,17 @@ loop-at-preserved g c =
       moment_stays = c.loop-at.invariant.moment_stays;
     }
 
+pub loop-at-smaller : goal.loop-at-smaller
+loop-at-smaller g c =
+    let registers = c.loop-at.self-inside.rows.registers.items in
+    let at = c.in-Some.at in
+    let due = c.in-Some.ensures.due (helds registers) c.loop-at.invariant.indexed.timed in
+    let here = register_of registers at (due_within registers at c.args.now due) in
+    let is = c.let_go.ensures.registers here.0 here.1 in
+    let counted = count_set (helds registers) at c.args.now due in
+    let after = ap (λ (rs : List Register). due_count c.args.now (helds rs)) is ∙ ap (due_count c.args.now) (helds_set registers at (let_go here.0)) in
+    omega arith
+
 pub returns-clause-registers : goal.returns-clause-registers
 returns-clause-registers g c =
     let registers = c.loop-at.self-inside.rows.registers.items in

@@ -1,4 +1,4 @@
-use Rattle.subscribe_core.specs.computed.Deadlines.{deadline_count}
+use Rattle.subscribe_core.specs.computed.Deadlines.{due_count, helds}
 use Rattle.subscribe_core.proofs.Clearing.{IsClearing}
 use Rattle.subscribe_core.proofs.keeping.Keeper.expire.Given as goal
 
@@ -9,4 +9,4 @@ invariant-loop-at g l = IsClearing l.now l.initial.self-inside.rows.blocks.items
     l.initial.self-inside.mode l.self-inside.mode l.initial.self-inside.moment l.self-inside.moment
 
 abbrev pub decreases-loop-at : goal.decreases-loop-at
-decreases-loop-at g l = deadline_count l.self-inside.deadlines
+decreases-loop-at g l = due_count l.now (helds l.self-inside.rows.registers.items)

@@ -1,8 +1,7 @@
-use Rattle.std.proofs.Common.{◌≡◌, ◌<◌, ◌^◌, ◌++◌, List, map, length, subst, sym, ap, ◌∙◌, arith, append_assoc, append-nil, refl}
+use Rattle.std.proofs.Common.{◌≡◌, ◌++◌, List, map, length, subst, sym, ap, ◌∙◌, arith, append_assoc, append-nil, refl}
 use Rattle.std.proofs.lemmas.Bool.{false≢true}
-use Rattle.std.proofs.lemmas.List.{take_all, map_more, length-map}
+use Rattle.std.proofs.lemmas.List.{take_all, map_more}
 use Rattle.subscribe_core.specs.declared.entry.Entry.{Entry}
-use Rattle.subscribe_core.specs.declared.registers.Register.{Register}
 use Rattle.subscribe_core.specs.computed.Deadlines.{KeepsDeadlinesOf, helds}
 use Rattle.subscribe_core.specs.computed.Steps.{expired_entries}
 use Rattle.subscribe_core.specs.computed.PrivateCalls.{StateAndReaches}
@@ -29,22 +28,14 @@ loop-at-preserved g c =
 pub returns-in_err-push-clause-quiet : goal.returns-in_err-push-clause-quiet
 returns-in_err-push-clause-quiet g c = λ none.
     let agree = subst (λ (s : StateAndReaches _). KeepsDeadlinesOf c.self.inside.deadlines (helds s.state.registers)) c.self.view_is c.self.invariant.timed in
-    let size : length c.self.inside.rows.registers.items < 2 ^ 64 = omega arith in
-    let all = length-map c.self.inside.rows.registers.items (λ (r : Register). r.held) in
-    let whole : length (helds c.self.inside.rows.registers.items) < 2 ^ 64 = omega arith in
-    let small = subst (λ (s : StateAndReaches _). length (helds s.state.registers) < 2 ^ 64) c.self.view_is whole in
-    let is = c.in_ok-due.ensures.positions (helds c.args.self.now.state.registers) small agree in
+    let is = c.in_ok-due.ensures.positions (helds c.args.self.now.state.registers) agree in
     let empty : length c.deref-at-items.result.now ≡ 0 = ap length (c.deref-at-items.ensures.value ∙ (is ∙ positions_none _ c.args.now c.args.self.now.state.registers none)) in
     absurd (omega arith)
 
 pub returns-clause-entries : goal.returns-clause-entries
 returns-clause-entries g c =
     let agree = subst (λ (s : StateAndReaches _). KeepsDeadlinesOf c.self.inside.deadlines (helds s.state.registers)) c.self.view_is c.self.invariant.timed in
-    let size : length c.self.inside.rows.registers.items < 2 ^ 64 = omega arith in
-    let all = length-map c.self.inside.rows.registers.items (λ (r : Register). r.held) in
-    let whole : length (helds c.self.inside.rows.registers.items) < 2 ^ 64 = omega arith in
-    let small = subst (λ (s : StateAndReaches _). length (helds s.state.registers) < 2 ^ 64) c.self.view_is whole in
-    let is = c.in_ok-due.ensures.positions (helds c.args.self.now.state.registers) small agree in
+    let is = c.in_ok-due.ensures.positions (helds c.args.self.now.state.registers) agree in
     let each = take_all c.loop-at.at-index c.deref-at-items.result.now c.loop-at-test.false in
     c.loop-at.invariant
     ∙ ap (λ (es : List (Entry _)). c.args.entries.now.items ++ es)

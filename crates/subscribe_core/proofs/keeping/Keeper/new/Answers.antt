@@ -1,4 +1,4 @@
-use Rattle.std.proofs.Common.{ap, ◌∙◌, length, replicate}
+use Rattle.std.proofs.Common.{ap, sym, ◌∙◌, length, replicate}
 use Rattle.std.proofs.lemmas.Bool.{false≢true}
 use Rattle.subscribe_core.specs.State.{idle}
 use Rattle.subscribe_core.proofs.Fresh.{fresh_indexed}
@@ -25,10 +25,16 @@ returns-in-Err-clause-fault g c = rw c.deref-in-Err.ensures.value at c.fault_of.
 pub invariant_of-result : goal.invariant_of-result
 invariant_of-result g c =
     let size = c.len.ensures ∙ c.args.blocks.ok.0 in
-    rw c.new.ensures
-    (fresh_indexed c.args.blocks.items c.in-Ok.registers.items c.in-Ok-sorted.names.items c.new-2.result
-    (c.in-Ok.ensures.registers ∙ ap (λ n. replicate n idle) size) c.new-2.ensures.deadline c.new-2.ensures.others
+    rw c.new-2.ensures
+    (fresh_indexed c.args.blocks.items c.in-Ok.registers.items c.in-Ok-sorted.names.items c.in-Ok-new.deadlines
+    (c.in-Ok.ensures.registers ∙ ap (λ n. replicate n idle) size) (λ held long. c.in-Ok-new.ensures.kept held (long ∙ sym (c.len-2.ensures ∙ c.args.blocks.ok.0)))
     (c.in_default-first_twice.ensures c.args.blocks.items (rw (c.deref-3.ensures.value, ← c.deref-2.ensures.value) c.in-Ok-sorted.ensures.named)) c.in-Ok-sorted.ensures.order (rw c.deref-2.ensures.value at c.in-Ok-sorted.ensures.named))
 
 pub returns-clause-apart : goal.returns-clause-apart
 returns-clause-apart g c = c.in_default-first_twice.ensures c.args.blocks.items (rw (c.deref-3.ensures.value, ← c.deref-2.ensures.value) c.in-Ok-sorted.ensures.named)
+
+pub returns-in-Err-new-clause-fault : goal.returns-in-Err-new-clause-fault
+returns-in-Err-new-clause-fault g c = (
+  c.in_default-first_twice.ensures c.args.blocks.items (rw (c.deref-3.ensures.value, ← c.deref-2.ensures.value) c.in-Ok-sorted.ensures.named),
+  λ none. absurd (false≢true (c.in-Err-new.ensures.quiet (c.len-2.ensures ∙ c.args.blocks.ok.0 ∙ ap length none))),
+)

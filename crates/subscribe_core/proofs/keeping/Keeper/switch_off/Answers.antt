@@ -3,7 +3,7 @@ use Rattle.subscribe_core.specs.declared.registers.Register.{Register}
 use Rattle.subscribe_core.specs.computed.Deadlines.{helds}
 use Rattle.subscribe_core.specs.computed.Indexed.{switched_off}
 use Rattle.subscribe_core.specs.computed.PrivateCalls.{StateAndReaches}
-use Rattle.subscribe_core.proofs.Clearing.{held_of, indexed_write}
+use Rattle.subscribe_core.proofs.Clearing.{indexed_write}
 use Rattle.subscribe_core.proofs.Switching.{off_all, off_more, off_same}
 use Rattle.subscribe_core.proofs.keeping.Keeper.switch_off.Goals.{then-old, else-old}
 use Rattle.subscribe_core.proofs.keeping.Keeper.switch_off.Goals as goal
@@ -25,7 +25,7 @@ loop-at-preserved g c =
           let written = w.write.ensures.registers ∙ ap (λ (rs : List Register). set rs at idle) same in
           rw w.self-inside-is record {
             indexed = indexed_write _ _ registers _ _ at idle _ _ blocks written i.indexed
-                (w.let_go.ensures (helds registers) (held_of registers at r looked) i.indexed.timed);
+                (w.let_go.ensures (helds registers) i.indexed.timed);
             off = written ∙ (ap (λ (rs : List Register). set rs at idle) i.off ∙ sym (off_more at first r here w.if-old.true));
             blocks_stay = blocks ∙ i.blocks_stay;
             mode_stays = i.mode_stays;

@@ -1,6 +1,4 @@
 use Rattle.std.proofs.Common.{◌≡◌, ℕ, ◌≤◌, ◌||◌, ◌++◌, Bool, Some, None, List, ap, ap₂, sym, ◌∙◌, arith, subst, set, slice_get}
-use Rattle.std.proofs.lemmas.Result.{on_ok_weaker}
-use Rattle.std.specs.Prelude.{Result, Ok, Err, OnOk}
 use Rattle.subscribe_core.specs.declared.entry.Entry.{Entry}
 use Rattle.subscribe_core.specs.declared.registers.Register.{Register}
 use Rattle.subscribe_core.specs.computed.Deadlines.{due_count, helds}
@@ -10,10 +8,6 @@ use Rattle.subscribe_core.specs.State.{State}
 use Rattle.subscribe_core.proofs.Frames.{answer_good, answer_none, answer_refused, new_lives, reason_told, registers_good, registers_kept, registers_refused, written_fewer, written_new, written_none}
 use Rattle.subscribe_core.proofs.keeping.Keeper.take_goose.Goals.{then-old, else-old}
 use Rattle.subscribe_core.proofs.keeping.Keeper.take_goose.Goals as goal
-
-both_ok : {T E : Type 0} (r : Result T E) (P Q R : Type 0) → (P → Q → R) → OnOk r P → OnOk r Q → OnOk r R
-both_ok (Ok x) P Q R f p q = f p q
-both_ok (Err e) P Q R f p q = tt
 
 pub returns-in_default-clause-entries : goal.returns-in_default-clause-entries
 returns-in_default-clause-entries g c =
@@ -91,7 +85,7 @@ returns-after-old-clause-entries g c =
     c.in_ok-push_good.ensures.entries
     ∙ ap (λ (es : List (Entry _)). c.args.entries.now.items ++ es)
     (answer_good c.args.now s.mode s.blocks s.registers f c.in-Some.at x r c.find.ensures.apart (sym c.in-Some.ensures.found) block register_is told) in
-    on_ok_weaker c.hold.result (λ _. entries) c.hold.ensures.count
+    entries
 
 pub returns-after-old-clause-registers : goal.returns-after-old-clause-registers
 returns-after-old-clause-registers g c =
@@ -115,7 +109,7 @@ returns-after-old-clause-registers g c =
     ∙ (written_new c.args.now s.registers c.in-Some.at r f new fresh renewal
     ∙ registers_good c.args.now s.mode s.blocks s.registers f c.in-Some.at x r c.find.ensures.sizes c.find.ensures.apart (sym c.in-Some.ensures.found) block register_is told) in
     let moved = ap (λ (t : State _). set t.registers c.in-Some.at (record { held = Some new; takes_simulated = c.if-old.takes_simulated })) c.reach-reach.ensures.state in
-    on_ok_weaker c.hold.result (λ e. ap (registers_after_clock c.args.now) (e ∙ moved) ∙ after) c.hold.ensures.registers
+    ap (registers_after_clock c.args.now) (c.hold.ensures.registers ∙ moved) ∙ after
 
 pub returns-after-old-clause-count : goal.returns-after-old-clause-count
 returns-after-old-clause-count g c =
@@ -132,8 +126,5 @@ returns-after-old-clause-count g c =
     let fewer = written_fewer c.args.now s.registers c.in-Some.at register (new_lives c.args.now x r f _ new told renewal) in
     let first = c.reach-reach.ensures.count in
     let moved = ap (λ (t : State _). set t.registers c.in-Some.at register) c.reach-reach.ensures.state in
-    both_ok c.hold.result _ _ _
-    (λ e count.
-    let less = subst (λ (rs : List Register). due_count c.args.now (helds rs) ≤ due_count c.args.now (helds s.registers)) (sym (e ∙ moved)) fewer in
-    omega (arith, less, count, first))
-    c.hold.ensures.registers c.hold.ensures.count
+    let less = subst (λ (rs : List Register). due_count c.args.now (helds rs) ≤ due_count c.args.now (helds s.registers)) (sym (c.hold.ensures.registers ∙ moved)) fewer in
+    omega (arith, less, c.hold.ensures.count, first)
