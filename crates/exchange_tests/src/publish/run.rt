@@ -1,6 +1,6 @@
 //! A whole run: which frames come when, with which numbers, and the greatest moment so far.
 
-use crate::publish::frames::{control, frame, is_changed, publisher, step};
+use crate::publish::frames::{NO_TIME, booleans, control, frame, is_changed, publisher, step};
 use publish_core::Publisher;
 use std::alloc::{AllocError, Global};
 use std::test::Fail;
@@ -60,5 +60,49 @@ fn frames_come_where_they_are_due(rt: HostRuntime) -> Result<(), Fail> {
     let steps = [step(10, 2000), step(1000, 3000)];
     let mut publisher = publisher(control(rt.alloc(), 1)?, &steps)?;
     assert!(rt; is_run_given(rt.alloc(), &mut publisher)?);
+    Ok(())
+}
+
+/// The first frame of state 1 with a lifetime of 20 ms, which has one octet.
+const SHORT_LIVED: [u8; 66] = [
+    0x01, 0x0c, 0xcd, 0x01, 0x00, 0x01, 0x02, 0x00, 0x00, 0x00, 0x00, 0x01, 0x88, 0xb8, 0x00, 0x01,
+    0x00, 0x34, 0x00, 0x00, 0x00, 0x00, 0x61, 0x2a, 0x80, 0x01, 0x47, 0x81, 0x01, 0x14, 0x82, 0x01,
+    0x44, 0x84, 0x08, 0x00, 0x00, 0x00, 0x00, 0x00, 0x00, 0x00, 0x00, 0x85, 0x01, 0x01, 0x86, 0x01,
+    0x00, 0x87, 0x01, 0x00, 0x88, 0x01, 0x01, 0x89, 0x01, 0x00, 0x8a, 0x01, 0x01, 0xab, 0x03, 0x83,
+    0x01, 0xff,
+];
+
+/// The same with another sequence number and another lifetime, each of one octet.
+fn short_lived(sequence: u8, live: u8) -> [u8; 66] {
+    let mut frame = SHORT_LIVED;
+    frame[29] = live;
+    frame[48] = sequence;
+    frame
+}
+
+/// Whether frames are lent where they are kept: written over, and made anew where the lifetime has an octet more. A poll
+/// that gives none lends the frame before it.
+fn are_lent(alloc: Global, publisher: &mut Publisher<Global>) -> Result<bool, AllocError> {
+    let values = booleans(alloc, 1, true)?;
+    Ok(
+        publisher.held_frame().is_empty()
+            && publisher.change_held(0, NO_TIME, values).is_ok()
+            && publisher.held_frame() == short_lived(0, 20).as_slice()
+            && publisher.poll_held(10_000)
+            && publisher.held_frame() == short_lived(1, 30).as_slice()
+            && !publisher.poll_held(10_001)
+            && publisher.held_frame() == short_lived(1, 30).as_slice()
+            && publisher.poll_held(20_000)
+            && publisher.held_frame() == frame(1, 2, true).as_slice()
+            && publisher.poll_held(1_020_000)
+            && publisher.held_frame() == frame(1, 3, true).as_slice(),
+    )
+}
+
+#[test]
+fn frames_are_lent_where_they_are_kept(rt: HostRuntime) -> Result<(), Fail> {
+    let steps = [step(10, 20), step(10, 30), step(1000, 3000)];
+    let mut publisher = publisher(control(rt.alloc(), 1)?, &steps)?;
+    assert!(rt; are_lent(rt.alloc(), &mut publisher)?);
     Ok(())
 }
