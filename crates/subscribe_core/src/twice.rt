@@ -9,7 +9,8 @@ use crate::fault::SubscribeFault;
 use block_core::Block;
 use std::alloc::{AllocError, Allocator};
 
-// So many blocks are compared sooner than their names are put in order.
+// So many blocks are compared sooner than their names are put in order; and of very many as many as the root of their count,
+// so that one which is given twice early is told before work grows with those behind it.
 const FEW: usize = 64;
 
 // Whether two blocks have one name.
@@ -50,7 +51,9 @@ fn first_twice<A: Allocator>(blocks: &[Block<A>], count: usize) -> Option<usize>
 pub(crate) fn first_twice_of_few<A: Allocator>(blocks: &[Block<A>]) -> Option<usize>
     ensures { IfSome result (λ i. IsFirstTwice blocks.now i) }
 {
-    first_twice(blocks, blocks.len().min(FEW))
+    let count = blocks.len();
+    let root = 1_usize << (count.max(1).ilog2() / 2);
+    first_twice(blocks, count.min(FEW.max(root)))
 }
 
 // Why there is no subscriber of these blocks where memory was refused: a block that is given twice comes first.
