@@ -1,5 +1,5 @@
 -- The nodes above the deadlines: each has the least of those below it.
-use Rattle.std.proofs.Common.{◌≡◌, ◌⊎◌, ℕ, zero, suc, ◌+◌, ◌-◌, ◌*◌, ◌/◌, ◌^◌, ◌<◌, ◌≤◌, min, true, false, Option, Some, None, List, [], ◌∷◌, ◌++◌, length, drop, get_or, set, replicate, sym, ap, ◌∙◌, arith, subst, refl, inl, inr}
+use Rattle.std.proofs.Common.{◌≡◌, ◌⊎◌, ℕ, zero, suc, ◌+◌, ◌-◌, ◌*◌, ◌/◌, ◌%◌, ◌^◌, ◌<◌, ◌≤◌, true, false, Option, Some, None, List, [], ◌∷◌, ◌++◌, length, drop, get_or, set, replicate, sym, ap, ◌∙◌, arith, subst, refl, inl, inr, append_assoc, append-nil, length-append}
 use Rattle.std.proofs.lemmas.Bool.{cases_Bool, cases_eq, cases_lt, le-leb, lt-leb}
 use Rattle.std.proofs.lemmas.List.{get_or-set_same, get_or-set_other, get_or_past, get_or-replicate, length-set, length-replicate}
 use Rattle.std.proofs.lemmas.Nat.{pow_pos}
@@ -9,7 +9,7 @@ use Rattle.std.proofs.Math.ListN.{drop_of_length-le}
 use Rattle.subscribe_core.specs.declared.deadlines.Deadlines.{Deadlines}
 use Rattle.subscribe_core.specs.declared.registers.LiveState.{LiveState}
 use Rattle.subscribe_core.specs.computed.Steps.{is_dead}
-use Rattle.subscribe_core.specs.computed.Deadlines.{AreLesser, AreLesserBut, IsLesser, KeepsDeadlinesOf, deadline_of, due_from, due_positions, half}
+use Rattle.subscribe_core.specs.computed.Deadlines.{AreLesser, KeepsDeadlinesOf, deadline_of, due_from, due_positions, half}
 
 -- a deadline that is at most a moment, and one that isn't
 
@@ -128,11 +128,6 @@ from_all now held b (suc n) whole =
 pub all_due : {A : Type 0} → (d : Deadlines A) (held : List (Option LiveState)) (now n : ℕ) → KeepsDeadlinesOf d held → n ≡ half d.nodes.items → due_from now held 0 n ≡ due_positions now 0 held
 all_due d held now n k e = let room = k.room in from_all now held 0 n (omega arith)
 
--- where none is due none is listed
-pub positions_of_none : (now b : ℕ) (held : List (Option LiveState)) → ((p : ℕ) → is_dead (get_or held p None) now ≡ false) → due_positions now b held ≡ []
-positions_of_none now b [] none = refl
-positions_of_none now b (h ∷ hs) none = rw (none 0) (positions_of_none now (b + 1) hs (λ p. none (suc p)))
-
 -- below a node
 
 -- each block's deadline below a node is no less than it
@@ -160,6 +155,7 @@ below_least (suc k) nodes node b p lesser some e within low lt =
           omega arith
     ]
 
+-- the blocks below a node: so many as a power of two, from a position on
 abbrev pub Covers : List ℕ → ℕ → ℕ → ℕ → Type 0
 Covers nodes node b k = (node * 2 ^ k ≡ half nodes + b) × (b + 2 ^ k ≤ half nodes)
 
@@ -170,12 +166,12 @@ node_within nodes node b k c =
     omega (arith, c.0, c.1)
 
 -- nothing is due below a node that is above the moment
-pub list_none : {A : Type 0} → (d : Deadlines A) (held : List (Option LiveState)) (node b k now : ℕ) → KeepsDeadlinesOf d held → 0 < node → Covers d.nodes.items node b k
-    → (node < length d.nodes.items → now < get_or d.nodes.items node 0) → due_from now held b (2 ^ k) ≡ []
+list_none : {A : Type 0} → (d : Deadlines A) (held : List (Option LiveState)) (node b k now : ℕ) → KeepsDeadlinesOf d held → 0 < node → Covers d.nodes.items node b k
+    → ((node < length d.nodes.items) × (get_or d.nodes.items node 0 ≤ now) → ⊥) → due_from now held b (2 ^ k) ≡ []
 list_none d held node b k now keeps some c over =
     let nodes : List ℕ = d.nodes.items in
     let within : node < 2 * half nodes = node_within nodes node b k c in
-    let high : now < get_or nodes node 0 = over (omega arith) in
+    let high : now < get_or nodes node 0 = elim (cases_lt now (get_or nodes node 0)) [ inl lt ↦ lt | inr le ↦ absurd (over (omega arith, le)) ] in
     from_none now held b (2 ^ k)
     (λ p low lt.
     let le = below_least k nodes node b p keeps.lesser some c.0 c.1 low lt in
@@ -183,89 +179,137 @@ list_none d held node b k now keeps some c over =
     lives_from (get_or held p None) now (omega arith))
 
 -- a block's node that is at most the moment
-leaf_width : (nodes : List ℕ) (node b k : ℕ) → half nodes ≤ node → Covers nodes node b k → 2 ^ k ≡ 1
-leaf_width nodes node b zero leaf c = refl
-leaf_width nodes node b (suc k) leaf c =
-    let twice : 2 ^ suc k ≡ 2 ^ k + 2 ^ k = two-pow-succ k in
-    let some_width : 0 < 2 ^ k = pow_pos k in
-    let product : node * (2 ^ k + 2 ^ k) ≡ half nodes + b = subst (λ (n : ℕ). node * n ≡ half nodes + b) twice c.0 in
-    let width : node * 1 ≤ node * 2 ^ k = mul-le-mul_left node (omega arith) in
-    absurd (omega (arith, c.1))
-
-pub list_leaf : {A : Type 0} → (d : Deadlines A) (held : List (Option LiveState)) (node b k now : ℕ) → KeepsDeadlinesOf d held → now < 2 ^ 64 → half d.nodes.items ≤ node
-    → Covers d.nodes.items node b k → get_or d.nodes.items node 0 ≤ now → due_from now held b (2 ^ k) ≡ (node - half d.nodes.items) ∷ []
-list_leaf d held node b k now keeps fits leaf c due =
+list_leaf : {A : Type 0} → (d : Deadlines A) (held : List (Option LiveState)) (node b k now : ℕ) → KeepsDeadlinesOf d held → now < 2 ^ 64 → 2 ^ k ≡ 1
+    → Covers d.nodes.items node b k → get_or d.nodes.items node 0 ≤ now → due_from now held b (2 ^ k) ≡ b ∷ []
+list_leaf d held node b k now keeps fits one c due =
     let nodes : List ℕ = d.nodes.items in
-    let one : 2 ^ k ≡ 1 = leaf_width nodes node b k leaf c in
     let product : node * 1 ≡ half nodes + b = subst (λ (n : ℕ). node * n ≡ half nodes + b) one c.0 in
     let at : node ≡ half nodes + b = omega arith in
     let e : get_or nodes (half nodes + b) 0 ≡ deadline_of (get_or held b None) = keeps.each b (omega (arith, c.1)) in
     let here : get_or nodes (half nodes + b) 0 ≤ now = subst (λ (i : ℕ). get_or nodes i 0 ≤ now) at due in
     let dead : is_dead (get_or held b None) now ≡ true = dead_from (get_or held b None) now fits (omega arith) in
-    let position : node - half nodes ≡ b = omega arith in
-    rw (one, position) (rw dead refl)
+    rw one (rw dead refl)
 
--- an inner node
-pub inner_parts : (nodes : List ℕ) (node b k : ℕ) → node < half nodes → Covers nodes node b k → (j : ℕ) × (2 ^ k ≡ 2 ^ j + 2 ^ j) × Covers nodes (2 * node) b j × Covers nodes (2 * node + 1) (b + 2 ^ j) j
-inner_parts nodes node b zero inner c =
-    let product : node * 1 ≡ half nodes + b = c.0 in
+-- where nodes of a level end before a power of two, there is room for one more
+next_within : (k n m : ℕ) → 0 < m → m * 2 ^ k < 2 ^ n → m * 2 ^ k + 2 ^ k ≤ 2 ^ n
+next_within zero n m some lt = let one : 2 ^ zero ≡ 1 = refl in omega arith
+next_within (suc k) zero m some lt =
+    let one : 2 ^ zero ≡ 1 = refl in
+    let some_width : 0 < 2 ^ suc k = pow_pos (suc k) in
+    let width : m * 1 ≤ m * 2 ^ suc k = mul-le-mul_left m (omega arith) in
     absurd (omega arith)
-inner_parts nodes node b (suc k) inner c =
+next_within (suc k) (suc n) m some lt =
     let twice : 2 ^ suc k ≡ 2 ^ k + 2 ^ k = two-pow-succ k in
-    let product : node * (2 ^ k + 2 ^ k) ≡ half nodes + b = subst (λ (n : ℕ). node * n ≡ half nodes + b) twice c.0 in
-    let within : b + 2 ^ suc k ≤ half nodes = c.1 in
-    (k, twice, (omega arith, omega arith), (omega arith, omega arith))
+    let whole : 2 ^ suc n ≡ 2 ^ n + 2 ^ n = two-pow-succ n in
+    let product : m * 2 ^ suc k ≡ m * (2 ^ k + 2 ^ k) = ap (λ (w : ℕ). m * w) twice in
+    let rest : m * 2 ^ k + 2 ^ k ≤ 2 ^ n = next_within k n m some (omega arith) in
+    omega arith
 
-pub list_parts : (now : ℕ) (held : List (Option LiveState)) (b j w : ℕ) → w ≡ 2 ^ j + 2 ^ j → due_from now held b w ≡ due_from now held b (2 ^ j) ++ due_from now held (b + 2 ^ j) (2 ^ j)
-list_parts now held b j w e = rw e (from_split now held b (2 ^ j) (2 ^ j))
+-- the walk over the nodes
 
-pub front_none : (xs ys : List ℕ) → xs ++ ys ≡ [] → xs ≡ []
-front_none [] ys e = refl
-front_none (x ∷ xs) ys e = cc
+-- those of the due blocks that stand before a position are listed, and below the node are the blocks from there on
+pub record IsWalked (nodes : List ℕ) (held : List (Option LiveState)) (now node size b : ℕ) (positions : List ℕ) : Type 0 where
+  pub within : b ≤ half nodes
+  pub listed : positions ++ due_from now held b (half nodes - b) ≡ due_positions now 0 held
+  pub below : 0 < half nodes → (k : ℕ) × (size ≡ 2 ^ k) × (node * 2 ^ k ≡ half nodes + b)
 
-pub back_none : (xs ys : List ℕ) → xs ++ ys ≡ [] → ys ≡ []
-back_none [] ys e = e
-back_none (x ∷ xs) ys e = cc
+-- where it begins
+pub walk_begins : {A : Type 0} → {d : Deadlines A} {held : List (Option LiveState)} (now size : ℕ) (positions : List ℕ) → KeepsDeadlinesOf d held → size ≡ half d.nodes.items → positions ≡ []
+    → IsWalked d.nodes.items held now 1 size 0 positions
+walk_begins {d = d} {held = held} now size positions keeps e none =
+    record {
+      within = omega arith;
+      listed = rw none (all_due d held now (half d.nodes.items - 0) keeps (omega arith));
+      below = λ some. let w = keeps.power some in (w.0, e ∙ w.1, omega (arith, w.1));
+    }
 
--- one node is written
+-- and where it ends
+pub walk_ends : {nodes : List ℕ} {held : List (Option LiveState)} {now node size b : ℕ} {positions : List ℕ} → IsWalked nodes held now node size b positions → half nodes ≤ b
+    → positions ≡ due_positions now 0 held
+walk_ends {nodes = nodes} {held = held} {now = now} {b = b} {positions = positions} w end =
+    let none : half nodes - b ≡ 0 = omega arith in
+    sym (append-nil positions) ∙ (ap (λ (n : ℕ). positions ++ due_from now held b n) (sym none) ∙ w.listed)
 
--- an inner node is right again, and the one above it may not be
-pub settled : (nodes : List ℕ) (node lesser : ℕ) → 0 < node → node < half nodes → AreLesserBut nodes node → lesser ≡ min (get_or nodes (2 * node) 0) (get_or nodes (2 * node + 1) 0)
-    → AreLesserBut (set nodes node lesser) (node / 2)
-settled nodes node lesser some within but e i positive inner other =
-    let size : length (set nodes node lesser) ≡ length nodes = length-set nodes node lesser in
-    let left : get_or (set nodes node lesser) (2 * i) 0 ≡ get_or nodes (2 * i) 0 = get_or-set_other nodes node (2 * i) lesser 0 (λ same. other (omega arith)) in
-    let right : get_or (set nodes node lesser) (2 * i + 1) 0 ≡ get_or nodes (2 * i + 1) 0 = get_or-set_other nodes node (2 * i + 1) lesser 0 (λ same. other (omega arith)) in
-    elim (cases_eq i node) [
-      | inl here ↦
-          let new : get_or (set nodes node lesser) node 0 ≡ lesser = get_or-set_same nodes node lesser 0 (omega arith) in
-          rw (left, right, here) (new ∙ e)
-      | inr apart ↦
-          let old : get_or (set nodes node lesser) i 0 ≡ get_or nodes i 0 = get_or-set_other nodes node i lesser 0 apart in
-          let is = but i positive (omega arith) apart in
-          rw (old, left, right) is
-    ]
+-- down to the left
+halved_width : (n node size k : ℕ) → 1 < size → size ≡ 2 ^ k → node * 2 ^ k ≡ n → (j : ℕ) × (size / 2 ≡ 2 ^ j) × (node * 2 * 2 ^ j ≡ n)
+halved_width n node size zero more is e = (let one : 2 ^ zero ≡ 1 = refl in absurd (omega arith))
+halved_width n node size (suc k) more is e =
+    let twice : 2 ^ suc k ≡ 2 ^ k + 2 ^ k = two-pow-succ k in
+    let product : node * (2 ^ k + 2 ^ k) ≡ n = subst (λ (w : ℕ). node * w ≡ n) twice e in
+    (k, omega arith, omega arith)
 
--- nothing changes above a node that is right
-pub right_already : (nodes : List ℕ) (node : ℕ) → AreLesserBut nodes node → IsLesser nodes node → AreLesser nodes
-right_already nodes node but here i some within =
-    elim (cases_eq i node) [
-      | inl same ↦ subst (λ (j : ℕ). IsLesser nodes j) (sym same) here
-      | inr other ↦ but i some within other
-    ]
+pub walk_down : {nodes : List ℕ} {held : List (Option LiveState)} {now node size b : ℕ} {positions : List ℕ} → IsWalked nodes held now node size b positions → 1 < size
+    → IsWalked nodes held now (node * 2) (size / 2) b positions
+walk_down {nodes = nodes} {node = node} {size = size} {b = b} w more =
+    record { within = w.within; listed = w.listed; below = λ some. let v = w.below some in halved_width (half nodes + b) node size v.0 more v.1 v.2 }
 
-pub right_above : (nodes : List ℕ) (node : ℕ) → node ≡ 0 → AreLesserBut nodes node → AreLesser nodes
-right_above nodes node none but i some within = but i some within (λ same. omega arith)
+-- on to the right
+walk_on : (nodes : List ℕ) (held : List (Option LiveState)) (now node size b : ℕ) (positions new : List ℕ) → b + size ≤ half nodes → due_from now held b size ≡ new
+    → IsWalked nodes held now node size b positions → IsWalked nodes held now (node + 1) size (b + size) (positions ++ new)
+walk_on nodes held now node size b positions new room e w =
+    let parts : half nodes - b ≡ size + (half nodes - (b + size)) = omega arith in
+    let split = from_split now held b size (half nodes - (b + size)) in
+    record {
+      within = room;
+      listed =
+          append_assoc positions new _
+          ∙ (ap (λ (ps : List ℕ). positions ++ (ps ++ due_from now held (b + size) (half nodes - (b + size)))) (sym e)
+          ∙ (ap (λ (ps : List ℕ). positions ++ ps) (sym split) ∙ (ap (λ (n : ℕ). positions ++ due_from now held b n) (sym parts) ∙ w.listed)));
+      below = λ some. let v = w.below some in (v.0, v.1, omega (arith, v.1, v.2));
+    }
 
--- a block's node is written
-pub written : (nodes : List ℕ) (at deadline : ℕ) → at < half nodes → AreLesser nodes → AreLesserBut (set nodes (half nodes + at) deadline) ((half nodes + at) / 2)
-written nodes at deadline lt lesser i some inner other =
-    let leaf : ℕ = half nodes + at in
-    let size : length (set nodes (half nodes + at) deadline) ≡ length nodes = length-set nodes (half nodes + at) deadline in
-    let left : get_or (set nodes (half nodes + at) deadline) (2 * i) 0 ≡ get_or nodes (2 * i) 0 = get_or-set_other nodes (half nodes + at) (2 * i) deadline 0 (λ same. other (omega arith)) in
-    let right : get_or (set nodes (half nodes + at) deadline) (2 * i + 1) 0 ≡ get_or nodes (2 * i + 1) 0 = get_or-set_other nodes (half nodes + at) (2 * i + 1) deadline 0 (λ same. other (omega arith)) in
-    let here : get_or (set nodes (half nodes + at) deadline) i 0 ≡ get_or nodes i 0 = get_or-set_other nodes (half nodes + at) i deadline 0 (λ same. absurd (omega arith)) in
-    rw (here, left, right) (lesser i some (omega arith))
+covered : {A : Type 0} → (d : Deadlines A) (held : List (Option LiveState)) (node b k : ℕ) → KeepsDeadlinesOf d held → 0 < node → b < half d.nodes.items → node * 2 ^ k ≡ half d.nodes.items + b
+    → Covers d.nodes.items node b k
+covered d held node b k keeps some before e =
+    let w = keeps.power (omega arith) in
+    let whole : 2 ^ suc w.0 ≡ 2 ^ w.0 + 2 ^ w.0 = two-pow-succ w.0 in
+    let room : node * 2 ^ k + 2 ^ k ≤ 2 ^ suc w.0 = next_within k (suc w.0) node some (omega (arith, w.1)) in
+    (e, omega (arith, w.1))
+
+-- past a node that is above the moment
+pub walk_past : {A : Type 0} → {d : Deadlines A} {held : List (Option LiveState)} {now node size b : ℕ} {positions : List ℕ} → KeepsDeadlinesOf d held
+    → IsWalked d.nodes.items held now node size b positions → 0 < node → b < half d.nodes.items → ((node < length d.nodes.items) × (get_or d.nodes.items node 0 ≤ now) → ⊥)
+    → IsWalked d.nodes.items held now (node + 1) size (b + size) positions
+walk_past {d = d} {held = held} {now = now} {node = node} {size = size} {b = b} {positions = positions} keeps w some before over =
+    let v = w.below (omega arith) in
+    let c = covered d held node b v.0 keeps some before v.2 in
+    let none : due_from now held b size ≡ [] = ap (λ (n : ℕ). due_from now held b n) v.1 ∙ list_none d held node b v.0 now keeps some c over in
+    subst (λ (ps : List ℕ). IsWalked d.nodes.items held now (node + 1) size (b + size) ps) (append-nil positions)
+    (walk_on d.nodes.items held now node size b positions [] (omega (arith, c.1, v.1)) none w)
+
+-- past a block's node that is at most the moment
+pub walk_leaf : {A : Type 0} → {d : Deadlines A} {held : List (Option LiveState)} {now node size b : ℕ} {positions : List ℕ} → KeepsDeadlinesOf d held
+    → IsWalked d.nodes.items held now node size b positions → now < 2 ^ 64 → 0 < node → b < half d.nodes.items → size ≤ 1 → get_or d.nodes.items node 0 ≤ now
+    → IsWalked d.nodes.items held now (node + 1) size (b + size) (positions ++ b ∷ [])
+walk_leaf {d = d} {held = held} {now = now} {node = node} {size = size} {b = b} {positions = positions} keeps w fits some before one due =
+    let v = w.below (omega arith) in
+    let some_width : 0 < 2 ^ v.0 = pow_pos v.0 in
+    let c = covered d held node b v.0 keeps some before v.2 in
+    let is : due_from now held b size ≡ b ∷ [] = ap (λ (n : ℕ). due_from now held b n) v.1 ∙ list_leaf d held node b v.0 now keeps fits (omega (arith, v.1)) c due in
+    walk_on d.nodes.items held now node size b positions (b ∷ []) (omega (arith, c.1, v.1)) is w
+
+-- and where none is due the walk comes to none of these
+pub walk_none : {A : Type 0} → {d : Deadlines A} {held : List (Option LiveState)} {now node size b : ℕ} {positions : List ℕ} → KeepsDeadlinesOf d held
+    → IsWalked d.nodes.items held now node size b positions → now < 2 ^ 64 → 0 < node → b < half d.nodes.items → size ≤ 1 → get_or d.nodes.items node 0 ≤ now
+    → due_positions now 0 held ≡ [] → ⊥
+walk_none {positions = positions} keeps w fits some before one due none =
+    let next = walk_leaf keeps w fits some before one due in
+    let long = ap length (next.listed ∙ none) in
+    omega (arith, length-append {A = ℕ}, long)
+
+-- up from the left one of two
+doubled_width : (n node size k : ℕ) → node % 2 ≡ 0 → size ≡ 2 ^ k → node * 2 ^ k ≡ n → (j : ℕ) × (size * 2 ≡ 2 ^ j) × (node / 2 * 2 ^ j ≡ n)
+doubled_width n node size k even is e =
+    let twice : 2 ^ suc k ≡ 2 ^ k + 2 ^ k = two-pow-succ k in
+    let product : node / 2 * 2 ^ suc k ≡ node / 2 * (2 ^ k + 2 ^ k) = ap (λ (w : ℕ). node / 2 * w) twice in
+    let pair : node ≡ node / 2 + node / 2 = omega arith in
+    let parts : (node / 2 + node / 2) * 2 ^ k ≡ n = subst (λ (m : ℕ). m * 2 ^ k ≡ n) pair e in
+    (suc k, omega arith, omega arith)
+
+pub walk_up : {nodes : List ℕ} {held : List (Option LiveState)} {now node size b : ℕ} {positions : List ℕ} → IsWalked nodes held now node size b positions → node % 2 ≡ 0
+    → IsWalked nodes held now (node / 2) (size * 2) b positions
+walk_up {nodes = nodes} {node = node} {size = size} {b = b} w even =
+    record { within = w.within; listed = w.listed; below = λ some. let v = w.below some in doubled_width (half nodes + b) node size v.0 even v.1 v.2 }
 
 -- the deadlines through a change of one
 
@@ -334,6 +378,3 @@ keeps_none d held room count is fits power size none =
           omega arith;
       each = λ p lt. every (half d.nodes.items + p) (omega arith) ∙ ap deadline_of (sym (none p));
     }
-
-pub one_listed : (p : ℕ) → p ∷ [] ≡ [] → ⊥
-one_listed p e = cc

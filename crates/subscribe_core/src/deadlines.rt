@@ -1,9 +1,9 @@
 // The deadlines of the holding blocks: one for each block, and above them the least of ever more of them.
 
-ghost use Rattle.std.specs.Prelude.{◌≡◌, ◌↔◌, ℕ, ◌<◌, ◌≤◌, ◌+◌, ◌*◌, ◌^◌, ◌⊎◌, [], ◌++◌, List, Option, Some, None, true, false, IfOk, OnOk, IsOk, IsTrue, IfSome, IfNone, length, slice_set, slice_index, slice_index_or};
+ghost use Rattle.std.specs.Prelude.{◌≡◌, ◌↔◌, ℕ, ◌<◌, ◌≤◌, ◌+◌, ◌*◌, ◌^◌, ◌⊎◌, [], List, Option, Some, None, true, false, IfOk, IsOk, IsTrue, IfSome, IfNone, length, slice_set, slice_index, slice_index_or};
 ghost use Rattle.subscribe_core.specs.declared.registers.LiveState.{LiveState as SpecLiveState};
 ghost use Rattle.subscribe_core.specs.computed.Steps.{is_dead};
-ghost use Rattle.subscribe_core.specs.computed.Deadlines.{AreLesser, AreLesserBut, KeepsDeadlinesOf, due_from, due_positions, half};
+ghost use Rattle.subscribe_core.specs.computed.Deadlines.{AreLesser, AreLesserBut, KeepsDeadlinesOf, due_positions, half};
 
 use std::alloc::{AllocError, Allocator};
 
@@ -61,37 +61,36 @@ impl<A: Allocator + Copy> Deadlines<A> {
         self.is_due_at(1, now)
     }
 
-    // Appends the positions of those blocks below a node whose deadline is at most the moment, in their order. It calls itself
-    // no deeper than the tree is, which has at most 64 levels.
-    fn list(&self, node: usize, now: u64, positions: &mut Vec<usize, A>) -> Result<(), AllocError>
-        requires { 0 < node }
-        ensures positions { OnOk result ((held : List (Option SpecLiveState)) (b k : ℕ) → KeepsDeadlinesOf self.now held → node * 2 ^ k ≡ half self.now.nodes.items + b → b + 2 ^ k ≤ half self.now.nodes.items
-            → positions.new.items ≡ positions.old.items ++ due_from now held b (2 ^ k)) }
-        ensures quiet { (held : List (Option SpecLiveState)) (b k : ℕ) → KeepsDeadlinesOf self.now held → node * 2 ^ k ≡ half self.now.nodes.items + b → b + 2 ^ k ≤ half self.now.nodes.items
-            → due_from now held b (2 ^ k) ≡ [] → IsOk result }
-    {
-        if !self.is_due_at(node, now) {
-            return Ok(());
-        }
-        let half = self.nodes.len() / 2;
-        if half <= node {
-            positions.push(node - half)?;
-            return Ok(());
-        }
-        self.list(2 * node, now, positions)?;
-        self.list(2 * node + 1, now, positions)
-    }
-
-    // The positions of the blocks whose deadline is at most the moment, in their order.
+    // The positions of the blocks whose deadline is at most the moment, in their order. The nodes are walked from left to right.
+    // Below one that is above the moment nothing is due, so the walk goes on behind it, one level up where it can. Between two
+    // positions it comes to four nodes of a level at most.
     pub(crate) fn due(&self, alloc: A, now: u64) -> Result<Vec<usize, A>, AllocError>
         ensures positions { (held : List (Option SpecLiveState)) → KeepsDeadlinesOf self.now held → IfOk result (λ at. at.items ≡ due_positions now 0 held) }
         ensures quiet { (held : List (Option SpecLiveState)) → KeepsDeadlinesOf self.now held → due_positions now 0 held ≡ [] → IsOk result }
     {
+        let half = self.nodes.len() / 2;
         let mut positions = Vec::new(alloc);
-        if !self.has_due(now) {
-            return Ok(positions);
+        // Below the node are the blocks from the position `at` on, `size` of them.
+        let mut node = 1;
+        let mut size = half;
+        let mut at = 0;
+        while at < half {
+            if self.is_due_at(node, now) {
+                if 1 < size {
+                    node *= 2;
+                    size /= 2;
+                    continue;
+                }
+                positions.push(at)?;
+            }
+            at += size;
+            node += 1;
+            // The left one of the two nodes below another has an even number, and begins at the same block as that.
+            if node % 2 == 0 {
+                node /= 2;
+                size *= 2;
+            }
         }
-        self.list(1, now, &mut positions)?;
         Ok(positions)
     }
 
