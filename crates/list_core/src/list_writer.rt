@@ -152,6 +152,10 @@ pub fn write_frame<W: Sink>(writer: &mut W, moment: u64, frame: &[u8]) -> Result
     ensures unchanged { result ≡ Err WriteFault.NotListable → writer.new ≡ writer.old }
     ensures fault { W.failed writer.new ≡ write_failed result }
 {
+    // What no line can say is refused before there is room for a line.
+    if moment > LAST_MOMENT || frame.is_empty() || frame.len() > LONGEST_FRAME {
+        return Err(WriteFault::NotListable);
+    }
     FrameLines::new().write_frame(writer, moment, frame)
 }
 

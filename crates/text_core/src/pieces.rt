@@ -210,7 +210,7 @@ fn put_octet_bits<A: Allocator>(
     )
 }
 
-/// Appends the bits of two octets without the last `unused` ones.
+// Appends the bits of two octets without the last `unused` ones.
 #[inline(always)]
 fn put_two_bits<A: Allocator>(
     out: &mut Vec<u8, A>,
@@ -226,7 +226,7 @@ fn put_two_bits<A: Allocator>(
 }
 
 // Appends the bits of octets without the last `unused` ones, of which there are at most seven. Nearly all bits stand in one
-/// octet or two, and are appended without a call.
+// octet or two, and are appended without a call.
 #[inline(always)]
 pub(crate) fn put_few_bits<A: Allocator>(
     out: &mut Vec<u8, A>,
@@ -325,6 +325,10 @@ fn put_short_text<const N: usize, A: Allocator>(
     requires most { length text.now ≤ N + N }
     ensures { AppendsText result out.old.items out.new.items (flat_map escaped text.now) }
 {
+    // A line without room for it grows once, for the whole text.
+    if out.capacity().saturating_sub(out.len()) < text.len() {
+        return put_written(out, text);
+    }
     let Some((first, _)) = text.split_first_chunk::<N>() else {
         unreachable!()
     };
