@@ -1,6 +1,8 @@
 -- Octets that are visible, one after the other.
-use Rattle.std.proofs.Common.{◌≡◌, ℕ, zero, suc, ◌+◌, ◌≤◌, ◌<◌, true, false, List, [], ◌∷◌, length, take, drop, slice_index, Ok, ap, refl, sym, ◌∙◌, arith}
+use Rattle.std.proofs.Common.{◌≡◌, ℕ, zero, suc, ◌+◌, ◌≤◌, ◌<◌, ◌&&◌, true, false, List, [], ◌∷◌, length, take, drop, slice_index, Ok, ap, refl, sym, ◌∙◌, arith}
 use Rattle.std.proofs.lemmas.Bool.{and_parts}
+use Rattle.std.proofs.lemmas.List.{take-append-drop, take-take}
+use Rattle.std.proofs.lemmas.List.Folds.{list_all-append}
 use Rattle.std.specs.List.{list_all}
 use Rattle.ber_core.specs.computed.Reading.{refused}
 use Rattle.ber_core.specs.declared.fault.Cause.TheVariants as causes
@@ -35,3 +37,22 @@ visible_past (suc n) (x ∷ xs) from h v =
     let e : from + suc n ≡ from + 1 + n = omega arith in
     let both = and_parts (is_visible x) (list_all is_visible (take n xs)) v in
     ap (λ m. all_visible_at m (drop n xs)) e ∙ visible_past n xs (from + 1) (omega arith) both.1 ∙ sym (visible_on (x ∷ xs) from 0 (omega arith) both.0)
+
+-- octets that are all visible
+pub visible_all : (o : List ℕ) (from : ℕ) → list_all is_visible o ≡ true → all_visible_at from o ≡ Ok tt
+unfolding all_visible_at
+visible_all [] from v = refl
+visible_all (x ∷ xs) from v = let both = and_parts (is_visible x) (list_all is_visible xs) v in rw both.0 (visible_all xs (from + 1) both.1)
+
+parts : (o : List ℕ) (n : ℕ) → list_all is_visible o ≡ (list_all is_visible (take n o) && list_all is_visible (drop n o))
+parts o n = ap (list_all is_visible) (sym (take-append-drop n o)) ∙ list_all-append is_visible (take n o) (drop n o)
+
+-- the first octets and those behind them
+pub visible_both : (o front behind : List ℕ) (n : ℕ) → front ≡ take n o → behind ≡ drop n o → list_all is_visible front ≡ true → list_all is_visible behind ≡ true → list_all is_visible o ≡ true
+visible_both o front behind n e f v w = parts o n ∙ rw (← e, ← f, v, w) refl
+
+-- the first octets and the last ones, where these are all
+pub visible_ends : (o first last : List ℕ) (n m : ℕ) → first ≡ take n o → last ≡ drop m o → m ≤ n → list_all is_visible first ≡ true → list_all is_visible last ≡ true → list_all is_visible o ≡ true
+visible_ends o first last n m e f h v w =
+    let short : take m first ≡ take m o = ap (take m) e ∙ take-take m n o h in
+    visible_both o (take m first) last m short f (and_parts (list_all is_visible (take m first)) (list_all is_visible (drop m first)) (sym (parts first m) ∙ v)).0 w

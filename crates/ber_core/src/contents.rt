@@ -1,6 +1,6 @@
 //! The contents of one element: a boolean, an integer, a visible text, octets of a stated count.
 
-ghost use Rattle.std.specs.Prelude.{◌≡◌, ◌≤◌, ◌<◌, ◌+◌, ◌-◌, ◌^◌, ◌≤ℤ◌, ℤ, Bool, List, ℕ, Ok, Err, length, IfOk, IfErr, IsOk};
+ghost use Rattle.std.specs.Prelude.{◌≡◌, ◌≤◌, ◌<◌, ◌+◌, ◌-◌, ◌^◌, ◌≤ℤ◌, ℤ, Bool, List, ℕ, Ok, Err, length, IfOk, IfErr, IsOk, true};
 ghost use Rattle.std.specs.List.{list_all};
 ghost use Rattle.ber_core.specs.Contents.{AreVisible, SpellsBoolean, BooleanFault, SpellsInteger, IntegerFault, SpellsVisible, VisibleFault, SpellsCounted, CountedFault, IsContents};
 ghost use Rattle.ber_core.specs.computed.ContentsReading.{all_visible_at, boolean_at, counted_at, integer_at, visible_at};
@@ -162,6 +162,7 @@ fn visible_behind<'a>(octets: &'a [u8], header: &Header) -> Result<&'a [u8], Fau
 /// # Errors
 ///
 /// `NotVisible` at the first octet outside 20 to 7E.
+#[inline(always)]
 pub fn check_visible(octets: &[u8], from: usize) -> Result<(), Fault>
     requires fits { from + length octets.now < 2 ^ 64 }
     ensures found { IfOk result (λ _. AreVisible octets.now) }
@@ -173,9 +174,65 @@ pub fn check_visible(octets: &[u8], from: usize) -> Result<(), Fault>
     each_visible(octets, from)
 }
 
-// The same, as reading from left to right gives it. Never inlined, so that readers of texts are small enough to be.
-#[inline(never)]
+// The same, as reading from left to right gives it. Nearly always all are visible, which a call tells that puts no fault
+// together.
+#[inline(always)]
 fn each_visible(octets: &[u8], from: usize) -> Result<(), Fault>
+    requires { from + length octets.now < 2 ^ 64 }
+    ensures exact { result ≡ all_visible_at from octets.now }
+{
+    if is_visible_text(octets) {
+        return Ok(());
+    }
+    first_not_visible(octets, from)
+}
+
+// How many octets of a long text are looked at together.
+const PIECE: usize = 16;
+
+// Whether all octets are visible: of a short text its first ones and its last ones, of which some may be the same, and of a
+// long one those in front piece by piece. The compiler looks at so many together. Never inlined, so that readers of texts are
+// small enough to be.
+#[inline(never)]
+fn is_visible_text(octets: &[u8]) -> bool
+    ensures { result ≡ true → list_all is_visible octets.now ≡ true }
+{
+    let mut others = octets;
+    'pieces: while 2 * PIECE < others.len() {
+        let (piece, rest) = others.split_at(PIECE);
+        if !are_visible(piece) {
+            return false;
+        }
+        others = rest;
+    }
+    match others.len() {
+        0..=3 => are_visible(others),
+        4..=7 => has_visible_ends::<4>(others),
+        8..=15 => has_visible_ends::<8>(others),
+        _ => has_visible_ends::<PIECE>(others),
+    }
+}
+
+// Whether the first `N` octets and the last `N` are visible, which are all, some of them perhaps twice.
+#[inline(always)]
+fn has_visible_ends<const N: usize>(octets: &[u8]) -> bool
+    requires least { N ≤ length octets.now }
+    requires most { length octets.now ≤ N + N }
+    ensures { result ≡ true → list_all is_visible octets.now ≡ true }
+{
+    let Some((first, _)) = octets.split_first_chunk::<N>() else {
+        unreachable!()
+    };
+    let Some((_, last)) = octets.split_last_chunk::<N>() else {
+        unreachable!()
+    };
+    are_visible(first) && are_visible(last)
+}
+
+// The same as `check_visible` answers, octet by octet where one may be at fault.
+#[cold]
+#[inline(never)]
+fn first_not_visible(octets: &[u8], from: usize) -> Result<(), Fault>
     requires { from + length octets.now < 2 ^ 64 }
     ensures exact { result ≡ all_visible_at from octets.now }
 {
