@@ -15,4 +15,5 @@ pub mod Repeated
 pub mod Visible
 pub mod ContentsLaws
 pub mod FieldAnswers
+pub mod KnownFields
 pub mod StandardFacts

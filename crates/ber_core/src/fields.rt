@@ -2,7 +2,7 @@
 //! at a place, and the sequence's end. What its contents spell is read by `contents` or by the crate whose
 //! sequence it is. Inlined, so that no header is put together in memory for each field.
 
-ghost use Rattle.std.specs.Prelude.{◌≡◌, ◌≤◌, ◌<◌, ◌↔◌, Ok, Err, Some, None, length, slice_range, IfOk, IfErr, IfSome};
+ghost use Rattle.std.specs.Prelude.{◌≡◌, ◌≤◌, ◌<◌, ◌↔◌, Ok, Err, Some, None, length, slice_range, IfOk, IfErr, IfSome, IsOk};
 ghost use Rattle.ber_core.specs.Faults.{fault_of};
 ghost use Rattle.ber_core.specs.computed.FieldReading.{absence, ends_at, required_at, there_at};
 ghost use Rattle.ber_core.specs.Fields.{BeginsWith, IsField, PresentFault, RequiredFault};
@@ -12,7 +12,7 @@ ghost use Rattle.ber_core.specs.declared.fault.Fault.{Fault};
 
 use crate::element::Header;
 use crate::fault::{Cause, Fault};
-use crate::reading::header;
+use crate::reading::{header, known_header};
 
 /// The element of this identifier that may stand at the place `at`, inside the region that ends at `end`;
 /// `None` where the region ends there, or another identifier stands there.
@@ -119,6 +119,43 @@ fn read_required(octets: &[u8], at: usize, end: usize, identifier: u8) -> Result
         Some(header) => Ok(header),
         None => Err(absent(octets, at, end)),
     }
+}
+
+/// The element that may stand at the place `at`, where it is known that `there` finds one or none there.
+#[inline(always)]
+#[tactic(auto, unfolding(crate::specs::computed::FieldReading::there_at))]
+pub fn known_there(octets: &[u8], at: usize, end: usize, identifier: u8) -> Option<Header>
+    requires ordered { at ≤ end }
+    requires inside { end ≤ length octets.now }
+    requires known { IsOk (there_at identifier octets.now at end) }
+
+    // For callers: the function on octets that it computes, and the order of the places.
+    ensures exact { there_at identifier octets.now at end ≡ Ok result }
+    ensures places { IfSome result (λ h. IsWithin at end h) }
+{
+    match &octets[at..end] {
+        [] => None,
+        [first, ..] => {
+            if identifier != *first {
+                return None;
+            }
+            Some(known_header(octets, at, end))
+        }
+    }
+}
+
+/// The element that must stand at the place `at`, where it is known that `required` finds it there.
+#[inline(always)]
+pub fn known_required(octets: &[u8], at: usize, end: usize, identifier: u8) -> Header
+    requires ordered { at ≤ end }
+    requires inside { end ≤ length octets.now }
+    requires known { IsOk (required_at identifier octets.now at end) }
+
+    // For callers: the function on octets that it computes, and the order of the places.
+    ensures exact { required_at identifier octets.now at end ≡ Ok result }
+    ensures places { IsWithin at end result }
+{
+    known_header(octets, at, end)
 }
 
 /// Whether the sequence whose last field ended at `place` fills the region that ends at `end`.

@@ -1,6 +1,7 @@
 // Headers and integers, read from a slice. A header of one length octet is read without a call.
 
-ghost use Rattle.std.specs.Prelude.{◌≡◌, ◌≤◌, ◌<◌, ◌+◌, ◌^◌, ◌⊎◌, ℤ, Ok, Err, length, slice_range, IfOk, IfErr};
+ghost use Rattle.std.specs.Prelude.{◌≡◌, ◌≤◌, ◌<◌, ◌+◌, ◌^◌, ◌⊎◌, ℤ, Ok, Err, length, slice_index, slice_range, IfOk, IfErr, IsOk};
+ghost use Rattle.byteorder.specs.Endian.{big_number};
 ghost use Rattle.ber_core.specs.computed.ContentsReading.{any_integer_at};
 ghost use Rattle.ber_core.specs.Element.{IsHeader, contents_of};
 ghost use Rattle.ber_core.specs.Faults.{HeaderFault, fault_of};
@@ -129,6 +130,66 @@ fn with_size(
         contents_from,
         contents_to: contents_from + size,
     })
+}
+
+/// The element that stands at the place `at`, inside the region that ends at `end`, where it is known that one does: what
+/// `header` answers, without a look at what would be at fault.
+#[inline(always)]
+pub fn known_header(octets: &[u8], at: usize, end: usize) -> Header
+    requires ordered { at ≤ end }
+    requires inside { end ≤ length octets.now }
+    requires known { IsOk (header_at at (slice_range octets.now at end)) }
+
+    // The header that stands there.
+    ensures found { IsHeader octets.now at end result }
+
+    // For callers: the function on octets that it computes, and the order of the places.
+    ensures exact { header_at at (slice_range octets.now at end) ≡ Ok result }
+    ensures places { IsWithin at end result }
+{
+    known_front(at, &octets[at..end])
+}
+
+// The header of the element at the front of octets, which stand at `at`.
+#[inline(always)]
+fn known_front(at: usize, octets: &[u8]) -> Header
+    requires fits { at + length octets.now < 2 ^ 64 }
+    requires known { IsOk (header_at at octets.now) }
+    ensures exact { header_at at octets.now ≡ Ok result }
+    ensures places { IsWithin at (at + length octets.now) result }
+{
+    let (identifier, first) = (octets[0], octets[1]);
+    if first < 128 {
+        Header {
+            at,
+            identifier,
+            contents_from: at + 2,
+            contents_to: at + 2 + first as usize,
+        }
+    } else {
+        let (_front, rest) = octets.split_at(2);
+        known_long(at, identifier, (first - 128) as usize, rest)
+    }
+}
+
+// The same where the first `count` of the octets behind the first length octet spell the length. Never inlined, as few
+// lengths are so long.
+#[inline(never)]
+fn known_long(at: usize, identifier: u8, count: usize, rest: &[u8]) -> Header
+    requires some { 1 ≤ count }
+    requires few { count ≤ 4 }
+    requires fits { at + 2 + length rest.now < 2 ^ 64 }
+    requires room { count + big_number count rest.now ≤ length rest.now }
+    ensures { result ≡ record { at = at; identifier = identifier; contents_from = at + 2 + count; contents_to = at + 2 + count + big_number count rest.now } }
+{
+    let contents_from = at + 2 + count;
+    let size = BigEndian::read_uint(rest, count) as usize;
+    Header {
+        at,
+        identifier,
+        contents_from,
+        contents_to: contents_from + size,
+    }
 }
 
 /// The number that the contents of the element behind `header` spell (ISO/IEC 8825-1, 8.3).

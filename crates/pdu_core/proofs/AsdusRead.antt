@@ -2,7 +2,7 @@
 use Rattle.std.proofs.Common.{◌≡◌, ℕ, Bool, true, ◌+◌, ◌≤◌, ◌<◌, List, [], ◌∷◌, ◌++◌, length, Result, Ok, Err, Option, refl, sym, ap, ap₂, ◌∙◌, append_assoc, arith, inl, inr}
 use Rattle.std.proofs.lemmas.Bool.{and_parts}
 use Rattle.std.proofs.lemmas.List.{append-nil, length-append}
-use Rattle.std.specs.Prelude.{◌&&◌, slice_range}
+use Rattle.std.specs.Prelude.{◌&&◌, slice_range, IsOk}
 use Rattle.ber_core.specs.computed.FieldReading.{required_at}
 use Rattle.ber_core.specs.computed.Reading.{◌>>=◌}
 use Rattle.ber_core.specs.declared.element.Header.{Header}
@@ -120,6 +120,13 @@ module _ (octets : List ℕ) (p e : ℕ) (within : e ≤ length octets) (more : 
   -- the first can be read
   pub first_reads : (f : Fault) → asdu_at octets p e ≡ Err f → ⊥
   first_reads f is = let read = sym good ∙ ap are_read (asdus_stop octets e within p f more is) in cc
+
+  pub first_is_read : IsOk (asdu_at octets p e)
+  first_is_read =
+      elim (result_cases (asdu_at octets p e)) [
+        | inl (x, r) ↦ rw r refl
+        | inr (f, r) ↦ absurd (first_reads f r)
+      ]
 
   -- and others stand behind it
   pub first_and_rest : {A : Type 0} (vs : List (Option Item)) (q : ℕ) → asdu_at octets p e ≡ Ok (vs, q) → AreAsdus octets q e × (asdus_in {A = A} octets p e ≡ asdu_of_items vs ∷ asdus_in octets q e)

@@ -6,6 +6,7 @@ pub mod SvLaws
 pub mod SvValues
 pub mod SvOneReading
 pub mod AsdusRead
+pub mod KnownItems
 pub mod SvShown
 pub mod Shown
 pub mod OneReading

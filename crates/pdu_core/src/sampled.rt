@@ -4,6 +4,7 @@ pub mod asdu;
 mod asdus;
 mod elements;
 mod fields;
+mod known;
 mod lending;
 mod owning;
 mod putting;

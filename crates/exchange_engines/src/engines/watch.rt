@@ -33,7 +33,9 @@ fn is_unexpected(seen: Seen) -> bool
     }
 }
 
-// Appends the line of an ASDU's count, if it is of the stream, and answers whether the count is unexpected.
+// Appends the line of an ASDU's count, if it is of the stream, and answers whether the count is unexpected. Inlined, so that
+// of an ASDU no more is read than its name and its count.
+#[inline(always)]
 fn put_asdu<A: Allocator>(
     watch: &mut Watch,
     id: &[u8],

@@ -3,7 +3,7 @@
 ghost use Rattle.std.specs.Prelude.{◌≡◌, ◌≤◌, length};
 ghost use Rattle.pdu_core.specs.computed.SampledValue.{asdus_in, AreAsdus};
 
-use crate::sampled::asdus::asdu;
+use crate::sampled::known::known_asdu;
 use mms_data::UtcTime;
 
 /// An ASDU of Sampled Values (IEC 61850-9-2) where it stands: the fields of `Asdu`, texts and octets as parts of
@@ -81,9 +81,7 @@ impl<'a> Asdus<'a> {
         ensures source { asdus_source result.1 ≡ asdus_source self.entry }
     {
         let (octets, end) = (self.octets, self.end);
-        let Ok((view, at, _)) = asdu::<false>(octets, self.at, end) else {
-            unreachable!()
-        };
+        let (view, at) = known_asdu(octets, self.at, end);
         (view, Asdus { octets, at, end })
     }
 }
