@@ -1,9 +1,14 @@
--- Fields of three octets: an identifier, a length of 1, and one octet of contents.
-use Rattle.std.proofs.Common.{◌≡◌, ℕ, pos, ◌+◌, ◌%◌, ◌<◌, ◌≤◌, Bool, true, false, eqb, List, [], ◌∷◌, ◌++◌, length, drop, Ok, Some, refl, sym, ap, subst, ◌∙◌, arith, inl}
+-- Short fields. Of three octets: an identifier, a length of 1, and one octet of contents.
+use Rattle.std.proofs.Common.{◌≡◌, ℕ, ℤ, pos, ◌+◌, ◌*◌, ◌%◌, ◌<◌, ◌≤◌, Bool, true, false, eqb, List, [], ◌∷◌, ◌++◌, length, drop, Ok, Some, refl, sym, ap, subst, ◌∙◌, arith, inl}
 use Rattle.std.proofs.lemmas.Bool.{eqb-true}
-use Rattle.std.specs.Prelude.{◌≢◌, slice_range}
+use Rattle.std.specs.Prelude.{◌≢◌, slice_index, slice_range}
 use Rattle.ber_core.specs.Element.{IsIdentifier}
-use Rattle.ber_core.specs.Fields.{Presence}
+use Rattle.ber_core.specs.Fields.{Presence, always}
+use Rattle.ber_core.specs.Integer.{Int}
+use Rattle.ber_core.specs.Length.{AreOctets, number}
+use Rattle.ber_core.proofs.Shortest.{twos_low}
+use Rattle.mms_data.proofs.AsWritten.{slice_octets}
+use Rattle.std.proofs.lemmas.Int.{ints}
 use Rattle.ber_core.specs.Written.{short_integer, short_length, written_element}
 use Rattle.ber_core.specs.computed.FieldReading.{field_as}
 use Rattle.ber_core.proofs.FieldSound.{field_again}
@@ -52,3 +57,31 @@ module _ (octets : List ℕ) (at end id n : ℕ) (ordered : at ≤ end) (inside 
 
   pub flag_stands : (b : Bool) → written_item (a_flag b) ≡ n ∷ [] → slice_range octets at (at + 3) ≡ written_field id (Some (a_flag b))
   flag_stands b is = there ∙ sym (ap (written_element id) is ∙ octet_written id n)
+
+-- ---- fields of four octets: an identifier, a length of 2, and two octets of contents
+
+-- an element of two octets
+pair_written : (id a b : ℕ) → written_element id (a ∷ b ∷ []) ≡ id ∷ 2 ∷ a ∷ b ∷ []
+unfolding written_element short_length
+pair_written id a b = refl
+
+-- two octets, the first below 128, spell a number
+pair_spells : (a b : ℕ) → a < 128 → b < 256 → SpellsContents a_kind_of_number (a_number (a * 256 + b)) (a ∷ b ∷ [])
+pair_spells a b small octet =
+    let same : number (a ∷ b ∷ []) ≡ a * 256 + b = omega arith in
+    (omega (arith, ints), omega (arith, ints), (omega arith, omega arith, twos_low 2 (number (a ∷ b ∷ [])) (omega (arith, same)) ∙ ap pos same))
+
+module _ (octets : List ℕ) (at end id a b : ℕ) (ordered : at ≤ end) (inside : end ≤ length octets) (low : IsIdentifier id) (next : at + 4 ≤ end) (there : slice_range octets at (at + 4) ≡ id ∷ 2 ∷ a ∷ b ∷ []) where
+  pub pair_read : a < 128 → AreOctets octets → field_as item_at id a_kind_of_number always octets at end ≡ Ok (Some (a_number (a * 256 + b)), at + 4)
+  pair_read small octet =
+      let rest = slice_range octets (at + 4) end in
+      let parts : slice_range octets at end ≡ id ∷ (2 ∷ []) ++ ((a ∷ b ∷ []) ++ rest) = region-split octets at (at + 4) end (omega arith) next ∙ ap (λ (l : List ℕ). l ++ rest) there in
+      let behind : at + 1 + 1 + 2 ≡ at + 4 = omega arith in
+      let last : b < 256 = subst (λ (l : List ℕ). slice_index l 3 < 256) there (slice_octets octets at (at + 4) octet 3) in
+      field_again contents_grammar item_at items_sound octets end inside (record { identifier = id; kind = a_kind_of_number; presence = always }) at ordered (not_equal (id % 32) 31 low) (a_number (a * 256 + b)) (2 ∷ []) (a ∷ b ∷ []) rest parts (inl (refl, refl, omega arith)) (pair_spells a b small last)
+      ∙ ap (λ (q : ℕ). Ok (Some (a_number (a * 256 + b)), q)) behind
+
+  pub pair_stands : a < 128 → AreOctets octets → ((n : ℤ) → Int n (a ∷ b ∷ []) → a ∷ b ∷ [] ≡ short_integer n) → slice_range octets at (at + 4) ≡ written_field id (Some (a_number (a * 256 + b)))
+  pair_stands small octet shortest =
+      let last : b < 256 = subst (λ (l : List ℕ). slice_index l 3 < 256) there (slice_octets octets at (at + 4) octet 3) in
+      there ∙ sym (pair_written id a b) ∙ ap (written_element id) (shortest (pos (a * 256 + b)) (pair_spells a b small last).2)

@@ -1,7 +1,7 @@
 // The fields of an APDU, kind by kind: the value of each, the place behind it, and whether it and what was read before are
 // known to stand in their written form. Inlined, so that no answer is put together in memory for each field.
 
-ghost use Rattle.std.specs.Prelude.{Bool, ◌≡◌, ◌<◌, ◌≤◌, ◌+◌, ◌∷◌, [], length, slice_range, IfOk, IfSome, Some, None, true, false};
+ghost use Rattle.std.specs.Prelude.{Bool, ◌≡◌, ◌<◌, ◌≤◌, ◌+◌, ◌*◌, ◌∷◌, [], length, slice_range, IfOk, IfSome, Some, None, true, false};
 ghost use Rattle.ber_core.specs.Contents.{SpellsBoolean};
 ghost use Rattle.ber_core.specs.Element.{IsIdentifier, contents_of};
 ghost use Rattle.ber_core.specs.computed.FieldReading.{field_as};
@@ -110,7 +110,24 @@ fn one_octet(octets: &[u8], at: usize, end: usize, identifier: u8) -> Option<u8>
     }
 }
 
-/// A number that is always there. One of one octet, as most are, is read at once.
+// The two octets of contents of the element of this identifier at `at`, where that has four octets.
+#[inline(always)]
+fn two_octets(octets: &[u8], at: usize, end: usize, identifier: u8) -> Option<(u8, u8)>
+    requires ordered { at ≤ end }
+    requires inside { end ≤ length octets.now }
+    ensures next { IfSome result (λ _. at + 4 ≤ end) }
+    ensures there { IfSome result (λ n. slice_range octets.now at (at + 4) ≡ identifier ∷ 2 ∷ n.0 ∷ n.1 ∷ []) }
+{
+    if end - at < 4 {
+        return None;
+    }
+    match &octets[at..at + 4] {
+        [first, 2, high, low] if *first == identifier => Some((*high, *low)),
+        _ => None,
+    }
+}
+
+/// A number that is always there. One of one octet or of two, as most are, is read at once.
 #[inline(always)]
 pub fn number_field(
     octets: &[u8],
@@ -128,8 +145,41 @@ pub fn number_field(
 {
     match one_octet(octets, at, end, identifier) {
         Some(octet @ 0..=0x7f) => Ok((octet as u32, at + 3, written)),
+        _ => longer_number_field(octets, at, end, identifier, written),
+    }
+}
+
+// The same of a number that may have two octets. It stands in its written form where one octet would not hold it.
+#[inline(always)]
+fn longer_number_field(
+    octets: &[u8],
+    at: usize,
+    end: usize,
+    identifier: u8,
+    written: bool,
+) -> Result<(u32, usize, bool), Fault>
+    requires ordered { at ≤ end }
+    requires inside { end ≤ length octets.now }
+    requires identifier { IsIdentifier identifier }
+    ensures exact { Gives (λ x. (Some (a_number x.0), x.1)) result (field_as item_at identifier number always octets.now at end) }
+    ensures next { IfOk result (λ x. (at ≤ x.1) × (x.1 ≤ end)) }
+    ensures stands { IfOk result (λ x. x.2 ≡ true → (written ≡ true) × (slice_range octets.now at x.1 ≡ written_field identifier (Some (a_number x.0)))) }
+{
+    match two_octets(octets, at, end, identifier) {
+        Some((high @ 0..=0x7f, low)) => {
+            let short = is_short(&[high, low]);
+            Ok((number_of(high, low), at + 4, written & short))
+        }
         _ => any_number_field(octets, at, end, identifier, written),
     }
+}
+
+// The number of two octets.
+#[inline(always)]
+fn number_of(high: u8, low: u8) -> u32
+    ensures { result ≡ high * 256 + low }
+{
+    u32::from(high) * 256 + u32::from(low)
 }
 
 // The same of a number of any octets.

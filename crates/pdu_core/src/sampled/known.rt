@@ -21,12 +21,7 @@ use mms_data::UtcTime;
 
 // The text that is known to stand at `at`, and the place behind it.
 #[inline(always)]
-fn known_text<'a>(
-    octets: &'a [u8],
-    at: usize,
-    end: usize,
-    identifier: u8,
-) -> (&'a [u8], usize)
+fn known_text<'a>(octets: &'a [u8], at: usize, end: usize, identifier: u8) -> (&'a [u8], usize)
     requires ordered { at ≤ end }
     requires inside { end ≤ length octets.now }
     requires known { IsOk (field_as item_at identifier text always octets.now at end) }
@@ -79,12 +74,7 @@ fn known_two_octets(octets: &[u8], at: usize, end: usize, identifier: u8) -> (u1
 
 // The same of a number of two octets that may be absent.
 #[inline(always)]
-fn known_two_octets_if(
-    octets: &[u8],
-    at: usize,
-    end: usize,
-    identifier: u8,
-) -> (Option<u16>, usize)
+fn known_two_octets_if(octets: &[u8], at: usize, end: usize, identifier: u8) -> (Option<u16>, usize)
     requires ordered { at ≤ end }
     requires inside { end ≤ length octets.now }
     requires known { IsOk (field_as item_at identifier (fixed 2) optional octets.now at end) }
@@ -143,12 +133,7 @@ fn eight_octets(contents: &[u8]) -> UtcTime
 
 // The same of a time that may be absent.
 #[inline(always)]
-fn known_time_if(
-    octets: &[u8],
-    at: usize,
-    end: usize,
-    identifier: u8,
-) -> (Option<UtcTime>, usize)
+fn known_time_if(octets: &[u8], at: usize, end: usize, identifier: u8) -> (Option<UtcTime>, usize)
     requires ordered { at ≤ end }
     requires inside { end ≤ length octets.now }
     requires known { IsOk (field_as item_at identifier time optional octets.now at end) }
@@ -166,12 +151,7 @@ fn known_time_if(
 
 // The same of octets of any count.
 #[inline(always)]
-fn known_octets<'a>(
-    octets: &'a [u8],
-    at: usize,
-    end: usize,
-    identifier: u8,
-) -> (&'a [u8], usize)
+fn known_octets<'a>(octets: &'a [u8], at: usize, end: usize, identifier: u8) -> (&'a [u8], usize)
     requires ordered { at ≤ end }
     requires inside { end ≤ length octets.now }
     requires known { IsOk (field_as item_at identifier raw always octets.now at end) }
