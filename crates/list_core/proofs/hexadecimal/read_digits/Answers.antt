@@ -9,7 +9,7 @@ use Rattle.list_core.proofs.hexadecimal.read_digits.Goals as goal
 
 pub returns-in_default-block_octets-clause-all : goal.returns-in_default-block_octets-clause-all
 returns-in_default-block_octets-clause-all c =
-    piece_bad 32 (take c.blocks-2.at c.blocks-2.octets) c.blocks-2.others.now c.args.digits.now c.in-Some.block.now c.in-Some.rest.now c.blocks-2.invariant.read c.in-Some.ensures.cases c.in_default-block_octets.ensures
+    piece_bad 64 (take c.blocks-2.at c.blocks-2.octets) c.blocks-2.others.now c.args.digits.now c.in-Some.block.now c.in-Some.rest.now c.blocks-2.invariant.read c.in-Some.ensures.cases c.in_default-block_octets.ensures
 
 pub blocks-2-preserved : goal.blocks-2-preserved
 blocks-2-preserved c =
@@ -18,14 +18,14 @@ blocks-2-preserved c =
     let ys = c.copy_from_slice.new.self in
     let cut = c.in-Some.ensures.cases in
     let read = c.in-Some-block_octets.ensures in
-    let size : length ys ≡ 16 = omega (arith, c.copy_from_slice.ensures.len) in
+    let size : length ys ≡ 32 = omega (arith, c.copy_from_slice.ensures.len) in
     let within : at ≤ length xs = omega (arith, c.blocks-2.invariant.room, c.requires, c.blocks-2.auto.octets) in
-    let written : take (at + 16) (put_mid at (at + 16 - at) xs ys) ≡ take at xs ++ c.in-Some-block_octets.read =
-    ap (λ (n : ℕ). take (at + n) (put_mid at (at + 16 - at) xs ys)) (sym size) ∙ front_put xs ys at (at + 16 - at) within ∙ ap (λ (l : List ℕ). take at xs ++ l) c.copy_from_slice.ensures.after in
+    let written : take (at + 32) (put_mid at (at + 32 - at) xs ys) ≡ take at xs ++ c.in-Some-block_octets.read =
+    ap (λ (n : ℕ). take (at + n) (put_mid at (at + 32 - at) xs ys)) (sym size) ∙ front_put xs ys at (at + 32 - at) within ∙ ap (λ (l : List ℕ). take at xs ++ l) c.copy_from_slice.ensures.after in
     record {
       room = omega (arith, cut.2, c.blocks-2.invariant.room);
       read = subst (λ l. ReadTo l c.in-Some.rest.now c.args.digits.now) (sym written)
-          (read_more 32 (take at xs) c.blocks-2.others.now c.args.digits.now c.in-Some.block.now c.in-Some.rest.now c.in-Some-block_octets.read c.blocks-2.invariant.read cut (omega arith) read.0 read.1);
+          (read_more 64 (take at xs) c.blocks-2.others.now c.args.digits.now c.in-Some.block.now c.in-Some.rest.now c.in-Some-block_octets.read c.blocks-2.invariant.read cut (omega arith) read.0 read.1);
     }
 
 pub returns-then-is_empty-clause-read : goal.returns-then-is_empty-clause-read
@@ -41,7 +41,7 @@ returns-then-is_empty-clause-read c =
 pub returns-in_default-block_octets-2-clause-all : goal.returns-in_default-block_octets-2-clause-all
 returns-in_default-block_octets-2-clause-all c =
     let digits = c.args.digits.now in
-    back_bad digits (length digits - 32) (ap (list_all is_hex_digit) (sym c.in-Some-last_chunk.ensures.cases.1.same) ∙ c.in_default-block_octets-2.ensures)
+    back_bad digits (length digits - 64) (ap (list_all is_hex_digit) (sym c.in-Some-last_chunk.ensures.cases.1.same) ∙ c.in_default-block_octets-2.ensures)
 
 pub returns-clause-all : goal.returns-clause-all
 returns-clause-all c =
@@ -51,8 +51,8 @@ returns-clause-all c =
     let r = c.blocks-2.invariant.read in
     let chunk = c.in-Some-last_chunk.ensures.cases in
     let size : length (take at xs) ≡ at = length-take-le at xs (omega (arith, c.blocks-2.invariant.room, c.requires, c.blocks-2.auto.octets)) in
-    let low : length digits - 32 ≤ 2 * length (take at xs) = omega (arith, size, chunk.0, c.blocks-2.invariant.room, c.in_default.ensures.cases) in
-    sym (back_good (take at xs) c.blocks-2.others.now digits (length digits - 32) r low (ap (list_all is_hex_digit) (sym chunk.1.same) ∙ c.in-Some-block_octets-2.ensures.0))
+    let low : length digits - 64 ≤ 2 * length (take at xs) = omega (arith, size, chunk.0, c.blocks-2.invariant.room, c.in_default.ensures.cases) in
+    sym (back_good (take at xs) c.blocks-2.others.now digits (length digits - 64) r low (ap (list_all is_hex_digit) (sym chunk.1.same) ∙ c.in-Some-block_octets-2.ensures.0))
     ∙ r.good
 
 pub returns-clause-read : goal.returns-clause-read
@@ -60,11 +60,11 @@ returns-clause-read c =
     let at = c.blocks-2.at in
     let xs = c.blocks-2.octets in
     let digits = c.args.digits.now in
-    let k = length xs - 16 in
+    let k = length xs - 32 in
     let read = c.in-Some-block_octets-2.read in
     let chunk = c.in-Some-last_chunk.ensures.cases in
     let total : length digits ≡ 2 * length xs = omega (arith, c.requires, c.blocks-2.auto.octets) in
-    let start : length digits - 32 ≡ 2 * k = omega (arith, total, chunk.0) in
+    let start : length digits - 64 ≡ 2 * k = omega (arith, total, chunk.0) in
     let size : length (take at xs) ≡ at = length-take-le at xs (omega (arith, c.blocks-2.invariant.room, total)) in
     let back : c.in-Some-last_chunk.block.now ≡ drop (2 * k) digits = chunk.1.same ∙ ap (λ (n : ℕ). drop n digits) start in
     let low : k ≤ at = omega (arith, total, c.blocks-2.invariant.room, c.in_default.ensures.cases) in

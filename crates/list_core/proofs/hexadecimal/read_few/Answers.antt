@@ -8,12 +8,12 @@ use Rattle.list_core.proofs.hexadecimal.read_few.Goals as goal
 pub returns-in_default-clause-all : goal.returns-in_default-clause-all
 returns-in_default-clause-all c =
     let digits = c.args.digits.now in
-    sym c.in_default.ensures ∙ ap (list_all is_hex_digit) c.filled.ensures ∙ filled_good (32 - length digits) digits
+    sym c.in_default.ensures ∙ ap (list_all is_hex_digit) c.filled.ensures ∙ filled_good (64 - length digits) digits
 
 pub returns-clause-read : goal.returns-clause-read
 returns-clause-read c =
     let digits = c.args.digits.now in
-    let zeros = 32 - length digits in
+    let zeros = 64 - length digits in
     let all : list_all is_hex_digit digits ≡ true =
     sym (filled_good zeros digits) ∙ ap (list_all is_hex_digit) (sym c.filled.ensures) ∙ c.in-Some.ensures.0 in
     let behind = length-replicate {A = ℕ} zeros 48 in
