@@ -4,15 +4,19 @@ use Rattle.std.proofs.lemmas.List.{take_all, length-drop}
 use Rattle.std.specs.Prelude.{slice_range}
 use Rattle.ber_core.specs.declared.element.Header.{Header}
 use Rattle.ber_core.specs.declared.fault.Fault.{Fault}
-use Rattle.ber_core.specs.computed.Reading.{header_at}
+use Rattle.ber_core.specs.computed.ContentsReading.{all_visible_at}
+use Rattle.ber_core.specs.computed.Reading.{header_at, ◌>>=◌}
 use Rattle.ber_core.proofs.Headers.{low_found}
 use Rattle.ber_core.proofs.Steps.{bind_ok, pair_is}
-use Rattle.mms_data.specs.Data.{Data, array, structure, items_of}
+use Rattle.mms_data.specs.Data.{Data, simple, array, structure, items_of}
+use Rattle.mms_data.specs.Data.{visible as text_of}
+use Rattle.mms_data.specs.computed.ContentsReading.{simple_at}
 use Rattle.mms_data.specs.computed.Left.{data_or_none, was_read, data_in, AreMembers}
-use Rattle.mms_data.specs.computed.Reading.{known_at, contents_within, contents_at, member_with, members_with, member_at, members_at}
+use Rattle.mms_data.specs.computed.Reading.{known_at, contents_within, contents_at, member_with, members_with, member_at, members_at, simple_data_at}
 use Rattle.mms_data.specs.Spelling.{SpellsAll, SpellSome}
 use Rattle.mms_data.specs.declared.kinds.Kind.{Kind}
 use Rattle.mms_data.specs.declared.kinds.Kind.TheVariants.{Array, Structure}
+use Rattle.mms_data.specs.declared.kinds.SimpleKind.TheVariants.{VisibleString}
 use Rattle.mms_data.proofs.KindLaws.{here_found}
 use Rattle.mms_data.proofs.Again.{all_again}
 use Rattle.mms_data.proofs.Found.{all_found, member_step, member_found, members_found, no_levels}
@@ -151,19 +155,19 @@ module _ (k : ℕ) (o : List ℕ) (few : k ≤ 16) (some : 0 < length o) (good :
   front_some = begins.front.some_levels
 
   -- its identifier announces a kind
-  pub front_known : (f : Fault) → Err f ≡ known_at 0 o → ⊥
-  front_known f e = let same = e ∙ begins.announced in cc
+  pub front_known : (kind : Kind) × (known_at 0 o ≡ Ok kind)
+  front_known = (begins.kind, begins.announced)
 
   -- its header can be read
-  pub front_reads : (f : Fault) → Err f ≡ header_at 0 (slice_range o 0 (length o)) → ⊥
-  front_reads f e = let same = e ∙ ap (header_at 0) (all_of o) ∙ begins.reads in cc
+  pub front_reads : (h : Header) × (header_at 0 o ≡ Ok h)
+  front_reads = (begins.header, begins.reads)
 
-  pub front : (kind : Kind) (h : Header) → Ok kind ≡ known_at 0 o → Ok h ≡ header_at 0 (slice_range o 0 (length o)) → Front k o kind h
+  pub front : (kind : Kind) (h : Header) → known_at 0 o ≡ Ok kind → header_at 0 o ≡ Ok h → Front k o kind h
   front kind h known e =
       let x = begins in
-      let both = e ∙ ap (header_at 0) (all_of o) ∙ x.reads in
+      let both = sym e ∙ x.reads in
       let same : x.header ≡ h = let back = sym both in cc in
-      let kinds = known ∙ x.announced in
+      let kinds = sym known ∙ x.announced in
       let alike : x.kind ≡ kind = let back = sym kinds in cc in
       subst (λ y. Front k o y h) alike (subst (Front k o x.kind) same x.front)
 
@@ -192,3 +196,13 @@ structure_is k kind h c d few is-kind e =
 -- octets spell one list of data at most
 pub one_value : (L : ℕ) → L ≤ 17 → (o : List ℕ) (ds es : List Data) → SpellsAll ds L o → SpellsAll es L o → ds ≡ es
 one_value L last o ds es s t = let both = sym (all_again (17 - L) L (omega arith) 0 o ds s) ∙ all_again (17 - L) L (omega arith) 0 o es t in cc
+
+-- a text that is read is its contents
+text_of_read : (c : List ℕ) (d : Data) (r : Result (Unit {0}) Fault) → (((r >>= λ _. Ok c) >>= λ t. Ok (text_of t)) >>= λ v. Ok (simple v)) ≡ Ok d
+    → (((r >>= λ _. Ok c) >>= λ t. Ok (text_of t)) >>= λ v. Ok (simple v)) ≡ Ok (simple (text_of c))
+text_of_read c d (Ok x) e = refl
+text_of_read c d (Err f) e = absurd (cc)
+
+pub visible_is : (p s : ℕ) (c : List ℕ) (d : Data) → simple_data_at VisibleString p s c ≡ Ok d → simple_data_at VisibleString p s c ≡ Ok (simple (text_of c))
+unfolding simple_at
+visible_is p s c d e = text_of_read c d (all_visible_at s c) e

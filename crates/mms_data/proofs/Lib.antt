@@ -9,6 +9,7 @@ pub mod WrongAgain
 pub mod Booleans
 pub mod Checked
 pub mod Front
+pub mod GoodMembers
 pub mod Few
 pub mod Parts
 pub mod Cleared

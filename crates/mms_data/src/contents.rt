@@ -4,6 +4,7 @@
 ghost use Rattle.std.specs.Prelude.{◌≡◌, ◌+◌, ◌<◌, ◌^◌, length, Ok, Err, IfOk};
 ghost use Rattle.ber_core.specs.computed.ContentsReading.{integer_at};
 ghost use Rattle.ber_core.specs.computed.Reading.{Gives};
+ghost use Rattle.mms_data.specs.Data.{Data};
 ghost use Rattle.mms_data.specs.Contents.{least_signed, most_signed};
 ghost use Rattle.mms_data.specs.computed.ContentsReading.{bits_at, unsigned_at};
 ghost use Rattle.mms_data.specs.Meaning.{meaning};
@@ -11,6 +12,7 @@ ghost use Rattle.mms_data.specs.Place.{IsPart, ViewIsPart};
 ghost use Rattle.mms_data.specs.computed.Reading.{simple_data_at};
 
 use crate::kinds::SimpleKind;
+use crate::known::{known_bits, known_boolean, known_signed, known_time, known_unsigned};
 use crate::utc::eight_octets;
 use crate::view::{BitView, View};
 use ber_core::contents::{boolean_of, check_visible, integer_of};
@@ -54,6 +56,35 @@ pub(crate) fn simple<'a>(
     }
 }
 
+// What contents of a kind without members are, where they are known to be good: nothing of them is looked at again.
+#[inline(always)]
+#[tactic(auto, unfolding(crate::specs::computed::ContentsReading::simple_at))]
+pub(crate) fn known_simple<'a>(
+    kind: SimpleKind,
+    contents: &'a [u8],
+    at: usize,
+    from: usize,
+) -> View<'a>
+    requires order { at < from }
+    requires fits { from + length contents.now < 2 ^ 64 }
+    requires good { (d : Data) × (simple_data_at kind at from contents.now ≡ Ok d) }
+    ensures means { simple_data_at kind at from contents.now ≡ Ok (meaning result) }
+    ensures part { ViewIsPart result contents.entry }
+{
+    match kind {
+        SimpleKind::Boolean => View::Boolean(known_boolean(contents, at)),
+        SimpleKind::BitString => View::Bits(known_bits(contents, from)),
+        SimpleKind::Integer => View::Integer(known_signed(contents, at, from)),
+        SimpleKind::Unsigned => View::Unsigned(known_unsigned(contents, at, from)),
+        SimpleKind::FloatingPoint => View::Floating(contents),
+        SimpleKind::OctetString => View::Octets(contents),
+        SimpleKind::VisibleString => View::Visible(contents),
+        SimpleKind::BinaryTime => View::BinaryTime(contents),
+        SimpleKind::MmsString => View::MmsText(contents),
+        SimpleKind::UtcTime => View::Utc(known_time(contents, at)),
+    }
+}
+
 // The count of unused bits, and the octets as they stand.
 fn bits<'a>(contents: &'a [u8], from: usize) -> Result<BitView<'a>, Fault>
     ensures exact { Gives (λ b. (b.unused, b.octets.now)) result (bits_at from contents.now) }
@@ -73,7 +104,7 @@ fn bits<'a>(contents: &'a [u8], from: usize) -> Result<BitView<'a>, Fault>
 }
 
 // The signed number, which has 64 bits.
-fn signed(contents: &[u8], at: usize, from: usize) -> Result<i64, Fault>
+pub(crate) fn signed(contents: &[u8], at: usize, from: usize) -> Result<i64, Fault>
     requires { at + 1 < 2 ^ 64 }
     ensures { result ≡ integer_at least_signed most_signed at from contents.now }
 {
@@ -82,7 +113,7 @@ fn signed(contents: &[u8], at: usize, from: usize) -> Result<i64, Fault>
 }
 
 // The unsigned number, which has 64 bits.
-fn unsigned(contents: &[u8], at: usize, from: usize) -> Result<u64, Fault>
+pub(crate) fn unsigned(contents: &[u8], at: usize, from: usize) -> Result<u64, Fault>
     requires { at + 1 < 2 ^ 64 }
     ensures { result ≡ unsigned_at at from contents.now }
 {

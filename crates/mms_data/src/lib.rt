@@ -8,6 +8,7 @@ mod copying;
 mod elements;
 mod fault;
 mod kinds;
+mod known;
 pub mod laws;
 mod measuring;
 mod owning;

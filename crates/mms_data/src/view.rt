@@ -4,10 +4,11 @@ ghost use Rattle.std.specs.Prelude.{◌≡◌, ◌<◌, ◌≤◌, ◌+◌, ◌-
 ghost use Rattle.mms_data.specs.computed.Left.{AreMembers, data_in};
 ghost use Rattle.mms_data.specs.Written.{written_all};
 
-use crate::contents::simple;
-use crate::kinds::{Kind, member_kind};
+use crate::contents::known_simple;
+use crate::kinds::Kind;
+use crate::known::{front_header, known_kind};
 use crate::time::UtcTime;
-use ber_core::{Header, header};
+use ber_core::Header;
 
 /// Bits where they stand: the last `unused` bits of the last octet are no part of them, and may have any value.
 #[derive(Clone, Copy)]
@@ -125,12 +126,7 @@ impl<'a> Members<'a> {
                 depth,
                 written: false,
             }),
-            Kind::Simple(kind) => {
-                let Ok(view) = simple(kind, contents, header.at, header.contents_from) else {
-                    unreachable!()
-                };
-                view
-            }
+            Kind::Simple(kind) => known_simple(kind, contents, header.at, header.contents_from),
         }
     }
 
@@ -143,20 +139,17 @@ impl<'a> Members<'a> {
         ensures rest { IsPart (source_of result.1) (source_of self.entry) }
     {
         let (octets, depth) = (self.octets, self.depth);
-        let Ok(header) = header(octets, 0, octets.len()) else {
-            unreachable!()
-        };
+        let header = front_header(octets);
+        let kind = known_kind(octets);
         let contents = &octets[header.contents_from..header.contents_to];
-        let Ok(kind) = member_kind(octets, 0) else {
-            unreachable!()
-        };
-        let view = Members::view(contents, &header, kind, depth - 1);
+        // Those behind it are told first: where a view is written at once, its kind is known then from the identifier.
         let octets = &octets[header.contents_to..];
         let rest = Members {
             octets,
             depth,
             written: false,
         };
+        let view = Members::view(contents, &header, kind, depth - 1);
         (view, rest)
     }
 }
