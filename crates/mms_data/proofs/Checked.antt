@@ -4,6 +4,7 @@ use Rattle.std.proofs.lemmas.Bool.{and_parts}
 use Rattle.std.proofs.lemmas.List.{length-append}
 use Rattle.std.specs.Prelude.{slice_range, IfOk, IfErr, ◌&&◌}
 use Rattle.ber_core.specs.declared.fault.Fault.{Fault}
+use Rattle.ber_core.specs.declared.fault.Cause.TheVariants as causes
 use Rattle.ber_core.specs.declared.element.Header.{Header}
 use Rattle.ber_core.specs.Element.{IsHeader, contents_of}
 use Rattle.ber_core.specs.Length.{AreOctets}
@@ -112,6 +113,11 @@ module _ (k L : ℕ) (first : 1 ≤ L) (depth : L + k ≡ 17) (p : ℕ) (o : Lis
   counted_there = let x = found in ap length (elsewhere k p o x.0 (omega (arith, first, depth)) x.1).1 ∙ x.2
 
 -- ---- one member
+
+-- no member is read where no level may stand
+pub too_deep : (depth p : ℕ) (o : List ℕ) (f : Fault) → depth ≡ 0 → f ≡ record { place = p; cause = causes.TooDeep } → Err f ≡ less (λ (x : Data × ℕ). x.1) (member_at depth p o)
+unfolding member_at
+too_deep depth p o f none is = rw (none, is) refl
 
 pub member_wrong : (r : Result Data Fault) (f : Fault) (next : ℕ) → Err f ≡ less (λ (d : Data). tt {0}) r → Err f ≡ less (λ (x : Data × ℕ). x.1) (r >>= λ d. Ok (d, next))
 member_wrong r f next e = rw (less_err (λ (d : Data). tt {0}) r f e) refl

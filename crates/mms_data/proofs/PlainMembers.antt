@@ -3,7 +3,7 @@ use Rattle.std.proofs.Common.{◌≡◌, ◌≤◌, ◌<◌, ◌+◌, ◌-◌, �
 use Rattle.std.specs.Prelude.{◌≤ℤ◌, ◌==◌, not, slice_range}
 use Rattle.std.proofs.lemmas.Bool.{cases_lt, lt-ltb}
 use Rattle.std.proofs.lemmas.Int.{ints}
-use Rattle.std.proofs.lemmas.List.{length-take-le, take-take, take_all}
+use Rattle.std.proofs.lemmas.List.{length-take-le, take-take}
 use Rattle.std.proofs.lemmas.Nat.{pow-add}
 use Rattle.std.proofs.Math.Nat.{pow-le-pow_right}
 use Rattle.byteorder.specs.Numbers.{big_from-cons}
@@ -22,7 +22,7 @@ use Rattle.mms_data.specs.Utc.{utc_of}
 use Rattle.mms_data.specs.Written.{simple_contents, written}
 use Rattle.mms_data.specs.computed.ContentsReading.{simple_at}
 use Rattle.mms_data.specs.computed.Left.{less}
-use Rattle.mms_data.specs.computed.Plain.{AnnouncesPlain, IsPlain, IsPlainMember}
+use Rattle.mms_data.specs.computed.Plain.{IsPlain, IsPlainMember}
 use Rattle.mms_data.specs.computed.Reading.{member_at, simple_data_at}
 use Rattle.mms_data.specs.declared.kinds.Kind.TheVariants.{Simple as of_kind}
 use Rattle.mms_data.specs.declared.kinds.SimpleKind.{SimpleKind}
@@ -132,11 +132,6 @@ module _ (k : SimpleKind) (first : ℕ) (others rest : List ℕ) (few : length o
       ap (λ (m : ℕ). simple_identifier k ∷ m ∷ c) size ∙ short_element (simple_identifier k) c (omega (arith, few))
       ∙ ap₂ (λ (j : SimpleKind) (o : List ℕ). written_element (simple_identifier j) o) (sym is.kind) (stands y.0 is.kind is.spelled)
       ∙ ap written (sym (same ∙ value))
-
--- what stands behind the identifier and the length
-pub behind_two : (m : List ℕ) (id n first : ℕ) (others : List ℕ) → m ≡ id ∷ n ∷ first ∷ others → take (length m - 2) (drop 2 m) ≡ first ∷ others
-behind_two m id n first others parts =
-    ap (λ (l : List ℕ). take (length l - 2) (drop 2 l)) parts ∙ take_all (length (id ∷ n ∷ first ∷ others) - 2) (first ∷ others) (omega arith)
 
 -- ---- where it stands
 

@@ -1,28 +1,25 @@
-use Rattle.std.proofs.Common.{sym, ap, ◌∙◌, rules, arith}
+use Rattle.std.proofs.Common.{sym, ap, ◌∙◌, ◌<◌, rules, arith}
 use Rattle.std.specs.Prelude.{slice_range}
 use Rattle.std.proofs.lemmas.Bool.{and_parts}
 use Rattle.std.proofs.lemmas.Result.{err_from_is_err_and}
 use Rattle.ber_core.specs.Element.{contents_of}
 use Rattle.ber_core.specs.Length.{AreOctets}
-use Rattle.ber_core.proofs.Regions.{region-split}
-use Rattle.mms_data.specs.computed.Reading.{contents_at, member_at, members_at}
+use Rattle.mms_data.specs.computed.Reading.{contents_at, members_at}
 use Rattle.mms_data.proofs.AsWritten.{nested_are, simple_are}
 use Rattle.mms_data.proofs.Loop.{member_there}
-use Rattle.mms_data.proofs.Booleans.{boolean_passed, boolean_stands}
-use Rattle.mms_data.proofs.PlainMembers.{plain_passed}
-use Rattle.mms_data.proofs.Checked.{counts_none, counts_on, counts_wrong, counts_all, stand_all, member_stands, member_wrong, member_good}
+use Rattle.mms_data.proofs.Checked.{counts_none, counts_on, counts_wrong, counts_all, stand_all, too_deep, member_stands, member_wrong, member_good}
 use Rattle.mms_data.proofs.checking.+checking.Goals as goal
 
-pub pass_member-returns-in_err-written-in-Ok-clause-exact : goal.pass_member-returns-in_err-written-in-Ok-clause-exact
-pass_member-returns-in_err-written-in-Ok-clause-exact g t c =
+pub pass_other-returns-in_err-written-in-Ok-clause-exact : goal.pass_other-returns-in_err-written-in-Ok-clause-exact
+pass_other-returns-in_err-written-in-Ok-clause-exact g t c =
     let p = err_from_is_err_and c.from_residual-in_err-written-in-Ok.result c.from_residual-in_err-written-in-Ok.ensures.1 in
     let h = c.in-Ok.header in
     let places = c.in-Ok.ensures.places in
     let is = member_there c.args.depth c.args.at c.args.octets.now c.args.end (omega arith) c.in_ok-kind-in-Ok.kind h places.at places.begins places.order places.within (sym c.in_ok-kind-in-Ok.ensures) (sym c.in-Ok.ensures.exact) in
     rw (p.1, p.2, is) (member_wrong _ _ h.contents_to c.in_err-written-in-Ok.ensures.exact)
 
-pub pass_member-returns-in_ok-written-in-Ok-clause-exact : goal.pass_member-returns-in_ok-written-in-Ok-clause-exact
-pass_member-returns-in_ok-written-in-Ok-clause-exact g t c =
+pub pass_other-returns-in_ok-written-in-Ok-clause-exact : goal.pass_other-returns-in_ok-written-in-Ok-clause-exact
+pass_other-returns-in_ok-written-in-Ok-clause-exact g t c =
     let h = c.in-Ok.header in
     let places = c.in-Ok.ensures.places in
     let is = member_there c.args.depth c.args.at c.args.octets.now c.args.end (omega arith) c.in_ok-kind-in-Ok.kind h places.at places.begins places.order places.within (sym c.in_ok-kind-in-Ok.ensures) (sym c.in-Ok.ensures.exact) in
@@ -31,24 +28,47 @@ pass_member-returns-in_ok-written-in-Ok-clause-exact g t c =
 pub count_members-members-init : goal.count_members-members-init
 count_members-members-init g t c = counts_none c.args.depth c.args.at c.args.octets.now c.args.end c.requires.inside _ c.requires.order
 
+pub count_members-returns-then-depth-eq0-clause-exact : goal.count_members-returns-then-depth-eq0-clause-exact
+count_members-returns-then-depth-eq0-clause-exact g t c =
+    counts_wrong c.args.depth c.args.at c.args.octets.now c.args.end c.requires.inside _ c.members.place c.members.count c.members.written c.members-test.true
+    (too_deep c.args.depth c.members.place (slice_range c.args.octets.now c.members.place c.args.end) c.at.result c.if-depth-eq0.true c.at.ensures) c.members.invariant
+
+pub count_members-plain-preserved : goal.count_members-plain-preserved
+count_members-plain-preserved g t c =
+    let some : 0 < c.args.depth = omega arith in
+    let more : c.plain.place < c.args.end = omega arith in
+    record {
+      so_far = counts_on c.args.depth c.args.at c.args.octets.now c.args.end c.requires.inside c.plain.place c.in-Some.next c.plain.count c.plain.written c.in-Some.stands more
+          c.in-Some.ensures.next.0 c.in-Some.ensures.next.1 (c.in-Some.ensures.exact c.args.depth some) (λ told. c.in-Some.ensures.written told c.args.depth some) c.plain.invariant.so_far;
+      on = omega (arith, c.in-Some.ensures.next.0, c.plain.invariant.on);
+    }
+
+pub count_members-returns-then-place-end-clause-exact : goal.count_members-returns-then-place-end-clause-exact
+count_members-returns-then-place-end-clause-exact g t c = counts_all c.args.depth c.args.at c.args.octets.now c.args.end c.requires.inside c.plain.place c.plain.count c.plain.written (omega arith) c.plain.invariant.so_far
+
+pub count_members-returns-then-place-end-clause-written : goal.count_members-returns-then-place-end-clause-written
+count_members-returns-then-place-end-clause-written g t c = stand_all c.args.depth c.args.at c.args.octets.now c.args.end c.requires.inside c.plain.place c.plain.count c.plain.written (omega arith) c.plain.invariant.so_far
+
 pub count_members-returns-in_err-next-clause-exact : goal.count_members-returns-in_err-next-clause-exact
 count_members-returns-in_err-next-clause-exact g t c =
     let p = err_from_is_err_and c.from_residual.result c.from_residual.ensures.1 in
-    rw (p.1, p.2) (counts_wrong c.args.depth c.args.at c.args.octets.now c.args.end c.requires.inside _ c.members.place c.members.count c.members.written c.members-test.true c.in_err-next.ensures.exact c.members.invariant)
+    let more : c.plain.place < c.args.end = omega (arith, c.plain.invariant.so_far.goes.order) in
+    rw (p.1, p.2) (counts_wrong c.args.depth c.args.at c.args.octets.now c.args.end c.requires.inside _ c.plain.place c.plain.count c.plain.written more c.in_err-next.ensures.exact c.plain.invariant.so_far)
 
 pub count_members-members-preserved : goal.count_members-members-preserved
 count_members-members-preserved g t c =
-    counts_on c.args.depth c.args.at c.args.octets.now c.args.end c.requires.inside c.members.place c.in_ok-next.next c.members.count c.members.written c.in_ok-next.stands c.members-test.true
-    c.in_ok-next.ensures.next.0 c.in_ok-next.ensures.next.1 c.in_ok-next.ensures.exact c.in_ok-next.ensures.written c.members.invariant
+    let more : c.plain.place < c.args.end = omega (arith, c.plain.invariant.so_far.goes.order) in
+    counts_on c.args.depth c.args.at c.args.octets.now c.args.end c.requires.inside c.plain.place c.in_ok-next.next c.plain.count c.plain.written c.in_ok-next.stands more
+    c.in_ok-next.ensures.next.0 c.in_ok-next.ensures.next.1 c.in_ok-next.ensures.exact c.in_ok-next.ensures.written c.plain.invariant.so_far
 
-pub count_members-returns-clause-exact : goal.count_members-returns-clause-exact
-count_members-returns-clause-exact g t c = counts_all c.args.depth c.args.at c.args.octets.now c.args.end c.requires.inside c.members.place c.members.count c.members.written c.members-test.false c.members.invariant
+pub count_members-returns-after-members-clause-exact : goal.count_members-returns-after-members-clause-exact
+count_members-returns-after-members-clause-exact g t c = counts_all c.args.depth c.args.at c.args.octets.now c.args.end c.requires.inside c.members.place c.members.count c.members.written c.members-test.false c.members.invariant
 
-pub count_members-returns-clause-written : goal.count_members-returns-clause-written
-count_members-returns-clause-written g t c = stand_all c.args.depth c.args.at c.args.octets.now c.args.end c.requires.inside c.members.place c.members.count c.members.written c.members-test.false c.members.invariant
+pub count_members-returns-after-members-clause-written : goal.count_members-returns-after-members-clause-written
+count_members-returns-after-members-clause-written g t c = stand_all c.args.depth c.args.at c.args.octets.now c.args.end c.requires.inside c.members.place c.members.count c.members.written c.members-test.false c.members.invariant
 
-pub pass_member-returns-in_ok-written-in-Ok-clause-written : goal.pass_member-returns-in_ok-written-in-Ok-clause-written
-pass_member-returns-in_ok-written-in-Ok-clause-written g t c = λ both.
+pub pass_other-returns-in_ok-written-in-Ok-clause-written : goal.pass_other-returns-in_ok-written-in-Ok-clause-written
+pass_other-returns-in_ok-written-in-Ok-clause-written g t c = λ both.
     let small : AreOctets c.args.octets.now = λ i. search rules in
     let parts = and_parts _ _ both in
     let noted = and_parts _ _ parts.0 in
@@ -62,21 +82,3 @@ pub check_contents-returns-in_ok-_view-in-Simple-clause-written : goal.check_con
 check_contents-returns-in_ok-_view-in-Simple-clause-written g t c = λ w d e.
     let read = ap (λ x. contents_at (members_at c.args.depth) x c.args.header.now (contents_of c.args.octets.now c.args.header.now)) (sym c.in-Simple.is) ∙ e in
     simple_are c.args.depth c.in-Simple.kind c.args.header.now _ d (c.is_simple_written.ensures (and_parts _ _ w).1) read
-
-pub pass_member-returns-in-Some-clause-exact : goal.pass_member-returns-in-Some-clause-exact
-pass_member-returns-in-Some-clause-exact g t c =
-    boolean_passed c.args.depth c.args.at c.args.octets.now c.args.end c.in-Some.octet (omega arith) c.in-Some.ensures.next c.in-Some.ensures.there
-
-pub pass_member-returns-in-Some-clause-written : goal.pass_member-returns-in-Some-clause-written
-pass_member-returns-in-Some-clause-written g t c = λ both.
-    boolean_stands c.args.depth c.args.at c.args.octets.now c.args.end c.in-Some.octet (omega arith) c.in-Some.ensures.next c.in-Some.ensures.there (c.is_written_truth.ensures (and_parts _ _ both).1)
-
-pub pass_member-returns-in-Some-plain_end-clause-exact : goal.pass_member-returns-in-Some-plain_end-clause-exact
-pass_member-returns-in-Some-plain_end-clause-exact g t c =
-    let small : AreOctets c.args.octets.now = λ i. search rules in
-    plain_passed c.args.depth c.args.at c.in-Some-plain_end.next c.args.end c.args.octets.now (omega arith) small (omega (arith, c.in-Some-plain_end.ensures.next.0)) c.in-Some-plain_end.ensures.next.1 c.requires.inside c.in-Some-plain_end.ensures.plain
-
-pub pass_member-returns-in-Some-plain_end-clause-written : goal.pass_member-returns-in-Some-plain_end-clause-written
-pass_member-returns-in-Some-plain_end-clause-written g t c = λ both d read.
-    c.is_plain_written.ensures.written (and_parts _ _ both).1 c.args.depth c.args.at (slice_range c.args.octets.now c.in-Some-plain_end.next c.args.end) d c.in-Some-plain_end.next
-    (sym (ap (member_at c.args.depth c.args.at) (region-split c.args.octets.now c.args.at c.in-Some-plain_end.next c.args.end (omega (arith, c.in-Some-plain_end.ensures.next.0)) c.in-Some-plain_end.ensures.next.1)) ∙ read)
