@@ -1,22 +1,24 @@
 -- The first of some members.
-use Rattle.std.proofs.Common.{◌≡◌, ℕ, zero, suc, ◌-◌, ◌≤◌, ◌<◌, true, List, [], ◌∷◌, length, drop, Result, Ok, Err, refl, sym, ap, subst, ◌∙◌, arith}
+use Rattle.std.proofs.Common.{◌≡◌, ℕ, zero, suc, ◌-◌, ◌≤◌, ◌<◌, true, List, [], ◌∷◌, length, drop, get_or, Result, Ok, Err, refl, sym, ap, ap₂, subst, ◌∙◌, arith}
 use Rattle.std.proofs.lemmas.List.{take_all, length-drop}
-use Rattle.std.specs.Prelude.{slice_range}
+use Rattle.std.proofs.lemmas.Bool.{le-ltb}
+use Rattle.std.specs.Prelude.{◌==◌, not, slice_range}
 use Rattle.ber_core.specs.declared.element.Header.{Header}
 use Rattle.ber_core.specs.declared.fault.Fault.{Fault}
-use Rattle.ber_core.specs.computed.ContentsReading.{all_visible_at}
-use Rattle.ber_core.specs.computed.Reading.{header_at, ◌>>=◌}
+use Rattle.ber_core.specs.computed.ContentsReading.{all_visible_at, boolean_at}
+use Rattle.ber_core.specs.computed.Reading.{header_at, length_at, ◌>>=◌}
 use Rattle.ber_core.proofs.Headers.{low_found}
 use Rattle.ber_core.proofs.Steps.{bind_ok, pair_is}
-use Rattle.mms_data.specs.Data.{Data, simple, array, structure, items_of}
+use Rattle.mms_data.specs.Data.{Data, simple, array, boolean, structure, items_of}
 use Rattle.mms_data.specs.Data.{visible as text_of}
 use Rattle.mms_data.specs.computed.ContentsReading.{simple_at}
+use Rattle.mms_data.specs.computed.KindReading.{kind_at}
 use Rattle.mms_data.specs.computed.Left.{data_or_none, was_read, data_in, AreMembers}
 use Rattle.mms_data.specs.computed.Reading.{known_at, contents_within, contents_at, member_with, members_with, member_at, members_at, simple_data_at}
 use Rattle.mms_data.specs.Spelling.{SpellsAll, SpellSome}
 use Rattle.mms_data.specs.declared.kinds.Kind.{Kind}
-use Rattle.mms_data.specs.declared.kinds.Kind.TheVariants.{Array, Structure}
-use Rattle.mms_data.specs.declared.kinds.SimpleKind.TheVariants.{VisibleString}
+use Rattle.mms_data.specs.declared.kinds.Kind.TheVariants.{Array, Structure, Simple as of_kind}
+use Rattle.mms_data.specs.declared.kinds.SimpleKind.TheVariants.{Boolean, VisibleString}
 use Rattle.mms_data.proofs.KindLaws.{here_found}
 use Rattle.mms_data.proofs.Again.{all_again}
 use Rattle.mms_data.proofs.Found.{all_found, member_step, member_found, members_found, no_levels}
@@ -170,6 +172,29 @@ module _ (k : ℕ) (o : List ℕ) (few : k ≤ 16) (some : 0 < length o) (good :
       let kinds = sym known ∙ x.announced in
       let alike : x.kind ≡ kind = let back = sym kinds in cc in
       subst (λ y. Front k o y h) alike (subst (Front k o x.kind) same x.front)
+
+-- the first member, where it is a boolean of three octets
+short_boolean : (k n : ℕ) (rest : List ℕ) → k ≤ 16 → AreMembers k (0x83 ∷ 1 ∷ n ∷ rest) → AreMembers k rest × (data_in k (0x83 ∷ 1 ∷ n ∷ rest) ≡ simple (boolean (not (n == 0))) ∷ data_in k rest)
+unfolding header_at length_at kind_at simple_at boolean_at
+short_boolean k n rest few good =
+    let o = 0x83 ∷ 1 ∷ n ∷ rest in
+    let h : Header = record { at = 0; identifier = 0x83; contents_from = 2; contents_to = 3 } in
+    let f = front k o few (omega arith) good (of_kind Boolean) h refl (rw (le-ltb (length (n ∷ rest)) 1 (omega arith)) refl) in
+    let value : f.value ≡ simple (boolean (not (n == 0))) = (let is = f.contents in cc) in
+    let behind : slice_range o 3 (length o) ≡ rest = take_all (length o - 3) rest (omega arith) in
+    (subst (AreMembers k) behind f.others, f.is ∙ ap₂ (λ (d : Data) (l : List ℕ). d ∷ data_in k l) value behind)
+
+pub boolean_first : (k : ℕ) (o : List ℕ) → k ≤ 16 → AreMembers k o → 3 ≤ length o → get_or o 0 0 ≡ 0x83 → get_or o 1 0 ≡ 1
+    → AreMembers k (slice_range o 3 (length o)) × (data_in k o ≡ simple (boolean (not (get_or o 2 0 == 0))) ∷ data_in k (slice_range o 3 (length o)))
+boolean_first k [] few good three id one = absurd (omega arith)
+boolean_first k (a ∷ []) few good three id one = absurd (omega arith)
+boolean_first k (a ∷ b ∷ []) few good three id one = absurd (omega arith)
+boolean_first k (a ∷ b ∷ n ∷ rest) few good three id one =
+    let o = a ∷ b ∷ n ∷ rest in
+    let parts : o ≡ 0x83 ∷ 1 ∷ n ∷ rest = rw (id, one) refl in
+    let behind : rest ≡ slice_range o 3 (length o) = sym (take_all (length o - 3) rest (omega arith)) in
+    let x = short_boolean k n rest few (subst (AreMembers k) parts good) in
+    (subst (AreMembers k) behind x.0, ap (data_in k) parts ∙ x.1 ∙ ap (λ (l : List ℕ). simple (boolean (not (n == 0))) ∷ data_in k l) behind)
 
 -- where nothing is left
 pub no_more : (k : ℕ) (o : List ℕ) → length o ≡ 0 → data_in k o ≡ []

@@ -60,8 +60,8 @@ pub struct CountedMembers<'a> {
 }
 
 impl<'a> Members<'a> {
-    ghost use Rattle.std.specs.Prelude.{Ok, IfSome};
-    ghost use Rattle.mms_data.specs.Data.{Data};
+    ghost use Rattle.std.specs.Prelude.{Ok, IfSome, MatchOption};
+    ghost use Rattle.mms_data.specs.Data.{Data, boolean, simple};
     ghost use Rattle.mms_data.specs.Meaning.{left, meaning};
     ghost use Rattle.mms_data.specs.Place.{IsPart, ViewIsPart, source_of};
     ghost use Rattle.mms_data.specs.computed.Reading.{contents_at, members_at};
@@ -76,6 +76,25 @@ impl<'a> Members<'a> {
             Some(self.octets)
         } else {
             None
+        }
+    }
+
+    /// The first member, where it is a boolean of three octets, as booleans nearly always are: it is then passed. `None` says
+    /// nothing of the first member, and passes none.
+    #[inline(always)]
+    pub fn next_boolean(&mut self) -> Option<bool>
+        ensures { MatchOption result (self.new ≡ self.old) (λ b. (left self.old ≡ simple (boolean b) ∷ left self.new) × IsPart (source_of self.new) (source_of self.old)) }
+    {
+        match self.octets {
+            [0x83, 1, octet, rest @ ..] => {
+                *self = Members {
+                    octets: rest,
+                    depth: self.depth,
+                    written: false,
+                };
+                Some(*octet != 0)
+            }
+            _ => None,
         }
     }
 

@@ -77,10 +77,7 @@ bits_cleared unused (x ∷ y ∷ ys) h =
     ∙ ap (λ (l : List ℕ). octet_bits x ++ l) (bits_cleared unused (y ∷ ys) h)
     ∙ sym (behind unused (octet_bits x) (flat_map octet_bits (y ∷ ys)) many)
 
--- bits of two octets
-pub bits_of_two : (unused x y : ℕ) → unused ≤ 7 → octet_bits x ++ take (8 - unused) (octet_bits y) ≡ bits_text unused (x ∷ y ∷ [])
-bits_of_two unused x y h = sym (behind unused (octet_bits x) (octet_bits y) (omega arith))
-
+-- two octets
 pub these_two : (octets : List ℕ) → length octets ≡ 2 → octets ≡ get_or octets 0 0 ∷ get_or octets 1 0 ∷ []
 these_two [] h = absurd (omega arith)
 these_two (x ∷ []) h = absurd (omega arith)

@@ -35,7 +35,7 @@ fn put_front<A: Allocator>(
     requires { size ≤ 32 }
     ensures { AppendsText result out.old.items out.new.items (take size octets.now) }
 {
-    if out.capacity().saturating_sub(out.len()) < REACH {
+    if out.capacity().wrapping_sub(out.len()) < REACH {
         return out.extend_from_slice(&octets[..size]);
     }
     put_cut(out, octets, size)
@@ -53,10 +53,13 @@ fn reached(octets: &[u8; 2 * REACH], start: usize) -> &[u8; REACH]
     reached
 }
 
-/// Appends a number in decimal.
+/// Appends a number in decimal. One of one digit is written at once.
 pub fn put_decimal<A: Allocator>(out: &mut Vec<u8, A>, number: u64) -> Result<(), AllocError>
     ensures { AppendsText result out.old.items out.new.items (decimal number) }
 {
+    if number < 10 {
+        return out.extend_from_slice(&[b'0' + number as u8]);
+    }
     let mut digits = [0; 2 * REACH];
     let start = write_digits(number, &mut digits, REACH);
     put_front(out, reached(&digits, start), REACH - start)
@@ -76,11 +79,12 @@ fn put_minus(digits: &mut [u8; 2 * REACH], start: usize)
 pub fn put_signed<A: Allocator>(out: &mut Vec<u8, A>, integer: i64) -> Result<(), AllocError>
     ensures { AppendsText result out.old.items out.new.items (signed_decimal integer) }
 {
-    let mut digits = [0; 2 * REACH];
-    let start = write_digits(integer.unsigned_abs(), &mut digits, REACH);
+    let size = integer.unsigned_abs();
     if 0 <= integer {
-        return put_front(out, reached(&digits, start), REACH - start);
+        return put_decimal(out, size);
     }
+    let mut digits = [0; 2 * REACH];
+    let start = write_digits(size, &mut digits, REACH);
     put_minus(&mut digits, start);
     put_front(out, reached(&digits, start - 1), REACH + 1 - start)
 }
@@ -233,7 +237,17 @@ fn put_octet_bits<A: Allocator>(
     )
 }
 
-// Appends the bits of two octets without the last `unused` ones.
+// The sixteen bits of two octets as digits, the most significant first.
+#[inline(always)]
+fn sixteen_digits(first: u8, last: u8) -> [u8; 16]
+    ensures { result ≡ octet_bits first ++ octet_bits last }
+{
+    let [a, b, c, d, e, f, g, h] = bit_digits(first);
+    let [i, j, k, l, m, n, o, p] = bit_digits(last);
+    [a, b, c, d, e, f, g, h, i, j, k, l, m, n, o, p]
+}
+
+// Appends the bits of two octets without the last `unused` ones: all of them at once, where the line has room.
 #[inline(always)]
 fn put_two_bits<A: Allocator>(
     out: &mut Vec<u8, A>,
@@ -244,8 +258,10 @@ fn put_two_bits<A: Allocator>(
     requires { unused ≤ 7 }
     ensures { AppendsText result out.old.items out.new.items (bits_text unused (first ∷ last ∷ [])) }
 {
-    out.extend_from_slice(&bit_digits(first))?;
-    put_octet_bits(out, unused, last)
+    if out.capacity().wrapping_sub(out.len()) < 16 {
+        return put_bits(out, unused, &[first, last]);
+    }
+    put_cut(out, &sixteen_digits(first, last), 16 - unused as usize)
 }
 
 // Appends the bits of octets without the last `unused` ones, of which there are at most seven. Nearly all bits stand in one
@@ -349,7 +365,7 @@ fn put_short_text<const N: usize, A: Allocator>(
     ensures { AppendsText result out.old.items out.new.items (flat_map escaped text.now) }
 {
     // A line without room for it grows once, for the whole text.
-    if out.capacity().saturating_sub(out.len()) < text.len() {
+    if out.capacity().wrapping_sub(out.len()) < text.len() {
         return put_written(out, text);
     }
     let Some((first, _)) = text.split_first_chunk::<N>() else {

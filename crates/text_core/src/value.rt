@@ -4,8 +4,9 @@ ghost use Rattle.std.specs.List.{flat_map};
 ghost use Rattle.hex.specs.Hex.{encode_lower};
 ghost use Rattle.mms_data.specs.Meaning.{left as still_to_come, meaning};
 ghost use Rattle.mms_data.specs.Contents.{cleared};
+ghost use Rattle.mms_data.specs.Data.{bits, boolean, floating, integer, unsigned, utc, visible};
 ghost use Rattle.text_core.specs.Pieces.{AppendsText, after_space, bits_text, spaced};
-ghost use Rattle.text_core.specs.ValueText.{time_text, value_text, members_text};
+ghost use Rattle.text_core.specs.ValueText.{simple_text, time_text, value_text, members_text};
 
 use crate::fields::{put_octets, put_time};
 use crate::pieces::{
@@ -72,8 +73,86 @@ pub fn put_view<A: Allocator>(out: &mut Vec<u8, A>, view: &View<'_>) -> Result<(
     }
 }
 
+// Appends a sign and the text of a truth value.
+#[inline(always)]
+fn put_truth<A: Allocator>(out: &mut Vec<u8, A>, sign: u8, is_true: bool) -> Result<(), AllocError>
+    ensures { AppendsText result out.old.items out.new.items (sign ∷ simple_text (boolean is_true)) }
+{
+    if is_true {
+        out.extend_from_slice(&[sign, b't', b'r', b'u', b'e'])
+    } else {
+        out.extend_from_slice(&[sign, b'f', b'a', b'l', b's', b'e'])
+    }
+}
+
+// Appends a sign and the text of bits.
+#[inline(always)]
+fn put_bits_seen<A: Allocator>(
+    out: &mut Vec<u8, A>,
+    sign: u8,
+    seen: &BitView<'_>,
+) -> Result<(), AllocError>
+    ensures { AppendsText result out.old.items out.new.items (sign ∷ simple_text (bits seen.now.unused (cleared seen.now.unused seen.now.octets.now))) }
+{
+    out.extend_from_slice(&[sign, b'b', b'i', b't', b's', b':'])?;
+    put_bit_view(out, *seen)
+}
+
+// Appends a sign and the text of an integer.
+#[inline(always)]
+fn put_integer<A: Allocator>(out: &mut Vec<u8, A>, sign: u8, number: i64) -> Result<(), AllocError>
+    ensures { AppendsText result out.old.items out.new.items (sign ∷ simple_text (integer number)) }
+{
+    out.extend_from_slice(&[sign, b'i', b'n', b't', b':'])?;
+    put_signed(out, number)
+}
+
+// Appends a sign and the text of an unsigned number.
+#[inline(always)]
+fn put_unsigned<A: Allocator>(out: &mut Vec<u8, A>, sign: u8, number: u64) -> Result<(), AllocError>
+    ensures { AppendsText result out.old.items out.new.items (sign ∷ simple_text (unsigned number)) }
+{
+    out.extend_from_slice(&[sign, b'u', b'i', b'n', b't', b':'])?;
+    put_decimal(out, number)
+}
+
+// Appends a sign and the text of a float.
+#[inline(always)]
+fn put_floating<A: Allocator>(
+    out: &mut Vec<u8, A>,
+    sign: u8,
+    octets: &[u8],
+) -> Result<(), AllocError>
+    ensures { AppendsText result out.old.items out.new.items (sign ∷ simple_text (floating octets.now)) }
+{
+    out.extend_from_slice(&[sign, b'f', b'l', b'o', b'a', b't', b':'])?;
+    put_float(out, octets)
+}
+
+// Appends a sign and the text of a moment in UTC.
+#[inline(always)]
+fn put_moment<A: Allocator>(
+    out: &mut Vec<u8, A>,
+    sign: u8,
+    time: &UtcTime,
+) -> Result<(), AllocError>
+    ensures { AppendsText result out.old.items out.new.items (sign ∷ simple_text (utc time.now)) }
+{
+    out.extend_from_slice(&[sign, b'u', b't', b'c', b':'])?;
+    put_utc(out, *time)
+}
+
+// Appends a sign and a text between quotation marks.
+#[inline(always)]
+fn put_visible<A: Allocator>(out: &mut Vec<u8, A>, sign: u8, text: &[u8]) -> Result<(), AllocError>
+    ensures { AppendsText result out.old.items out.new.items (sign ∷ simple_text (visible text.now)) }
+{
+    out.push(sign)?;
+    put_quoted(out, text)
+}
+
 // Appends a sign and the text of a value. The sign and the word of a kind are appended as one, and a member is told apart
-// by its kind once.
+// by its kind once: each kind is written by a function of its own, so that nothing stands before the choice.
 #[inline(always)]
 #[tactic(auto, using(crate::proofs::ValueLemmas::item_texts_items_of, crate::proofs::Fronts::front_before))]
 #[cycle(texts)]
@@ -85,33 +164,43 @@ fn put_member<A: Allocator>(
     ensures { AppendsText result out.old.items out.new.items (sign ∷ value_text (meaning view.now)) }
 {
     match view {
-        View::Boolean(true) => out.extend_from_slice(&[sign, b't', b'r', b'u', b'e']),
-        View::Boolean(false) => out.extend_from_slice(&[sign, b'f', b'a', b'l', b's', b'e']),
-        View::Bits(bits) => {
-            out.extend_from_slice(&[sign, b'b', b'i', b't', b's', b':'])?;
-            put_bit_view(out, *bits)
-        }
-        View::Integer(number) => {
-            out.extend_from_slice(&[sign, b'i', b'n', b't', b':'])?;
-            put_signed(out, *number)
-        }
-        View::Unsigned(number) => {
-            out.extend_from_slice(&[sign, b'u', b'i', b'n', b't', b':'])?;
-            put_decimal(out, *number)
-        }
-        View::Floating(octets) => {
-            out.extend_from_slice(&[sign, b'f', b'l', b'o', b'a', b't', b':'])?;
-            put_float(out, octets)
-        }
-        View::Utc(time) => {
-            out.extend_from_slice(&[sign, b'u', b't', b'c', b':'])?;
-            put_utc(out, *time)
-        }
-        other => {
-            out.push(sign)?;
-            put_view(out, other)
-        }
+        View::Boolean(is_true) => put_truth(out, sign, *is_true),
+        View::Bits(seen) => put_bits_seen(out, sign, seen),
+        View::Integer(number) => put_integer(out, sign, *number),
+        View::Unsigned(number) => put_unsigned(out, sign, *number),
+        View::Floating(octets) => put_floating(out, sign, octets),
+        View::Utc(time) => put_moment(out, sign, time),
+        View::Visible(text) => put_visible(out, sign, text),
+        View::Array(members) => put_nested(out, sign, b'[', members, b']'),
+        View::Structure(members) => put_nested(out, sign, b'(', members, b')'),
+        other => put_other(out, sign, *other),
     }
+}
+
+// Appends a sign and the texts of members between two other signs.
+#[inline(always)]
+#[cycle(texts)]
+fn put_nested<A: Allocator>(
+    out: &mut Vec<u8, A>,
+    sign: u8,
+    before: u8,
+    members: &Members<'_>,
+    after: u8,
+) -> Result<(), AllocError>
+    ensures { AppendsText result out.old.items out.new.items (sign ∷ before ∷ spaced value_text (still_to_come members.now) ++ after ∷ []) }
+{
+    out.push(sign)?;
+    put_between(out, before, *members, after)
+}
+
+// Appends a sign and the text of a value of any kind: few members are of one that is not told apart before.
+#[inline(never)]
+#[cycle(texts)]
+fn put_other<A: Allocator>(out: &mut Vec<u8, A>, sign: u8, view: View<'_>) -> Result<(), AllocError>
+    ensures { AppendsText result out.old.items out.new.items (sign ∷ value_text (meaning view.entry)) }
+{
+    out.push(sign)?;
+    put_view(out, &view)
 }
 
 // Appends the texts of members between two signs, divided by one space.
@@ -134,15 +223,22 @@ fn put_between<A: Allocator>(
     Ok(())
 }
 
-// Appends the text of each member after a space.
+// Appends the text of each member after a space. Booleans, which data sets have most, are told apart and written first.
 #[cycle(texts)]
 fn put_others<A: Allocator>(out: &mut Vec<u8, A>, others: Members<'_>) -> Result<(), AllocError>
     ensures { AppendsText result out.old.items out.new.items (flat_map (after_space value_text) (still_to_come others.entry)) }
 {
-    for view in others {
+    let mut others = others;
+    'members: loop {
+        if let Some(is_true) = others.next_boolean() {
+            put_truth(out, b' ', is_true)?;
+            continue 'members;
+        }
+        let Some(view) = others.next() else {
+            return Ok(());
+        };
         put_member(out, b' ', &view)?;
     }
-    Ok(())
 }
 
 /// Appends a list of members.

@@ -1,4 +1,4 @@
-use Rattle.std.proofs.Common.{◌≡◌, ◌+◌, ◌*◌, ◌++◌, map}
+use Rattle.std.proofs.Common.{◌≡◌, ◌≤◌, ◌+◌, ◌*◌, ◌++◌, length, take}
 use Rattle.std.specs.List.{flat_map}
 use Rattle.mms_data.specs.Meaning.{left, meaning}
 use Rattle.mms_data.specs.computed.Weight.{weight, weight_of_all}
@@ -7,20 +7,29 @@ use Rattle.text_core.specs.ValueText.{value_text}
 use Rattle.text_core.proofs.value.+texts.Given as goal
 
 abbrev pub decreases-put_view : goal.decreases-put_view
-decreases-put_view g l = 3 * weight (meaning l.view.now) + 2
+decreases-put_view g l = 4 * weight (meaning l.view.now) + 2
 
 abbrev pub decreases-put_between : goal.decreases-put_between
-decreases-put_between g l = 3 * weight_of_all (left l.members) + 1
+decreases-put_between g l = 4 * weight_of_all (left l.members) + 1
 
 abbrev pub decreases-put_member : goal.decreases-put_member
-decreases-put_member g l = 3 * weight (meaning l.view.now) + 3
+decreases-put_member g l = 4 * weight (meaning l.view.now) + 4
+
+abbrev pub decreases-put_other : goal.decreases-put_other
+decreases-put_other g l = 4 * weight (meaning l.view) + 3
+
+abbrev pub decreases-put_nested : goal.decreases-put_nested
+decreases-put_nested g l = 4 * weight_of_all (left l.members.now) + 2
 
 abbrev pub decreases-put_others : goal.decreases-put_others
-decreases-put_others g l = 3 * weight_of_all (left l.others) + 1
+decreases-put_others g l = 4 * weight_of_all (left l.others) + 1
 
-abbrev pub invariant-put_others-loop-view : goal.invariant-put_others-loop-view
-invariant-put_others-loop-view g l =
-    (goal.iterator-put_others-loop-view g).can_next l.view-iterator ×
-    (goal.iterator-put_others-loop-view g).is_finite l.view-iterator ×
-    (map meaning l.yielded ++ left l.view-iterator ≡ left l.others) ×
-    (l.out.items ≡ l.initial.out.items ++ flat_map (after_space value_text) (map meaning l.yielded))
+abbrev pub invariant-put_others-members : goal.invariant-put_others-members
+invariant-put_others-members g l = record {
+  kept : take (length l.initial.out.items) l.out.items ≡ l.initial.out.items;
+  so_far : l.out.items ++ flat_map (after_space value_text) (left l.others) ≡ l.initial.out.items ++ flat_map (after_space value_text) (left l.initial.others);
+  fewer : weight_of_all (left l.others) ≤ weight_of_all (left l.initial.others);
+}
+
+abbrev pub decreases-put_others-members : goal.decreases-put_others-members
+decreases-put_others-members g l = weight_of_all (left l.others)
