@@ -2,8 +2,8 @@
 
 use arrayvec::ArrayVec;
 use ber_core::{
-    Cause, Fault, Full, Header, header, integer, laws, octet_count, put_header, put_integer,
-    signed_count,
+    Cause, Fault, Full, Header, header, integer, known_header, laws, octet_count, put_header,
+    put_integer, signed_count,
 };
 use worked_frames::FRAME;
 
@@ -35,6 +35,26 @@ fn headers_stand(rt: HostRuntime) {
         contents_to: 7,
     };
     assert!(rt; header_at(&[0x85, 0x84, 0, 0, 0, 1, 5, 9], 0) == Some(Ok(long)));
+}
+
+// The header of the octets' first element by the call that judges nothing, where there is one.
+fn known_first(octets: &[u8]) -> Option<Header> {
+    match header(octets, 0, octets.len()) {
+        Ok(_) => Some(known_header(octets, 0, octets.len())),
+        Err(_) => None,
+    }
+}
+
+#[test]
+fn headers_that_are_known(rt: HostRuntime) {
+    for octets in [
+        [0x85, 2, 0, 0x80, 0, 0, 0, 0].as_slice(),
+        &[0x85, 0x81, 2, 0, 0x80],
+        &[0x85, 0x84, 0, 0, 0, 1, 5, 9],
+        &[0x61, 0x82, 1],
+    ] {
+        assert!(rt; known_first(octets) == header(octets, 0, octets.len()).ok());
+    }
 }
 
 #[test]

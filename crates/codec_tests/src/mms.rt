@@ -58,6 +58,21 @@ fn are_simple(values: &[Value<Global>]) -> bool {
 }
 
 #[test]
+fn booleans_are_passed_alone(rt: HostRuntime) -> Result<(), Fail> {
+    check_members(&EACH_KIND, 0, 55, 1)?;
+    let mut views = members(&EACH_KIND, 0, 55, 1);
+    assert!(rt; views.next_boolean() == Some(true));
+    assert!(rt; views.next_boolean() == None);
+    assert!(rt; matches!(views.next(), Some(View::Bits(_))));
+    Ok(())
+}
+
+#[test]
+fn eight_octets_are_a_time(rt: HostRuntime) {
+    assert!(rt; utc::time_of(&[0x60, 0, 0, 1, 0x80, 0, 0, 0x0a]) == MOMENT);
+}
+
+#[test]
 fn values_are_those_that_are_spelled(rt: HostRuntime) -> Result<(), Fail> {
     let values = read_members(rt.alloc(), &EACH_KIND, 0, 55, 1)?;
     assert!(rt; are_simple(values.as_slice()));

@@ -1,6 +1,6 @@
 -- Members that are known to be good.
-use Rattle.std.proofs.Common.{◌≡◌, ℕ, ℤ, pos, negsuc, suc, ◌-◌, ◌*◌, ◌^◌, ◌≤◌, ◌<◌, true, false, eqb, List, [], ◌∷◌, length, get_or, Result, Ok, Err, refl, sym, ap, subst, ◌∙◌, arith, inl, inr}
-use Rattle.std.specs.Prelude.{◌≤ℤ◌, ◌==◌, Bool, not, slice_range, Some, IsOk}
+use Rattle.std.proofs.Common.{◌≡◌, ℕ, ℤ, pos, negsuc, suc, ◌-◌, ◌*◌, ◌^◌, ◌<◌, true, false, eqb, List, [], ◌∷◌, length, get_or, Result, Ok, Err, refl, sym, ap, subst, ◌∙◌, arith, inl, inr}
+use Rattle.std.specs.Prelude.{◌≤ℤ◌, ◌==◌, Bool, not, slice_range, IsOk}
 use Rattle.std.proofs.lemmas.Bool.{cases_lt, eqb-true}
 use Rattle.std.proofs.lemmas.Int.{ints}
 use Rattle.std.proofs.lemmas.List.{take_all}
@@ -16,15 +16,11 @@ use Rattle.ber_core.proofs.Steps.{bind_ok, chosen}
 use Rattle.mms_data.specs.Contents.{cleared, least_signed, most_signed, most_unsigned}
 use Rattle.mms_data.specs.Data.{Data, simple, Simple, boolean, bits, integer, unsigned, floating, binary_time, utc}
 use Rattle.mms_data.specs.Utc.{utc_of}
-use Rattle.mms_data.specs.computed.ContentsReading.{bits_at, counted_if, is_unused, is_few_octets, is_time_count, simple_at, unsigned_at}
-use Rattle.mms_data.specs.computed.KindReading.{kind_at}
-use Rattle.mms_data.specs.computed.Reading.{known_at, simple_data_at}
+use Rattle.mms_data.specs.computed.ContentsReading.{bits_at, counted_if, is_few_octets, is_time_count, simple_at, unsigned_at}
+use Rattle.mms_data.specs.computed.Reading.{simple_data_at}
 use Rattle.mms_data.specs.computed.UtcReading.{utc_at}
-use Rattle.mms_data.specs.declared.kinds.Kind.{Kind}
 use Rattle.mms_data.specs.declared.kinds.SimpleKind.TheVariants as kinds
 use Rattle.mms_data.specs.declared.time.UtcTime.{UtcTime}
-use Rattle.mms_data.proofs.ContentsLaws.{unused_is}
-use Rattle.mms_data.proofs.KindLaws.{here_found, kind_again}
 
 -- ---- headers
 
@@ -36,11 +32,6 @@ pub is_known : (r : Result Header Fault) (h : Header) → r ≡ Ok h → IsOk r
 is_known r h e = rw e refl
 
 -- ---- kinds
-
--- the kind of a member is the one that its first octet announces
-pub kind_known : (o : List ℕ) (k : Kind) → known_at 0 o ≡ Ok k → (0 < length o) × (kind_at (get_or o 0 0) ≡ Some k)
-kind_known [] k e = absurd (cc)
-kind_known (id ∷ more) k e = (omega arith, ap kind_at (here_found 0 id k e).0 ∙ kind_again k)
 
 -- ---- contents
 
@@ -89,21 +80,6 @@ unfolding boolean_at
 one_octet p [] b e = absurd (cc)
 one_octet p (n ∷ []) b e = (omega arith, refl)
 one_octet p (n ∷ m ∷ more) b e = absurd (cc)
-
--- bits are the octets behind the first one, which counts the unused ones
-few_unused : (n : ℕ) (ns : List ℕ) → is_unused n ns ≡ true → n ≤ 7
-few_unused n [] e = let none : n ≡ 0 = unused_is n [] e in omega (arith, none)
-few_unused n (m ∷ ns) e = unused_is n (m ∷ ns) e
-
-pub behind_unused : (s : ℕ) (c : List ℕ) (x : ℕ × List ℕ) → bits_at s c ≡ Ok x → (0 < length c) × (get_or c 0 0 ≤ 7) × (bits_at s c ≡ Ok (get_or c 0 0, slice_range c 1 (length c)))
-behind_unused s [] x e = absurd (cc)
-behind_unused s (n ∷ more) x e = elim (chosen (is_unused n more) _ _ _ e) [
-  | inl t ↦
-      let all : slice_range (n ∷ more) 1 (length (n ∷ more)) ≡ more = take_all (length (n ∷ more) - 1) more (omega arith) in
-      let test : is_unused n more ≡ true = t.0 in
-      (omega arith, few_unused n more test, rw (all, test) refl)
-  | inr t ↦ absurd (let wrong = t.1 in cc)
-]
 
 -- a time has eight octets
 pub eight_known : (p : ℕ) (c : List ℕ) (t : UtcTime) → utc_at p c ≡ Ok t → (length c ≡ 8) × (utc_at p c ≡ Ok (utc_of c))

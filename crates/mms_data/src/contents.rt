@@ -18,8 +18,8 @@ use crate::view::{BitView, View};
 use ber_core::contents::{boolean_of, check_visible, integer_of};
 use ber_core::{Cause, Fault};
 
-// The view of the contents of a kind. Inlined, so that a member is told apart by its identifier once, and no answer that
-// may be a fault is put together where members are known to be good.
+// The view of the contents of a kind, as they are judged. Inlined, so that a member is told apart by its identifier once, and
+// no view is put together where nobody looks at it.
 #[inline(always)]
 #[tactic(auto, unfolding(crate::specs::computed::ContentsReading::simple_at))]
 pub(crate) fn simple<'a>(
@@ -56,7 +56,7 @@ pub(crate) fn simple<'a>(
     }
 }
 
-// What contents of a kind without members are, where they are known to be good: nothing of them is looked at again.
+// What contents of a kind without members are, where they are known to be good.
 #[inline(always)]
 #[tactic(auto, unfolding(crate::specs::computed::ContentsReading::simple_at))]
 pub(crate) fn known_simple<'a>(

@@ -1,5 +1,5 @@
-// Members that are known to be good, read where they stand: nothing is looked at that was judged before, so that each
-// is told apart by its identifier alone.
+// Members that are known to be good, read where they stand: what was judged before is not judged again, but for integers of
+// nine octets.
 
 ghost use Rattle.std.specs.Prelude.{◌≡◌, ◌+◌, ◌<◌, ◌^◌, Bool, ℤ, ℕ, List, length, Ok};
 ghost use Rattle.ber_core.specs.computed.ContentsReading.{boolean_at, integer_at};
@@ -16,6 +16,7 @@ ghost use Rattle.mms_data.specs.declared.time.UtcTime.{UtcTime};
 use crate::contents::{signed, unsigned};
 use crate::kinds::{Kind, announced};
 use crate::time::UtcTime;
+use crate::utc::time_of;
 use crate::view::BitView;
 use ber_core::{Header, known_header};
 use byteorder::{BigEndian, ByteOrder};
@@ -70,14 +71,11 @@ pub(crate) fn known_time(contents: &[u8], at: usize) -> UtcTime
     requires { (t : UtcTime) × (utc_at at contents.now ≡ Ok t) }
     ensures { utc_at at contents.now ≡ Ok result }
 {
-    UtcTime {
-        seconds: BigEndian::read_u32(contents),
-        fraction: BigEndian::read_u24(&contents[4..]),
-        quality: contents[7],
-    }
+    time_of(contents)
 }
 
-// The signed number that contents are. Those of the counts that are met most are read without a call.
+// The signed number that contents are. Of few octets the compiler knows the count. Contents of nine octets, which hardly
+// any device sends, are read as where they are judged.
 #[inline(always)]
 pub(crate) fn known_signed(contents: &[u8], at: usize, from: usize) -> i64
     requires fits { at + 1 < 2 ^ 64 }
@@ -87,13 +85,15 @@ pub(crate) fn known_signed(contents: &[u8], at: usize, from: usize) -> i64
     match contents.len() {
         1 => BigEndian::read_int(contents, 1),
         2 => BigEndian::read_int(contents, 2),
+        3 => BigEndian::read_int(contents, 3),
         4 => BigEndian::read_int(contents, 4),
         5 => BigEndian::read_int(contents, 5),
+        count @ 6..=8 => BigEndian::read_int(contents, count),
         _ => counted_signed(contents, at, from),
     }
 }
 
-// The same of contents of any count.
+// The same of contents of nine octets.
 #[inline(never)]
 fn counted_signed(contents: &[u8], at: usize, from: usize) -> i64
     requires fits { at + 1 < 2 ^ 64 }
@@ -106,7 +106,7 @@ fn counted_signed(contents: &[u8], at: usize, from: usize) -> i64
     number
 }
 
-// The unsigned number that contents are. Those of the counts that are met most are read without a call.
+// The same of an unsigned number.
 #[inline(always)]
 pub(crate) fn known_unsigned(contents: &[u8], at: usize, from: usize) -> u64
     requires fits { at + 1 < 2 ^ 64 }
@@ -116,13 +116,15 @@ pub(crate) fn known_unsigned(contents: &[u8], at: usize, from: usize) -> u64
     match contents.len() {
         1 => BigEndian::read_uint(contents, 1),
         2 => BigEndian::read_uint(contents, 2),
+        3 => BigEndian::read_uint(contents, 3),
         4 => BigEndian::read_uint(contents, 4),
         5 => BigEndian::read_uint(contents, 5),
+        count @ 6..=8 => BigEndian::read_uint(contents, count),
         _ => counted_unsigned(contents, at, from),
     }
 }
 
-// The same of contents of any count.
+// The same of contents of nine octets.
 #[inline(never)]
 fn counted_unsigned(contents: &[u8], at: usize, from: usize) -> u64
     requires fits { at + 1 < 2 ^ 64 }

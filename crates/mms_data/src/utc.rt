@@ -4,7 +4,7 @@ ghost use Rattle.std.specs.Prelude.{◌≡◌, ◌≤◌, ◌<◌, ◌+◌, ◌^
 ghost use Rattle.ber_core.specs.Contents.{CountedFault};
 ghost use Rattle.ber_core.specs.Element.{contents_of};
 ghost use Rattle.ber_core.specs.declared.fault.Fault.{Fault};
-ghost use Rattle.mms_data.specs.Utc.{SpellsUtc};
+ghost use Rattle.mms_data.specs.Utc.{SpellsUtc, utc_of};
 ghost use Rattle.mms_data.specs.computed.UtcReading.{utc_at};
 ghost use Rattle.mms_data.specs.declared.time.UtcTime.{UtcTime};
 
@@ -47,9 +47,18 @@ pub(crate) fn eight_octets(contents: &[u8], at: usize) -> Result<UtcTime, Fault>
     if contents.len() != 8 {
         return Err(Cause::FixedLength.at(at + 1));
     }
-    Ok(UtcTime {
+    Ok(time_of(contents))
+}
+
+/// The time that eight octets spell (IEC 61850-8-1): four of seconds, three of the fraction, and the quality.
+#[inline(always)]
+pub fn time_of(contents: &[u8]) -> UtcTime
+    requires { length contents.now ≡ 8 }
+    ensures { result ≡ utc_of contents.now }
+{
+    UtcTime {
         seconds: BigEndian::read_u32(contents),
         fraction: BigEndian::read_u24(&contents[4..]),
         quality: contents[7],
-    })
+    }
 }

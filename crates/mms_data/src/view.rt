@@ -161,7 +161,7 @@ impl<'a> Members<'a> {
         let header = front_header(octets);
         let kind = known_kind(octets);
         let contents = &octets[header.contents_from..header.contents_to];
-        // Those behind it are told first: where a view is written at once, its kind is known then from the identifier.
+        // What is left comes before the view, so that a caller's choice by the view follows at once.
         let octets = &octets[header.contents_to..];
         let rest = Members {
             octets,

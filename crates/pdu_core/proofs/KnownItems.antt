@@ -1,11 +1,11 @@
 -- Fields that are known to be read: what their values are.
-use Rattle.std.proofs.Common.{◌≡◌, ℕ, eqb, Bool, true, false, cond, ◌+◌, List, [], ◌∷◌, length, get_or, arith, rules, Option, Some, None, Result, Ok, Err, refl, sym, ap, ◌∙◌}
+use Rattle.std.proofs.Common.{◌≡◌, ℕ, eqb, Bool, true, false, cond, List, [], ◌∷◌, length, get_or, arith, rules, Some, None, Result, Ok, Err, refl}
 use Rattle.std.proofs.lemmas.Bool.{eqb-true}
 use Rattle.std.specs.Prelude.{IsOk}
 use Rattle.byteorder.specs.Endian.{big_number}
 use Rattle.ber_core.specs.Element.{contents_of}
 use Rattle.ber_core.specs.Fields.{always, optional}
-use Rattle.ber_core.specs.computed.ContentsReading.{all_visible_at, counted_at}
+use Rattle.ber_core.specs.computed.ContentsReading.{counted_at}
 use Rattle.ber_core.specs.computed.FieldReading.{field_as, required_at, there_at}
 use Rattle.ber_core.specs.computed.Reading.{◌>>=◌}
 use Rattle.ber_core.specs.declared.element.Header.{Header}
@@ -14,7 +14,7 @@ use Rattle.mms_data.specs.Utc.{utc_of}
 use Rattle.mms_data.specs.declared.time.UtcTime.{UtcTime}
 use Rattle.mms_data.specs.computed.UtcReading.{utc_at}
 use Rattle.mms_data.specs.computed.ContentsReading.{is_few_octets}
-use Rattle.pdu_core.specs.Contents.{Item, Kind, text, time, fixed, raw, few, a_text, a_time, a_fixed, some_octets}
+use Rattle.pdu_core.specs.Contents.{Item, Kind, time, fixed, few, a_time, a_fixed, some_octets}
 use Rattle.pdu_core.specs.computed.ContentsReading.{few_at, fixed_in, item_at}
 
 -- where two steps give a value, the first does
@@ -27,13 +27,6 @@ pub second_step : {A B : Type 0} (r : Result A Fault) (f : A → Result B Fault)
 second_step r f x is k = rw is at k
 
 -- ---- the value of contents that are known to be read
-
-text_of_read : (r : Result (Unit {0}) Fault) (c : List ℕ) → IsOk ((r >>= λ _. Ok c) >>= λ t. Ok (a_text t)) → ((r >>= λ _. Ok c) >>= λ t. Ok (a_text t)) ≡ Ok (a_text c)
-text_of_read (Ok x) c k = refl
-text_of_read (Err f) c k = absurd (cc)
-
-pub text_known : (octets : List ℕ) (h : Header) → IsOk (item_at text octets h) → item_at text octets h ≡ Ok (a_text (contents_of octets h))
-text_known octets h k = text_of_read (all_visible_at h.contents_from (contents_of octets h)) (contents_of octets h) k
 
 fixed_of_read : (t : Bool) (f : Fault) (size : ℕ) (c : List ℕ) → IsOk ((cond t (Ok c) (Err f) >>= λ d. Ok (big_number size d)) >>= λ n. Ok (a_fixed size n))
     → (t ≡ true) × (((cond t (Ok c) (Err f) >>= λ d. Ok (big_number size d)) >>= λ n. Ok (a_fixed size n)) ≡ Ok (a_fixed size (big_number size c)))

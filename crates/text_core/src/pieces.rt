@@ -113,7 +113,7 @@ pub(crate) fn block_digits<const N: usize, const M: usize>(octets: &[u8; N]) -> 
     digits
 }
 
-/// How many octets a short block has: an address, a time, a float.
+/// How many octets a short block has room for: an address, a time, a float.
 pub(crate) const SHORT_BLOCK: usize = 16;
 
 /// Appends at most 32 octets in lower case hexadecimal. Inlined, so that their count is known where it is one alone: of few

@@ -5,7 +5,6 @@ ghost use Rattle.std.specs.Prelude.{◌≡◌, ◌<◌, ◌≤◌, length, IsOk,
 ghost use Rattle.ber_core.specs.computed.FieldReading.{field_as};
 ghost use Rattle.ber_core.specs.Fields.{always, optional};
 ghost use Rattle.mms_data.specs.Place.{IsPart};
-ghost use Rattle.mms_data.specs.Utc.{utc_of};
 ghost use Rattle.pdu_core.specs.Asdu.{asdu_items, fixed_if, some_octets_if, time_if};
 ghost use Rattle.pdu_core.specs.Contents.{text, time, fixed, raw, few, a_text, a_fixed, some_octets};
 ghost use Rattle.pdu_core.specs.computed.ContentsReading.{item_at};
@@ -18,6 +17,7 @@ use crate::sampled::view::AsduView;
 use ber_core::fields::{known_required, known_there};
 use byteorder::{BigEndian, ByteOrder};
 use mms_data::UtcTime;
+use mms_data::utc::time_of;
 
 // The text that is known to stand at `at`, and the place behind it.
 #[inline(always)]
@@ -34,7 +34,7 @@ fn known_text<'a>(octets: &'a [u8], at: usize, end: usize, identifier: u8) -> (&
     (text, header.contents_to)
 }
 
-// The same of a text that may be absent.
+// The text that may stand at `at`, and the place behind it.
 #[inline(always)]
 fn known_text_if<'a>(
     octets: &'a [u8],
@@ -72,7 +72,7 @@ fn known_two_octets(octets: &[u8], at: usize, end: usize, identifier: u8) -> (u1
     (number, header.contents_to)
 }
 
-// The same of a number of two octets that may be absent.
+// The number of two octets that may stand at `at`, and the place behind it.
 #[inline(always)]
 fn known_two_octets_if(octets: &[u8], at: usize, end: usize, identifier: u8) -> (Option<u16>, usize)
     requires ordered { at ≤ end }
@@ -90,7 +90,7 @@ fn known_two_octets_if(octets: &[u8], at: usize, end: usize, identifier: u8) -> 
     }
 }
 
-// The same of a number of four octets.
+// The number of four octets that is known to stand at `at`, and the place behind it.
 #[inline(always)]
 fn known_four_octets(octets: &[u8], at: usize, end: usize, identifier: u8) -> (u32, usize)
     requires ordered { at ≤ end }
@@ -104,7 +104,7 @@ fn known_four_octets(octets: &[u8], at: usize, end: usize, identifier: u8) -> (u
     (number, header.contents_to)
 }
 
-// The same of a number of one octet.
+// The number of one octet that is known to stand at `at`, and the place behind it.
 #[inline(always)]
 fn known_one_octet(octets: &[u8], at: usize, end: usize, identifier: u8) -> (u8, usize)
     requires ordered { at ≤ end }
@@ -118,20 +118,7 @@ fn known_one_octet(octets: &[u8], at: usize, end: usize, identifier: u8) -> (u8,
     (contents[0], header.contents_to)
 }
 
-// The time that eight octets spell.
-#[inline(always)]
-fn eight_octets(contents: &[u8]) -> UtcTime
-    requires { length contents.now ≡ 8 }
-    ensures { result ≡ utc_of contents.now }
-{
-    UtcTime {
-        seconds: BigEndian::read_u32(contents),
-        fraction: BigEndian::read_u24(&contents[4..]),
-        quality: contents[7],
-    }
-}
-
-// The same of a time that may be absent.
+// The time that may stand at `at`, and the place behind it.
 #[inline(always)]
 fn known_time_if(octets: &[u8], at: usize, end: usize, identifier: u8) -> (Option<UtcTime>, usize)
     requires ordered { at ≤ end }
@@ -142,14 +129,14 @@ fn known_time_if(octets: &[u8], at: usize, end: usize, identifier: u8) -> (Optio
 {
     match known_there(octets, at, end, identifier) {
         Some(header) => {
-            let time = eight_octets(&octets[header.contents_from..header.contents_to]);
+            let time = time_of(&octets[header.contents_from..header.contents_to]);
             (Some(time), header.contents_to)
         }
         None => (None, at),
     }
 }
 
-// The same of octets of any count.
+// The octets of any count that are known to stand at `at`, and the place behind them.
 #[inline(always)]
 fn known_octets<'a>(octets: &'a [u8], at: usize, end: usize, identifier: u8) -> (&'a [u8], usize)
     requires ordered { at ≤ end }
@@ -164,7 +151,7 @@ fn known_octets<'a>(octets: &'a [u8], at: usize, end: usize, identifier: u8) -> 
     (contents, header.contents_to)
 }
 
-// The same of one to sixteen octets that may be absent.
+// The one to sixteen octets that may stand at `at`, and the place behind them.
 #[inline(always)]
 fn known_few_if<'a>(
     octets: &'a [u8],

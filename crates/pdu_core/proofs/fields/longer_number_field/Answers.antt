@@ -1,4 +1,4 @@
-use Rattle.std.proofs.Common.{◌<◌, ◌*◌, ◌+◌, ap, sym, ◌∙◌, Ok, Some, arith, rules}
+use Rattle.std.proofs.Common.{◌<◌, ◌+◌, ap, sym, ◌∙◌, Ok, Some, arith, rules}
 use Rattle.std.proofs.lemmas.Bool.{and_parts}
 use Rattle.ber_core.specs.Length.{AreOctets}
 use Rattle.pdu_core.specs.Contents.{a_number}
