@@ -1,5 +1,5 @@
 //! The small texts of which lines are made. Each call appends to `out`.
-ghost use Rattle.std.specs.Prelude.{◌≡◌, ◌<◌, ◌≤◌, ◌+◌, ◌*◌, ◌/◌, ◌%◌, ◌-◌, ◌∷◌, [], ◌++◌, drop, length, take, IsTrue};
+ghost use Rattle.std.specs.Prelude.{◌≡◌, ◌<◌, ◌≤◌, ◌+◌, ◌/◌, ◌%◌, ◌-◌, ◌∷◌, [], ◌++◌, drop, length, take, IsTrue};
 ghost use Rattle.std.specs.List.{flat_map};
 ghost use Rattle.std.specs.Fmt.{decimal, signed_decimal};
 ghost use Rattle.hex.specs.Hex.{encode_lower};
@@ -94,30 +94,24 @@ pub(crate) const BLOCK: usize = 32;
 
 // The digits of so many octets, which the compiler makes all at once: first those of all high halves and of all low ones.
 #[inline(always)]
-pub(crate) fn block_digits<const N: usize, const M: usize>(octets: &[u8; N]) -> [u8; M]
-    requires few { N ≤ 32 }
-    requires twice { M ≡ 2 * N }
+pub(crate) fn block_digits(octets: &[u8; BLOCK]) -> [u8; 2 * BLOCK]
     ensures { result ≡ encode_lower octets.now }
 {
-    let mut high = [0; N];
-    let mut low = [0; N];
-    for at in 0..N {
+    let mut high = [0; BLOCK];
+    let mut low = [0; BLOCK];
+    for at in 0..BLOCK {
         high[at] = hexadecimal_digit(octets[at] / 16);
         low[at] = hexadecimal_digit(octets[at] % 16);
     }
-    let mut digits = [0; M];
-    for at in 0..N {
+    let mut digits = [0; 2 * BLOCK];
+    for at in 0..BLOCK {
         digits[2 * at] = high[at];
         digits[2 * at + 1] = low[at];
     }
     digits
 }
 
-/// How many octets a short block has room for: an address, a time, a float.
-pub(crate) const SHORT_BLOCK: usize = 16;
-
-/// Appends at most 32 octets in lower case hexadecimal. Inlined, so that their count is known where it is one alone: of few
-/// octets no more digits are made than of sixteen.
+/// Appends at most 32 octets in lower case hexadecimal. Inlined, so that their count is known where it is one alone.
 #[inline(always)]
 pub fn put_short_hexadecimal<A: Allocator>(
     out: &mut Vec<u8, A>,
@@ -126,26 +120,9 @@ pub fn put_short_hexadecimal<A: Allocator>(
     requires { length octets.now ≤ 32 }
     ensures { AppendsText result out.old.items out.new.items (encode_lower octets.now) }
 {
-    if octets.len() <= SHORT_BLOCK {
-        return put_block::<SHORT_BLOCK, 32, A>(out, octets);
-    }
-    put_block::<BLOCK, 64, A>(out, octets)
-}
-
-// Appends the digits of octets of which a block has room for all.
-#[inline(always)]
-fn put_block<const N: usize, const M: usize, A: Allocator>(
-    out: &mut Vec<u8, A>,
-    octets: &[u8],
-) -> Result<(), AllocError>
-    requires room { length octets.now ≤ N }
-    requires few { N ≤ 32 }
-    requires twice { M ≡ 2 * N }
-    ensures { AppendsText result out.old.items out.new.items (encode_lower octets.now) }
-{
-    let mut block = [0; N];
+    let mut block = [0; BLOCK];
     block[..octets.len()].copy_from_slice(octets);
-    out.extend_from_slice(&block_digits::<N, M>(&block)[..2 * octets.len()])
+    out.extend_from_slice(&block_digits(&block)[..2 * octets.len()])
 }
 
 /// Appends octets in lower case hexadecimal.
@@ -154,7 +131,7 @@ pub fn put_hexadecimal<A: Allocator>(out: &mut Vec<u8, A>, octets: &[u8]) -> Res
 {
     let mut others = octets;
     'blocks: while let Some((block, rest)) = others.split_first_chunk::<BLOCK>() {
-        out.extend_from_slice(&block_digits::<BLOCK, 64>(block))?;
+        out.extend_from_slice(&block_digits(block))?;
         others = rest;
     }
     if others.is_empty() {

@@ -7,7 +7,7 @@ ghost use Rattle.text_core.specs.Pieces.{AppendsText, boolean_text, decimal_or_d
 ghost use Rattle.text_core.specs.SampledText.{time_or_dash};
 ghost use Rattle.text_core.specs.ValueText.{time_text};
 
-use crate::pieces::{BLOCK, SHORT_BLOCK, block_digits};
+use crate::pieces::{BLOCK, block_digits};
 use itoa::write_digits;
 use mms_data::UtcTime;
 use std::alloc::{AllocError, Allocator};
@@ -100,26 +100,9 @@ impl ShortText {
         ensures text { self.new ≡ encode_lower octets.now ++ self.old }
         ensures size { length self.new ≡ length self.old + 2 * length octets.now }
     {
-        if octets.len() <= SHORT_BLOCK {
-            self.put_block::<SHORT_BLOCK, 32>(octets);
-        } else {
-            self.put_block::<BLOCK, 64>(octets);
-        }
-    }
-
-    // Puts the digits of octets in front of which a block has room for all.
-    #[inline(always)]
-    fn put_block<const N: usize, const M: usize>(&mut self, octets: &[u8])
-        requires fits { length octets.now ≤ N }
-        requires few { N ≤ 32 }
-        requires twice { M ≡ 2 * N }
-        requires room { length self.old + 2 * length octets.now ≤ 160 }
-        ensures text { self.new ≡ encode_lower octets.now ++ self.old }
-        ensures size { length self.new ≡ length self.old + 2 * length octets.now }
-    {
-        let mut block = [0; N];
+        let mut block = [0; BLOCK];
         block[..octets.len()].copy_from_slice(octets);
-        self.put(&block_digits::<N, M>(&block)[..2 * octets.len()]);
+        self.put(&block_digits(&block)[..2 * octets.len()]);
     }
 
     /// Puts a number in four hexadecimal digits in front.
