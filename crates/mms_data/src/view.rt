@@ -60,7 +60,7 @@ pub struct CountedMembers<'a> {
 }
 
 impl<'a> Members<'a> {
-    ghost use Rattle.std.specs.Prelude.{Ok, IfSome, MatchOption};
+    ghost use Rattle.std.specs.Prelude.{◌≢◌, ℕ, List, Ok, None, IfSome, MatchOption};
     ghost use Rattle.mms_data.specs.Data.{Data, boolean, simple};
     ghost use Rattle.mms_data.specs.Meaning.{left, meaning};
     ghost use Rattle.mms_data.specs.Place.{IsPart, ViewIsPart, source_of};
@@ -79,11 +79,12 @@ impl<'a> Members<'a> {
         }
     }
 
-    /// The first member, where it is a boolean of three octets, as booleans nearly always are: it is then passed. `None` says
-    /// nothing of the first member, and passes none.
+    /// The first member, where it is a boolean of three octets, as booleans nearly always are: it is then passed. `None` where
+    /// the members begin with other octets, and passes none.
     #[inline(always)]
     pub fn next_boolean(&mut self) -> Option<bool>
-        ensures { MatchOption result (self.new ≡ self.old) (λ b. (left self.old ≡ simple (boolean b) ∷ left self.new) × IsPart (source_of self.new) (source_of self.old)) }
+        ensures only { result ≡ None → (octet : ℕ) → (others : List ℕ) → (source_of self.old).now ≢ 0x83 ∷ 1 ∷ octet ∷ others }
+        ensures found { MatchOption result (self.new ≡ self.old) (λ b. (left self.old ≡ simple (boolean b) ∷ left self.new) × IsPart (source_of self.new) (source_of self.old)) }
     {
         match self.octets {
             [0x83, 1, octet, rest @ ..] => {

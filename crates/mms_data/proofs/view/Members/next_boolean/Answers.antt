@@ -11,8 +11,8 @@ invariant_of-self c =
     let x = boolean_first m.depth m.octets.now m.bounded m.spelled c.in-131.len_at_least id one in
     record { bounded = m.bounded; spelled = x.0; stands = λ t. absurd (false≢true t) }
 
-pub returns-in-131 : goal.returns-in-131
-returns-in-131 c =
+pub returns-in-131-clause-found : goal.returns-in-131-clause-found
+returns-in-131-clause-found c =
     let m = c.args.self.now in
     let id : get_or m.octets.now 0 0 ≡ 0x83 = search rules in
     let one : get_or m.octets.now 1 0 ≡ 1 = search rules in
