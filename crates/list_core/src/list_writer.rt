@@ -1,5 +1,5 @@
 //! Writing an event as its line.
-ghost use Rattle.std.specs.Prelude.{◌≡◌, ◌+◌, ◌*◌, ◌^◌, ◌<◌, ◌≤◌, false, length, ◌++◌, ◌∷◌, [], codes};
+ghost use Rattle.std.specs.Prelude.{◌≡◌, ◌+◌, ◌*◌, ◌^◌, ◌<◌, ◌≤◌, ◌↔◌, true, false, length, ◌++◌, ◌∷◌, [], codes};
 ghost use Rattle.std.specs.Fmt.{decimal};
 ghost use Rattle.arrayvec.specs.ArrayVec.{array_vec_len};
 ghost use Rattle.hex.specs.Hex.{encode_lower};
@@ -142,6 +142,13 @@ fn write_mode<W: Sink>(writer: &mut W, moment: u64, on: bool) -> Result<(), Writ
     put_all(writer, listed_mode(moment, on).as_slice())
 }
 
+/// Whether a line can hold a frame and its moment.
+fn has_line(moment: u64, frame: &[u8]) -> bool
+    ensures { (result ≡ true) ↔ ((moment < 10 ^ 18) × ((0 < length frame.now) × (length frame.now ≤ 2000))) }
+{
+    moment <= LAST_MOMENT && !frame.is_empty() && frame.len() <= LONGEST_FRAME
+}
+
 /// Writes a frame as its one line, as `write_event` does where an event holds it. Takes no memory. `NotListable` exactly
 /// where the moment is over 999,999,999,999,999,999 microseconds or the frame has 0 octets or over 2,000; nothing was
 /// written then. `WriteFailed` after a prefix of the line was written.
@@ -153,10 +160,10 @@ pub fn write_frame<W: Sink>(writer: &mut W, moment: u64, frame: &[u8]) -> Result
     ensures fault { W.failed writer.new ≡ write_failed result }
 {
     // What no line can say is refused before there is room for a line.
-    if moment > LAST_MOMENT || frame.is_empty() || frame.len() > LONGEST_FRAME {
+    if !has_line(moment, frame) {
         return Err(WriteFault::NotListable);
     }
-    FrameLines::new().write_frame(writer, moment, frame)
+    FrameLines::new().put_line(writer, moment, frame)
 }
 
 /// Where the lines of frames are put together, one after the other.
@@ -196,15 +203,25 @@ impl FrameLines {
         ensures unchanged { result ≡ Err WriteFault.NotListable → writer.new ≡ writer.old }
         ensures fault { W.failed writer.new ≡ write_failed result }
     {
-        if moment > LAST_MOMENT {
+        if !has_line(moment, frame) {
             return Err(WriteFault::NotListable);
         }
-        if frame.is_empty() {
-            return Err(WriteFault::NotListable);
-        }
-        if frame.len() > LONGEST_FRAME {
-            return Err(WriteFault::NotListable);
-        }
+        self.put_line(writer, moment, frame)
+    }
+
+    /// Writes a frame that a line can hold.
+    fn put_line<W: Sink>(
+        &mut self,
+        writer: &mut W,
+        moment: u64,
+        frame: &[u8],
+    ) -> Result<(), WriteFault>
+        requires works { W.failed writer.old ≡ false }
+        requires listable { (moment < 10 ^ 18) × ((0 < length frame.now) × (length frame.now ≤ 2000)) }
+        ensures written { WritesListable ((moment < 10 ^ 18) × ((0 < length frame.now) × (length frame.now ≤ 2000)))
+            (codes "F " ++ decimal moment ++ codes " " ++ encode_lower frame.now ++ 10 ∷ []) result (W.contents writer.old) (W.contents writer.new) }
+        ensures fault { W.failed writer.new ≡ write_failed result }
+    {
         self.line.clear();
         list_frame(&mut self.line, moment, frame);
         put_all(writer, self.line.as_slice())
