@@ -103,8 +103,23 @@ fn with_counted_length(
     if octets.len() < count {
         return Err(Cause::Ends.at(at + 2 + octets.len()));
     }
-    let size = BigEndian::read_uint(octets, count) as usize;
+    let size = size_in(octets, count);
     with_size(at, identifier, at + 2 + count, size, &octets[count..])
+}
+
+// The length that the first `count` octets spell. Of one and two, which are nearly all, the compiler knows the count.
+#[inline(always)]
+fn size_in(octets: &[u8], count: usize) -> usize
+    requires low { 1 ≤ count }
+    requires high { count ≤ 4 }
+    requires there { count ≤ length octets.now }
+    ensures { result ≡ big_number count octets.now }
+{
+    match count {
+        1 => BigEndian::read_uint(octets, 1) as usize,
+        2 => BigEndian::read_uint(octets, 2) as usize,
+        _ => BigEndian::read_uint(octets, count) as usize,
+    }
 }
 
 // The same where `size` octets of contents stand at `contents_from`, the first of `octets`.
@@ -183,7 +198,7 @@ fn known_long(at: usize, identifier: u8, count: usize, rest: &[u8]) -> Header
     ensures { result ≡ record { at = at; identifier = identifier; contents_from = at + 2 + count; contents_to = at + 2 + count + big_number count rest.now } }
 {
     let contents_from = at + 2 + count;
-    let size = BigEndian::read_uint(rest, count) as usize;
+    let size = size_in(rest, count);
     Header {
         at,
         identifier,
