@@ -1,5 +1,5 @@
 -- Short fields. Of three octets: an identifier, a length of 1, and one octet of contents.
-use Rattle.std.proofs.Common.{◌≡◌, ℕ, ℤ, pos, ◌+◌, ◌*◌, ◌%◌, ◌<◌, ◌≤◌, Bool, true, false, eqb, List, [], ◌∷◌, ◌++◌, length, drop, Ok, Some, refl, sym, ap, subst, ◌∙◌, arith, inl}
+use Rattle.std.proofs.Common.{◌≡◌, ℕ, suc, ℤ, pos, ◌+◌, ◌*◌, ◌%◌, ◌<◌, ◌≤◌, Bool, true, false, eqb, List, [], ◌∷◌, ◌++◌, length, drop, Ok, Some, refl, sym, ap, subst, ◌∙◌, arith, inl}
 use Rattle.std.proofs.lemmas.Bool.{eqb-true}
 use Rattle.std.specs.Prelude.{◌≢◌, slice_index, slice_range}
 use Rattle.ber_core.specs.Element.{IsIdentifier}
@@ -13,12 +13,14 @@ use Rattle.ber_core.specs.Written.{short_integer, short_length, written_element}
 use Rattle.ber_core.specs.computed.FieldReading.{field_as}
 use Rattle.ber_core.proofs.FieldSound.{field_again}
 use Rattle.ber_core.proofs.Regions.{region-split}
-use Rattle.ber_core.proofs.WrittenLemmas.{written_integer, written_one}
-use Rattle.pdu_core.specs.Contents.{Kind, Item, SpellsContents, a_flag, a_number, contents_grammar}
+use Rattle.ber_core.proofs.WrittenLemmas.{short_length-small, written_integer, written_one}
+use Rattle.byteorder.specs.Endian.{big_number}
+use Rattle.pdu_core.specs.Contents.{Kind, Item, SpellsContents, a_fixed, a_flag, a_number, contents_grammar, fixed}
 use Rattle.pdu_core.specs.Contents.{number as a_kind_of_number, flag as a_kind_of_flag}
 use Rattle.pdu_core.specs.Written.{written_field, written_item}
 use Rattle.pdu_core.specs.computed.ContentsReading.{item_at}
 use Rattle.pdu_core.proofs.Items.{items_sound}
+use Rattle.pdu_core.proofs.Standing.{fixed_one}
 use Rattle.pdu_core.proofs.WrittenSpelled.{flag_written, number_written}
 
 not_equal : (a b : ℕ) → a ≢ b → eqb a b ≡ false
@@ -85,3 +87,28 @@ module _ (octets : List ℕ) (at end id a b : ℕ) (ordered : at ≤ end) (insid
   pair_stands small octet shortest =
       let last : b < 256 = subst (λ (l : List ℕ). slice_index l 3 < 256) there (slice_octets octets at (at + 4) octet 3) in
       there ∙ sym (pair_written id a b) ∙ ap (written_element id) (shortest (pos (a * 256 + b)) (pair_spells a b small last).2)
+
+-- ---- fields with a stated count of octets
+
+-- an element of few octets
+few_written : (id size : ℕ) (c : List ℕ) → size < 128 → length c ≡ size → written_element id c ≡ id ∷ size ∷ c
+unfolding written_element
+few_written id size c few counted = rw (short_length-small (length c) (omega (arith, few, counted)), counted) refl
+
+module _ (octets : List ℕ) (at end id size : ℕ) (c : List ℕ) (n : ℕ) (ordered : at ≤ end) (inside : end ≤ length octets) (low : IsIdentifier id) (few : size < 128) (counted : length c ≡ size) (is : big_number size c ≡ n)
+    (next : at + 2 + size ≤ end) (there : slice_range octets at (at + 2 + size) ≡ id ∷ size ∷ c) (to : ℕ) (ends : at + 2 + size ≡ to) where
+  value : number c ≡ n
+  value = ap (λ (k : ℕ). big_number k c) counted ∙ is
+
+  pub fixed_read : field_as item_at id (fixed size) always octets at end ≡ Ok (Some (a_fixed size n), to)
+  fixed_read =
+      let rest = slice_range octets (at + 2 + size) end in
+      let parts : slice_range octets at end ≡ id ∷ (size ∷ []) ++ (c ++ rest) = region-split octets at (at + 2 + size) end (omega arith) next ∙ ap (λ (l : List ℕ). l ++ rest) there in
+      let behind : at + 1 + 1 + length c ≡ to = omega (arith, counted, ends) in
+      field_again contents_grammar item_at items_sound octets end inside (record { identifier = id; kind = fixed size; presence = always }) at ordered (not_equal (id % 32) 31 low) (a_fixed size n) (size ∷ []) c rest parts (inl (refl, sym counted, omega (arith, counted, few))) (refl, (counted, value))
+      ∙ ap (λ (q : ℕ). Ok (Some (a_fixed size n), q)) behind
+
+  pub fixed_stands : AreOctets octets → slice_range octets at to ≡ written_field id (Some (a_fixed size n))
+  fixed_stands small =
+      let octet : AreOctets c = λ i. subst (λ (l : List ℕ). slice_index l (suc (suc i)) < 256) there (slice_octets octets at (at + 2 + size) small (suc (suc i))) in
+      ap (λ (k : ℕ). slice_range octets at k) (sym ends) ∙ there ∙ sym (few_written id size c few counted) ∙ ap (written_element id) (fixed_one size n c octet (counted, value))
