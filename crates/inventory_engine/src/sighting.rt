@@ -1,6 +1,6 @@
 // The lines of sightings.
 
-ghost use Rattle.std.specs.Prelude.{◌≡◌, ◌∷◌, [], OnErr, OnOk, Some, length, take};
+ghost use Rattle.std.specs.Prelude.{◌≡◌, ◌∷◌, [], IfOk, OnErr, OnOk, Some, length, take};
 ghost use Rattle.std.specs.List.{concat, flat_map};
 ghost use Rattle.pdu_core.specs.SampledViews.{asdu_of, asdus_left};
 ghost use Rattle.pdu_core.specs.Views.{octets_if, pdu_of};
@@ -47,7 +47,8 @@ fn put_line<A: Allocator>(
     word: &[u8],
     pieces: &[Piece<'_>],
 ) -> Result<usize, AllocError>
-    ensures { AppendsText result line.old.items line.new.items (sighting_line number word.now (flat_map piece_text pieces.now)) }
+    ensures text { AppendsText result line.old.items line.new.items (sighting_line number word.now (flat_map piece_text pieces.now)) }
+    ensures size { IfOk result (λ size. size ≡ length (flat_map piece_text pieces.now)) }
 {
     put_decimal(line, number)?;
     line.extend_from_slice(word)?;

@@ -1,15 +1,14 @@
 -- What is held is a frame of a state that was accepted, and so is what is held next.
-use Rattle.std.proofs.Common.{◌≡◌, ℕ, suc, ◌+◌, ◌-◌, min, List, length, refl, sym, ap, ◌∙◌, subst, arith}
+use Rattle.std.proofs.Common.{◌≡◌, ℕ, suc, ◌+◌, ◌-◌, min, List, length, sym, ap, ◌∙◌, subst}
 use Rattle.publish_core.specs.declared.table.Step.{Step}
 use Rattle.publish_core.specs.declared.control.Control.{Control}
 use Rattle.publish_core.specs.declared.publisher.Last.{Last}
 use Rattle.frame_core.specs.Written.{IsTooLong}
 use Rattle.publish_core.specs.Numbers.{number_behind, sequence_number}
-use Rattle.publish_core.specs.Table.{step_at, step_of}
-use Rattle.publish_core.specs.Frames.{Change, frame_with}
+use Rattle.publish_core.specs.Table.{step_at}
+use Rattle.publish_core.specs.Frames.{frame_with}
 use Rattle.publish_core.specs.State.{change_of}
-use Rattle.publish_core.specs.Refusal.{IsAccepted}
-use Rattle.publish_core.specs.computed.Step.{IsFrameOf, first_last}
+use Rattle.publish_core.specs.computed.Step.{IsFrameOf}
 use Rattle.publish_core.proofs.NumberLaws.{sequence_number_next}
 use Rattle.publish_core.proofs.Steps.{step_next}
 
@@ -21,12 +20,6 @@ next_held control table l q i now e f s =
       step = f ∙ ap (λ (y : ℕ). min (y + 1) (length table - 1)) s.step ∙ step_next table s.k;
       accepted = s.accepted;
     }
-
--- frame 0 of a state that is accepted
-pub first_held : {A : Type 0} (control : Control A) (table : List Step) (state : ℕ) (change : Change) (now : ℕ) → IsAccepted control table state change → IsFrameOf control table (first_last state change now)
-first_held control table state change now accepted =
-    let first : 0 ≡ step_of table 0 = omega arith in
-    record { k = 0; sequence = refl; step = first; accepted = accepted }
 
 -- what is held can be written
 pub held_fits : {A : Type 0} (control : Control A) (table : List Step) (l : Last A) (live : Step) → live ≡ step_at table l.step → IsFrameOf control table l → ¬ IsTooLong (frame_with control (change_of l) l.state l.sequence live.live_ms)

@@ -14,6 +14,7 @@ const NONE: u128 = u128::MAX;
 fn room_for(count: usize) -> usize
     requires { count ≤ 2 ^ 63 }
     ensures room { count ≤ result }
+    ensures few { 0 < count → result < 2 * count }
     ensures power { 0 < result → (k : ℕ) × (result ≡ 2 ^ k) }
     ensures none { count ≡ 0 → result ≡ 0 }
 {

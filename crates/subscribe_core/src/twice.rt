@@ -1,7 +1,7 @@
 // Blocks that are given twice, found without memory: each block is compared with those before it, n (n - 1) / 2 times for n
 // blocks. So are the first few; of more blocks their names in order tell it, and this serves only where memory was refused.
 
-ghost use Rattle.std.specs.Prelude.{◌≡◌, ℕ, ◌<◌, ◌≤◌, [], IsTrue, ◌↔◌, IfSome, MatchOption, length};
+ghost use Rattle.std.specs.Prelude.{◌≡◌, ℕ, ◌<◌, ◌≤◌, [], None, IsTrue, ◌↔◌, IfSome, MatchOption, length};
 ghost use Rattle.subscribe_core.specs.Apart.{HasNameOf, IsTwice, IsFirstTwice};
 ghost use Rattle.subscribe_core.specs.Faults.{IsFaultOf};
 
@@ -9,8 +9,9 @@ use crate::fault::SubscribeFault;
 use block_core::Block;
 use std::alloc::{AllocError, Allocator};
 
-// So many blocks are compared sooner than their names are put in order; and of very many as many as the root of their count,
-// so that one which is given twice early is told before work grows with those behind it.
+// So many blocks are compared sooner than their names are put in order; and of very many so many that all pairs of them take
+// about as long as putting all names in order, so that one which is given twice early is told before work grows with those
+// behind it.
 const FEW: usize = 64;
 
 // Whether two blocks have one name.
@@ -49,11 +50,13 @@ fn first_twice<A: Allocator>(blocks: &[Block<A>], count: usize) -> Option<usize>
 
 // The first block that has the name of an earlier one, if it is among the first few.
 pub(crate) fn first_twice_of_few<A: Allocator>(blocks: &[Block<A>]) -> Option<usize>
-    ensures { IfSome result (λ i. IsFirstTwice blocks.now i) }
+    ensures found { IfSome result (λ i. IsFirstTwice blocks.now i) }
+    ensures none { result ≡ None → (i : ℕ) → i < length blocks.now → i < 64 → ¬ IsTwice blocks.now i }
 {
     let count = blocks.len();
-    let root = 1_usize << (count.max(1).ilog2() / 2);
-    first_twice(blocks, count.min(FEW.max(root)))
+    // Between four and eight times the root of the count.
+    let several = 8_usize << (count.max(1).ilog2() / 2);
+    first_twice(blocks, count.min(FEW.max(several)))
 }
 
 // Why there is no subscriber of these blocks where memory was refused: a block that is given twice comes first.

@@ -39,7 +39,7 @@ returns-in_ok-text_of-in-Ok-clause-written g c =
     let at = position_of c.args.known.now c.in-Ok.place in
     said_changed c.args.number s c.args.known.now c.in-Ok.place c.set_text.new.self c.args.line.now.items c.put_line.new.line.items c.in-Ok.ensures.1
     (λ d. compared c.args.known.now at d c.text.result.now s.text c.is_text.result false (c.text.ensures d) c.is_text.ensures c.if-is_text.false) (subst (λ (t : List ℕ). WritesText c.args.known.now c.set_text.new.self c.in-Ok.place t) c.in_ok-text_of-in-Ok.ensures c.set_text.ensures)
-    (c.in_ok-size-in-Ok.ensures ∙ ap (λ (w : List ℕ). c.args.line.now.items ++ sighting_line c.args.number w s.text) c.changed.ensures)
+    (c.in_ok-size-in-Ok.ensures.text ∙ ap (λ (w : List ℕ). c.args.line.now.items ++ sighting_line c.args.number w s.text) c.changed.ensures)
 
 pub returns-in_err-size-in-Err-clause-wants : goal.returns-in_err-size-in-Err-clause-wants
 returns-in_err-size-in-Err-clause-wants g c =
@@ -70,5 +70,5 @@ returns-in_ok-text-in-Err-clause-written g c =
     on_success c.insert.result (PutsOne known after c.in-Err.place one) (AppendsLines c.args.number (s ∷ []) known after c.args.line.now.items c.put_line-in-Err.new.line.items)
     (λ puts. said_first c.args.number s known c.in-Err.place one after c.args.line.now.items c.put_line-in-Err.new.line.items c.in-Err.ensures.1
     (ap (λ (o : List ℕ). (c.args.app_id, o)) c.in_ok-name-in-Err.ensures.value) c.in_ok-text-in-Err.ensures puts
-    (c.in_ok-size-in-Err.ensures ∙ ap (λ (w : List ℕ). c.args.line.now.items ++ sighting_line c.args.number w s.text) c.first.ensures))
+    (c.in_ok-size-in-Err.ensures.text ∙ ap (λ (w : List ℕ). c.args.line.now.items ++ sighting_line c.args.number w s.text) c.first.ensures))
     c.insert.ensures

@@ -5,7 +5,7 @@ use Rattle.subscribe_core.proofs.Fresh.{fresh_indexed}
 use Rattle.subscribe_core.proofs.keeping.Keeper.new.Goals as goal
 
 pub returns-in-Some-clause-fault : goal.returns-in-Some-clause-fault
-returns-in-Some-clause-fault g c = rw c.deref.ensures.value at c.in-Some.ensures
+returns-in-Some-clause-fault g c = rw c.deref.ensures.value at c.in-Some.ensures.found
 
 pub returns-in-Some-first_twice-clause-fault : goal.returns-in-Some-first_twice-clause-fault
 returns-in-Some-first_twice-clause-fault g c =
