@@ -1,12 +1,9 @@
 -- Hexadecimal digits of octets in pieces.
-use Rattle.std.proofs.Common.{◌≡◌, ℕ, zero, suc, ◌+◌, ◌*◌, ◌/◌, ◌%◌, ◌<◌, List, [], ◌∷◌, ◌++◌, length, take, drop, get_or, ap, sym, refl, ◌∙◌, append_assoc, arith}
+use Rattle.std.proofs.Common.{◌≡◌, ℕ, ◌*◌, ◌/◌, ◌%◌, List, [], ◌∷◌, ◌++◌, length, take, drop, ap, sym, refl, ◌∙◌, append_assoc, arith}
 use Rattle.std.specs.Prelude.{slice_index}
 use Rattle.std.proofs.lemmas.List.{append-nil, take-append-drop, take-append-le, take_all}
-use Rattle.std.specs.List.{range_with_len}
-use Rattle.std.proofs.lemmas.List.FromFn.{get_or-range_with_len, length-range_with_len}
 use Rattle.hex.specs.Hex.{encode_lower, encode_with, lower_digits}
 use Rattle.hex.proofs.HexLemmas.{length-encode_with}
-use Rattle.text_core.specs.declared.pieces.TheConstants.{PAIRS}
 
 encode-append : (xs ys : List ℕ) → encode_lower (xs ++ ys) ≡ encode_lower xs ++ encode_lower ys
 unfolding encode_with
@@ -33,33 +30,3 @@ pub all_written : (new all xs : List ℕ) → length xs ≡ 0 → new ++ encode_
 unfolding encode_with
 all_written new all [] none e = sym (append-nil new) ∙ e
 all_written new all (x ∷ xs) none e = absurd (omega arith)
-
--- ---- a table of all pairs of digits
-
--- the digits of one octet among those of all
-pair_of : (t xs : List ℕ) (i d : ℕ) → i < length xs → (get_or (encode_with t xs) (2 * i) d ≡ slice_index t (get_or xs i 0 / 16)) × (get_or (encode_with t xs) (2 * i + 1) d ≡ slice_index t (get_or xs i 0 % 16))
-unfolding encode_with
-pair_of t [] i d low = absurd (omega (arith, low))
-pair_of t (x ∷ xs) zero d low = (refl, refl)
-pair_of t (x ∷ xs) (suc i) d low =
-    let others = pair_of t xs i d (omega (arith, low)) in
-    let here : 2 * suc i ≡ suc (suc (2 * i)) = omega arith in
-    let next : 2 * suc i + 1 ≡ suc (suc (2 * i + 1)) = omega arith in
-    (rw here others.0, rw next others.1)
-
-table : PAIRS ≡ encode_lower (range_with_len 0 256)
-unfolding encode_with
-table = refl
-
--- the pair of an octet
-pub high_digit : (n d : ℕ) → n < 256 → get_or PAIRS (2 * n) d ≡ slice_index lower_digits (n / 16)
-high_digit n d low =
-    let same : 0 + n ≡ n = omega arith in
-    let is : get_or (range_with_len 0 256) n 0 ≡ n = get_or-range_with_len 0 256 n 0 low ∙ same in
-    rw table ((pair_of lower_digits (range_with_len 0 256) n d (omega (arith, length-range_with_len 0 256, low))).0 ∙ ap (λ (k : ℕ). slice_index lower_digits (k / 16)) is)
-
-pub low_digit : (n d : ℕ) → n < 256 → get_or PAIRS (2 * n + 1) d ≡ slice_index lower_digits (n % 16)
-low_digit n d low =
-    let same : 0 + n ≡ n = omega arith in
-    let is : get_or (range_with_len 0 256) n 0 ≡ n = get_or-range_with_len 0 256 n 0 low ∙ same in
-    rw table ((pair_of lower_digits (range_with_len 0 256) n d (omega (arith, length-range_with_len 0 256, low))).1 ∙ ap (λ (k : ℕ). slice_index lower_digits (k % 16)) is)

@@ -1,5 +1,5 @@
 //! The small texts of which lines are made. Each call appends to `out`.
-ghost use Rattle.std.specs.Prelude.{◌≡◌, ◌<◌, ◌≤◌, ◌+◌, ◌*◌, ◌/◌, ◌%◌, ◌-◌, ◌∷◌, [], ◌++◌, drop, length, take, IsTrue};
+ghost use Rattle.std.specs.Prelude.{◌≡◌, ◌<◌, ◌≤◌, ◌+◌, ◌/◌, ◌%◌, ◌-◌, ◌∷◌, [], ◌++◌, drop, length, take, IsTrue};
 ghost use Rattle.std.specs.List.{flat_map};
 ghost use Rattle.std.specs.Fmt.{decimal, signed_decimal};
 ghost use Rattle.hex.specs.Hex.{encode_lower};
@@ -90,11 +90,11 @@ pub fn put_signed<A: Allocator>(out: &mut Vec<u8, A>, integer: i64) -> Result<()
 }
 
 /// How many octets are written at once.
-const BLOCK: usize = 32;
+pub(crate) const BLOCK: usize = 32;
 
 // The digits of so many octets, which the compiler makes all at once: first those of all high halves and of all low ones.
 #[inline(always)]
-fn block_digits(octets: &[u8; BLOCK]) -> [u8; 2 * BLOCK]
+pub(crate) fn block_digits(octets: &[u8; BLOCK]) -> [u8; 2 * BLOCK]
     ensures { result ≡ encode_lower octets.now }
 {
     let mut high = [0; BLOCK];
@@ -111,51 +111,12 @@ fn block_digits(octets: &[u8; BLOCK]) -> [u8; 2 * BLOCK]
     digits
 }
 
-// The two digits of each octet, one pair after the other.
-static PAIRS: [u8; 512] =
-    *b"000102030405060708090a0b0c0d0e0f101112131415161718191a1b1c1d1e1f202122232425262728292a2b2c2d2e2f\
-    303132333435363738393a3b3c3d3e3f404142434445464748494a4b4c4d4e4f505152535455565758595a5b5c5d5e5f\
-    606162636465666768696a6b6c6d6e6f707172737475767778797a7b7c7d7e7f808182838485868788898a8b8c8d8e8f\
-    909192939495969798999a9b9c9d9e9fa0a1a2a3a4a5a6a7a8a9aaabacadaeafb0b1b2b3b4b5b6b7b8b9babbbcbdbebf\
-    c0c1c2c3c4c5c6c7c8c9cacbcccdcecfd0d1d2d3d4d5d6d7d8d9dadbdcdddedfe0e1e2e3e4e5e6e7e8e9eaebecedeeef\
-    f0f1f2f3f4f5f6f7f8f9fafbfcfdfeff";
-
-// Writes octets in lower case hexadecimal over digits, two for each octet. Of few octets, of which the compiler knows the
-// count, a look at a table costs less than a block.
-#[inline(always)]
-pub(crate) fn write_pairs(octets: &[u8], digits: &mut [u8])
-    requires { length digits.old ≡ 2 * length octets.now }
-    ensures { digits.new ≡ encode_lower octets.now }
-{
-    for at in 0..octets.len() {
-        let pair = 2 * octets[at] as usize;
-        let (high, low) = (PAIRS[pair], PAIRS[pair + 1]);
-        digits[2 * at] = high;
-        digits[2 * at + 1] = low;
-    }
-}
-
-// What stands where digits are about to be written.
-const BLANK: [u8; 2 * BLOCK] = [0; 2 * BLOCK];
-
 /// Appends at most 32 octets in lower case hexadecimal. Inlined, so that their count is known where it is one alone.
 #[inline(always)]
 pub fn put_short_hexadecimal<A: Allocator>(
     out: &mut Vec<u8, A>,
     octets: &[u8],
 ) -> Result<(), AllocError>
-    requires { length octets.now ≤ 32 }
-    ensures { AppendsText result out.old.items out.new.items (encode_lower octets.now) }
-{
-    let start = out.len();
-    out.extend_from_slice(&BLANK[..2 * octets.len()])?;
-    write_pairs(octets, &mut out.as_mut_slice()[start..]);
-    Ok(())
-}
-
-// Appends the octets behind the last block: they are written as one, which is cut off behind them.
-#[inline(always)]
-fn put_part_of_block<A: Allocator>(out: &mut Vec<u8, A>, octets: &[u8]) -> Result<(), AllocError>
     requires { length octets.now ≤ 32 }
     ensures { AppendsText result out.old.items out.new.items (encode_lower octets.now) }
 {
@@ -176,7 +137,7 @@ pub fn put_hexadecimal<A: Allocator>(out: &mut Vec<u8, A>, octets: &[u8]) -> Res
     if others.is_empty() {
         return Ok(());
     }
-    put_part_of_block(out, others)
+    put_short_hexadecimal(out, others)
 }
 
 /// Appends a number in four hexadecimal digits.

@@ -7,7 +7,7 @@ ghost use Rattle.text_core.specs.Pieces.{AppendsText, boolean_text, decimal_or_d
 ghost use Rattle.text_core.specs.SampledText.{time_or_dash};
 ghost use Rattle.text_core.specs.ValueText.{time_text};
 
-use crate::pieces::write_pairs;
+use crate::pieces::{BLOCK, block_digits};
 use itoa::write_digits;
 use mms_data::UtcTime;
 use std::alloc::{AllocError, Allocator};
@@ -100,9 +100,9 @@ impl ShortText {
         ensures text { self.new ≡ encode_lower octets.now ++ self.old }
         ensures size { length self.new ≡ length self.old + 2 * length octets.now }
     {
-        let end = self.start;
-        self.start = end - 2 * octets.len();
-        write_pairs(octets, &mut self.octets[self.start..end]);
+        let mut block = [0; BLOCK];
+        block[..octets.len()].copy_from_slice(octets);
+        self.put(&block_digits(&block)[..2 * octets.len()]);
     }
 
     /// Puts a number in four hexadecimal digits in front.

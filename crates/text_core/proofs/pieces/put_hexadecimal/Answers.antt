@@ -23,4 +23,4 @@ returns-then-is_empty g c =
 
 pub returns : goal.returns
 returns g c =
-    rest_appended c.put_part_of_block.result _ c.blocks-2.out.items c.put_part_of_block.new.out.items _ _ c.blocks-2.invariant.kept c.put_part_of_block.ensures c.blocks-2.invariant.so_far
+    rest_appended c.put_short_hexadecimal.result _ c.blocks-2.out.items c.put_short_hexadecimal.new.out.items _ _ c.blocks-2.invariant.kept c.put_short_hexadecimal.ensures c.blocks-2.invariant.so_far

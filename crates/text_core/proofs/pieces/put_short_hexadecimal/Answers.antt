@@ -1,6 +1,6 @@
 use Rattle.text_core.proofs.Fronts.{appended}
 use Rattle.text_core.proofs.HexPieces.{front_digits}
-use Rattle.text_core.proofs.pieces.put_part_of_block.Goals as goal
+use Rattle.text_core.proofs.pieces.put_short_hexadecimal.Goals as goal
 
 pub returns : goal.returns
 returns g c =
