@@ -1,18 +1,13 @@
 // Blocks that are given twice, found without memory: each block is compared with those before it, n (n - 1) / 2 times for n
 // blocks. So are the first few; of more blocks their names in order tell it, and this serves only where memory was refused.
 
-ghost use Rattle.std.specs.Prelude.{◌≡◌, ℕ, ◌<◌, ◌≤◌, [], None, IsTrue, ◌↔◌, IfSome, MatchOption, length};
+ghost use Rattle.std.specs.Prelude.{◌≡◌, ℕ, ◌*◌, ◌<◌, ◌≤◌, [], None, IsTrue, ◌↔◌, IfSome, MatchOption, length};
 ghost use Rattle.subscribe_core.specs.Apart.{HasNameOf, IsTwice, IsFirstTwice};
 ghost use Rattle.subscribe_core.specs.Faults.{IsFaultOf};
 
 use crate::fault::SubscribeFault;
 use block_core::Block;
 use std::alloc::{AllocError, Allocator};
-
-// So many blocks are compared sooner than their names are put in order; and of very many so many that all pairs of them take
-// about as long as putting all names in order, so that one which is given twice early is told before work grows with those
-// behind it.
-const FEW: usize = 64;
 
 // Whether two blocks have one name.
 fn have_one_name<A: Allocator>(a: &Block<A>, b: &Block<A>) -> bool
@@ -48,15 +43,16 @@ fn first_twice<A: Allocator>(blocks: &[Block<A>], count: usize) -> Option<usize>
     None
 }
 
-// The first block that has the name of an earlier one, if it is among the first few.
+// The first block that has the name of an earlier one, if it is among the first few: all of at most 64, and of more eight times
+// the root of their count, all pairs of which take about as long as putting all names in order. So one that is given twice early
+// is told before work grows with those behind it.
 pub(crate) fn first_twice_of_few<A: Allocator>(blocks: &[Block<A>]) -> Option<usize>
     ensures found { IfSome result (λ i. IsFirstTwice blocks.now i) }
-    ensures none { result ≡ None → (i : ℕ) → i < length blocks.now → i < 64 → ¬ IsTwice blocks.now i }
+    ensures none { result ≡ None → (i : ℕ) → i < length blocks.now → i * i < 64 * length blocks.now → ¬ IsTwice blocks.now i }
 {
     let count = blocks.len();
-    // Between four and eight times the root of the count.
-    let several = 8_usize << (count.max(1).ilog2() / 2);
-    first_twice(blocks, count.min(FEW.max(several)))
+    let few = 8 * (count.isqrt() + 1);
+    first_twice(blocks, count.min(few))
 }
 
 // Why there is no subscriber of these blocks where memory was refused: a block that is given twice comes first.
