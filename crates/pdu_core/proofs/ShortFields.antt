@@ -1,5 +1,5 @@
 -- Short fields. Of three octets: an identifier, a length of 1, and one octet of contents.
-use Rattle.std.proofs.Common.{◌≡◌, ℕ, suc, ℤ, pos, ◌+◌, ◌*◌, ◌%◌, ◌<◌, ◌≤◌, Bool, true, false, eqb, List, [], ◌∷◌, ◌++◌, length, drop, Ok, Some, refl, sym, ap, subst, ◌∙◌, arith, inl}
+use Rattle.std.proofs.Common.{◌≡◌, ℕ, suc, ℤ, pos, ◌+◌, ◌*◌, ◌%◌, ◌<◌, ◌≤◌, Bool, true, false, eqb, List, [], ◌∷◌, ◌++◌, length, drop, get_or, Ok, Some, refl, sym, ap, subst, ◌∙◌, arith, inl}
 use Rattle.std.proofs.lemmas.Bool.{eqb-true}
 use Rattle.std.specs.Prelude.{◌≢◌, slice_index, slice_range}
 use Rattle.ber_core.specs.Element.{IsIdentifier}
@@ -72,6 +72,13 @@ pair_spells : (a b : ℕ) → a < 128 → b < 256 → SpellsContents a_kind_of_n
 pair_spells a b small octet =
     let same : number (a ∷ b ∷ []) ≡ a * 256 + b = omega arith in
     (omega (arith, ints), omega (arith, ints), (omega arith, omega arith, twos_low 2 (number (a ∷ b ∷ [])) (omega (arith, same)) ∙ ap pos same))
+
+-- two octets, one by one
+pub pair_of : (c : List ℕ) → length c ≡ 2 → c ≡ get_or c 0 0 ∷ get_or c 1 0 ∷ []
+pair_of [] e = absurd (omega (arith, e))
+pair_of (a ∷ []) e = absurd (omega (arith, e))
+pair_of (a ∷ b ∷ []) e = refl
+pair_of (a ∷ b ∷ x ∷ xs) e = absurd (omega (arith, e))
 
 module _ (octets : List ℕ) (at end id a b : ℕ) (ordered : at ≤ end) (inside : end ≤ length octets) (low : IsIdentifier id) (next : at + 4 ≤ end) (there : slice_range octets at (at + 4) ≡ id ∷ 2 ∷ a ∷ b ∷ []) where
   pub pair_read : a < 128 → AreOctets octets → field_as item_at id a_kind_of_number always octets at end ≡ Ok (Some (a_number (a * 256 + b)), at + 4)

@@ -110,19 +110,28 @@ fn one_octet(octets: &[u8], at: usize, end: usize, identifier: u8) -> Option<u8>
     }
 }
 
-// The two octets of contents of the element of this identifier at `at`, where that has four octets.
+// The contents of the element of this identifier at `at`, where there are so many and one octet spells their count.
 #[inline(always)]
-fn two_octets(octets: &[u8], at: usize, end: usize, identifier: u8) -> Option<(u8, u8)>
+pub(crate) fn contents_there<'a, const N: usize>(
+    octets: &'a [u8],
+    at: usize,
+    end: usize,
+    identifier: u8,
+) -> Option<&'a [u8]>
     requires ordered { at ≤ end }
     requires inside { end ≤ length octets.now }
-    ensures next { IfSome result (λ _. at + 4 ≤ end) }
-    ensures there { IfSome result (λ n. slice_range octets.now at (at + 4) ≡ identifier ∷ 2 ∷ n.0 ∷ n.1 ∷ []) }
+    requires few { N < 128 }
+    ensures next { IfSome result (λ _. at + 2 + N ≤ end) }
+    ensures size { IfSome result (λ c. length c.now ≡ N) }
+    ensures there { IfSome result (λ c. slice_range octets.now at (at + 2 + N) ≡ identifier ∷ N ∷ c.now) }
 {
-    if end - at < 4 {
+    if end - at < 2 + N {
         return None;
     }
-    match &octets[at..at + 4] {
-        [first, 2, high, low] if *first == identifier => Some((*high, *low)),
+    match &octets[at..at + 2 + N] {
+        [first, size, contents @ ..] if *first == identifier && *size as usize == N => {
+            Some(contents)
+        }
         _ => None,
     }
 }
@@ -165,10 +174,10 @@ fn longer_number_field(
     ensures next { IfOk result (λ x. (at ≤ x.1) × (x.1 ≤ end)) }
     ensures stands { IfOk result (λ x. x.2 ≡ true → (written ≡ true) × (slice_range octets.now at x.1 ≡ written_field identifier (Some (a_number x.0)))) }
 {
-    match two_octets(octets, at, end, identifier) {
-        Some((high @ 0..=0x7f, low)) => {
-            let short = is_short(&[high, low]);
-            Ok((number_of(high, low), at + 4, written & short))
+    match contents_there::<2>(octets, at, end, identifier) {
+        Some([high @ 0..=0x7f, low]) => {
+            let short = is_short(&[*high, *low]);
+            Ok((number_of(*high, *low), at + 4, written & short))
         }
         _ => any_number_field(octets, at, end, identifier, written),
     }

@@ -1,7 +1,7 @@
 // The fields of an ASDU that GOOSE has no like of, kind by kind: the value of each, the place behind it, and what is known
 // of their written form. Inlined as those of a GOOSE APDU are.
 
-ghost use Rattle.std.specs.Prelude.{◌≡◌, ◌<◌, ◌≤◌, ◌+◌, ◌∷◌, length, slice_range, true, IfOk, IfSome, Some};
+ghost use Rattle.std.specs.Prelude.{◌≡◌, ◌<◌, ◌≤◌, length, slice_range, true, IfOk, Some};
 ghost use Rattle.ber_core.specs.Element.{IsIdentifier, contents_of};
 ghost use Rattle.ber_core.specs.computed.FieldReading.{field_as};
 ghost use Rattle.ber_core.specs.Fields.{always, optional};
@@ -13,6 +13,7 @@ ghost use Rattle.pdu_core.specs.computed.ContentsReading.{few_at, fixed_in, item
 ghost use Rattle.pdu_core.specs.Views.{octets_if, IsPartIf};
 ghost use Rattle.pdu_core.specs.Written.{written_field};
 
+use crate::fields::contents_there;
 use ber_core::contents::counted;
 use ber_core::fields::{required, there};
 use ber_core::{Cause, Fault, Header};
@@ -74,33 +75,7 @@ fn few_octets<'a>(octets: &'a [u8], header: &Header) -> Result<&'a [u8], Fault>
     }
 }
 
-// The contents of the element of this identifier at `at`, where there are so many and one octet spells their count.
-#[inline(always)]
-fn contents_there<'a, const N: usize>(
-    octets: &'a [u8],
-    at: usize,
-    end: usize,
-    identifier: u8,
-) -> Option<&'a [u8]>
-    requires ordered { at ≤ end }
-    requires inside { end ≤ length octets.now }
-    requires few { N < 128 }
-    ensures next { IfSome result (λ _. at + 2 + N ≤ end) }
-    ensures size { IfSome result (λ c. length c.now ≡ N) }
-    ensures there { IfSome result (λ c. slice_range octets.now at (at + 2 + N) ≡ identifier ∷ N ∷ c.now) }
-{
-    if end - at < 2 + N {
-        return None;
-    }
-    match &octets[at..at + 2 + N] {
-        [first, size, contents @ ..] if *first == identifier && *size as usize == N => {
-            Some(contents)
-        }
-        _ => None,
-    }
-}
-
-/// A number of two octets that is always there. One of a length of one octet, as all devices send it, is read at once.
+/// A number of two octets that is always there. One of a length of one octet, as is usual, is read at once.
 #[inline(always)]
 pub fn two_octets_field(
     octets: &[u8],
@@ -118,29 +93,13 @@ pub fn two_octets_field(
 {
     match contents_there::<2>(octets, at, end, identifier) {
         Some(contents) => Ok((BigEndian::read_u16(contents), at + 4, written)),
-        None => any_two_octets_field(octets, at, end, identifier, written),
+        None => {
+            let header = required(octets, at, end, identifier)?;
+            let number = two_octets(octets, &header)?;
+            let written = written & has_short_length(&header);
+            Ok((number, header.contents_to, written))
+        }
     }
-}
-
-// The same whatever spells its length.
-#[inline(always)]
-fn any_two_octets_field(
-    octets: &[u8],
-    at: usize,
-    end: usize,
-    identifier: u8,
-    written: bool,
-) -> Result<(u16, usize, bool), Fault>
-    requires ordered { at ≤ end }
-    requires inside { end ≤ length octets.now }
-    ensures exact { Gives (λ x. (Some (a_fixed 2 x.0), x.1)) result (field_as item_at identifier (fixed 2) always octets.now at end) }
-    ensures next { IfOk result (λ x. (at ≤ x.1) × (x.1 ≤ end)) }
-    ensures stands { IfOk result (λ x. x.2 ≡ true → (written ≡ true) × (slice_range octets.now at x.1 ≡ written_field identifier (Some (a_fixed 2 x.0)))) }
-{
-    let header = required(octets, at, end, identifier)?;
-    let number = two_octets(octets, &header)?;
-    let written = written & has_short_length(&header);
-    Ok((number, header.contents_to, written))
 }
 
 /// A number of two octets that may be absent.
@@ -168,7 +127,7 @@ pub fn two_octets_if_there(
     }
 }
 
-/// A number of four octets that is always there. One of a length of one octet, as all devices send it, is read at once.
+/// A number of four octets that is always there. One of a length of one octet, as is usual, is read at once.
 #[inline(always)]
 pub fn four_octets_field(
     octets: &[u8],
@@ -186,32 +145,16 @@ pub fn four_octets_field(
 {
     match contents_there::<4>(octets, at, end, identifier) {
         Some(contents) => Ok((BigEndian::read_u32(contents), at + 6, written)),
-        None => any_four_octets_field(octets, at, end, identifier, written),
+        None => {
+            let header = required(octets, at, end, identifier)?;
+            let number = four_octets(octets, &header)?;
+            let written = written & has_short_length(&header);
+            Ok((number, header.contents_to, written))
+        }
     }
 }
 
-// The same whatever spells its length.
-#[inline(always)]
-fn any_four_octets_field(
-    octets: &[u8],
-    at: usize,
-    end: usize,
-    identifier: u8,
-    written: bool,
-) -> Result<(u32, usize, bool), Fault>
-    requires ordered { at ≤ end }
-    requires inside { end ≤ length octets.now }
-    ensures exact { Gives (λ x. (Some (a_fixed 4 x.0), x.1)) result (field_as item_at identifier (fixed 4) always octets.now at end) }
-    ensures next { IfOk result (λ x. (at ≤ x.1) × (x.1 ≤ end)) }
-    ensures stands { IfOk result (λ x. x.2 ≡ true → (written ≡ true) × (slice_range octets.now at x.1 ≡ written_field identifier (Some (a_fixed 4 x.0)))) }
-{
-    let header = required(octets, at, end, identifier)?;
-    let number = four_octets(octets, &header)?;
-    let written = written & has_short_length(&header);
-    Ok((number, header.contents_to, written))
-}
-
-/// A number of one octet that is always there. One of a length of one octet, as all devices send it, is read at once.
+/// A number of one octet that is always there. One of a length of one octet, as is usual, is read at once.
 #[inline(always)]
 pub fn one_octet_field(
     octets: &[u8],
@@ -229,29 +172,13 @@ pub fn one_octet_field(
 {
     match contents_there::<1>(octets, at, end, identifier) {
         Some(contents) => Ok((contents[0], at + 3, written)),
-        None => any_one_octet_field(octets, at, end, identifier, written),
+        None => {
+            let header = required(octets, at, end, identifier)?;
+            let number = one_octet(octets, &header)?;
+            let written = written & has_short_length(&header);
+            Ok((number, header.contents_to, written))
+        }
     }
-}
-
-// The same whatever spells its length.
-#[inline(always)]
-fn any_one_octet_field(
-    octets: &[u8],
-    at: usize,
-    end: usize,
-    identifier: u8,
-    written: bool,
-) -> Result<(u8, usize, bool), Fault>
-    requires ordered { at ≤ end }
-    requires inside { end ≤ length octets.now }
-    ensures exact { Gives (λ x. (Some (a_fixed 1 x.0), x.1)) result (field_as item_at identifier (fixed 1) always octets.now at end) }
-    ensures next { IfOk result (λ x. (at ≤ x.1) × (x.1 ≤ end)) }
-    ensures stands { IfOk result (λ x. x.2 ≡ true → (written ≡ true) × (slice_range octets.now at x.1 ≡ written_field identifier (Some (a_fixed 1 x.0)))) }
-{
-    let header = required(octets, at, end, identifier)?;
-    let number = one_octet(octets, &header)?;
-    let written = written & has_short_length(&header);
-    Ok((number, header.contents_to, written))
 }
 
 /// A time that may be absent.

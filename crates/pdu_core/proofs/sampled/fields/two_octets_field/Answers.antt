@@ -1,5 +1,10 @@
-use Rattle.std.proofs.Common.{◌+◌, sym, arith, rules}
+use Rattle.std.proofs.Common.{rules, sym, ◌+◌, arith}
+use Rattle.byteorder.specs.Endian.{big_bytes}
+use Rattle.ber_core.specs.Element.{contents_of}
 use Rattle.ber_core.specs.Length.{AreOctets}
+use Rattle.mms_data.proofs.AsWritten.{slice_octets}
+use Rattle.pdu_core.proofs.Items.{fixed_found}
+use Rattle.pdu_core.proofs.Standing.{field_stands, fixed_one}
 use Rattle.pdu_core.proofs.ShortFields.{fixed_read, fixed_stands}
 use Rattle.pdu_core.proofs.sampled.fields.two_octets_field.Goals as goal
 
@@ -15,3 +20,13 @@ returns-in-Some-clause-stands c = λ told.
     let r = c.requires in
     let octets : AreOctets c.args.octets.now = λ i. search rules in
     (told, fixed_stands c.args.octets.now c.args.at c.args.end c.args.identifier 2 s.contents.now c.read_u16.result r.ordered r.inside r.identifier (omega arith) s.ensures.size (sym c.read_u16.ensures) s.ensures.next s.ensures.there (c.args.at + 4) (omega arith) octets)
+
+pub returns-in_ok-number-in-None-clause-stands : goal.returns-in_ok-number-in-None-clause-stands
+returns-in_ok-number-in-None-clause-stands c =
+    let o = c.args.octets.now in
+    let small : AreOctets o = λ i. search rules in
+    let e = c.in_ok-header-in-None.ensures in
+    let h = c.in_ok-header-in-None.header in
+    let n = c.in_ok-number-in-None.number in
+    let same = fixed_one 2 n (contents_of o h) (slice_octets o h.contents_from h.contents_to small) (fixed_found 2 o h n (sym c.in_ok-number-in-None.ensures)) in
+    field_stands o c.args.at c.args.end c.args.identifier h (big_bytes 2 n) small c.requires.inside e.found e.places c.args.written c.has_short_length.result c.has_short_length.ensures same
