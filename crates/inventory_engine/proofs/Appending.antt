@@ -21,10 +21,11 @@ use Rattle.inventory_engine.specs.Sightings.{Sighting, key_of, sightings_in, sig
 use Rattle.inventory_engine.specs.BlocksText.{changed_word, first_word, line_after, sighting_line}
 use Rattle.inventory_engine.specs.computed.BlocksStep.{Keeps, AppendsLines, HasLines, blocks_text, lines_by, newest, written_of}
 use Rattle.inventory_engine.specs.computed.KnownTexts.{InOrder, IsAt, IsGap, known_key, known_text, same_key, text_by}
-use Rattle.inventory_engine.specs.computed.Runs.{NoneEmpty, PutsOne, WritesText, held, in_runs, position_of}
+use Rattle.inventory_engine.specs.computed.Runs.{AreRuns, NoneEmpty, PutsOne, WritesText, held, in_runs, position_of}
 use Rattle.std.specs.declared.vec.Vec.{Vec}
 use Rattle.inventory_engine.proofs.KnownLemmas.{Updates, absent, none_at_gap, none_before, order_insert, order_set, present, updates_insert, updates_same, updates_set}
 use Rattle.inventory_engine.proofs.Newest.{newest-push}
+use Rattle.inventory_engine.proofs.RunLemmas.{none_empty}
 
 concat-append : (xs ys : List (List ℕ)) → concat (xs ++ ys) ≡ concat xs ++ concat ys
 concat-append [] ys = refl
@@ -69,6 +70,10 @@ pub on_success : {T E : Type 0} (r : Result T E) (P Q : Type 0) → (P → Q) �
 on_success (Ok t) P Q f p = f p
 on_success (Err e) P Q f p = p
 
+pub on_failure : {T E : Type 0} (r : Result T E) (P Q : Type 0) → (P → Q) → OnErr r P → OnErr r Q
+on_failure (Ok t) P Q f p = p
+on_failure (Err e) P Q f p = f p
+
 -- the same of sightings that are these by an equation
 pub appends_as : {A T E : Type 0} (r : Result T E) (n : ℕ) (xs ys : List Sighting) (a b : Inventory A) (o m : List ℕ) → xs ≡ ys → OnOk r (AppendsLines n xs a b o m) → OnOk r (AppendsLines n ys a b o m)
 appends_as r n xs ys a b o m e h = subst (λ (l : List Sighting). OnOk r (AppendsLines n l a b o m)) e h
@@ -91,9 +96,9 @@ module _ {A : Type 0} (n : ℕ) (s : Sighting) (known : Inventory A) where
   newest_gap : (e : List Sighting) (at : ℕ) → Keeps known e → IsGap (held known) (key_of s) at → newest e (key_of s) ≡ None
   newest_gap e at k gap = sym (k.same (key_of s)) ∙ absent known_key known_text (held known) (key_of s) (none_at_gap (held known) k.order (key_of s) at gap)
 
-  keeps_on : (e : List Sighting) (after : Inventory A) → Keeps known e → NoneEmpty after.runs.items → InOrder (held after) → Updates known_key known_text (held known) (held after) (key_of s) s.text → Keeps after (e ++ s ∷ [])
+  keeps_on : (e : List Sighting) (after : Inventory A) → Keeps known e → AreRuns after.runs.items → InOrder (held after) → Updates known_key known_text (held known) (held after) (key_of s) s.text → Keeps after (e ++ s ∷ [])
   keeps_on e after k some order up = record {
-    none_empty = some;
+    runs = some;
     order = order;
     same = λ q. up q ∙ ap (λ (o : Option (List ℕ)). if same_key (key_of s) q then Some s.text else o) (k.same q) ∙ sym (newest-push e s q);
   }
@@ -109,7 +114,7 @@ module _ {A : Type 0} (n : ℕ) (s : Sighting) (known : Inventory A) where
       let there = newest_at e at d k is in
       let none : written_of n e (s ∷ []) ≡ [] = written_of_one e ∙ ap (line_after n s) there ∙ line_same _ it_is in (
         sym (append-nil old) ∙ ap (λ (l : List ℕ). old ++ l) (sym none),
-        keeps_on e known k k.none_empty k.order (updates_same known_key known_text (held known) (key_of s) s.text (k.same (key_of s) ∙ there ∙ ap Some same)),
+        keeps_on e known k k.runs k.order (updates_same known_key known_text (held known) (key_of s) s.text (k.same (key_of s) ∙ there ∙ ap Some same)),
       )
 
   line_other : (t : List ℕ) → bytes_eq t s.text ≡ false → line_after n s (Some t) ≡ sighting_line n (changed_word s.app_id) s.text
@@ -124,7 +129,7 @@ module _ {A : Type 0} (n : ℕ) (s : Sighting) (known : Inventory A) where
       let same : known_key y ≡ key_of s = writes.same_key y ∙ is.has y in
       let one : written_of n e (s ∷ []) ≡ sighting_line n (changed_word s.app_id) s.text = written_of_one e ∙ ap (line_after n s) (newest_at e at y k is) ∙ line_other _ (differs y) in (
         wrote ∙ ap (λ (l : List ℕ). old ++ l) (sym one),
-        keeps_on e after k (writes.none_empty k.none_empty)
+        keeps_on e after k (writes.runs k.runs)
             (subst (λ (l : List (Known A)). InOrder l) (sym writes.written) (order_set (held known) k.order (key_of s) at is y same))
             (subst (λ (l : List (Known A)). Updates known_key known_text (held known) l (key_of s) s.text) (sym writes.written)
             (subst (λ (t : List ℕ). Updates known_key known_text (held known) (set (held known) at y) (key_of s) t) writes.has_text
@@ -136,10 +141,10 @@ module _ {A : Type 0} (n : ℕ) (s : Sighting) (known : Inventory A) where
       → known_key y ≡ key_of s → known_text y ≡ s.text → PutsOne known after place y → new ≡ old ++ sighting_line n (first_word s.app_id) s.text → AppendsLines n (s ∷ []) known after old new
   said_first place y after old new gap same text puts wrote = λ e k.
       let at = position_of known place in
-      let g = gap k.none_empty k.order in
+      let g = gap (none_empty k.runs) k.order in
       let one : written_of n e (s ∷ []) ≡ sighting_line n (first_word s.app_id) s.text = written_of_one e ∙ ap (line_after n s) (newest_gap e at k g) in (
         wrote ∙ ap (λ (l : List ℕ). old ++ l) (sym one),
-        keeps_on e after k (puts.none_empty k.none_empty)
+        keeps_on e after k (puts.runs k.runs)
             (subst (λ (l : List (Known A)). InOrder l) (sym puts.put) (order_insert (held known) k.order (key_of s) at g y same))
             (subst (λ (l : List (Known A)). Updates known_key known_text (held known) l (key_of s) s.text) (sym puts.put)
             (subst (λ (t : List ℕ). Updates known_key known_text (held known) (insert (held known) at y) (key_of s) t) text
@@ -154,7 +159,7 @@ module _ {A : Type 0} (n : ℕ) (s : Sighting) (known : Inventory A) where
   wanted_changed at d is differs = λ e k none. ends _ (sym (written_of_one e ∙ ap (line_after n s) (newest_at e at d k is) ∙ line_other _ differs) ∙ none)
 
   pub wanted_first : (at : ℕ) → (NoneEmpty known.runs.items → InOrder (held known) → IsGap (held known) (key_of s) at) → HasLines n (s ∷ []) known
-  wanted_first at gap = λ e k none. ends _ (sym (written_of_one e ∙ ap (line_after n s) (newest_gap e at k (gap k.none_empty k.order))) ∙ none)
+  wanted_first at gap = λ e k none. ends _ (sym (written_of_one e ∙ ap (line_after n s) (newest_gap e at k (gap (none_empty k.runs) k.order))) ∙ none)
 
 map-push : {X Y : Type 0} (f : X → Y) (xs : List X) (x : X) → map f (xs ++ x ∷ []) ≡ map f xs ++ f x ∷ []
 map-push f xs x = map-append f xs (x ∷ [])
@@ -208,7 +213,10 @@ takes_event n before event known after old new wrote k =
 -- nothing is held at first
 pub keeps_none : {A : Type 0} (known : Inventory A) → known.runs.items ≡ [] → Keeps known []
 keeps_none {A} known none = record {
-  none_empty = subst (λ (runs : List (Vec (Known A) A)). NoneEmpty runs) (sym none) (λ i d within. absurd (none_below within));
+  runs = subst (λ (runs : List (Vec (Known A) A)). AreRuns runs) (sym none) (record {
+    each = λ i d within. absurd (none_below within);
+    many = λ i d within. absurd (none_below within);
+  });
   order = subst (λ (runs : List (Vec (Known A) A)). InOrder (in_runs runs)) (sym none) (λ i j d lt within. absurd (none_below within));
   same = λ key. ap (λ (runs : List (Vec (Known A) A)). text_by known_key known_text (in_runs runs) key) none;
 }

@@ -1,5 +1,5 @@
 -- Entries in runs: what is held when one run changes or is cut, and what a search in one run tells of all.
-use Rattle.std.proofs.Common.{◌≡◌, ℕ, zero, suc, ◌+◌, ◌-◌, ◌<◌, ◌≤◌, true, false, List, [], ◌∷◌, ◌++◌, length, take, drop, get_or, set, ap, sym, ◌∙◌, refl, subst, arith, inl, inr, append_assoc, zero-add, add-one, drop-cons}
+use Rattle.std.proofs.Common.{◌≡◌, ℕ, zero, suc, ◌+◌, ◌-◌, ◌<◌, ◌≤◌, true, false, List, [], ◌∷◌, ◌++◌, length, take, drop, get_or, set, ap, sym, ◌∙◌, refl, subst, arith, inl, inr, append_assoc, zero-add, add-one, drop-cons, vec_capacity}
 use Rattle.std.specs.List.{flat_map, insert}
 use Rattle.std.specs.Ordering.{is_gt, ordering_reverse}
 use Rattle.std.specs.declared.cmp.Ordering.{Ordering}
@@ -14,7 +14,7 @@ use Rattle.inventory_engine.specs.declared.inventory.Place.{Place}
 use Rattle.inventory_engine.specs.declared.known.Known.{Known}
 use Rattle.inventory_engine.specs.Sightings.{Key}
 use Rattle.inventory_engine.specs.computed.KnownTexts.{InOrder, IsAt, IsGap, key_cmp, known_key}
-use Rattle.inventory_engine.specs.computed.Runs.{IsRunOf, MovesPlace, NoneEmpty, begins_behind, held, in_run, in_runs}
+use Rattle.inventory_engine.specs.computed.Runs.{AreRuns, IsRun, IsRunOf, MovesPlace, NoneEmpty, begins_behind, held, in_run, in_runs}
 use Rattle.inventory_engine.proofs.KeyLemmas.{key_total, stand_as, turned}
 use Rattle.std.proofs.lemmas.Cmp.{alike_right}
 
@@ -38,6 +38,12 @@ module _ {X Y : Type 0} (f : Y → List X) where
       ap (λ (l : List X). f z ++ l) (written ys i at d y x (omega arith) within is)
       ∙ ap (λ (m : ℕ). f z ++ set (flat_map f ys) m x) (sym left)
       ∙ sym (set-append_right (f z) (flat_map f ys) (length (f z)) (length (f z ++ flat_map f (take i ys)) + at) x refl (omega arith))
+
+  -- a run whose entries stay
+  pub same_in : (ys : List Y) (i : ℕ) (d y : Y) → f y ≡ f (get_or ys i d) → flat_map f (set ys i y) ≡ flat_map f ys
+  same_in [] i d y is = refl
+  same_in (z ∷ ys) zero d y is = ap (λ (l : List X). l ++ flat_map f ys) is
+  same_in (z ∷ ys) (suc i) d y is = ap (λ (l : List X). f z ++ l) (same_in ys i d y is)
 
   -- one more in a run
   pub put_in : (ys : List Y) (i at : ℕ) (d y : Y) (x : X) → i < length ys → at ≤ length (f (get_or ys i d)) → f y ≡ insert (f (get_or ys i d)) at x
@@ -107,6 +113,74 @@ module _ {Y : Type 0} where
   each_push P [] a p each (suc j) d lt = absurd (omega arith)
   each_push P (z ∷ ys) a p each zero d lt = each zero d (omega arith)
   each_push P (z ∷ ys) a p each (suc j) d lt = each_push P ys a p (λ k e within. each (suc k) e (omega arith)) j d (omega arith)
+
+  -- what holds of each but the last
+  pub many_set : (P : Y → Type 0) (ys : List Y) (i : ℕ) (a : Y) → ((d : Y) → P (get_or ys i d) → P a) → ((j : ℕ) (d : Y) → suc j < length ys → P (get_or ys j d)) → (j : ℕ) (d : Y) → suc j < length (set ys i a) → P (get_or (set ys i a) j d)
+  many_set P [] i a p many j d lt = many j d lt
+  many_set P (z ∷ ys) zero a p many zero d lt = p d (many zero d lt)
+  many_set P (z ∷ ys) zero a p many (suc j) d lt = many (suc j) d lt
+  many_set P (z ∷ ys) (suc i) a p many zero d lt = let size : length (set ys i a) ≡ length ys = length-set ys i a in many zero d (omega arith)
+  many_set P (z ∷ ys) (suc i) a p many (suc j) d lt = many_set P ys i a p (λ k e within. many (suc k) e (omega arith)) j d (omega arith)
+
+  pub many_cut : (P : Y → Type 0) (ys : List Y) (i : ℕ) (a b : Y) → i < length ys → P a → P b → ((j : ℕ) (d : Y) → suc j < length ys → P (get_or ys j d)) → (j : ℕ) (d : Y) → suc j < length (insert (set ys i a) (suc i) b) → P (get_or (insert (set ys i a) (suc i) b) j d)
+  many_cut P [] i a b in_it p q many j d lt = absurd (omega arith)
+  many_cut P (z ∷ ys) zero a b in_it p q many zero d lt = p
+  many_cut P (z ∷ ys) zero a b in_it p q many (suc zero) d lt = q
+  many_cut P (z ∷ ys) zero a b in_it p q many (suc (suc j)) d lt = many (suc j) d (omega arith)
+  many_cut P (z ∷ ys) (suc i) a b in_it p q many zero d lt = many zero d (omega arith)
+  many_cut P (z ∷ ys) (suc i) a b in_it p q many (suc j) d lt = many_cut P ys i a b (omega arith) p q (λ k e within. many (suc k) e (omega arith)) j d (omega arith)
+
+  pub many_push : (P : Y → Type 0) (ys : List Y) (a : Y) → ((j : ℕ) (d : Y) → suc j ≡ length ys → P (get_or ys j d)) → ((j : ℕ) (d : Y) → suc j < length ys → P (get_or ys j d)) → (j : ℕ) (d : Y) → suc j < length (ys ++ a ∷ []) → P (get_or (ys ++ a ∷ []) j d)
+  many_push P [] a last many j d lt = absurd (omega arith)
+  many_push P (z ∷ []) a last many zero d lt = last zero d refl
+  many_push P (z ∷ []) a last many (suc j) d lt = absurd (omega arith)
+  many_push P (z ∷ y ∷ ys) a last many zero d lt = many zero d (omega arith)
+  many_push P (z ∷ y ∷ ys) a last many (suc j) d lt = many_push P (y ∷ ys) a (λ k e is. last (suc k) e (omega arith)) (λ k e within. many (suc k) e (omega arith)) j d (omega arith)
+
+take_fits : {Y : Type 0} (n : ℕ) (ys : List Y) → length (take n ys) ≤ length ys
+take_fits zero ys = omega arith
+take_fits (suc n) [] = omega arith
+take_fits (suc n) (y ∷ ys) = let le : length (take n ys) ≤ length ys = take_fits n ys in omega arith
+
+-- a part from a place on is no longer than what is from there on
+pub part_fits : {Y : Type 0} (n from : ℕ) (ys : List Y) → length (take n (drop from ys)) ≤ length ys - from
+part_fits n from ys =
+    let le : length (take n (drop from ys)) ≤ length (drop from ys) = take_fits n (drop from ys) in
+    let size : length (drop from ys) ≡ length ys - from = length-drop from ys in
+    omega arith
+
+module _ {A : Type 0} where
+  -- a run has 32 entries or more
+  abbrev pub HasMany : Vec (Known A) A → Type 0
+  HasMany run = 32 ≤ length (in_run run)
+
+  pub none_empty : {runs : List (Vec (Known A) A)} → AreRuns runs → NoneEmpty runs
+  none_empty are i d lt = (are.each i d lt).some
+
+  many_of : (runs : List (Vec (Known A) A)) → AreRuns runs → (j : ℕ) (d : Vec (Known A) A) → suc j < length runs → HasMany (get_or runs j d)
+  many_of runs are j d lt = are.many j d (omega arith)
+
+  -- runs of which one has another entry, or one more
+  runs_set : (runs : List (Vec (Known A) A)) (i : ℕ) (after : Vec (Known A) A) → ((d : Vec (Known A) A) → length (in_run (get_or runs i d)) ≤ length (in_run after)) → IsRun after → AreRuns runs → AreRuns (set runs i after)
+  runs_set runs i after more is are = record {
+    each = each_set (λ (v : Vec (Known A) A). IsRun v) runs i after is are.each;
+    many = λ j d lt. many_set HasMany runs i after (λ e has. grown (get_or runs i e) (more e) has) (many_of runs are) j d (omega arith);
+  }
+    where
+      grown : (before : Vec (Known A) A) → length (in_run before) ≤ length (in_run after) → HasMany before → HasMany after
+      grown before le has = omega arith
+
+  runs_cut : (runs : List (Vec (Known A) A)) (i : ℕ) (a b : Vec (Known A) A) → i < length runs → IsRun a → IsRun b → HasMany a → HasMany b → AreRuns runs → AreRuns (insert (set runs i a) (suc i) b)
+  runs_cut runs i a b within is_a is_b many_a many_b are = record {
+    each = each_cut (λ (v : Vec (Known A) A). IsRun v) runs i a b within is_a is_b are.each;
+    many = λ j d lt. many_cut HasMany runs i a b within many_a many_b (many_of runs are) j d (omega arith);
+  }
+
+  runs_push : (runs : List (Vec (Known A) A)) (a : Vec (Known A) A) → IsRun a → ((j : ℕ) (d : Vec (Known A) A) → suc j ≡ length runs → HasMany (get_or runs j d)) → AreRuns runs → AreRuns (runs ++ a ∷ [])
+  runs_push runs a is last are = record {
+    each = each_push (λ (v : Vec (Known A) A). IsRun v) runs a is are.each;
+    many = λ j d lt. many_push HasMany runs a last (many_of runs are) j d (omega arith);
+  }
 
 less_then : (x y z : Key) (o : Ordering) → key_cmp x y ≡ Less → o ≡ key_cmp y z → is_gt o ≡ false → key_cmp x z ≡ Less
 less_then x y z Less less e other = key_total.trans x y z less (sym e)
@@ -241,41 +315,53 @@ module _ {A : Type 0} (runs : List (Vec (Known A) A)) (r : ℕ) (run : Vec (Know
       get_or-flat_map in_run runs r at run d within lt ∙ ap (λ (v : Vec (Known A) A). get_or (in_run v) at d) (sym is)
       ∙ get_or_default (in_run run) at d one (subst (λ (v : Vec (Known A) A). at < length (in_run v)) (sym is) lt) ∙ sym there
 
+  -- the run was one so
+  before : AreRuns runs → IsRun run
+  before are = subst (λ (v : Vec (Known A) A). IsRun v) (sym is) (are.each r run within)
+
+  -- a run that has no fewer entries than this one, and no more room beside them
+  longer : (after : Vec (Known A) A) → length (in_run run) ≤ length (in_run after) → (d : Vec (Known A) A) → length (in_run (get_or runs r d)) ≤ length (in_run after)
+  longer after le d = subst (λ (v : Vec (Known A) A). length (in_run v) ≤ length (in_run after)) (is ∙ get_or_default runs r run d within) le
+
+  roomy : (after : Vec (Known A) A) → IsRun run → vec_capacity after ≤ vec_capacity run → length (in_run run) ≤ length (in_run after) → vec_capacity after ≤ length (in_run after) + 8
+  roomy after was le more = let had : vec_capacity run ≤ length (in_run run) + 8 = was.room in omega arith
+
   -- another in its place
-  pub one_written : (at : ℕ) (after : Vec (Known A) A) (one : Known A) → at < length (in_run (get_or runs r run)) → in_run after ≡ set (in_run run) at one
-      → (in_runs (set runs r after) ≡ set (in_runs runs) (length (in_runs (take r runs)) + at) one) × (NoneEmpty runs → NoneEmpty (set runs r after))
-  one_written at after one lt same =
+  pub one_written : (at : ℕ) (after : Vec (Known A) A) (one : Known A) → at < length (in_run (get_or runs r run)) → in_run after ≡ set (in_run run) at one → vec_capacity after ≡ vec_capacity run
+      → (in_runs (set runs r after) ≡ set (in_runs runs) (length (in_runs (take r runs)) + at) one) × (AreRuns runs → AreRuns (set runs r after))
+  one_written at after one lt same room =
       let lt_here : at < length (in_run run) = subst (λ (v : Vec (Known A) A). at < length (in_run v)) (sym is) lt in
-      let size : length (in_run after) ≡ length (in_run run) = ap length same ∙ length-set (in_run run) at one in
-      let some : 0 < length (in_run after) = omega arith in (
+      let size : length (in_run after) ≡ length (in_run run) = ap length same ∙ length-set (in_run run) at one in (
         written in_run runs r at run after one within lt (same ∙ ap (λ (v : Vec (Known A) A). set (in_run v) at one) is),
-        λ none_empty. each_set (λ (v : Vec (Known A) A). 0 < length (in_run v)) runs r after some none_empty,
+        λ are. runs_set runs r after (longer after (omega arith)) (record { some = omega arith; room = roomy after (before are) (omega arith) (omega arith) }) are,
       )
 
+  -- the entries of a run stay, and the room for them is another
+  pub one_kept : (after : Vec (Known A) A) → in_run after ≡ in_run run → in_runs (set runs r after) ≡ in_runs runs
+  one_kept after same = same_in in_run runs r run after (same ∙ ap in_run is)
+
   -- one more at a place
-  pub one_put : (at : ℕ) (after : Vec (Known A) A) (one : Known A) → at ≤ length (in_run (get_or runs r run)) → in_run after ≡ insert (in_run run) at one
-      → (in_runs (set runs r after) ≡ insert (in_runs runs) (length (in_runs (take r runs)) + at) one) × (NoneEmpty runs → NoneEmpty (set runs r after))
-  one_put at after one le same =
+  pub one_put : (at : ℕ) (after : Vec (Known A) A) (one : Known A) → at ≤ length (in_run (get_or runs r run)) → in_run after ≡ insert (in_run run) at one → (vec_capacity run ≤ length (in_run run) + 8 → vec_capacity after ≤ length (in_run after) + 8)
+      → (in_runs (set runs r after) ≡ insert (in_runs runs) (length (in_runs (take r runs)) + at) one) × (AreRuns runs → AreRuns (set runs r after))
+  one_put at after one le same room =
       let le_here : at ≤ length (in_run run) = subst (λ (v : Vec (Known A) A). at ≤ length (in_run v)) (sym is) le in
-      let size : length (in_run after) ≡ length (in_run run) + 1 = ap length same ∙ length-insert (in_run run) at one le_here in
-      let some : 0 < length (in_run after) = omega arith in (
+      let size : length (in_run after) ≡ length (in_run run) + 1 = ap length same ∙ length-insert (in_run run) at one le_here in (
         put_in in_run runs r at run after one within le (same ∙ ap (λ (v : Vec (Known A) A). insert (in_run v) at one) is),
-        λ none_empty. each_set (λ (v : Vec (Known A) A). 0 < length (in_run v)) runs r after some none_empty,
+        λ are. runs_set runs r after (longer after (omega arith)) (record { some = omega arith; room = room (before are).room }) are,
       )
 
 -- one in a run of its own, behind all others
-pub one_begun : {A : Type 0} (runs : List (Vec (Known A) A)) (at : ℕ) (run : Vec (Known A) A) (one : Known A) → at ≡ length (in_runs runs) → in_run run ≡ one ∷ []
-    → (in_runs (runs ++ run ∷ []) ≡ insert (in_runs runs) at one) × (NoneEmpty runs → NoneEmpty (runs ++ run ∷ []))
-one_begun {A} runs at run one last alone =
-    let size : length (in_run run) ≡ 1 = ap length alone in
-    let some : 0 < length (in_run run) = omega arith in (
+pub one_begun : {A : Type 0} (runs : List (Vec (Known A) A)) (at : ℕ) (run : Vec (Known A) A) (one : Known A) → at ≡ length (in_runs runs) → in_run run ≡ one ∷ [] → vec_capacity run ≡ 8
+    → ((i : ℕ) (d : Vec (Known A) A) → i + 1 ≡ length runs → 32 ≤ length (in_run (get_or runs i d))) → (in_runs (runs ++ run ∷ []) ≡ insert (in_runs runs) at one) × (AreRuns runs → AreRuns (runs ++ run ∷ []))
+one_begun {A} runs at run one last alone room full =
+    let size : length (in_run run) ≡ 1 = ap length alone in (
       flat_map-append in_run runs (run ∷ []) ∙ ap (λ (l : List (Known A)). in_runs runs ++ l) (append-nil (in_run run) ∙ alone)
           ∙ sym (insert_end (in_runs runs) one) ∙ ap (λ (n : ℕ). insert (in_runs runs) n one) (sym last),
-      λ none_empty. each_push (λ (v : Vec (Known A) A). 0 < length (in_run v)) runs run some none_empty,
+      λ are. runs_push runs run (record { some = omega arith; room = omega arith }) (λ j d e. full j d (omega arith)) are,
     )
 
 -- a run is cut in two
-module _ {A : Type 0} (old new : Inventory A) (place : Place) (run front behind : Vec (Known A) A) (half : ℕ) (within : place.run < length old.runs.items) (is : run ≡ get_or old.runs.items place.run run) (in_front : in_run front ≡ take half (in_run run)) (in_behind : in_run behind ≡ drop half (in_run run)) (some : 0 < half) (less : half < length (in_run run)) (le : place.at ≤ length (in_run run)) (cut : new.runs.items ≡ insert (set old.runs.items place.run front) (place.run + 1) behind) where
+module _ {A : Type 0} (old new : Inventory A) (place : Place) (run front behind : Vec (Known A) A) (half : ℕ) (within : place.run < length old.runs.items) (is : run ≡ get_or old.runs.items place.run run) (in_front : in_run front ≡ take half (in_run run)) (in_behind : in_run behind ≡ drop half (in_run run)) (some : 32 ≤ half) (less : half + 32 ≤ length (in_run run)) (front_room : vec_capacity front ≡ half) (behind_room : vec_capacity behind ≡ length (in_run run) - half) (le : place.at ≤ length (in_run run)) (cut : new.runs.items ≡ insert (set old.runs.items place.run front) (place.run + 1) behind) where
   cut_is : new.runs.items ≡ insert (set old.runs.items place.run front) (suc place.run) behind
   cut_is = cut ∙ ap (λ (n : ℕ). insert (set old.runs.items place.run front) n behind) (add-one place.run)
 
@@ -294,12 +380,12 @@ module _ {A : Type 0} (old new : Inventory A) (place : Place) (run front behind 
   runs_more : length new.runs.items ≡ suc (length old.runs.items)
   runs_more = ap length cut_is ∙ cut_size old.runs.items place.run front behind within
 
-  none_empty_then : NoneEmpty old.runs.items → NoneEmpty new.runs.items
-  none_empty_then none_empty =
+  runs_then : AreRuns old.runs.items → AreRuns new.runs.items
+  runs_then are =
       let a : length (in_run front) ≡ half = front_size in
       let b : length (in_run behind) ≡ length (in_run run) - half = behind_size in
-      subst (λ (l : List (Vec (Known A) A)). NoneEmpty l) (sym cut_is)
-      (each_cut (λ (v : Vec (Known A) A). 0 < length (in_run v)) old.runs.items place.run front behind within (omega arith) (omega arith) none_empty)
+      subst (λ (l : List (Vec (Known A) A)). AreRuns l) (sym cut_is)
+      (runs_cut old.runs.items place.run front behind within (record { some = omega arith; room = omega arith }) (record { some = omega arith; room = omega arith }) (omega arith) (omega arith) are)
 
   cut_low : place.at ≤ half → MovesPlace old new place place
   cut_low low =
@@ -310,10 +396,10 @@ module _ {A : Type 0} (old new : Inventory A) (place : Place) (run front behind 
           in_run = λ d lt.
               let there : get_or new.runs.items place.run d ≡ front = ap (λ (l : List (Vec (Known A) A)). get_or l place.run d) cut_is ∙ cut_first old.runs.items place.run front behind d within in
               let size : length (in_run (get_or new.runs.items place.run d)) ≡ half = ap (λ (v : Vec (Known A) A). length (in_run v)) there ∙ front_size in omega arith;
-          behind = λ past. absurd (omega arith);
+          first = λ past. absurd (omega arith);
         };
         within = omega arith;
-        none_empty = none_empty_then;
+        runs = runs_then;
       }
 
   cut_high : half < place.at → MovesPlace old new place (record { run = place.run + 1; at = place.at - half })
@@ -332,10 +418,10 @@ module _ {A : Type 0} (old new : Inventory A) (place : Place) (run front behind 
               let there : get_or new.runs.items (place.run + 1) d ≡ behind =
               ap (λ (n : ℕ). get_or new.runs.items n d) (add-one place.run) ∙ ap (λ (l : List (Vec (Known A) A)). get_or l (suc place.run) d) cut_is ∙ cut_second old.runs.items place.run front behind d within in
               let left : length (in_run (get_or new.runs.items (place.run + 1) d)) ≡ length (in_run run) - half = ap (λ (v : Vec (Known A) A). length (in_run v)) there ∙ behind_size in omega arith;
-          behind = λ past. absurd (omega arith);
+          first = λ past. absurd (omega arith);
         };
         within = omega arith;
-        none_empty = none_empty_then;
+        runs = runs_then;
       }
 
   pub cut_moves : (moved : Place) → (place.at ≤ half → moved ≡ place) → (half < place.at → moved ≡ record { run = place.run + 1; at = place.at - half }) → MovesPlace old new place moved

@@ -1,4 +1,4 @@
--- The text of `blocks`: which control blocks and streams the frames of a list show, and where one is configured anew.
+-- The text of `blocks`: which control blocks and streams the frames of a list show, and where the configuration of one changes.
 use Rattle.std.specs.Prelude.{◌≡◌, ℕ, ◌<◌, List, [], ◌++◌, length, take, slice_get, Bool, false, Option, Some, None, Result, Ok, codes, if◌then◌else◌}
 use Rattle.std.specs.List.{concat}
 use Rattle.std.specs.Str.{bytes_eq}
@@ -34,7 +34,7 @@ abbrev pub first_word : Option ℕ → List ℕ
 first_word (Some app_id) = codes " block "
 first_word None = codes " stream "
 
--- the word for what is configured anew
+-- the word for one whose configuration changes
 abbrev pub changed_word : Option ℕ → List ℕ
 changed_word (Some app_id) = codes " block-changed "
 changed_word None = codes " stream-changed "

@@ -6,15 +6,18 @@ ghost use Rattle.list_core.specs.declared.event_lines.EventLines.TheVariants.{Fi
 ghost use Rattle.list_core.specs.Device.{GivesOctets};
 ghost use Rattle.list_core.specs.EventLine.{event_rules};
 ghost use Rattle.engine_core.specs.Ending.{is_write_fault};
-ghost use Rattle.engine_core.specs.Run.{WritesSome};
+ghost use Rattle.list_core.specs.ItemReader.{item_state};
+ghost use Rattle.engine_core.specs.Run.{WritesSome, WritesSomeTo};
 ghost use Rattle.inventory_engine.specs.Sightings.{sightings_in};
 ghost use Rattle.inventory_engine.specs.BlocksText.{IsBlocksText};
 ghost use Rattle.inventory_engine.specs.computed.BlocksStep.{Keeps, blocks_text};
 
 use crate::inventory::Inventory;
 use crate::sighting::put_event;
-use engine_core::{Ending, Engine, run};
-use frame_core::{Event, EventLines, ItemFault, LineError, ListCause, Sink, Source, fault_of_list};
+use engine_core::{Ending, Engine, Stopped, run_to_stop};
+use frame_core::{
+    Event, EventLines, ItemFault, ItemReader, LineError, ListCause, Sink, Source, fault_of_list,
+};
 use std::alloc::{AllocError, Allocator};
 use text_core::line::put_list_fault_line;
 
@@ -64,11 +67,12 @@ impl<A: Allocator + Copy> Engine<A> for Listing<A> {
 /// svID (IEC 61850-9-2): so do the lines `stream` and `stream-changed`. Nothing is written of anything else; where the
 /// list has a fault, a last line tells it.
 ///
-/// The reader is Open and the writer has not failed. The text is that of the octets that the reader gave: whole at
-/// `Done`, `InputFault` and `ReadFault`, a prefix of it at `WriteFault`, and whole lines of the earlier events at
-/// `Memory`, which is for a frame or a line to be written, never for a frame's control block or stream that is
-/// configured as before. What is held grows with the control blocks and streams alone; a frame is looked up in about so
-/// many steps as their number has binary digits.
+/// The reader is Open and the writer has not failed. The whole text is written at `Done`, `InputFault` and `ReadFault`,
+/// a prefix of it at `WriteFault`, and its first lines at `Memory`: docs/PROOFS.md says it in full, under "What a run
+/// leaves written".
+///
+/// What is held grows with the control blocks and streams alone. Looking one up takes about so many steps as their number
+/// has binary digits, and no memory where it is configured as before.
 #[inline(never)]
 pub fn blocks<A: Allocator + Copy, R: Source, W: Sink>(
     alloc: A,
@@ -82,9 +86,26 @@ pub fn blocks<A: Allocator + Copy, R: Source, W: Sink>(
     ensures read_fault { result.0 ≡ Ending.ReadFault → R.ending result.1 ≡ InputEnd.Failed }
     ensures fault { W.failed writer.new ≡ is_write_fault result.0 }
 {
+    blocks_to_stop(alloc, reader, writer).into_source()
+}
+
+/// As `blocks`, and hands out the fault by which it ended, and the reader of the events.
+#[inline(never)]
+pub fn blocks_to_stop<A: Allocator + Copy, R: Source, W: Sink>(
+    alloc: A,
+    reader: R,
+    writer: &mut W,
+) -> Stopped<ItemReader<R, EventLines>, ItemFault<ListCause>>
+    requires open { R.ending reader ≡ InputEnd.Open }
+    requires works { W.failed writer.old ≡ false }
+    ensures text { (given : List ℕ) × GivesOctets (R.left reader) (item_state R.left R.ending result.reader).left given
+        × WritesSomeTo (IsBlocksText {A = A}) event_rules First result.ending (item_state R.left R.ending result.reader).ending given (W.contents writer.old) (W.contents writer.new) result.fault }
+    ensures read_fault { result.ending ≡ Ending.ReadFault → (item_state R.left R.ending result.reader).ending ≡ InputEnd.Failed }
+    ensures fault { W.failed writer.new ≡ is_write_fault result.ending }
+{
     let listing = Listing {
         alloc,
         known: Inventory::new(alloc),
     };
-    run(alloc, EventLines::First, listing, b"", reader, writer)
+    run_to_stop(alloc, EventLines::First, listing, b"", reader, writer)
 }

@@ -8,4 +8,4 @@ pub mod laws;
 mod pieces;
 mod sighting;
 
-pub use crate::engine::blocks;
+pub use crate::engine::{blocks, blocks_to_stop};

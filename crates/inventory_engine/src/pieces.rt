@@ -1,7 +1,7 @@
 // The pieces of which the text of a sighting is made. It is compared with a text that is held piece by piece, so that
 // a sighting of which nothing is written asks for no memory.
 
-ghost use Rattle.std.specs.Prelude.{◌≡◌, ◌∷◌, [], IfOk};
+ghost use Rattle.std.specs.Prelude.{◌≡◌, ◌∷◌, []};
 ghost use Rattle.std.specs.List.{flat_map};
 ghost use Rattle.std.specs.Str.{bytes_eq};
 ghost use Rattle.std.specs.Fmt.{decimal};
@@ -9,7 +9,6 @@ ghost use Rattle.pdu_core.specs.Views.{octets_if};
 ghost use Rattle.text_core.specs.Pieces.{AppendsText, escaped, four_digits, quoted, quoted_or_dash};
 ghost use Rattle.inventory_engine.specs.computed.PieceText.{IsAfter, piece_text};
 
-use ber_core::Octets;
 use itoa::Buffer;
 use list_core::write_digits;
 use std::alloc::{AllocError, Allocator};
@@ -61,19 +60,6 @@ pub fn put_pieces<A: Allocator>(
         put_piece(out, piece)?;
     }
     Ok(())
-}
-
-/// The text of pieces, in memory of its own, which is asked for at once where it has this size.
-pub fn text_of<A: Allocator>(
-    alloc: A,
-    pieces: &[Piece<'_>],
-    size: usize,
-) -> Result<Octets<A>, AllocError>
-    ensures { IfOk result (λ text. text ≡ flat_map piece_text pieces.now) }
-{
-    let mut text = Vec::with_capacity(alloc, size)?;
-    put_pieces(&mut text, pieces)?;
-    Ok(Octets::from(text))
 }
 
 // What follows these octets at the start of a text.

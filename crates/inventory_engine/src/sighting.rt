@@ -13,8 +13,7 @@ ghost use Rattle.inventory_engine.specs.computed.BlocksStep.{AppendsLines, HasLi
 
 use crate::inventory::Inventory;
 use crate::known::Known;
-use crate::pieces::{Piece, is_text, put_pieces, text_of};
-use ber_core::Octets;
+use crate::pieces::{Piece, is_text, put_pieces};
 use frame_core::{ApduView, EventKind, view_frame};
 use pdu_core::{AsduView, GooseView, SvView};
 use std::alloc::{AllocError, Allocator};
@@ -30,7 +29,7 @@ fn first(app_id: Option<u16>) -> &'static [u8]
     }
 }
 
-// The word of one that is configured anew.
+// The word of one whose configuration changes.
 fn changed(app_id: Option<u16>) -> &'static [u8]
     ensures { result.now ≡ changed_word app_id }
 {
@@ -79,14 +78,12 @@ fn put_sighting<A: Allocator + Copy>(
                 return Ok(());
             }
             let size = put_line(line, number, changed(app_id), pieces)?;
-            known.set_text(place, text_of(alloc, pieces, size)?);
-            Ok(())
+            known.set_text(alloc, place, pieces, size)
         }
         Err(place) => {
             let size = put_line(line, number, first(app_id), pieces)?;
-            let name = Octets::try_from_slice(alloc, name)?;
-            let text = text_of(alloc, pieces, size)?;
-            known.insert(alloc, place, Known { app_id, name, text })
+            let one = Known::new(alloc, app_id, name, pieces, size)?;
+            known.insert(alloc, place, one)
         }
     }
 }

@@ -316,6 +316,12 @@ new_lives now b r f against new clear e =
     let at = taken_deadline (verdict_on (good_held now r f) (facts_of_frame f)) now (facts_of_frame f) new e in
     lt-leb new.deadline now (omega arith)
 
+pub new_ahead : {A : Type 0} (now : ℕ) (b : Block A) (r : Register) (f : FrameRead) (against : Bool) (new : LiveState) → reason_of against b f ≡ None → good_renewal now r f ≡ Some new → 0 < new.deadline
+new_ahead now b r f against new clear e =
+    let lt = lives b f against clear in
+    let at = taken_deadline (verdict_on (good_held now r f) (facts_of_frame f)) now (facts_of_frame f) new e in
+    omega arith
+
 pub written_new : (now : ℕ) (rs : List Register) (at : ℕ) (r : Register) (f : FrameRead) (new : LiveState) → is_dead (Some new) now ≡ false → good_renewal now r f ≡ Some new
     → registers_after_clock now (set rs at (record { held = Some new; takes_simulated = r.takes_simulated || f.pdu.simulation })) ≡ set (registers_after_clock now rs) at (good_register now r f)
 written_new now rs at r f new fresh e =

@@ -11,6 +11,7 @@ pub mod Alone
 pub mod Stay
 pub mod Readings
 pub mod Runs
+pub mod Listing
 pub mod Nodes
 pub mod Due
 pub mod NameLemmas

@@ -1,6 +1,7 @@
 -- The nodes above the deadlines: each has the least of those below it.
-use Rattle.std.proofs.Common.{◌≡◌, ◌⊎◌, ℕ, zero, suc, ◌+◌, ◌-◌, ◌*◌, ◌/◌, ◌%◌, ◌^◌, ◌<◌, ◌≤◌, true, false, Option, Some, None, List, [], ◌∷◌, ◌++◌, length, drop, get_or, set, replicate, sym, ap, ◌∙◌, arith, subst, refl, inl, inr, append_assoc, append-nil, length-append}
-use Rattle.std.proofs.lemmas.Bool.{cases_Bool, cases_eq, cases_lt, le-leb, lt-leb}
+use Rattle.std.proofs.Common.{◌≡◌, ◌⊎◌, ℕ, zero, suc, ◌+◌, ◌-◌, ◌*◌, ◌/◌, ◌%◌, ◌^◌, ◌<◌, ◌≤◌, min, true, false, ltb, Option, Some, None, List, [], ◌∷◌, ◌++◌, length, drop, get_or, set, replicate, sym, ap, ◌∙◌, arith, subst, refl, inl, inr}
+use Rattle.std.specs.Prelude.{IfSome, IfNone}
+use Rattle.std.proofs.lemmas.Bool.{cases_Bool, cases_eq, cases_lt, le-leb, le-ltb, lt-leb, lt-ltb}
 use Rattle.std.proofs.lemmas.List.{get_or-set_same, get_or-set_other, get_or_past, get_or-replicate, length-set, length-replicate}
 use Rattle.std.proofs.lemmas.Nat.{pow_pos}
 use Rattle.std.proofs.Math.Nat.{mul-le-mul_left, two-pow-succ}
@@ -9,17 +10,24 @@ use Rattle.std.proofs.Math.ListN.{drop_of_length-le}
 use Rattle.subscribe_core.specs.declared.deadlines.Deadlines.{Deadlines}
 use Rattle.subscribe_core.specs.declared.registers.LiveState.{LiveState}
 use Rattle.subscribe_core.specs.computed.Steps.{is_dead}
-use Rattle.subscribe_core.specs.computed.Deadlines.{AreLesser, KeepsDeadlinesOf, deadline_of, due_from, due_positions, half}
+use Rattle.subscribe_core.specs.computed.Deadlines.{AreLesser, Covers, IsBeside, IsNextDue, IsTree, KeepsDeadlinesOf, due_from, due_positions, half}
 
--- a deadline that is at most a moment, and one that isn't
+-- a block that is due at a moment, and one that isn't
 
-pub dead_from : (o : Option LiveState) (now : ℕ) → now < 2 ^ 64 → deadline_of o ≤ now → is_dead o now ≡ true
-dead_from None now fits le = absurd (omega arith)
-dead_from (Some h) now fits le = le-leb h.deadline now le
+pub dead_from : {A : Type 0} → (d : Deadlines A) (held : List (Option LiveState)) (p now : ℕ) → KeepsDeadlinesOf d held → now < 2 ^ 64 → p < half d.nodes.items
+    → get_or d.nodes.items (half d.nodes.items + p) 0 < now → is_dead (get_or held p None) now ≡ true
+dead_from d held p now keeps fits lt less = keeps.each p now lt fits ∙ lt-ltb (get_or d.nodes.items (half d.nodes.items + p) 0) now less
 
-pub lives_from : (o : Option LiveState) (now : ℕ) → now < deadline_of o → is_dead o now ≡ false
-lives_from None now lt = refl
-lives_from (Some h) now lt = lt-leb h.deadline now lt
+-- a position past the nodes has no block
+pub lives_from : {A : Type 0} → (d : Deadlines A) (held : List (Option LiveState)) (p now : ℕ) → KeepsDeadlinesOf d held → now < 2 ^ 64
+    → (p < half d.nodes.items → now ≤ get_or d.nodes.items (half d.nodes.items + p) 0) → is_dead (get_or held p None) now ≡ false
+lives_from d held p now keeps fits over =
+    elim (cases_lt p (half d.nodes.items)) [
+      | inl lt ↦ keeps.each p now lt fits ∙ le-ltb (get_or d.nodes.items (half d.nodes.items + p) 0) now (over lt)
+      | inr past ↦
+          let room = keeps.room in
+          rw (get_or_past held p None (omega arith)) refl
+    ]
 
 -- the node above
 
@@ -45,45 +53,6 @@ first_least (suc n) nodes i lesser bound some within =
           let rest : get_or nodes 1 0 ≤ get_or nodes (i / 2) 0 = first_least n nodes (i / 2) lesser (omega arith) (omega arith) (omega arith) in
           let step : get_or nodes (i / 2) 0 ≤ get_or nodes i 0 = up nodes (i / 2) i lesser (omega arith) (omega arith) (halved i) in
           omega arith
-    ]
-
--- and below a node that is at most a moment some block's deadline is
-pub some_due : (n : ℕ) (nodes : List ℕ) (i now : ℕ) → AreLesser nodes → 2 * half nodes ≤ i + n → 0 < i → i < 2 * half nodes → get_or nodes i 0 ≤ now
-    → (p : ℕ) × (p < half nodes) × (get_or nodes (half nodes + p) 0 ≤ now)
-some_due zero nodes i now lesser bound some within due = absurd (omega arith)
-some_due (suc n) nodes i now lesser bound some within due =
-    elim (cases_lt i (half nodes)) [
-      | inl inner ↦
-          let e = lesser i some inner in
-          elim (cases_lt now (get_or nodes (2 * i) 0)) [
-            | inl over ↦ some_due n nodes (2 * i + 1) now lesser (omega arith) (omega arith) (omega arith) (omega arith)
-            | inr le ↦ some_due n nodes (2 * i) now lesser (omega arith) (omega arith) (omega arith) le
-          ]
-      | inr block ↦
-          let at : i ≡ half nodes + (i - half nodes) = omega arith in
-          (i - half nodes, omega arith, subst (λ (k : ℕ). get_or nodes k 0 ≤ now) at due)
-    ]
-
--- what holds of all deadlines
-
-pub root_due : {A : Type 0} → (d : Deadlines A) (held : List (Option LiveState)) (now : ℕ) → now < 2 ^ 64 → KeepsDeadlinesOf d held → 0 < half d.nodes.items → get_or d.nodes.items 1 0 ≤ now
-    → (p : ℕ) × (is_dead (get_or held p None) now ≡ true)
-root_due d held now fits k some due =
-    let w = some_due (2 * half d.nodes.items) d.nodes.items 1 now k.lesser (omega arith) (omega arith) (omega arith) due in
-    (w.0, dead_from (get_or held w.0 None) now fits (subst (λ (n : ℕ). n ≤ now) (k.each w.0 w.1) w.2))
-
-pub none_due : {A : Type 0} → (d : Deadlines A) (held : List (Option LiveState)) (now p : ℕ) → KeepsDeadlinesOf d held → (0 < half d.nodes.items → now < get_or d.nodes.items 1 0)
-    → is_dead (get_or held p None) now ≡ false
-none_due d held now p k over =
-    elim (cases_lt p (half d.nodes.items)) [
-      | inl lt ↦
-          let le = first_least (half d.nodes.items + p) d.nodes.items (half d.nodes.items + p) k.lesser (omega arith) (omega arith) (omega arith) in
-          let less = over (omega arith) in
-          let e = k.each p lt in
-          lives_from (get_or held p None) now (omega arith)
-      | inr past ↦
-          let room = k.room in
-          rw (get_or_past held p None (omega arith)) refl
     ]
 
 -- the positions that are due, from one on
@@ -155,41 +124,6 @@ below_least (suc k) nodes node b p lesser some e within low lt =
           omega arith
     ]
 
--- the blocks below a node: so many as a power of two, from a position on
-abbrev pub Covers : List ℕ → ℕ → ℕ → ℕ → Type 0
-Covers nodes node b k = (node * 2 ^ k ≡ half nodes + b) × (b + 2 ^ k ≤ half nodes)
-
-node_within : (nodes : List ℕ) (node b k : ℕ) → Covers nodes node b k → node < 2 * half nodes
-node_within nodes node b k c =
-    let some_width : 0 < 2 ^ k = pow_pos k in
-    let width : node * 1 ≤ node * 2 ^ k = mul-le-mul_left node (omega arith) in
-    omega (arith, c.0, c.1)
-
--- nothing is due below a node that is above the moment
-list_none : {A : Type 0} → (d : Deadlines A) (held : List (Option LiveState)) (node b k now : ℕ) → KeepsDeadlinesOf d held → 0 < node → Covers d.nodes.items node b k
-    → ((node < length d.nodes.items) × (get_or d.nodes.items node 0 ≤ now) → ⊥) → due_from now held b (2 ^ k) ≡ []
-list_none d held node b k now keeps some c over =
-    let nodes : List ℕ = d.nodes.items in
-    let within : node < 2 * half nodes = node_within nodes node b k c in
-    let high : now < get_or nodes node 0 = elim (cases_lt now (get_or nodes node 0)) [ inl lt ↦ lt | inr le ↦ absurd (over (omega arith, le)) ] in
-    from_none now held b (2 ^ k)
-    (λ p low lt.
-    let le = below_least k nodes node b p keeps.lesser some c.0 c.1 low lt in
-    let e = keeps.each p (omega (arith, c.1)) in
-    lives_from (get_or held p None) now (omega arith))
-
--- a block's node that is at most the moment
-list_leaf : {A : Type 0} → (d : Deadlines A) (held : List (Option LiveState)) (node b k now : ℕ) → KeepsDeadlinesOf d held → now < 2 ^ 64 → 2 ^ k ≡ 1
-    → Covers d.nodes.items node b k → get_or d.nodes.items node 0 ≤ now → due_from now held b (2 ^ k) ≡ b ∷ []
-list_leaf d held node b k now keeps fits one c due =
-    let nodes : List ℕ = d.nodes.items in
-    let product : node * 1 ≡ half nodes + b = subst (λ (n : ℕ). node * n ≡ half nodes + b) one c.0 in
-    let at : node ≡ half nodes + b = omega arith in
-    let e : get_or nodes (half nodes + b) 0 ≡ deadline_of (get_or held b None) = keeps.each b (omega (arith, c.1)) in
-    let here : get_or nodes (half nodes + b) 0 ≤ now = subst (λ (i : ℕ). get_or nodes i 0 ≤ now) at due in
-    let dead : is_dead (get_or held b None) now ≡ true = dead_from (get_or held b None) now fits (omega arith) in
-    rw one (rw dead refl)
-
 -- where nodes of a level end before a power of two, there is room for one more
 next_within : (k n m : ℕ) → 0 < m → m * 2 ^ k < 2 ^ n → m * 2 ^ k + 2 ^ k ≤ 2 ^ n
 next_within zero n m some lt = let one : 2 ^ zero ≡ 1 = refl in omega arith
@@ -205,111 +139,262 @@ next_within (suc k) (suc n) m some lt =
     let rest : m * 2 ^ k + 2 ^ k ≤ 2 ^ n = next_within k n m some (omega arith) in
     omega arith
 
--- the walk over the nodes
+-- a node with blocks below it is one of the nodes, and not node 0
+pub covers_some : (nodes : List ℕ) (node b k : ℕ) → Covers nodes node b k → 0 < node
+covers_some nodes zero b k c = (let some_width : 0 < 2 ^ k = pow_pos k in omega (arith, c.0, c.1))
+covers_some nodes (suc node) b k c = omega arith
 
--- those of the due blocks that stand before a position are listed, and below the node are the blocks from there on
-pub record IsWalked (nodes : List ℕ) (held : List (Option LiveState)) (now node size b : ℕ) (positions : List ℕ) : Type 0 where
-  pub within : b ≤ half nodes
-  pub listed : positions ++ due_from now held b (half nodes - b) ≡ due_positions now 0 held
-  pub below : 0 < half nodes → (k : ℕ) × (size ≡ 2 ^ k) × (node * 2 ^ k ≡ half nodes + b)
+pub covers_within : (nodes : List ℕ) (node b k : ℕ) → Covers nodes node b k → node < 2 * half nodes
+covers_within nodes node b k c =
+    let some_width : 0 < 2 ^ k = pow_pos k in
+    let width : node * 1 ≤ node * 2 ^ k = mul-le-mul_left node (omega arith) in
+    omega (arith, c.0, c.1)
 
--- where it begins
-pub walk_begins : {A : Type 0} → {d : Deadlines A} {held : List (Option LiveState)} (now size : ℕ) (positions : List ℕ) → KeepsDeadlinesOf d held → size ≡ half d.nodes.items → positions ≡ []
-    → IsWalked d.nodes.items held now 1 size 0 positions
-walk_begins {d = d} {held = held} now size positions keeps e none =
+-- the way down to the first block that is due: it is below the node, and none before those below the node is
+pub record IsBelow (nodes : List ℕ) (now b node : ℕ) : Type 0 where
+  pub from : ℕ
+  pub width : ℕ
+  pub covers : Covers nodes node from width
+  pub low : b ≤ from
+  pub due : get_or nodes node 0 < now
+  pub none : (p : ℕ) → b ≤ p → p < from → now ≤ get_or nodes (half nodes + p) 0
+
+pub below_begins : (nodes : List ℕ) (now node b k : ℕ) → Covers nodes node b k → get_or nodes node 0 < now → IsBelow nodes now b node
+below_begins nodes now node b k c due = record { from = b; width = k; covers = c; low = omega arith; due = due; none = λ p low lt. absurd (omega arith) }
+
+-- of a node with others below it, these have half its blocks each
+halves : (nodes : List ℕ) (node b k : ℕ) → Covers nodes node b k → node < half nodes
+    → (j : ℕ) × Covers nodes (2 * node) b j × Covers nodes (2 * node + 1) (b + 2 ^ j) j
+halves nodes node b zero c inner = (let one : 2 ^ zero ≡ 1 = refl in absurd (omega (arith, c.0)))
+halves nodes node b (suc k) c inner =
+    let twice : 2 ^ suc k ≡ 2 ^ k + 2 ^ k = two-pow-succ k in
+    let product : node * (2 ^ k + 2 ^ k) ≡ half nodes + b = subst (λ (w : ℕ). node * w ≡ half nodes + b) twice c.0 in
+    (k, (omega arith, omega (arith, c.1)), (omega arith, omega (arith, c.1)))
+
+pub below_left : (nodes : List ℕ) (now b node : ℕ) → IsBelow nodes now b node → node < half nodes → get_or nodes (2 * node) 0 < now → IsBelow nodes now b (2 * node)
+below_left nodes now b node w inner due =
+    let h = halves nodes node w.from w.width w.covers inner in
+    record { from = w.from; width = h.0; covers = h.1; low = w.low; due = due; none = w.none }
+
+pub below_right : (nodes : List ℕ) (now b node : ℕ) → AreLesser nodes → IsBelow nodes now b node → node < half nodes → now ≤ get_or nodes (2 * node) 0 → IsBelow nodes now b (2 * node + 1)
+below_right nodes now b node lesser w inner over =
+    let h = halves nodes node w.from w.width w.covers inner in
+    let some = covers_some nodes node w.from w.width w.covers in
+    let least = lesser node some inner in
+    let here = w.due in
+    let low = w.low in
     record {
-      within = omega arith;
-      listed = rw none (all_due d held now (half d.nodes.items - 0) keeps (omega arith));
-      below = λ some. let w = keeps.power some in (w.0, e ∙ w.1, omega (arith, w.1));
+      from = w.from + 2 ^ h.0;
+      width = h.0;
+      covers = h.2;
+      low = omega arith;
+      due = omega arith;
+      none = λ p before lt.
+          elim (cases_lt p w.from) [
+            | inl earlier ↦ w.none p before earlier
+            | inr there ↦
+                let le = below_least h.0 nodes (2 * node) w.from p lesser (omega arith) h.1.0 h.1.1 there lt in
+                omega arith
+          ];
     }
 
--- and where it ends
-pub walk_ends : {nodes : List ℕ} {held : List (Option LiveState)} {now node size b : ℕ} {positions : List ℕ} → IsWalked nodes held now node size b positions → half nodes ≤ b
-    → positions ≡ due_positions now 0 held
-walk_ends {nodes = nodes} {held = held} {now = now} {b = b} {positions = positions} w end =
-    let none : half nodes - b ≡ 0 = omega arith in
-    sym (append-nil positions) ∙ (ap (λ (n : ℕ). positions ++ due_from now held b n) (sym none) ∙ w.listed)
-
--- down to the left
-halved_width : (n node size k : ℕ) → 1 < size → size ≡ 2 ^ k → node * 2 ^ k ≡ n → (j : ℕ) × (size / 2 ≡ 2 ^ j) × (node * 2 * 2 ^ j ≡ n)
-halved_width n node size zero more is e = (let one : 2 ^ zero ≡ 1 = refl in absurd (omega arith))
-halved_width n node size (suc k) more is e =
+-- and its end
+ends : (nodes : List ℕ) (node b k : ℕ) → Covers nodes node b k → half nodes ≤ node → node ≡ half nodes + b
+ends nodes node b zero c block = (let one : 2 ^ zero ≡ 1 = refl in omega (arith, c.0))
+ends nodes node b (suc k) c block =
     let twice : 2 ^ suc k ≡ 2 ^ k + 2 ^ k = two-pow-succ k in
-    let product : node * (2 ^ k + 2 ^ k) ≡ n = subst (λ (w : ℕ). node * w ≡ n) twice e in
-    (k, omega arith, omega arith)
+    let some_width : 0 < 2 ^ k = pow_pos k in
+    let width : node * 1 ≤ node * 2 ^ k = mul-le-mul_left node (omega arith) in
+    let product : node * (2 ^ k + 2 ^ k) ≡ half nodes + b = subst (λ (w : ℕ). node * w ≡ half nodes + b) twice c.0 in
+    absurd (omega (arith, c.1))
 
-pub walk_down : {nodes : List ℕ} {held : List (Option LiveState)} {now node size b : ℕ} {positions : List ℕ} → IsWalked nodes held now node size b positions → 1 < size
-    → IsWalked nodes held now (node * 2) (size / 2) b positions
-walk_down {nodes = nodes} {node = node} {size = size} {b = b} w more =
-    record { within = w.within; listed = w.listed; below = λ some. let v = w.below some in halved_width (half nodes + b) node size v.0 more v.1 v.2 }
+pub below_ends : (nodes : List ℕ) (now b node at : ℕ) → IsBelow nodes now b node → half nodes ≤ node → at ≡ node - half nodes → IsNextDue nodes now b at
+below_ends nodes now b node at w block is =
+    let e = ends nodes node w.from w.width w.covers block in
+    let same : at ≡ w.from = omega arith in
+    let some_width : 0 < 2 ^ w.width = pow_pos w.width in
+    rw same record { low = w.low; within = omega (arith, w.covers.1); due = subst (λ (i : ℕ). get_or nodes i 0 < now) e w.due; none = w.none }
 
--- on to the right
-walk_on : (nodes : List ℕ) (held : List (Option LiveState)) (now node size b : ℕ) (positions new : List ℕ) → b + size ≤ half nodes → due_from now held b size ≡ new
-    → IsWalked nodes held now node size b positions → IsWalked nodes held now (node + 1) size (b + size) (positions ++ new)
-walk_on nodes held now node size b positions new room e w =
-    let parts : half nodes - b ≡ size + (half nodes - (b + size)) = omega arith in
-    let split = from_split now held b size (half nodes - (b + size)) in
+-- the way up from a block: it is below the node, and none behind it that is below the node is due
+pub record IsPassed (nodes : List ℕ) (now at node : ℕ) : Type 0 where
+  pub from : ℕ
+  pub width : ℕ
+  pub covers : Covers nodes node from width
+  pub low : from ≤ at
+  pub high : at < from + 2 ^ width
+  pub none : (p : ℕ) → at < p → p < from + 2 ^ width → now ≤ get_or nodes (half nodes + p) 0
+
+pub passed_begins : (nodes : List ℕ) (now at node : ℕ) → at < half nodes → node ≡ half nodes + at → IsPassed nodes now at node
+passed_begins nodes now at node lt is =
+    let one : 2 ^ zero ≡ 1 = refl in
+    record { from = at; width = zero; covers = (omega arith, omega arith); low = omega arith; high = omega arith; none = λ p before behind. absurd (omega arith) }
+
+-- a node and the one to its right have another above them
+above : (n : ℕ) (nodes : List ℕ) (node b k : ℕ) → half nodes ≡ 2 ^ n → Covers nodes node b k → 1 < node → node ≡ 2 * (node / 2)
+    → Covers nodes (node + 1) (b + 2 ^ k) k × Covers nodes (node / 2) b (suc k)
+above n nodes node b k power c inner even =
+    let m : ℕ = node / 2 in
+    let twice : 2 ^ suc k ≡ 2 ^ k + 2 ^ k = two-pow-succ k in
+    let whole : 2 ^ suc n ≡ 2 ^ n + 2 ^ n = two-pow-succ n in
+    let some_width : 0 < 2 ^ k = pow_pos k in
+    let pair : node ≡ m + m = omega arith in
+    let split : (m + m) * 2 ^ k ≡ half nodes + b = subst (λ (i : ℕ). i * 2 ^ k ≡ half nodes + b) pair c.0 in
+    let product : m * 2 ^ suc k ≡ m * (2 ^ k + 2 ^ k) = ap (λ (w : ℕ). m * w) twice in
+    let room : m * 2 ^ suc k + 2 ^ suc k ≤ 2 ^ suc n = next_within (suc k) (suc n) m (omega arith) (omega (arith, c.1)) in
+    ((omega (arith, c.0), omega arith), (omega arith, omega arith))
+
+-- so have a node and the one to its left
+above_left : (n : ℕ) (nodes : List ℕ) (node b k : ℕ) → half nodes ≡ 2 ^ n → Covers nodes node b k → 1 < node → node ≡ 2 * (node / 2) + 1
+    → (2 ^ k ≤ b) × Covers nodes (node / 2) (b - 2 ^ k) (suc k)
+above_left n nodes node b k power c inner odd =
+    let m : ℕ = node / 2 in
+    let twice : 2 ^ suc k ≡ 2 ^ k + 2 ^ k = two-pow-succ k in
+    let some_width : 0 < 2 ^ k = pow_pos k in
+    let pair : node ≡ m + m + 1 = omega arith in
+    let split : (m + m + 1) * 2 ^ k ≡ half nodes + b = subst (λ (i : ℕ). i * 2 ^ k ≡ half nodes + b) pair c.0 in
+    let product : m * 2 ^ suc k ≡ m * (2 ^ k + 2 ^ k) = ap (λ (w : ℕ). m * w) twice in
+    let low : 2 ^ n ≤ m * 2 ^ suc k = elim (cases_lt (m * 2 ^ suc k) (2 ^ n)) [
+      | inl lt ↦
+          let room : m * 2 ^ suc k + 2 ^ suc k ≤ 2 ^ n = next_within (suc k) n m (omega arith) lt in
+          absurd (omega arith)
+      | inr le ↦ le
+    ] in
+    (omega arith, (omega arith, omega (arith, c.1)))
+
+pub beside_found : (n : ℕ) (nodes : List ℕ) (now at node : ℕ) → half nodes ≡ 2 ^ n → IsPassed nodes now at node → 1 < node → node % 2 ≡ 0 → get_or nodes (node + 1) 0 < now
+    → IsBeside nodes now at (node + 1)
+beside_found n nodes now at node power w inner even due =
+    let a = above n nodes node w.from w.width power w.covers inner (omega arith) in
+    record { from = w.from + 2 ^ w.width; width = w.width; covers = a.0; behind = w.high; due = due; none = w.none }
+
+pub passed_left : (n : ℕ) (nodes : List ℕ) (now at node : ℕ) → half nodes ≡ 2 ^ n → AreLesser nodes → IsPassed nodes now at node → 1 < node → node % 2 ≡ 0 → now ≤ get_or nodes (node + 1) 0
+    → IsPassed nodes now at (node / 2)
+passed_left n nodes now at node power lesser w inner even over =
+    let a = above n nodes node w.from w.width power w.covers inner (omega arith) in
+    let twice : 2 ^ suc w.width ≡ 2 ^ w.width + 2 ^ w.width = two-pow-succ w.width in
+    let low = w.low in
+    let high = w.high in
     record {
-      within = room;
-      listed =
-          append_assoc positions new _
-          ∙ (ap (λ (ps : List ℕ). positions ++ (ps ++ due_from now held (b + size) (half nodes - (b + size)))) (sym e)
-          ∙ (ap (λ (ps : List ℕ). positions ++ ps) (sym split) ∙ (ap (λ (n : ℕ). positions ++ due_from now held b n) (sym parts) ∙ w.listed)));
-      below = λ some. let v = w.below some in (v.0, v.1, omega (arith, v.1, v.2));
+      from = w.from;
+      width = suc w.width;
+      covers = a.1;
+      low = w.low;
+      high = omega arith;
+      none = λ p before lt.
+          elim (cases_lt p (w.from + 2 ^ w.width)) [
+            | inl earlier ↦ w.none p before earlier
+            | inr there ↦
+                let le = below_least w.width nodes (node + 1) (w.from + 2 ^ w.width) p lesser (omega arith) a.0.0 a.0.1 there (omega arith) in
+                omega arith
+          ];
     }
 
-covered : {A : Type 0} → (d : Deadlines A) (held : List (Option LiveState)) (node b k : ℕ) → KeepsDeadlinesOf d held → 0 < node → b < half d.nodes.items → node * 2 ^ k ≡ half d.nodes.items + b
-    → Covers d.nodes.items node b k
-covered d held node b k keeps some before e =
-    let w = keeps.power (omega arith) in
-    let whole : 2 ^ suc w.0 ≡ 2 ^ w.0 + 2 ^ w.0 = two-pow-succ w.0 in
-    let room : node * 2 ^ k + 2 ^ k ≤ 2 ^ suc w.0 = next_within k (suc w.0) node some (omega (arith, w.1)) in
-    (e, omega (arith, w.1))
+pub passed_right : (n : ℕ) (nodes : List ℕ) (now at node : ℕ) → half nodes ≡ 2 ^ n → IsPassed nodes now at node → 1 < node → (node % 2 ≡ 0 → ⊥) → IsPassed nodes now at (node / 2)
+passed_right n nodes now at node power w inner odd =
+    let a = above_left n nodes node w.from w.width power w.covers inner (omega arith) in
+    let twice : 2 ^ suc w.width ≡ 2 ^ w.width + 2 ^ w.width = two-pow-succ w.width in
+    let low = w.low in
+    let high = w.high in
+    let same : w.from - 2 ^ w.width + 2 ^ suc w.width ≡ w.from + 2 ^ w.width = omega (arith, a.0) in
+    record {
+      from = w.from - 2 ^ w.width;
+      width = suc w.width;
+      covers = a.1;
+      low = omega arith;
+      high = omega arith;
+      none = λ p before lt. w.none p before (omega arith);
+    }
 
--- past a node that is above the moment
-pub walk_past : {A : Type 0} → {d : Deadlines A} {held : List (Option LiveState)} {now node size b : ℕ} {positions : List ℕ} → KeepsDeadlinesOf d held
-    → IsWalked d.nodes.items held now node size b positions → 0 < node → b < half d.nodes.items → ((node < length d.nodes.items) × (get_or d.nodes.items node 0 ≤ now) → ⊥)
-    → IsWalked d.nodes.items held now (node + 1) size (b + size) positions
-walk_past {d = d} {held = held} {now = now} {node = node} {size = size} {b = b} {positions = positions} keeps w some before over =
-    let v = w.below (omega arith) in
-    let c = covered d held node b v.0 keeps some before v.2 in
-    let none : due_from now held b size ≡ [] = ap (λ (n : ℕ). due_from now held b n) v.1 ∙ list_none d held node b v.0 now keeps some c over in
-    subst (λ (ps : List ℕ). IsWalked d.nodes.items held now (node + 1) size (b + size) ps) (append-nil positions)
-    (walk_on d.nodes.items held now node size b positions [] (omega (arith, c.1, v.1)) none w)
+-- at node 1 all are passed
+pub passed_all : (nodes : List ℕ) (now at node : ℕ) → IsPassed nodes now at node → node ≤ 1 → (p : ℕ) → at < p → p < half nodes → now ≤ get_or nodes (half nodes + p) 0
+passed_all nodes now at node w top p before lt =
+    let some = covers_some nodes node w.from w.width w.covers in
+    let one : node ≡ 1 = omega arith in
+    let width : 1 * 2 ^ w.width ≡ half nodes + w.from = subst (λ (i : ℕ). i * 2 ^ w.width ≡ half nodes + w.from) one w.covers.0 in
+    w.none p before (omega (arith, w.covers.1))
 
--- past a block's node that is at most the moment
-pub walk_leaf : {A : Type 0} → {d : Deadlines A} {held : List (Option LiveState)} {now node size b : ℕ} {positions : List ℕ} → KeepsDeadlinesOf d held
-    → IsWalked d.nodes.items held now node size b positions → now < 2 ^ 64 → 0 < node → b < half d.nodes.items → size ≤ 1 → get_or d.nodes.items node 0 ≤ now
-    → IsWalked d.nodes.items held now (node + 1) size (b + size) (positions ++ b ∷ [])
-walk_leaf {d = d} {held = held} {now = now} {node = node} {size = size} {b = b} {positions = positions} keeps w fits some before one due =
-    let v = w.below (omega arith) in
-    let some_width : 0 < 2 ^ v.0 = pow_pos v.0 in
-    let c = covered d held node b v.0 keeps some before v.2 in
-    let is : due_from now held b size ≡ b ∷ [] = ap (λ (n : ℕ). due_from now held b n) v.1 ∙ list_leaf d held node b v.0 now keeps fits (omega (arith, v.1)) c due in
-    walk_on d.nodes.items held now node size b positions (b ∷ []) (omega (arith, c.1, v.1)) is w
+-- the first block that is due below the node beside is the next one
+pub next_behind : (nodes : List ℕ) (now at node next : ℕ) → (w : IsBeside nodes now at node) → IsNextDue nodes now w.from next → IsNextDue nodes now (at + 1) next
+next_behind nodes now at node next w n =
+    let behind = w.behind in
+    let low = n.low in
+    record {
+      low = omega arith;
+      within = n.within;
+      due = n.due;
+      none = λ p after lt.
+          elim (cases_lt p w.from) [
+            | inl before ↦ w.none p (omega arith) before
+            | inr there ↦ n.none p there lt
+          ];
+    }
 
--- and where none is due the walk comes to none of these
-pub walk_none : {A : Type 0} → {d : Deadlines A} {held : List (Option LiveState)} {now node size b : ℕ} {positions : List ℕ} → KeepsDeadlinesOf d held
-    → IsWalked d.nodes.items held now node size b positions → now < 2 ^ 64 → 0 < node → b < half d.nodes.items → size ≤ 1 → get_or d.nodes.items node 0 ≤ now
-    → due_positions now 0 held ≡ [] → ⊥
-walk_none {positions = positions} keeps w fits some before one due none =
-    let next = walk_leaf keeps w fits some before one due in
-    let long = ap length (next.listed ∙ none) in
-    omega (arith, length-append {A = ℕ}, long)
+-- node 1 has all blocks below it
+pub covers_all : (nodes : List ℕ) → IsTree nodes → 0 < half nodes → (k : ℕ) × Covers nodes 1 0 k
+covers_all nodes tree some = (let w = tree.power some in (w.0, (omega (arith, w.1), omega (arith, w.1))))
 
--- up from the left one of two
-doubled_width : (n node size k : ℕ) → node % 2 ≡ 0 → size ≡ 2 ^ k → node * 2 ^ k ≡ n → (j : ℕ) × (size * 2 ≡ 2 ^ j) × (node / 2 * 2 ^ j ≡ n)
-doubled_width n node size k even is e =
-    let twice : 2 ^ suc k ≡ 2 ^ k + 2 ^ k = two-pow-succ k in
-    let product : node / 2 * 2 ^ suc k ≡ node / 2 * (2 ^ k + 2 ^ k) = ap (λ (w : ℕ). node / 2 * w) twice in
-    let pair : node ≡ node / 2 + node / 2 = omega arith in
-    let parts : (node / 2 + node / 2) * 2 ^ k ≡ n = subst (λ (m : ℕ). m * 2 ^ k ≡ n) pair e in
-    (suc k, omega arith, omega arith)
+-- where it isn't before a moment, none is
+pub all_over : (nodes : List ℕ) (now : ℕ) → IsTree nodes → now ≤ get_or nodes 1 0 → (p : ℕ) → p < half nodes → now ≤ get_or nodes (half nodes + p) 0
+all_over nodes now tree over p lt =
+    let le = first_least (half nodes + p) nodes (half nodes + p) tree.lesser (omega arith) (omega arith) (omega arith) in
+    omega arith
 
-pub walk_up : {nodes : List ℕ} {held : List (Option LiveState)} {now node size b : ℕ} {positions : List ℕ} → IsWalked nodes held now node size b positions → node % 2 ≡ 0
-    → IsWalked nodes held now (node / 2) (size * 2) b positions
-walk_up {nodes = nodes} {node = node} {size = size} {b = b} w even =
-    record { within = w.within; listed = w.listed; below = λ some. let v = w.below some in doubled_width (half nodes + b) node size v.0 even v.1 v.2 }
+-- the positions that are due, from the first one on
+
+-- that position, and those behind it
+abbrev pub onward : ℕ → List (Option LiveState) → ℕ → Option ℕ → List ℕ
+onward now held n None = []
+onward now held n (Some at) = at ∷ due_from now held (at + 1) (n - (at + 1))
+
+-- how many blocks there are from it on
+abbrev pub to_go : ℕ → Option ℕ → ℕ
+to_go n None = 0
+to_go n (Some at) = n - at
+
+from_next : {A : Type 0} → (d : Deadlines A) (held : List (Option LiveState)) (now b at : ℕ) → KeepsDeadlinesOf d held → now < 2 ^ 64 → IsNextDue d.nodes.items now b at
+    → due_from now held b (half d.nodes.items - b) ≡ onward now held (half d.nodes.items) (Some at)
+from_next d held now b at keeps fits next =
+    let n : ℕ = half d.nodes.items in
+    let low = next.low in
+    let within = next.within in
+    let parts : n - b ≡ (at - b) + suc (n - (at + 1)) = omega arith in
+    let there : b + (at - b) ≡ at = omega arith in
+    let before : due_from now held b (at - b) ≡ [] = from_none now held b (at - b) (λ p after lt. lives_from d held p now keeps fits (λ in_nodes. next.none p after (omega arith))) in
+    let here : is_dead (get_or held at None) now ≡ true = dead_from d held at now keeps fits next.within next.due in
+    rw (parts, from_split now held b (at - b) (suc (n - (at + 1))), before, there, here) refl
+
+-- where there is one, and where there is none
+pub first_onward : {A : Type 0} → (d : Deadlines A) (held : List (Option LiveState)) (now : ℕ) (next : Option ℕ) → KeepsDeadlinesOf d held → now < 2 ^ 64
+    → IfSome next (λ at. IsNextDue d.nodes.items now 0 at)
+    → IfNone next ((p : ℕ) → p < half d.nodes.items → now ≤ get_or d.nodes.items (half d.nodes.items + p) 0)
+    → onward now held (half d.nodes.items) next ≡ due_positions now 0 held
+first_onward d held now (Some at) keeps fits found none = sym (from_next d held now 0 at keeps fits found) ∙ all_due d held now (half d.nodes.items - 0) keeps (omega arith)
+first_onward d held now None keeps fits found none =
+    sym (from_none now held 0 (half d.nodes.items) (λ p low lt. lives_from d held p now keeps fits (λ in_nodes. none p in_nodes)))
+    ∙ all_due d held now (half d.nodes.items) keeps refl
+
+pub next_onward : {A : Type 0} → (d : Deadlines A) (held : List (Option LiveState)) (now at : ℕ) (next : Option ℕ) → KeepsDeadlinesOf d held → now < 2 ^ 64
+    → IfSome next (λ p. IsNextDue d.nodes.items now (at + 1) p)
+    → IfNone next ((p : ℕ) → at < p → p < half d.nodes.items → now ≤ get_or d.nodes.items (half d.nodes.items + p) 0)
+    → due_from now held (at + 1) (half d.nodes.items - (at + 1)) ≡ onward now held (half d.nodes.items) next
+next_onward d held now at (Some p) keeps fits found none = from_next d held now (at + 1) p keeps fits found
+next_onward d held now at None keeps fits found none =
+    from_none now held (at + 1) (half d.nodes.items - (at + 1)) (λ p low lt. lives_from d held p now keeps fits (λ in_nodes. none p (omega arith) in_nodes))
+
+-- it is the position of a block, and ever fewer are behind it
+pub next_in_nodes : (nodes : List ℕ) (now b : ℕ) (next : Option ℕ) → IfSome next (λ at. IsNextDue nodes now b at) → IfSome next (λ at. at < half nodes)
+next_in_nodes nodes now b (Some at) found = found.within
+next_in_nodes nodes now b None found = found
+
+pub to_go_less : (nodes : List ℕ) (now at : ℕ) (old next : Option ℕ) → old ≡ Some at → at < half nodes → IfSome next (λ p. IsNextDue nodes now (at + 1) p) → to_go (half nodes) next < to_go (half nodes) old
+to_go_less nodes now at old (Some p) is lt found =
+    let low = found.low in
+    let within = found.within in
+    let e : to_go (half nodes) old ≡ half nodes - at = ap (to_go (half nodes)) is in
+    rw e (omega arith)
+to_go_less nodes now at old None is lt found =
+    let e : to_go (half nodes) old ≡ half nodes - at = ap (to_go (half nodes)) is in
+    rw e (omega arith)
 
 -- the deadlines through a change of one
 
@@ -322,59 +407,79 @@ cleared_at held a =
     ]
 
 -- one block holds something else
-keeps_put : {A : Type 0} → (d n : Deadlines A) (held : List (Option LiveState)) (at deadline : ℕ) (new : Option LiveState) → get_or (set held at new) at None ≡ new → deadline ≡ deadline_of new
+keeps_put : {A : Type 0} → (d n : Deadlines A) (held : List (Option LiveState)) (at last : ℕ) (new : Option LiveState) → get_or (set held at new) at None ≡ new
+    → ((now : ℕ) → now < 2 ^ 64 → is_dead new now ≡ ltb last now)
     → length n.nodes.items ≡ length d.nodes.items → (AreLesser d.nodes.items → AreLesser n.nodes.items)
-    → (at < half d.nodes.items → get_or n.nodes.items (half d.nodes.items + at) 0 ≡ deadline)
+    → (at < half d.nodes.items → get_or n.nodes.items (half d.nodes.items + at) 0 ≡ last)
     → ((p : ℕ) → (p ≡ at → ⊥) → get_or n.nodes.items (half d.nodes.items + p) 0 ≡ get_or d.nodes.items (half d.nodes.items + p) 0)
     → KeepsDeadlinesOf d held → KeepsDeadlinesOf n (set held at new)
-keeps_put d n held at deadline new is e size lesser here others k =
+keeps_put d n held at last new is e size lesser here others k =
     let same : half n.nodes.items ≡ half d.nodes.items = ap (λ (m : ℕ). m / 2) size in
     let long = length-set held at new in
     let room = k.room in
     record {
       room = omega arith;
-      power = λ some. let w = k.power (omega arith) in (w.0, same ∙ w.1);
-      lesser = lesser k.lesser;
-      each = λ p lt.
+      tree = record { power = λ some. let w = k.tree.power (omega arith) in (w.0, same ∙ w.1); lesser = lesser k.tree.lesser };
+      each = λ p now lt fits.
           rw same
           (elim (cases_eq p at) [
             | inl eq ↦
-                subst (λ (q : ℕ). get_or n.nodes.items (half d.nodes.items + q) 0 ≡ deadline_of (get_or (set held at new) q None)) (sym eq)
-                (here (omega arith) ∙ (e ∙ ap deadline_of (sym is)))
+                subst (λ (q : ℕ). is_dead (get_or (set held at new) q None) now ≡ ltb (get_or n.nodes.items (half d.nodes.items + q) 0) now) (sym eq)
+                (ap (λ (o : Option LiveState). is_dead o now) is ∙ (e now fits ∙ ap (λ (m : ℕ). ltb m now) (sym (here (omega arith)))))
             | inr other ↦
-                others p other ∙ (k.each p (omega arith) ∙ ap deadline_of (sym (get_or-set_other held at p new None other)))
+                ap (λ (o : Option LiveState). is_dead o now) (get_or-set_other held at p new None other)
+                ∙ (k.each p now (omega arith) fits ∙ ap (λ (m : ℕ). ltb m now) (sym (others p other)))
           ]);
     }
 
-pub renewed : {A : Type 0} → (d n : Deadlines A) (held : List (Option LiveState)) (at deadline : ℕ) (new : LiveState) → at < length held → new.deadline ≡ deadline
+-- it is due at all moments behind its last one
+last_moment : (new : LiveState) (now : ℕ) → 0 < new.deadline → now < 2 ^ 64 → is_dead (Some new) now ≡ ltb (min (new.deadline - 1) (2 ^ 64 - 1)) now
+last_moment new now some fits =
+    elim (cases_lt now new.deadline) [
+      | inl lt ↦ lt-leb new.deadline now lt ∙ sym (le-ltb (min (new.deadline - 1) (2 ^ 64 - 1)) now (omega arith))
+      | inr le ↦ le-leb new.deadline now le ∙ sym (lt-ltb (min (new.deadline - 1) (2 ^ 64 - 1)) now (omega arith))
+    ]
+
+pub renewed : {A : Type 0} → (d n : Deadlines A) (held : List (Option LiveState)) (at last deadline : ℕ) (new : LiveState) → last ≡ min (deadline - 1) (2 ^ 64 - 1) → 0 < deadline
+    → at < length held → new.deadline ≡ deadline
     → length n.nodes.items ≡ length d.nodes.items → (AreLesser d.nodes.items → AreLesser n.nodes.items)
-    → (at < half d.nodes.items → get_or n.nodes.items (half d.nodes.items + at) 0 ≡ deadline)
+    → (at < half d.nodes.items → get_or n.nodes.items (half d.nodes.items + at) 0 ≡ last)
     → ((p : ℕ) → (p ≡ at → ⊥) → get_or n.nodes.items (half d.nodes.items + p) 0 ≡ get_or d.nodes.items (half d.nodes.items + p) 0)
     → KeepsDeadlinesOf d held → KeepsDeadlinesOf n (set held at (Some new))
-renewed d n held at deadline new lt e size lesser here others k =
-    keeps_put d n held at deadline (Some new) (get_or-set_same held at (Some new) None lt) (sym e) size lesser here others k
+renewed d n held at last deadline new is some lt e size lesser here others k =
+    keeps_put d n held at last (Some new) (get_or-set_same held at (Some new) None lt)
+    (λ now fits. last_moment new now (omega arith) fits ∙ ap (λ (m : ℕ). ltb m now) (ap (λ (m : ℕ). min (m - 1) (2 ^ 64 - 1)) e ∙ sym is))
+    size lesser here others k
+
+-- no moment comes behind the greatest
+pub none_held : (now : ℕ) → now < 2 ^ 64 → false ≡ ltb (2 ^ 64 - 1) now
+none_held now fits = sym (le-ltb (2 ^ 64 - 1) now (omega arith))
 
 pub let_go : {A : Type 0} → (d n : Deadlines A) (held : List (Option LiveState)) (at : ℕ)
     → length n.nodes.items ≡ length d.nodes.items → (AreLesser d.nodes.items → AreLesser n.nodes.items)
-    → (at < half d.nodes.items → get_or n.nodes.items (half d.nodes.items + at) 0 ≡ 2 ^ 128 - 1)
+    → (at < half d.nodes.items → get_or n.nodes.items (half d.nodes.items + at) 0 ≡ 2 ^ 64 - 1)
     → ((p : ℕ) → (p ≡ at → ⊥) → get_or n.nodes.items (half d.nodes.items + p) 0 ≡ get_or d.nodes.items (half d.nodes.items + p) 0)
     → KeepsDeadlinesOf d held → KeepsDeadlinesOf n (set held at None)
 let_go d n held at size lesser here others k =
-    keeps_put d n held at (2 ^ 128 - 1) None (cleared_at held at) refl size lesser here others k
+    keeps_put d n held at (2 ^ 64 - 1) None (cleared_at held at) none_held size lesser here others k
 
 -- nothing is held
-pub keeps_none : {A : Type 0} → (d : Deadlines A) (held : List (Option LiveState)) (room count : ℕ) → d.nodes.items ≡ replicate (2 * room) (2 ^ 128 - 1) → count ≤ room
+pub keeps_none : {A : Type 0} → (d : Deadlines A) (held : List (Option LiveState)) (room count : ℕ) → d.nodes.items ≡ replicate (2 * room) (2 ^ 64 - 1) → count ≤ room
     → (0 < room → (k : ℕ) × (room ≡ 2 ^ k)) → length held ≡ count → ((p : ℕ) → get_or held p None ≡ None) → KeepsDeadlinesOf d held
 keeps_none d held room count is fits power size none =
-    let long : length d.nodes.items ≡ 2 * room = ap length is ∙ length-replicate (2 * room) (2 ^ 128 - 1) in
-    let every : (i : ℕ) → i < 2 * room → get_or d.nodes.items i 0 ≡ 2 ^ 128 - 1 = λ i lt. ap (λ (ns : List ℕ). get_or ns i 0) is ∙ get_or-replicate (2 * room) i (2 ^ 128 - 1) 0 lt in
+    let long : length d.nodes.items ≡ 2 * room = ap length is ∙ length-replicate (2 * room) (2 ^ 64 - 1) in
+    let every : (i : ℕ) → i < 2 * room → get_or d.nodes.items i 0 ≡ 2 ^ 64 - 1 = λ i lt. ap (λ (ns : List ℕ). get_or ns i 0) is ∙ get_or-replicate (2 * room) i (2 ^ 64 - 1) 0 lt in
     record {
       room = omega arith;
-      power = λ some. let w = power (omega arith) in let e : half d.nodes.items ≡ room = omega arith in (w.0, e ∙ w.1);
-      lesser = λ i some within.
-          let a = every i (omega arith) in
-          let b = every (2 * i) (omega arith) in
-          let c = every (2 * i + 1) (omega arith) in
-          omega arith;
-      each = λ p lt. every (half d.nodes.items + p) (omega arith) ∙ ap deadline_of (sym (none p));
+      tree = record {
+        power = λ some. let w = power (omega arith) in let e : half d.nodes.items ≡ room = omega arith in (w.0, e ∙ w.1);
+        lesser = λ i some within.
+            let a = every i (omega arith) in
+            let b = every (2 * i) (omega arith) in
+            let c = every (2 * i + 1) (omega arith) in
+            omega arith;
+      };
+      each = λ p now lt within.
+          ap (λ (o : Option LiveState). is_dead o now) (none p)
+          ∙ (none_held now within ∙ ap (λ (m : ℕ). ltb m now) (sym (every (half d.nodes.items + p) (omega arith))));
     }

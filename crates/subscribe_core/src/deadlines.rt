@@ -1,14 +1,16 @@
-// The deadlines of the holding blocks: one for each block, and above them the least of ever more of them.
+// The deadlines of the holding blocks: a number for each block, and above them the least of ever more of them.
 
-ghost use Rattle.std.specs.Prelude.{◌≡◌, ◌↔◌, ℕ, ◌<◌, ◌≤◌, ◌+◌, ◌*◌, ◌^◌, ◌⊎◌, [], List, Option, Some, None, true, false, IfOk, IsOk, IsTrue, IfSome, IfNone, length, slice_set, slice_index, slice_index_or};
+ghost use Rattle.std.specs.Prelude.{◌≡◌, ℕ, ◌<◌, ◌≤◌, ◌+◌, ◌-◌, ◌*◌, ◌^◌, ◌++◌, [], List, Option, Some, None, false, IfOk, OnOk, IsOk, IsTrue, IfSome, IfNone, length, min, slice_set, slice_index, slice_index_or};
 ghost use Rattle.subscribe_core.specs.declared.registers.LiveState.{LiveState as SpecLiveState};
-ghost use Rattle.subscribe_core.specs.computed.Steps.{is_dead};
-ghost use Rattle.subscribe_core.specs.computed.Deadlines.{AreLesser, AreLesserBut, KeepsDeadlinesOf, due_positions, half};
+ghost use Rattle.subscribe_core.specs.declared.registers.Register.{Register as SpecRegister};
+ghost use Rattle.subscribe_core.specs.computed.Steps.{expired_entries, is_dead};
+ghost use Rattle.subscribe_core.specs.computed.Deadlines.{AreLesser, AreLesserBut, Covers, IsBeside, IsNextDue, IsTree, KeepsDeadlinesOf, half, helds};
 
+use crate::entry::Entry;
 use std::alloc::{AllocError, Allocator};
 
-// Stands for no deadline: no moment comes near it.
-const NONE: u128 = u128::MAX;
+// The last moment of a block that holds nothing: no moment comes behind it.
+const NONE: u64 = u64::MAX;
 
 // For how many blocks there is room, where there are so many: a power of two, or none.
 fn room_for(count: usize) -> usize
@@ -25,13 +27,21 @@ fn room_for(count: usize) -> usize
     }
 }
 
+// The last moment at which what has this deadline is held; the greatest one, where it is held for longer.
+fn last_before(deadline: u128) -> u64
+    requires { 0 < deadline }
+    ensures { result ≡ min (deadline - 1) (2 ^ 64 - 1) }
+{
+    (deadline - 1).min(u128::from(NONE)) as u64
+}
+
 /// The deadlines of the blocks that hold something, as nodes of a tree. The second half of the nodes are the blocks', in their
-/// order, with the greatest number where nothing is held. Before them each node i has the lesser of the nodes 2 i and 2 i + 1,
-/// so node 1 has the least deadline. Node 0 is not used. All nodes are made at once, so a renewal takes no memory; it writes
-/// those above its block that change.
+/// order: the last moment at which a block holds what it does, the greatest moment where it holds nothing or holds it for
+/// ever. Before them each node i has the lesser of the nodes 2 i and 2 i + 1, so node 1 has the least. Node 0 is not used. All
+/// nodes are made at once, so a renewal takes no memory; it writes those above its block that change.
 #[derive(Drop)]
 pub struct Deadlines<A: Allocator> {
-    nodes: Vec<u128, A>,
+    nodes: Vec<u64, A>,
 }
 
 impl<A: Allocator + Copy> Deadlines<A> {
@@ -39,6 +49,7 @@ impl<A: Allocator + Copy> Deadlines<A> {
     pub(crate) fn new(alloc: A, count: usize) -> Result<Deadlines<A>, AllocError>
         requires { count ≤ 2 ^ 63 }
         ensures kept { IfOk result (λ d. (held : List (Option SpecLiveState)) → length held ≡ count → ((p : ℕ) → slice_index_or held p None ≡ None) → KeepsDeadlinesOf d held) }
+        ensures few { IfOk result (λ d. length d.nodes.items ≤ 4 * count) }
         ensures quiet { count ≡ 0 → IsOk result }
     {
         let mut nodes = Vec::new(alloc);
@@ -46,53 +57,80 @@ impl<A: Allocator + Copy> Deadlines<A> {
         Ok(Deadlines { nodes })
     }
 
-    // Whether a node is there and at most the moment.
-    fn is_due_at(&self, node: usize, now: u64) -> bool
-        ensures { IsTrue result ↔ (node < length self.now.nodes.items) × (slice_index self.now.nodes.items node ≤ now) }
-    {
-        node < self.nodes.len() && self.nodes[node] <= u128::from(now)
-    }
-
-    // Whether some deadline is at most the moment.
-    pub(crate) fn has_due(&self, now: u64) -> bool
-        ensures least { result ≡ true → (0 < half self.now.nodes.items) × (slice_index self.now.nodes.items 1 ≤ now) }
-        ensures found { result ≡ true → (held : List (Option SpecLiveState)) → KeepsDeadlinesOf self.now held → (at : ℕ) × IsTrue (is_dead (slice_index_or held at None) now) }
-        ensures none { result ≡ false → (held : List (Option SpecLiveState)) (at : ℕ) → KeepsDeadlinesOf self.now held → is_dead (slice_index_or held at None) now ≡ false }
-    {
-        self.is_due_at(1, now)
-    }
-
-    // The positions of the blocks whose deadline is at most the moment, in their order. The nodes are walked from left to right.
-    // Below one that is above the moment nothing is due, so the walk goes on behind it, one level up where it can. Between two
-    // positions it comes to four nodes of a level at most.
-    pub(crate) fn due(&self, alloc: A, now: u64) -> Result<Vec<usize, A>, AllocError>
-        ensures positions { (held : List (Option SpecLiveState)) → KeepsDeadlinesOf self.now held → IfOk result (λ at. at.items ≡ due_positions now 0 held) }
-        ensures quiet { (held : List (Option SpecLiveState)) → KeepsDeadlinesOf self.now held → due_positions now 0 held ≡ [] → IsOk result }
+    // The position of the first block that is due of those below a node, where one is.
+    fn first_below(&self, from: usize, now: u64) -> usize
+        requires some { 0 < from }
+        ensures { (b k : ℕ) → IsTree self.now.nodes.items → Covers self.now.nodes.items from b k → slice_index self.now.nodes.items from < now → IsNextDue self.now.nodes.items now b result }
     {
         let half = self.nodes.len() / 2;
-        let mut positions = Vec::new(alloc);
-        // Below the node are the blocks from the position `at` on, `size` of them.
-        let mut node = 1;
-        let mut size = half;
-        let mut at = 0;
-        while at < half {
-            if self.is_due_at(node, now) {
-                if 1 < size {
-                    node *= 2;
-                    size /= 2;
-                    continue;
-                }
-                positions.push(at)?;
-            }
-            at += size;
-            node += 1;
-            // The left one of the two nodes below another has an even number, and begins at the same block as that.
-            if node % 2 == 0 {
-                node /= 2;
-                size *= 2;
+        let mut node = from;
+        while node < half {
+            node *= 2;
+            if now <= self.nodes[node] {
+                node += 1;
             }
         }
-        Ok(positions)
+        node - half
+    }
+
+    // The first node to the right of the way from a block's up below which one is due.
+    fn beside(&self, at: usize, now: u64) -> Option<usize>
+        requires within { at < half self.now.nodes.items }
+        requires tree { IsTree self.now.nodes.items }
+        ensures found { IfSome result (λ node. IsBeside self.now.nodes.items now at node) }
+        ensures none { IfNone result ((p : ℕ) → at < p → p < half self.now.nodes.items → now ≤ slice_index self.now.nodes.items (half self.now.nodes.items + p)) }
+    {
+        let mut node = self.nodes.len() / 2 + at;
+        while 1 < node {
+            if node % 2 == 0 && self.nodes[node + 1] < now {
+                return Some(node + 1);
+            }
+            node /= 2;
+        }
+        None
+    }
+
+    // The position of the first block whose deadline is at most the moment.
+    fn first_due(&self, now: u64) -> Option<usize>
+        requires tree { IsTree self.now.nodes.items }
+        ensures found { IfSome result (λ at. IsNextDue self.now.nodes.items now 0 at) }
+        ensures none { IfNone result ((p : ℕ) → p < half self.now.nodes.items → now ≤ slice_index self.now.nodes.items (half self.now.nodes.items + p)) }
+    {
+        if self.nodes.len() < 2 || now <= self.nodes[1] {
+            return None;
+        }
+        Some(self.first_below(1, now))
+    }
+
+    // That of the next one behind a position.
+    fn next_due(&self, at: usize, now: u64) -> Option<usize>
+        requires within { at < half self.now.nodes.items }
+        requires tree { IsTree self.now.nodes.items }
+        ensures found { IfSome result (λ next. IsNextDue self.now.nodes.items now (at + 1) next) }
+        ensures none { IfNone result ((p : ℕ) → at < p → p < half self.now.nodes.items → now ≤ slice_index self.now.nodes.items (half self.now.nodes.items + p)) }
+    {
+        match self.beside(at, now) {
+            None => None,
+            Some(node) => Some(self.first_below(node, now)),
+        }
+    }
+
+    // Appends an entry for each block whose deadline is at most the moment, in their order.
+    pub(crate) fn list_due(
+        &self,
+        now: u64,
+        entries: &mut Vec<Entry<A>, A>,
+    ) -> Result<(), AllocError>
+        requires tree { IsTree self.now.nodes.items }
+        ensures entries { (registers : List SpecRegister) → KeepsDeadlinesOf self.now (helds registers) → OnOk result (entries.new.items ≡ entries.old.items ++ expired_entries now 0 registers) }
+        ensures quiet { (registers : List SpecRegister) → KeepsDeadlinesOf self.now (helds registers) → expired_entries {A = A} now 0 registers ≡ [] → IsOk result }
+    {
+        let mut next = self.first_due(now);
+        while let Some(at) = next {
+            entries.push(Entry::Expired { block: at })?;
+            next = self.next_due(at, now);
+        }
+        Ok(())
     }
 
     // Has an inner node and those above it have the lesser of the nodes below them again.
@@ -114,25 +152,26 @@ impl<A: Allocator + Copy> Deadlines<A> {
     }
 
     // Writes the deadline of the block at a position.
-    fn put(&mut self, at: usize, deadline: u128)
+    fn put(&mut self, at: usize, last: u64)
         ensures length { length self.new.nodes.items ≡ length self.old.nodes.items }
         ensures lesser { AreLesser self.old.nodes.items → AreLesser self.new.nodes.items }
-        ensures here { at < half self.old.nodes.items → slice_index self.new.nodes.items (half self.old.nodes.items + at) ≡ deadline }
+        ensures here { at < half self.old.nodes.items → slice_index self.new.nodes.items (half self.old.nodes.items + at) ≡ last }
         ensures others { (p : ℕ) → (p ≡ at → ⊥) → slice_index self.new.nodes.items (half self.old.nodes.items + p) ≡ slice_index self.old.nodes.items (half self.old.nodes.items + p) }
     {
         let half = self.nodes.len() / 2;
         if at < half {
-            self.nodes[half + at] = deadline;
+            self.nodes[half + at] = last;
             self.settle((half + at) / 2);
         }
     }
 
     // Gives a block a deadline in place of the one that it had.
     pub(crate) fn renew(&mut self, at: usize, deadline: u128)
+        requires { 0 < deadline }
         ensures { (held : List (Option SpecLiveState)) (new : SpecLiveState) → at < length held → new.deadline ≡ deadline
             → KeepsDeadlinesOf self.old held → KeepsDeadlinesOf self.new (slice_set held at (Some new)) }
     {
-        self.put(at, deadline);
+        self.put(at, last_before(deadline));
     }
 
     // Takes out a block's deadline, if it has one.
@@ -142,43 +181,17 @@ impl<A: Allocator + Copy> Deadlines<A> {
         self.put(at, NONE);
     }
 
-    // Of the two nodes below an inner one, one that is at most the moment where that is.
-    fn due_below(&self, node: usize, now: u64) -> usize
-        requires { node < half self.now.nodes.items }
-        ensures below { (result ≡ 2 * node) ⊎ (result ≡ 2 * node + 1) }
-        ensures due { AreLesser self.now.nodes.items → 0 < node → slice_index self.now.nodes.items node ≤ now → slice_index self.now.nodes.items result ≤ now }
-    {
-        if self.is_due_at(2 * node, now) {
-            2 * node
-        } else {
-            2 * node + 1
-        }
-    }
-
-    // The position of a block whose deadline is at most the moment, where node 1 is.
-    fn first_due(&self, now: u64) -> usize
-        ensures { 0 < half self.now.nodes.items → AreLesser self.now.nodes.items → slice_index self.now.nodes.items 1 ≤ now
-            → (result < half self.now.nodes.items) × (slice_index self.now.nodes.items (half self.now.nodes.items + result) ≤ now) }
-    {
-        let half = self.nodes.len() / 2;
-        let mut node = 1;
-        while node < half {
-            node = self.due_below(node, now);
-        }
-        node - half
-    }
-
     // Takes out a deadline that is at most the moment, if there is one, and gives its block's position.
     pub(crate) fn take_due(&mut self, now: u64) -> Option<usize>
+        requires tree { IsTree self.old.nodes.items }
         ensures due { IfSome result (λ at. (held : List (Option SpecLiveState)) → KeepsDeadlinesOf self.old held → IsTrue (is_dead (slice_index_or held at None) now)) }
         ensures taken { IfSome result (λ at. (held : List (Option SpecLiveState)) → KeepsDeadlinesOf self.old held → KeepsDeadlinesOf self.new (slice_set held at None)) }
         ensures none { IfNone result ((held : List (Option SpecLiveState)) (at : ℕ) → KeepsDeadlinesOf self.old held → is_dead (slice_index_or held at None) now ≡ false) }
         ensures unchanged { IfNone result (self.new ≡ self.old) }
     {
-        if !self.has_due(now) {
+        let Some(at) = self.first_due(now) else {
             return None;
-        }
-        let at = self.first_due(now);
+        };
         self.let_go(at);
         Some(at)
     }

@@ -153,14 +153,7 @@ impl<A: Allocator + Copy> Keeper<A> {
         ensures entries { OnOk result (entries.new.items ≡ entries.old.items ++ expired_entries now 0 self.now.state.registers) }
         ensures quiet { expired_entries {A = A} now 0 self.now.state.registers ≡ [] → IsOk result }
     {
-        if !self.deadlines.has_due(now) {
-            return Ok(());
-        }
-        let due = self.deadlines.due(self.alloc, now)?;
-        for at in due.iter() {
-            entries.push(Entry::Expired { block: *at })?;
-        }
-        Ok(())
+        self.deadlines.list_due(now, entries)
     }
 
     // Lets go of what is over at the moment.
@@ -178,7 +171,8 @@ impl<A: Allocator + Copy> Keeper<A> {
 
     // Has a block hold something in place of what it held, and take simulated frames or real ones.
     fn hold(&mut self, at: usize, held: LiveState, takes_simulated: bool)
-        requires { at < length self.old.state.registers }
+        requires within { at < length self.old.state.registers }
+        requires live { 0 < held.deadline }
         ensures registers { self.new.state.registers ≡ slice_set self.old.state.registers at (record { held = Some held; takes_simulated = takes_simulated }) }
         ensures blocks { self.new.state.blocks ≡ self.old.state.blocks }
         ensures mode { self.new.state.mode ≡ self.old.state.mode }

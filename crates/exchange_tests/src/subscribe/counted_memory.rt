@@ -53,7 +53,7 @@ fn subscriber(alloc: Memory<'_>) -> Result<Subscriber<Memory<'_>>, Fail> {
     }
 }
 
-// The list of entries, the deadline, and for an action the members, of which each has its octet.
+// The list of entries, and for an action the members, of which each has its octet.
 #[test]
 fn members_are_copied_for_an_action_alone(rt: HostRuntime) -> Result<(), Fail> {
     let alloc = RefusingAlloc::new(rt.alloc(), usize::MAX);

@@ -122,7 +122,7 @@ const EXAMPLES: [(Given, Want, usize, usize); 19] = [
     (
         Given::Other(Numbers(2000, 1, 1, 2000)),
         Want::Two(Told::Expired(0), Told::Refreshed(1, 1, 1)),
-        2,
+        1,
         9,
     ),
     (Given::Clock(4000), Want::One(Told::Expired(1)), 1, 9),
@@ -180,7 +180,7 @@ const EXAMPLES: [(Given, Want, usize, usize); 19] = [
     (
         Given::Simulated(Numbers(7002, 2, 0, 2000)),
         Want::Two(Told::Expired(0), Told::Act(0, 2, 0, TRUE)),
-        3,
+        2,
         9,
     ),
     (Given::Mode(7003, false), Want::One(Told::Switched(0)), 1, 9),

@@ -10,7 +10,7 @@ use Rattle.inventory_engine.specs.declared.inventory.Inventory.{Inventory}
 use Rattle.inventory_engine.specs.Sightings.{Key, Sighting, key_of, sightings_in, sightings_of}
 use Rattle.inventory_engine.specs.BlocksText.{line_after}
 use Rattle.inventory_engine.specs.computed.KnownTexts.{InOrder, known_key, known_text, text_by}
-use Rattle.inventory_engine.specs.computed.Runs.{NoneEmpty, held}
+use Rattle.inventory_engine.specs.computed.Runs.{AreRuns, held}
 
 -- the text of a sighting
 abbrev pub text_seen : Sighting → List ℕ
@@ -39,7 +39,7 @@ blocks_text = record {
 
 -- what is held is the newest text of each key
 pub record Keeps {A : Type 0} (known : Inventory A) (seen : List Sighting) : Type 0 where
-  pub none_empty : NoneEmpty known.runs.items
+  pub runs : AreRuns known.runs.items
   pub order : InOrder (held known)
   pub same : (key : Key) → text_by known_key known_text (held known) key ≡ newest seen key
 

@@ -1,5 +1,5 @@
 -- What is held of each control block and stream that was seen, in order.
-use Rattle.std.specs.Prelude.{◌≡◌, ℕ, ◌+◌, ◌<◌, ◌≤◌, List, [], ◌∷◌, length, slice_index_or, Bool, Option, Some, None, Result, Ok, Err, if◌then◌else◌}
+use Rattle.std.specs.Prelude.{◌≡◌, ℕ, ◌+◌, ◌<◌, ◌≤◌, min, List, [], ◌∷◌, length, take, drop, slice_index_or, Bool, Option, Some, None, Result, Ok, Err, if◌then◌else◌}
 use Rattle.std.specs.Ordering.{nat_cmp, is_eq, ordering_then}
 use Rattle.std.specs.Cmp.Lexicographic.{slice_cmp}
 use Rattle.std.specs.declared.cmp.Ordering.{Ordering}
@@ -20,13 +20,21 @@ key_cmp x y = ordering_then (nat_cmp (rank x.0) (rank y.0)) (slice_cmp nat_cmp x
 abbrev pub same_key : Key → Key → Bool
 same_key x y = is_eq (key_cmp x y)
 
+-- where the text begins in the octets of what is held, behind its name
+abbrev pub text_start : {A : Type 0} → Known A → ℕ
+text_start k = min k.text_at (length k.octets)
+
+-- its gocbRef or svID
+abbrev pub known_name : {A : Type 0} → Known A → List ℕ
+known_name k = take (text_start k) k.octets
+
 -- the key of what is held
 abbrev pub known_key : {A : Type 0} → Known A → Key
-known_key k = (k.app_id, k.name)
+known_key k = (k.app_id, known_name k)
 
 -- the text that was written of it last
 abbrev pub known_text : {A : Type 0} → Known A → List ℕ
-known_text k = k.text
+known_text k = drop (text_start k) k.octets
 
 -- the text of the first of several things with this key
 abbrev pub text_by : {X : Type 0} → (X → Key) → (X → List ℕ) → List X → Key → Option (List ℕ)

@@ -1,5 +1,5 @@
 -- The runs in which entries are held.
-use Rattle.std.specs.Prelude.{◌≡◌, ℕ, ◌+◌, ◌<◌, ◌≤◌, List, [], ◌∷◌, length, take, slice_index_or, slice_set, Bool, true, false, Result, Ok, Err}
+use Rattle.std.specs.Prelude.{◌≡◌, ℕ, ◌+◌, ◌<◌, ◌≤◌, List, [], ◌∷◌, length, take, slice_index_or, slice_set, vec_capacity, Bool, true, false, Result, Ok, Err}
 use Rattle.std.specs.List.{flat_map, insert}
 use Rattle.std.specs.Ordering.{is_gt}
 use Rattle.std.specs.declared.vec.Vec.{Vec}
@@ -25,6 +25,16 @@ held inventory = in_runs inventory.runs.items
 abbrev pub NoneEmpty : {A : Type 0} → List (Vec (Known A) A) → Type 0
 NoneEmpty {A} runs = (i : ℕ) (d : Vec (Known A) A) → i < length runs → 0 < length (in_run (slice_index_or runs i d))
 
+-- a run has an entry, and room for at most eight more than it has
+pub record IsRun {A : Type 0} (run : Vec (Known A) A) : Type 0 where
+  pub some : 0 < length (in_run run)
+  pub room : vec_capacity run ≤ length (in_run run) + 8
+
+-- runs are such, and each but the last has 32 entries or more
+pub record AreRuns {A : Type 0} (runs : List (Vec (Known A) A)) : Type 0 where
+  pub each : (i : ℕ) (d : Vec (Known A) A) → i < length runs → IsRun (slice_index_or runs i d)
+  pub many : (i : ℕ) (d : Vec (Known A) A) → i + 1 < length runs → 32 ≤ length (in_run (slice_index_or runs i d))
+
 -- where a place is among all that is held
 abbrev pub position_of : {A : Type 0} → Inventory A → Place → ℕ
 position_of inventory place = length (in_runs (take place.run inventory.runs.items)) + place.at
@@ -34,10 +44,10 @@ pub record IsPlace {A : Type 0} (inventory : Inventory A) (place : Place) : Type
   pub in_runs : place.run < length inventory.runs.items
   pub in_run : (d : Vec (Known A) A) → place.at < length (in_run (slice_index_or inventory.runs.items place.run d))
 
--- one can be put at the place: into its run, or behind all runs
+-- one can be put at the place: into its run, or as the first of all
 pub record TakesPlace {A : Type 0} (inventory : Inventory A) (place : Place) : Type 0 where
   pub in_run : (d : Vec (Known A) A) → place.run < length inventory.runs.items → place.at ≤ length (in_run (slice_index_or inventory.runs.items place.run d))
-  pub behind : length inventory.runs.items ≤ place.run → place.at ≡ 0
+  pub first : length inventory.runs.items ≤ place.run → (inventory.runs.items ≡ []) × (place.at ≡ 0)
 
 -- a run begins behind the key
 abbrev pub begins_behind : {A : Type 0} → List (Known A) → Key → Bool
@@ -61,12 +71,12 @@ pub record WritesText {A : Type 0} (old new : Inventory A) (place : Place) (text
   pub written : held new ≡ slice_set (held old) (position_of old place) one
   pub same_key : (d : Known A) → known_key one ≡ known_key (slice_index_or (held old) (position_of old place) d)
   pub has_text : known_text one ≡ text
-  pub none_empty : NoneEmpty old.runs.items → NoneEmpty new.runs.items
+  pub runs : AreRuns old.runs.items → AreRuns new.runs.items
 
 -- one more is held, at the place
 pub record PutsOne {A : Type 0} (old new : Inventory A) (place : Place) (one : Known A) : Type 0 where
   pub put : held new ≡ insert (held old) (position_of old place) one
-  pub none_empty : NoneEmpty old.runs.items → NoneEmpty new.runs.items
+  pub runs : AreRuns old.runs.items → AreRuns new.runs.items
 
 -- the same is held, and this place is where that one was
 pub record MovesPlace {A : Type 0} (old new : Inventory A) (place moved : Place) : Type 0 where
@@ -74,4 +84,4 @@ pub record MovesPlace {A : Type 0} (old new : Inventory A) (place moved : Place)
   pub position : position_of new moved ≡ position_of old place
   pub takes : TakesPlace new moved
   pub within : moved.run < length new.runs.items
-  pub none_empty : NoneEmpty old.runs.items → NoneEmpty new.runs.items
+  pub runs : AreRuns old.runs.items → AreRuns new.runs.items

@@ -1,8 +1,6 @@
-use Rattle.inventory_engine.specs.computed.BlocksStep.{blocks_text}
-use Rattle.inventory_engine.proofs.Newest.{blocks_is}
 use Rattle.inventory_engine.proofs.engine.blocks.Goals as goal
 
 pub returns-clause-text : goal.returns-clause-text
 returns-clause-text g c =
-    let r = c.run.ensures.text in
-    (r.0, r.1, record { text = blocks_text; is_text = blocks_is; run = r.2 })
+    let r = c.blocks_to_stop.ensures.text in
+    rw (c.into_source.ensures.left, c.into_source.ensures.source, c.into_source.ensures.ending) (r.0, r.1, r.2.0)

@@ -1,4 +1,4 @@
-use Rattle.std.proofs.Common.{◌∙◌, ◌++◌, [], ◌∷◌, List, ℕ, true, false, ap, subst}
+use Rattle.std.proofs.Common.{◌∙◌, ◌++◌, [], ◌∷◌, List, ℕ, true, false, ap}
 use Rattle.std.specs.List.{flat_map}
 use Rattle.inventory_engine.specs.declared.known.Known.{Known}
 use Rattle.inventory_engine.specs.computed.PieceText.{piece_text}
@@ -13,7 +13,7 @@ pub returns-then-is_text-clause-written : goal.returns-then-is_text-clause-writt
 returns-then-is_text-clause-written g c =
     let s : Sighting = record { app_id = c.args.app_id; name = c.args.name.now; text = flat_map piece_text c.args.pieces.now } in
     let at = position_of c.args.known.now c.in-Ok.place in
-    let one : Known g.row.A.Denot = record { app_id = c.args.app_id; name = c.args.name.now; text = s.text } in
+    let one : Known g.row.A.Denot = record { app_id = c.args.app_id; octets = []; text_at = 0 } in
     said_same c.args.number s c.args.known.now at one c.args.line.now.items c.in-Ok.ensures.1
     (compared c.args.known.now at one c.text.result.now s.text c.is_text.result true (c.text.ensures one) c.is_text.ensures c.if-is_text.true)
 
@@ -21,54 +21,53 @@ pub returns-in_err-size-in-Ok-clause-wants : goal.returns-in_err-size-in-Ok-clau
 returns-in_err-size-in-Ok-clause-wants g c =
     let s : Sighting = record { app_id = c.args.app_id; name = c.args.name.now; text = flat_map piece_text c.args.pieces.now } in
     let at = position_of c.args.known.now c.in-Ok.place in
-    let one : Known g.row.A.Denot = record { app_id = c.args.app_id; name = c.args.name.now; text = s.text } in
+    let one : Known g.row.A.Denot = record { app_id = c.args.app_id; octets = []; text_at = 0 } in
     on_error _ _ (wanted_changed c.args.number s c.args.known.now at one c.in-Ok.ensures.1
     (compared c.args.known.now at one c.text.result.now s.text c.is_text.result false (c.text.ensures one) c.is_text.ensures c.if-is_text.false))
 
-pub returns-in_err-text_of-in-Ok-clause-wants : goal.returns-in_err-text_of-in-Ok-clause-wants
-returns-in_err-text_of-in-Ok-clause-wants g c =
+pub returns-in_ok-size-in-Ok-clause-wants : goal.returns-in_ok-size-in-Ok-clause-wants
+returns-in_ok-size-in-Ok-clause-wants g c =
     let s : Sighting = record { app_id = c.args.app_id; name = c.args.name.now; text = flat_map piece_text c.args.pieces.now } in
     let at = position_of c.args.known.now c.in-Ok.place in
-    let one : Known g.row.A.Denot = record { app_id = c.args.app_id; name = c.args.name.now; text = s.text } in
+    let one : Known g.row.A.Denot = record { app_id = c.args.app_id; octets = []; text_at = 0 } in
     on_error _ _ (wanted_changed c.args.number s c.args.known.now at one c.in-Ok.ensures.1
     (compared c.args.known.now at one c.text.result.now s.text c.is_text.result false (c.text.ensures one) c.is_text.ensures c.if-is_text.false))
 
-pub returns-in_ok-text_of-in-Ok-clause-written : goal.returns-in_ok-text_of-in-Ok-clause-written
-returns-in_ok-text_of-in-Ok-clause-written g c =
+pub returns-in_ok-size-in-Ok-clause-written : goal.returns-in_ok-size-in-Ok-clause-written
+returns-in_ok-size-in-Ok-clause-written g c =
+    let known = c.args.known.now in
+    let after = c.set_text.new.self in
+    let place = c.in-Ok.place in
     let s : Sighting = record { app_id = c.args.app_id; name = c.args.name.now; text = flat_map piece_text c.args.pieces.now } in
-    let at = position_of c.args.known.now c.in-Ok.place in
-    said_changed c.args.number s c.args.known.now c.in-Ok.place c.set_text.new.self c.args.line.now.items c.put_line.new.line.items c.in-Ok.ensures.1
-    (λ d. compared c.args.known.now at d c.text.result.now s.text c.is_text.result false (c.text.ensures d) c.is_text.ensures c.if-is_text.false) (subst (λ (t : List ℕ). WritesText c.args.known.now c.set_text.new.self c.in-Ok.place t) c.in_ok-text_of-in-Ok.ensures c.set_text.ensures)
-    (c.in_ok-size-in-Ok.ensures.text ∙ ap (λ (w : List ℕ). c.args.line.now.items ++ sighting_line c.args.number w s.text) c.changed.ensures)
+    on_success c.set_text.result (WritesText known after place s.text) (AppendsLines c.args.number (s ∷ []) known after c.args.line.now.items c.put_line.new.line.items)
+    (λ writes. said_changed c.args.number s known place after c.args.line.now.items c.put_line.new.line.items c.in-Ok.ensures.1
+    (λ d. compared known (position_of known place) d c.text.result.now s.text c.is_text.result false (c.text.ensures d) c.is_text.ensures c.if-is_text.false) writes
+    (c.in_ok-size-in-Ok.ensures.text ∙ ap (λ (w : List ℕ). c.args.line.now.items ++ sighting_line c.args.number w s.text) c.changed.ensures))
+    c.set_text.ensures.written
 
 pub returns-in_err-size-in-Err-clause-wants : goal.returns-in_err-size-in-Err-clause-wants
 returns-in_err-size-in-Err-clause-wants g c =
     let s : Sighting = record { app_id = c.args.app_id; name = c.args.name.now; text = flat_map piece_text c.args.pieces.now } in
     on_error _ _ (wanted_first c.args.number s c.args.known.now (position_of c.args.known.now c.in-Err.place) c.in-Err.ensures.1)
 
-pub returns-in_err-name-in-Err-clause-wants : goal.returns-in_err-name-in-Err-clause-wants
-returns-in_err-name-in-Err-clause-wants g c =
+pub returns-in_err-one-in-Err-clause-wants : goal.returns-in_err-one-in-Err-clause-wants
+returns-in_err-one-in-Err-clause-wants g c =
     let s : Sighting = record { app_id = c.args.app_id; name = c.args.name.now; text = flat_map piece_text c.args.pieces.now } in
     on_error _ _ (wanted_first c.args.number s c.args.known.now (position_of c.args.known.now c.in-Err.place) c.in-Err.ensures.1)
 
-pub returns-in_err-text-in-Err-clause-wants : goal.returns-in_err-text-in-Err-clause-wants
-returns-in_err-text-in-Err-clause-wants g c =
+pub returns-in_ok-one-in-Err-clause-wants : goal.returns-in_ok-one-in-Err-clause-wants
+returns-in_ok-one-in-Err-clause-wants g c =
     let s : Sighting = record { app_id = c.args.app_id; name = c.args.name.now; text = flat_map piece_text c.args.pieces.now } in
     on_error _ _ (wanted_first c.args.number s c.args.known.now (position_of c.args.known.now c.in-Err.place) c.in-Err.ensures.1)
 
-pub returns-in_ok-text-in-Err-clause-wants : goal.returns-in_ok-text-in-Err-clause-wants
-returns-in_ok-text-in-Err-clause-wants g c =
-    let s : Sighting = record { app_id = c.args.app_id; name = c.args.name.now; text = flat_map piece_text c.args.pieces.now } in
-    on_error _ _ (wanted_first c.args.number s c.args.known.now (position_of c.args.known.now c.in-Err.place) c.in-Err.ensures.1)
-
-pub returns-in_ok-text-in-Err-clause-written : goal.returns-in_ok-text-in-Err-clause-written
-returns-in_ok-text-in-Err-clause-written g c =
+pub returns-in_ok-one-in-Err-clause-written : goal.returns-in_ok-one-in-Err-clause-written
+returns-in_ok-one-in-Err-clause-written g c =
     let known = c.args.known.now in
     let after = c.insert.new.self in
+    let one = c.in_ok-one-in-Err.one in
     let s : Sighting = record { app_id = c.args.app_id; name = c.args.name.now; text = flat_map piece_text c.args.pieces.now } in
-    let one : Known g.row.A.Denot = record { app_id = c.args.app_id; name = c.in_ok-name-in-Err.name; text = c.in_ok-text-in-Err.text } in
     on_success c.insert.result (PutsOne known after c.in-Err.place one) (AppendsLines c.args.number (s ∷ []) known after c.args.line.now.items c.put_line-in-Err.new.line.items)
     (λ puts. said_first c.args.number s known c.in-Err.place one after c.args.line.now.items c.put_line-in-Err.new.line.items c.in-Err.ensures.1
-    (ap (λ (o : List ℕ). (c.args.app_id, o)) c.in_ok-name-in-Err.ensures.value) c.in_ok-text-in-Err.ensures puts
+    c.in_ok-one-in-Err.ensures.key c.in_ok-one-in-Err.ensures.text puts
     (c.in_ok-size-in-Err.ensures.text ∙ ap (λ (w : List ℕ). c.args.line.now.items ++ sighting_line c.args.number w s.text) c.first.ensures))
-    c.insert.ensures
+    c.insert.ensures.put

@@ -30,7 +30,7 @@ returns-in-Err g c =
     let gap = subst (λ (l : List (Known g.row.A.Denot)). InOrder l → IsGap l (c.args.app_id, c.args.name.now) at) c.as_slice-2.ensures.value c.in-Err.ensures.1 in (
       record {
         in_run = λ d within. read_any (λ (v : Vec (Known g.row.A.Denot) g.row.A.Denot). at ≤ length (in_run v)) runs r run lt c.index.ensures le d;
-        behind = λ past. absurd (omega arith);
+        first = λ past. absurd (omega arith);
       },
       gap_at runs r run lt c.index.ensures (c.args.app_id, c.args.name.now) at le gap of,
     )

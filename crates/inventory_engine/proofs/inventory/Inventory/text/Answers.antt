@@ -7,4 +7,4 @@ pub returns : goal.returns
 returns g c = λ d.
     let place = c.args.place in
     let run = c.index.result.now in
-    c.as_slice.ensures ∙ ap known_text (sym (one_at c.args.self.now.runs.items place.run run c.requires.in_runs c.index.ensures place.at c.index-2.result.now (c.requires.in_run run) c.index-2.ensures d))
+    c.text.ensures ∙ ap known_text (sym (one_at c.args.self.now.runs.items place.run run c.requires.in_runs c.index.ensures place.at c.index-2.result.now (c.requires.in_run run) c.index-2.ensures d))

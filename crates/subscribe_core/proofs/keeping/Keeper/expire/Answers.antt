@@ -6,6 +6,9 @@ use Rattle.subscribe_core.specs.computed.PrivateCalls.{StateAndReaches}
 use Rattle.subscribe_core.proofs.Clearing.{cleared_set, count_set, cleared_none, due_within, helds_set, held_of, indexed_write, let_go, register_of}
 use Rattle.subscribe_core.proofs.keeping.Keeper.expire.Goals as goal
 
+pub take_due-requires : goal.take_due-requires
+take_due-requires g c = record { tree = c.loop-at.invariant.indexed.timed.tree }
+
 pub let_go-requires : goal.let_go-requires
 let_go-requires g c =
     let registers = c.loop-at.self-inside.rows.registers.items in

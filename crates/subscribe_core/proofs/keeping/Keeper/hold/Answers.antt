@@ -8,12 +8,12 @@ use Rattle.subscribe_core.proofs.keeping.Keeper.hold.Goals as goal
 
 pub write-requires : goal.write-requires
 write-requires g c =
-    record { within = subst (λ (s : StateAndReaches _). c.args.at < length s.state.registers) (sym c.self.view_is) c.requires }
+    record { within = subst (λ (s : StateAndReaches _). c.args.at < length s.state.registers) (sym c.self.view_is) c.requires.within }
 
 pub invariant_of-self : goal.invariant_of-self
 invariant_of-self g c =
     let registers = c.self.inside.rows.registers.items in
-    let lt = subst (λ (s : StateAndReaches _). c.args.at < length s.state.registers) (sym c.self.view_is) c.requires in
+    let lt = subst (λ (s : StateAndReaches _). c.args.at < length s.state.registers) (sym c.self.view_is) c.requires.within in
     let size = length-map registers (λ (r : Register). r.held) in
     let new : Register = record { held = Some c.args.held; takes_simulated = c.args.takes_simulated } in
     indexed_write _ _ registers _ _ c.args.at new _ _ (ap (λ b. b.items) c.write.ensures.blocks) c.write.ensures.registers c.self.invariant

@@ -5,7 +5,7 @@ use Rattle.subscribe_core.specs.computed.Deadlines.{due_count, helds}
 use Rattle.subscribe_core.specs.computed.Indexed.{registers_after_clock}
 use Rattle.subscribe_core.specs.computed.Received.{received_frame}
 use Rattle.subscribe_core.specs.State.{State}
-use Rattle.subscribe_core.proofs.Frames.{answer_good, answer_none, answer_refused, new_lives, reason_told, registers_good, registers_kept, registers_refused, written_fewer, written_new, written_none}
+use Rattle.subscribe_core.proofs.Frames.{answer_good, answer_none, answer_refused, new_ahead, new_lives, reason_told, registers_good, registers_kept, registers_refused, written_fewer, written_new, written_none}
 use Rattle.subscribe_core.proofs.keeping.Keeper.take_goose.Goals.{then-old, else-old}
 use Rattle.subscribe_core.proofs.keeping.Keeper.take_goose.Goals as goal
 
@@ -71,6 +71,16 @@ returns-in-None-clause-registers g c =
     ap (λ (t : State _). registers_after_clock c.args.now t.registers) c.reach-reach.ensures.state
     ∙ (written_none c.args.now s.registers c.in-Some.at r f register_is renewal
     ∙ registers_good c.args.now s.mode s.blocks s.registers f c.in-Some.at x r c.find.ensures.sizes c.find.ensures.apart (sym c.in-Some.ensures.found) block register_is told)
+
+pub hold-requires-clause-live : goal.hold-requires-clause-live
+hold-requires-clause-live g c =
+    let s = c.args.self.now.state in
+    let f = received_frame c.args.frame.now in
+    let x = c.look.result.0.now in
+    let r = c.look.result.1 in
+    let told = reason_told x f c.is_other_kind-is_other_kind.result s.mode c.is_simulating-mode.result r.takes_simulated None c.is_other_kind-is_other_kind.ensures c.is_simulating-mode.ensures c.in_default-first_reason.ensures in
+    let renewal = sym c.in_ok-push_good.ensures.held ∙ c.in-Some-2.is in
+    new_ahead c.args.now x r f _ c.in-Some-2.held told renewal
 
 pub returns-after-old-clause-entries : goal.returns-after-old-clause-entries
 returns-after-old-clause-entries g c =

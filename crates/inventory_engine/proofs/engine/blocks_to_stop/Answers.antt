@@ -1,0 +1,8 @@
+use Rattle.inventory_engine.specs.computed.BlocksStep.{blocks_text}
+use Rattle.inventory_engine.proofs.Newest.{blocks_is}
+use Rattle.inventory_engine.proofs.engine.blocks_to_stop.Goals as goal
+
+pub returns-clause-text : goal.returns-clause-text
+returns-clause-text g c =
+    let r = c.run_to_stop.ensures.text in
+    (r.0, r.1, (record { text = blocks_text; is_text = blocks_is; run = r.2.0 }, r.2.1))
