@@ -87,7 +87,7 @@ fn goose<'a, const NOTES: bool>(
 }
 
 /// What `view_goose` answers, and where `notes` is true, whether the octets are known to be the written form of the APDU.
-/// Inlined, so that who does not ask for this does not pay for it.
+/// Inlined, so that it costs nothing where `notes` is `false`.
 ///
 /// # Errors
 ///

@@ -1,4 +1,4 @@
-//! The texts that engineers write for `goose`: control blocks by six fields, and the scripts of `publish`.
+//! The scripts of `publish`: what each line of one says after those before it, or why it is refused.
 #![tactic(auto)]
 
 pub mod laws;

@@ -25,7 +25,7 @@ pub enum ScriptItem<A: Allocator> {
 #[derive(Clone, Copy, Debug, PartialEq, Eq, Error)]
 pub enum ScriptCause {
     /// The line has no such form, or a wrong place.
-    #[error("the line is none that a script has there")]
+    #[error("this line is not allowed here")]
     ScriptForm,
     /// The first status number is 0.
     #[error("the first stNum is 0")]

@@ -1,5 +1,5 @@
 //! The small texts of which lines are made. Each call appends to `out`.
-ghost use Rattle.std.specs.Prelude.{◌≡◌, ◌<◌, ◌≤◌, ◌+◌, ◌/◌, ◌%◌, ◌-◌, ◌∷◌, [], ◌++◌, drop, length, take, IsTrue};
+ghost use Rattle.std.specs.Prelude.{◌≡◌, ◌<◌, ◌≤◌, ◌+◌, ◌/◌, ◌%◌, ◌-◌, ◌∷◌, [], ◌++◌, drop, length, take, vec_capacity, vec_len, IsOk, IsTrue};
 ghost use Rattle.std.specs.List.{flat_map};
 ghost use Rattle.std.specs.Fmt.{decimal, signed_decimal};
 ghost use Rattle.hex.specs.Hex.{encode_lower};
@@ -17,7 +17,8 @@ const REACH: usize = 32;
 #[inline(always)]
 fn put_cut<A: Allocator>(out: &mut Vec<u8, A>, octets: &[u8], size: usize) -> Result<(), AllocError>
     requires { size ≤ length octets.now }
-    ensures { AppendsText result out.old.items out.new.items (take size octets.now) }
+    ensures text { AppendsText result out.old.items out.new.items (take size octets.now) }
+    ensures room { vec_len out.old + length octets.now ≤ vec_capacity out.old → IsOk result }
 {
     let start = out.len();
     out.extend_from_slice(octets)?;
@@ -33,7 +34,8 @@ fn put_front<A: Allocator>(
     size: usize,
 ) -> Result<(), AllocError>
     requires { size ≤ 32 }
-    ensures { AppendsText result out.old.items out.new.items (take size octets.now) }
+    ensures text { AppendsText result out.old.items out.new.items (take size octets.now) }
+    ensures room { vec_len out.old + size ≤ vec_capacity out.old → IsOk result }
 {
     if out.capacity().wrapping_sub(out.len()) < REACH {
         return out.extend_from_slice(&octets[..size]);
@@ -224,8 +226,9 @@ fn sixteen_digits(first: u8, last: u8) -> [u8; 16]
     [a, b, c, d, e, f, g, h, i, j, k, l, m, n, o, p]
 }
 
-// Appends the bits of two octets without the last `unused` ones: all of them at once, where the line has room.
-#[inline(always)]
+// Appends the bits of two octets without the last `unused` ones: all of them at once, where the line has room. A call of its
+// own, in which the compiler copies them without one.
+#[inline(never)]
 fn put_two_bits<A: Allocator>(
     out: &mut Vec<u8, A>,
     unused: u8,
@@ -242,7 +245,7 @@ fn put_two_bits<A: Allocator>(
 }
 
 // Appends the bits of octets without the last `unused` ones, of which there are at most seven. Nearly all bits stand in one
-// octet or two, and are appended without a call.
+// octet or two: those of one are appended without a call, those of two by one.
 #[inline(always)]
 pub(crate) fn put_few_bits<A: Allocator>(
     out: &mut Vec<u8, A>,
@@ -290,7 +293,9 @@ fn are_plain(octets: &[u8]) -> bool
     without_marks && without_backslashes
 }
 
-// Appends the octets of a text, a quotation mark and a backslash after a backslash.
+// Appends the octets of a text, a quotation mark and a backslash after a backslash. A call of its own, since few texts are
+// passed octet by octet.
+#[inline(never)]
 fn put_escaped<A: Allocator>(out: &mut Vec<u8, A>, text: &[u8]) -> Result<(), AllocError>
     ensures { AppendsText result out.old.items out.new.items (flat_map escaped text.now) }
 {
@@ -364,6 +369,7 @@ pub fn put_quoted<A: Allocator>(out: &mut Vec<u8, A>, text: &[u8]) -> Result<(),
 {
     out.push(b'"')?;
     match text.len() {
+        0..=3 => put_escaped(out, text)?,
         4..=7 => put_short_text::<4, A>(out, text)?,
         8..=16 => put_short_text::<8, A>(out, text)?,
         17..=32 => put_short_text::<16, A>(out, text)?,

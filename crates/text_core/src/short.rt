@@ -16,7 +16,7 @@ use std::marker::Model;
 /// How many octets a short text has at most.
 const ROOM: usize = 160;
 
-/// A short text, of at most 160 octets. What is put into it comes to stand in front.
+/// A short text, of at most 160 octets. What is put into it is prepended.
 #[derive(Drop)]
 pub struct ShortText {
     octets: [u8; ROOM],

@@ -44,7 +44,6 @@ fn put_float<A: Allocator>(out: &mut Vec<u8, A>, octets: &[u8]) -> Result<(), Al
 /// Appends the text of a value. Inlined, so that a member is told apart by its kind without another call.
 #[inline(always)]
 #[tactic(auto, using(crate::proofs::ValueLemmas::item_texts_items_of, crate::proofs::Fronts::front_before))]
-#[cycle(texts)]
 pub fn put_view<A: Allocator>(out: &mut Vec<u8, A>, view: &View<'_>) -> Result<(), AllocError>
     ensures { AppendsText result out.old.items out.new.items (value_text (meaning view.now)) }
 {
@@ -169,11 +168,15 @@ fn put_member<A: Allocator>(
         View::Integer(number) => put_integer(out, sign, *number),
         View::Unsigned(number) => put_unsigned(out, sign, *number),
         View::Floating(octets) => put_floating(out, sign, octets),
+        View::Octets(octets) => put_octets(out, &[sign, b'o', b'c', b't', b':'], octets),
+        View::BinaryTime(octets) => {
+            put_octets(out, &[sign, b'b', b't', b'i', b'm', b'e', b':'], octets)
+        }
+        View::MmsText(octets) => put_octets(out, &[sign, b'm', b'm', b's', b':'], octets),
         View::Utc(time) => put_moment(out, sign, time),
         View::Visible(text) => put_visible(out, sign, text),
         View::Array(members) => put_nested(out, sign, b'[', members, b']'),
         View::Structure(members) => put_nested(out, sign, b'(', members, b')'),
-        other => put_other(out, sign, *other),
     }
 }
 
@@ -191,16 +194,6 @@ fn put_nested<A: Allocator>(
 {
     out.push(sign)?;
     put_between(out, before, *members, after)
-}
-
-// Appends a sign and the text of a value of any kind: few members are of one that is not told apart before.
-#[inline(never)]
-#[cycle(texts)]
-fn put_other<A: Allocator>(out: &mut Vec<u8, A>, sign: u8, view: View<'_>) -> Result<(), AllocError>
-    ensures { AppendsText result out.old.items out.new.items (sign ∷ value_text (meaning view.entry)) }
-{
-    out.push(sign)?;
-    put_view(out, &view)
 }
 
 // Appends the texts of members between two signs, divided by one space.
@@ -224,6 +217,8 @@ fn put_between<A: Allocator>(
 }
 
 // Appends the text of each member after a space. Booleans, which data sets have most, are told apart and written first.
+// Inlined, since a member inside others is mostly alone: it costs no call to find none behind it.
+#[inline(always)]
 #[cycle(texts)]
 fn put_others<A: Allocator>(out: &mut Vec<u8, A>, others: Members<'_>) -> Result<(), AllocError>
     ensures { AppendsText result out.old.items out.new.items (flat_map (after_space value_text) (still_to_come others.entry)) }

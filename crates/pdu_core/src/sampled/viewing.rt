@@ -150,7 +150,7 @@ fn sv<'a, const NOTES: bool>(octets: &'a [u8], at: usize, end: usize) -> Result<
 }
 
 /// What `view_sv` answers, and where `notes` is true, whether the octets are known to be the written form of the APDU.
-/// Inlined, so that who does not ask for this does not pay for it.
+/// Inlined, so that it costs nothing where `notes` is `false`.
 ///
 /// # Errors
 ///

@@ -13,7 +13,7 @@ write_digits-start-requires g c =
 
 pub returns : goal.returns
 returns g c =
-    rw (← reached_front (decimal c.args.number) _ _ c.reached.result.now (32 - c.write_digits-start.result) c.reached.ensures c.write_digits-start.ensures.written (omega (arith, c.write_digits-start.ensures.start)) (omega arith)) c.put_front.ensures
+    rw (← reached_front (decimal c.args.number) _ _ c.reached.result.now (32 - c.write_digits-start.result) c.reached.ensures c.write_digits-start.ensures.written (omega (arith, c.write_digits-start.ensures.start)) (omega arith)) c.put_front.ensures.text
 
 pub returns-then-number-lt10 : goal.returns-then-number-lt10
 returns-then-number-lt10 g c =

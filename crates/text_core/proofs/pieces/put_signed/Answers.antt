@@ -27,4 +27,4 @@ returns g c =
     let fits = decimal_fits number (omega arith) in
     let text : 45 ∷ decimal number ≡ signed_decimal c.args.integer = ap (λ n. 45 ∷ decimal n) (rw back at c.unsigned_abs-size.ensures.value) ∙ below_zero c.args.integer (rw back at c.if-integer-ge0.false) in
     let written = c.put_minus.ensures ∙ ap (λ l. 45 ∷ l) c.write_digits-start.ensures.written in
-    rw (← text, ← reached_front (45 ∷ decimal number) _ _ c.reached.result.now (33 - c.write_digits-start.result) c.reached.ensures written (omega (arith, c.write_digits-start.ensures.start)) (omega (arith, fits, c.write_digits-start.ensures.start))) c.put_front.ensures
+    rw (← text, ← reached_front (45 ∷ decimal number) _ _ c.reached.result.now (33 - c.write_digits-start.result) c.reached.ensures written (omega (arith, c.write_digits-start.ensures.start)) (omega (arith, fits, c.write_digits-start.ensures.start))) c.put_front.ensures.text

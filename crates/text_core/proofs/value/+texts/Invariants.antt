@@ -6,17 +6,11 @@ use Rattle.text_core.specs.Pieces.{after_space}
 use Rattle.text_core.specs.ValueText.{value_text}
 use Rattle.text_core.proofs.value.+texts.Given as goal
 
-abbrev pub decreases-put_view : goal.decreases-put_view
-decreases-put_view g l = 4 * weight (meaning l.view.now) + 2
-
 abbrev pub decreases-put_between : goal.decreases-put_between
 decreases-put_between g l = 4 * weight_of_all (left l.members) + 1
 
 abbrev pub decreases-put_member : goal.decreases-put_member
 decreases-put_member g l = 4 * weight (meaning l.view.now) + 4
-
-abbrev pub decreases-put_other : goal.decreases-put_other
-decreases-put_other g l = 4 * weight (meaning l.view) + 3
 
 abbrev pub decreases-put_nested : goal.decreases-put_nested
 decreases-put_nested g l = 4 * weight_of_all (left l.members.now) + 2
