@@ -3,3 +3,12 @@ pub mod Records
 pub mod Headers
 pub mod WorkedCaptures
 pub mod SpelledCaptures
+pub mod NumberPlaces
+pub mod OptionsRead
+pub mod OptionValues
+pub mod WorkedPackets
+pub mod Parts
+pub mod Fronts
+pub mod BlocksRead
+pub mod PacketsRead
+pub mod StartsRead

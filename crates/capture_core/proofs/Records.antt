@@ -24,7 +24,7 @@ nothing_follows End more y c f = f
 nothing_follows Failed more y c f = f
 
 -- a source that was not asked gave nothing
-gave_nothing : (a : Option (List ℕ)) → GivesOctets a a []
+pub gave_nothing : (a : Option (List ℕ)) → GivesOctets a a []
 gave_nothing None = tt
 gave_nothing (Some os) = refl
 

@@ -3,5 +3,11 @@ pub mod Header
 pub mod Capture
 pub mod RecordAnswers
 pub mod Spelling
+pub mod Asked
+pub mod Packets
+pub mod Interfaces
+pub mod Blocks
+pub mod Captured
+pub mod SpelledBlocks
 pub mod computed
 pub mod Laws

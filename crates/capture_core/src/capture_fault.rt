@@ -2,7 +2,8 @@
 ghost use Rattle.std.specs.Prelude.{◌≡◌, ◌≢◌};
 ghost use Rattle.list_core.specs.declared.device.InputEnd.{InputEnd};
 ghost use Rattle.list_core.specs.Lines.{faulty};
-ghost use Rattle.capture_core.specs.Capture.{cut, fault_in};
+ghost use Rattle.capture_core.specs.Capture.{cut, ended, fault_in};
+ghost use Rattle.capture_core.specs.Packets.{stop_of};
 ghost use Rattle.capture_core.specs.declared.capture_fault.CaptureCause.TheVariants as cause;
 
 use list_core::InputEnd;
@@ -26,6 +27,18 @@ pub enum CaptureCause {
     /// The source failed.
     #[error("reading failed")]
     ReadFailed,
+    /// A block has no form of its type, or it begins no section.
+    #[error("a block has not the form of its type")]
+    BlockForm,
+    /// A block's total length is none that a block has, or the one behind its body is another.
+    #[error("the total length of a block is wrong")]
+    BlockLength,
+    /// A packet is of an interface that its section does not describe.
+    #[error("a packet is of an interface that is not described")]
+    Interface,
+    /// A packet's time is before 1970, or has over 18 digits of microseconds.
+    #[error("the time of a packet is before 1970 or after 999999999999999999 microseconds")]
+    PacketTime,
 }
 
 /// The first fault of a capture: the record's number, and what is wrong there.
@@ -47,6 +60,17 @@ impl CaptureCause {
             number,
             cause: self,
         }
+    }
+}
+
+// The fault of a source that ended before this record, if it failed.
+pub(crate) fn ended_in(number: u64, ending: InputEnd) -> Option<CaptureFault>
+    requires { ending ≢ InputEnd.Open }
+    ensures { ended ending number ≡ stop_of result }
+{
+    match ending {
+        InputEnd::Failed => Some(CaptureCause::ReadFailed.in_record(number)),
+        _ => None,
     }
 }
 

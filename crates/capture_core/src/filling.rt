@@ -1,9 +1,10 @@
 //! Reading a stated count of octets.
-ghost use Rattle.std.specs.Prelude.{◌<◌, false, true};
+ghost use Rattle.std.specs.Prelude.{◌≡◌, ◌<◌, false, true, ⊤, length};
 ghost use Rattle.list_core.specs.declared.device.InputEnd.{InputEnd};
-ghost use Rattle.capture_core.specs.computed.Filling.{Fills, Passes};
+ghost use Rattle.capture_core.specs.computed.Filling.{Fills, Passes, ReadsPart};
 
 use list_core::{InputEnd, Source};
+use std::alloc::AllocError;
 
 /// How far a stated count of octets was read.
 #[derive(Clone, Copy, Debug, PartialEq, Eq)]
@@ -49,4 +50,50 @@ pub(crate) fn skip<R: Source>(reader: &mut R, size: usize) -> bool
         }
     }
     true
+}
+
+/// The source has ended before so many octets as are wanted.
+#[derive(Clone, Copy, Debug, PartialEq, Eq)]
+pub(crate) struct Short;
+
+/// Why a part of a capture is not had.
+#[derive(Clone, Copy, Debug, PartialEq, Eq)]
+pub(crate) enum Unread {
+    /// The source has ended before its last octet.
+    Short,
+    /// Memory was wanted.
+    Memory(AllocError),
+}
+
+impl From<Short> for Unread {
+    ghost use Rattle.std.specs.Prelude.{◌≡◌};
+    ghost use Rattle.capture_core.specs.declared.filling.Unread.{Unread as SpecUnread};
+    ghost use Rattle.capture_core.specs.declared.filling.Unread.TheVariants as unread;
+
+    ghost from_gives = { λ s u. u ≡ unread.Short };
+
+    fn from(_short: Short) -> Unread {
+        Unread::Short
+    }
+}
+
+// Reads until `into` is full.
+pub(crate) fn take<R: Source>(reader: &mut R, into: &mut [u8]) -> Result<(), Short>
+    ensures { ReadsPart (λ _ octets. octets ≡ into.new) (length into.old) (R.left reader.old) (R.ending reader.old) result (R.left reader.new) (R.ending reader.new) }
+{
+    match fill(reader, into) {
+        Filled::Whole => Ok(()),
+        Filled::Short(_) => Err(Short),
+    }
+}
+
+// Reads over so many octets.
+pub(crate) fn pass<R: Source>(reader: &mut R, size: usize) -> Result<(), Short>
+    ensures { ReadsPart (λ _ _. ⊤) size (R.left reader.old) (R.ending reader.old) result (R.left reader.new) (R.ending reader.new) }
+{
+    if skip(reader, size) {
+        Ok(())
+    } else {
+        Err(Short)
+    }
 }

@@ -30,7 +30,7 @@ fn unit_in(magic: u32) -> Option<FractionUnit>
 
 // The form of a header whose magic number stands in this order.
 fn form_by(order: OctetOrder, header: &[u8]) -> Option<CaptureForm>
-    requires { 24 ≤ length header.now }
+    requires { 4 ≤ length header.now }
     ensures { result ≡ form_in order header.now }
 {
     match unit_in(long_at(order, header, 0)) {
@@ -40,8 +40,8 @@ fn form_by(order: OctetOrder, header: &[u8]) -> Option<CaptureForm>
 }
 
 // The form of a header, by its magic number.
-fn form_at(header: &[u8]) -> Option<CaptureForm>
-    requires { 24 ≤ length header.now }
+pub(crate) fn form_at(header: &[u8]) -> Option<CaptureForm>
+    requires { 4 ≤ length header.now }
     ensures { result ≡ form_of header.now }
 {
     match form_by(OctetOrder::BigEndian, header) {
@@ -61,7 +61,7 @@ fn is_read_in(order: OctetOrder, header: &[u8]) -> bool
 }
 
 // The form of a header that is read.
-fn judge(header: &[u8]) -> Option<CaptureForm>
+pub(crate) fn judge(header: &[u8]) -> Option<CaptureForm>
     requires { 24 ≤ length header.now }
     ensures { result ≡ header_of header.now }
 {

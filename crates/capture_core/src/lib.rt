@@ -10,13 +10,21 @@
 //! microseconds, `a1b23c4d` where they are nanoseconds.
 #![tactic(auto)]
 
+mod block;
+mod body;
 mod capture_fault;
 mod filling;
 mod form;
 mod header;
+mod interface;
 pub mod laws;
 mod numbers;
+mod options;
+mod packet_block;
+mod packet_error;
+mod packet_record;
 mod record;
+mod start;
 
 pub use crate::capture_fault::{CaptureCause, CaptureFault};
 pub use crate::form::{CaptureForm, FractionUnit, OctetOrder};

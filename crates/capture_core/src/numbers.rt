@@ -28,3 +28,15 @@ pub(crate) fn long_at(order: OctetOrder, octets: &[u8], place: usize) -> u32
         OctetOrder::LittleEndian => LittleEndian::read_u32(&octets[place..]),
     }
 }
+
+// The number of 64 bits at a place.
+#[tactic(auto, unfolding(crate::specs::Numbers::number_at))]
+pub(crate) fn double_at(order: OctetOrder, octets: &[u8], place: usize) -> u64
+    requires { place + 8 ≤ length octets.now }
+    ensures { result ≡ number_at order 8 octets.now place }
+{
+    match order {
+        OctetOrder::BigEndian => BigEndian::read_u64(&octets[place..]),
+        OctetOrder::LittleEndian => LittleEndian::read_u64(&octets[place..]),
+    }
+}

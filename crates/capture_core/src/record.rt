@@ -51,7 +51,7 @@ fn microseconds_of(unit: FractionUnit, fraction: u32) -> u64
 }
 
 // The moment in the head of a record.
-fn moment_in(form: CaptureForm, head: &[u8]) -> u64
+pub(crate) fn moment_in(form: CaptureForm, head: &[u8]) -> u64
     requires { length head.now ≡ 16 }
     ensures value { result ≡ moment_in_head form head.now }
     ensures short { result < 10 ^ 18 }

@@ -1,13 +1,62 @@
--- Words that ask for a task are taken, and that task is theirs.
-use Rattle.std.proofs.Common.{◌≡◌, ◌≤◌, true, List, length, Some, Ok, refl}
+-- Words that ask for a task are taken, and that task is theirs, with the options that stand there.
+use Rattle.std.proofs.Common.{◌≡◌, ◌&&◌, ◌∙◌, ◌+◌, ◌≤◌, ◌==◌, ◌⊎◌, ℕ, zero, suc, Bool, true, false, true≢false, List, [], ◌∷◌, ◌++◌, length, Option, Some, None, Ok, is_some, option_map, option_and_then, inl, inr, refl, sym, ap, ap₂, subst, arith, length-append}
+use Rattle.std.specs.Prelude.{codes, filter, fold, if◌then◌else◌}
+use Rattle.std.specs.Global.{Global}
+use Rattle.std.specs.List.{list_all, list_any}
+use Rattle.std.specs.Str.{bytes_eq}
+use Rattle.std.proofs.lemmas.List.{append-nil}
 use Rattle.clap.specs.Lexer.{usize_max}
-use Rattle.clap.specs.Words.{Text, takes}
-use Rattle.words_core.specs.CommandLine.{Asked, Asks, check, command_line, import, list_blocks, publish, replay, rewrite, show, task_of_words, watch}
-use Rattle.words_core.proofs.WordLemmas.{asked_by_name}
-use Rattle.words_core.proofs.ReplayWords.{replay_asked}
-use Rattle.words_core.proofs.WatchWords.{watch_asked_for}
+use Rattle.clap.specs.Words.{Row, Text, takes}
+use Rattle.clap.specs.Simple.{entered}
+use Rattle.clap.specs.Takes.{entered_passes, level_passes}
+use Rattle.clap.specs.Walk.{idle, nothing_held, rows_after, subcommand_met}
+use Rattle.clap.proofs.OnLiterals.{clap_on_literals}
+use Rattle.block_core.specs.declared.block.Block.{Block}
+use Rattle.words_core.specs.declared.option_words.Options.{Options}
+use Rattle.words_core.specs.CommandLine.{Asked, Asks, AsksReplay, AsksWatch, check, import, is_flag, list_blocks, name_of, publish, replay, rewrite, show, task_asked, watch}
+use Rattle.words_core.specs.RequestLine.{AsksByNameWith, AsksReplayWith, AsksWatchWith, AsksWith, Switch, capture, is_on, is_option, no_options, options_in, request_asked, skip_other, switch_word, takes_options, times}
+use Rattle.words_core.specs.computed.OfferedLine.{line_of, task_by, wish_by}
+use Rattle.words_core.proofs.AskingWords.{line, names, stops}
+use Rattle.words_core.proofs.NamedWords.{IsTaken, at_most, on_or_off, taken_behind, wished}
+use Rattle.words_core.proofs.OptionRows.{AtMostOnce, once_if, times_of, use_all, words_of}
+use Rattle.words_core.proofs.OptionWalks.{dashes, level_ends}
+use Rattle.words_core.proofs.PlainWords.{IsEnd, plain_leaf, plain_rows, plain_set}
+use Rattle.words_core.proofs.ReplayWords.{all_texts, no_times, replay_asked_for, some_option, texts_in, texts_no_options}
+use Rattle.words_core.proofs.WatchWords.{in_all, watch_asked_for}
+use Rattle.words_core.proofs.WordLemmas.{asked_by_name, task_wished}
 
-pub asked : (words : List Text) (t : Asked) → length words ≤ usize_max → Asks words t → (task_of_words words ≡ Some (Ok t)) × (takes command_line words ≡ true)
+-- ---- where no options are offered
+
+none_on : (o : Switch) → zero ≡ once_if (is_on no_options o)
+none_on capture = refl
+none_on skip_other = refl
+
+abbrev TaskTaken : List Text → Asked → Type 0
+TaskTaken words t = (task_by false words ≡ Some (Ok t)) × (takes (line_of false) words ≡ true)
+
+task_taken : (words : List Text) (t : Asked) → IsTaken false words t no_options → TaskTaken words t
+task_taken words t taken = (task_wished false words t no_options taken.0, taken.1)
+
+replay_asked : (words : List Text) (blocks : List (Block Global)) → length words ≤ usize_max → AsksReplay words blocks → TaskTaken words (replay blocks)
+replay_asked [] blocks fits a = absurd a
+replay_asked (called ∷ []) blocks fits a = absurd a
+replay_asked (called ∷ word ∷ []) blocks fits a = absurd a
+replay_asked (called ∷ word ∷ text ∷ texts) blocks fits a =
+    let none = texts_no_options (text ∷ texts) a.1 in
+    let less : length (text ∷ texts) ≤ usize_max = omega (arith, fits) in
+    let asks : AsksReplay (called ∷ codes "replay" ∷ texts_in (text ∷ texts)) blocks =
+    subst (λ (l : List Text). AsksReplay (called ∷ codes "replay" ∷ l) blocks) (sym (all_texts (text ∷ texts) none)) (refl, a.1, a.2) in
+    subst (λ (n : Text). TaskTaken (called ∷ n ∷ text ∷ texts) (replay blocks)) (sym a.0)
+    (task_taken (called ∷ codes "replay" ∷ text ∷ texts) (replay blocks)
+    (replay_asked_for false called (text ∷ texts) blocks no_options less (λ f. none) asks (λ o. no_times (text ∷ texts) none o ∙ none_on o)))
+
+watch_asked : (words : List Text) (period : ℕ) (id : Text) → AsksWatch words period id → TaskTaken words (watch period id)
+watch_asked words period id a =
+    let taken = watch_asked_for false words period id no_options a [] [] [] (λ f. refl) (λ f. refl) (λ f. refl) none_on in
+    let same : a.called ∷ codes "watch" ∷ (a.first ++ (a.second ++ [])) ≡ words = ap (λ (l : List Text). a.called ∷ codes "watch" ∷ (a.first ++ l)) (append-nil a.second) ∙ sym a.behind in
+    task_taken words (watch period id) (subst (λ (w : List Text). IsTaken false w (watch period id) no_options) same taken)
+
+pub asked : (words : List Text) (t : Asked) → length words ≤ usize_max → Asks words t → TaskTaken words t
 asked words show fits a = asked_by_name words show refl a
 asked words check fits a = asked_by_name words check refl a
 asked words rewrite fits a = asked_by_name words rewrite refl a
@@ -15,4 +64,143 @@ asked words list_blocks fits a = asked_by_name words list_blocks refl a
 asked words publish fits a = asked_by_name words publish refl a
 asked words import fits a = asked_by_name words import refl a
 asked words (replay blocks) fits a = replay_asked words blocks fits a
-asked words (watch period id) fits a = watch_asked_for words period id a
+asked words (watch period id) fits a = watch_asked words period id a
+
+-- ---- where they are
+
+-- words that are options, as options
+abbrev Switches : List Text → Type 0
+Switches words = (os : List Switch) × (words ≡ words_of os)
+
+anded : (a b : Bool) → (a && b) ≡ true → (a ≡ true) × (b ≡ true)
+anded true b e = (refl, e)
+anded false b e = absurd (true≢false (sym e))
+
+as_switches : (words : List Text) → list_all is_option words ≡ true → Switches words
+as_switches [] e = ([], refl)
+as_switches (word ∷ words) e =
+    let parts = anded (is_option word) (list_all is_option words) e in
+    let first = some_option word parts.0 in
+    let rest = as_switches words parts.1 in
+    (first.0 ∷ rest.0, ap₂ (λ (w : Text) (l : List Text). w ∷ l) first.1 rest.1)
+
+all_append : (first second : List Text) → list_all is_option (first ++ second) ≡ true → (list_all is_option first ≡ true) × (list_all is_option second ≡ true)
+all_append [] second e = (refl, e)
+all_append (word ∷ first) second e =
+    let parts = anded (is_option word) (list_all is_option (first ++ second)) e in
+    let rest = all_append first second parts.1 in
+    (rw (parts.0, rest.0) refl, rest.1)
+
+times_append : (word : Text) (first second : List Text) → times word (first ++ second) ≡ times word first + times word second
+times_append word [] second = omega arith
+times_append word (x ∷ first) second = go (bytes_eq x word) refl (times_append word first second)
+  where
+    go : (b : Bool) → bytes_eq x word ≡ b → times word (first ++ second) ≡ times word first + times word second → times word (x ∷ first ++ second) ≡ times word (x ∷ first) + times word second
+    go true t later = rw t (omega (arith, later))
+    go false t later = rw t later
+
+-- a task whose subcommand takes options alone
+record TakesThem (t : Asked) : Type 0 where
+  met : subcommand_met names idle (name_of t) ≡ Some (name_of t)
+  enters : (rest : List Text) → entered (line true) (Some (name_of t, rest)) ≡ Some (name_of t, rows_after (plain_leaf true t).rules [] rest)
+  asks : (rows : List Row) → task_asked (name_of t, rows) ≡ Some (Ok t)
+  passes : (rest : List Text) → level_passes (plain_leaf true t) [] nothing_held rest false ≡ true → entered_passes (line true) (Some (name_of t, rest)) ≡ true
+
+show_takes : TakesThem show
+show_takes = record { met = refl; enters = λ rest. refl; asks = λ rows. refl; passes = λ rest p. p }
+
+check_takes : TakesThem check
+check_takes = record { met = refl; enters = λ rest. refl; asks = λ rows. refl; passes = λ rest p. p }
+
+blocks_take : TakesThem list_blocks
+blocks_take = record { met = refl; enters = λ rest. refl; asks = λ rows. refl; passes = λ rest p. p }
+
+there_is : (t : Asked) (rest : List Text) (o : Option (Text × List Row)) → o ≡ Some (name_of t, rows_after (plain_leaf true t).rules [] rest) → is_some o ≡ true
+there_is t rest None e = cc
+there_is t rest (Some r) e = refl
+
+options_asked : (t : Asked) → TakesThem t → (called : Text) (os : List Switch) (mark : List Text) (options : Options) → IsEnd mark → ((o : Switch) → times_of o os ≡ (if is_on options o then 1 else 0))
+    → IsTaken true (called ∷ name_of t ∷ (words_of os ++ mark)) t options
+options_asked t k called os mark options end gives =
+    let rest = words_of os ++ mark in
+    let rows = rows_after (plain_leaf true t).rules [] rest in
+    let new : AtMostOnce (λ o. 0) os = λ o. let m = at_most (is_on options o) (times_of o os) (gives o) in omega (arith, m) in
+    let ended = plain_rows t os mark end new in
+    let level = level_ends (plain_leaf true t) (use_all os) rest ended refl refl refl in (
+      ap (λ (o : Option (Text × List Text)). option_and_then request_asked (entered (line true) o)) (stops (name_of t) (name_of t) rest k.met) ∙ ap (option_and_then request_asked) (k.enters rest)
+          ∙ wished options rows (λ o. times_of o os) t (task_asked (name_of t, rows)) (k.asks rows) (plain_set t os mark end new) gives,
+      taken_behind true called (name_of t) rest k.met (there_is t rest (entered (line true) (Some (name_of t, rest))) (k.enters rest)) (k.passes rest level),
+    )
+
+with_options_asked : (words : List Text) (t : Asked) (options : Options) → TakesThem t → AsksByNameWith words t options → IsTaken true words t options
+with_options_asked words t options k a =
+    let os = as_switches a.given a.are_options in
+    let gives : (o : Switch) → times_of o os.0 ≡ (if is_on options o then 1 else 0) = λ o. sym (ap (times (switch_word o)) os.1) ∙ a.give o in
+    let same : a.called ∷ name_of t ∷ (words_of os.0 ++ a.mark) ≡ words = ap (λ (l : List Text). a.called ∷ name_of t ∷ (l ++ a.mark)) (sym os.1) ∙ sym a.behind in
+    subst (λ (w : List Text). IsTaken true w t options) same (options_asked t k a.called os.0 a.mark options a.end gives)
+
+-- a task whose subcommand takes none
+name_alone : (called : Text) (t : Asked) → takes_options t ≡ false → (IsTaken true (called ∷ name_of t ∷ []) t no_options) × (IsTaken true (called ∷ name_of t ∷ dashes ∷ []) t no_options)
+unfolding clap_on_literals
+name_alone called rewrite e = ((refl, refl), (refl, refl))
+name_alone called publish e = ((refl, refl), (refl, refl))
+name_alone called import e = ((refl, refl), (refl, refl))
+name_alone called show e = absurd (true≢false e)
+name_alone called check e = absurd (true≢false e)
+name_alone called list_blocks e = absurd (true≢false e)
+name_alone called (replay blocks) e = absurd (true≢false e)
+name_alone called (watch period id) e = absurd (true≢false e)
+
+all_off : (options : Options) → ((o : Switch) → zero ≡ once_if (is_on options o)) → options ≡ no_options
+all_off options none =
+    let at = λ (o : Switch). on_or_off (is_on options o) false (sym (none o)) in
+    ap₂ (λ (a b : Bool). record { is_capture = a; skips_other = b }) (at capture) (at skip_other)
+
+without_options_asked : (words : List Text) (t : Asked) (options : Options) → takes_options t ≡ false → AsksByNameWith words t options → IsTaken true words t options
+without_options_asked words t options none a =
+    let no_given = a.taken none in
+    let same : a.called ∷ name_of t ∷ a.mark ≡ words = ap (λ (l : List Text). a.called ∷ name_of t ∷ (l ++ a.mark)) (sym no_given) ∙ sym a.behind in
+    let is_off = all_off options (λ o. sym (ap (times (switch_word o)) no_given) ∙ a.give o) in
+    let both = name_alone a.called t none in
+    subst (λ (w : List Text). IsTaken true w t options) same (subst (λ (o : Options). IsTaken true (a.called ∷ name_of t ∷ a.mark) t o) (sym is_off) (elim a.end [
+      | inl e ↦ subst (λ (m : List Text). IsTaken true (a.called ∷ name_of t ∷ m) t no_options) (sym e) both.0
+      | inr e ↦ subst (λ (m : List Text). IsTaken true (a.called ∷ name_of t ∷ m) t no_options) (sym e) both.1
+    ]))
+
+replay_with_asked : (words : List Text) (blocks : List (Block Global)) (options : Options) → length words ≤ usize_max → AsksReplayWith words blocks options → IsTaken true words (replay blocks) options
+replay_with_asked words blocks options fits a =
+    let size = ap length a.behind in
+    let less : length a.arguments ≤ usize_max = omega (arith, fits, size) in
+    subst (λ (w : List Text). IsTaken true w (replay blocks) options) (sym a.behind)
+    (replay_asked_for true a.called a.arguments blocks options less (λ f. absurd (true≢false f)) a.asks a.give)
+
+watch_with_asked : (words : List Text) (period : ℕ) (id : Text) (options : Options) → AsksWatchWith words period id options → IsTaken true words (watch period id) options
+watch_with_asked words period id options a =
+    let first = all_append a.before (a.between ++ a.after) a.are_options in
+    let second = all_append a.between a.after first.1 in
+    let before = as_switches a.before first.0 in
+    let middle = as_switches a.between second.0 in
+    let after = as_switches a.after second.1 in
+    let gives : (o : Switch) → in_all before.0 middle.0 after.0 o ≡ (if is_on options o then 1 else 0) = λ o.
+    let all = times_append (switch_word o) a.before (a.between ++ a.after) in
+    let rest = times_append (switch_word o) a.between a.after in
+    let give = a.give o in
+    let b : times (switch_word o) a.before ≡ times_of o before.0 = ap (times (switch_word o)) before.1 in
+    let m : times (switch_word o) a.between ≡ times_of o middle.0 = ap (times (switch_word o)) middle.1 in
+    let l : times (switch_word o) a.after ≡ times_of o after.0 = ap (times (switch_word o)) after.1 in
+    omega (arith, all, rest, give, b, m, l) in
+    let taken = watch_asked_for true a.alone period id options a.asks before.0 middle.0 after.0 (λ f. absurd (true≢false f)) (λ f. absurd (true≢false f)) (λ f. absurd (true≢false f)) gives in
+    let same : a.asks.called ∷ codes "watch" ∷ (words_of before.0 ++ (a.asks.first ++ (words_of middle.0 ++ (a.asks.second ++ words_of after.0)))) ≡ words =
+    ap (λ (l : List Text). a.asks.called ∷ codes "watch" ∷ (l ++ (a.asks.first ++ (words_of middle.0 ++ (a.asks.second ++ words_of after.0))))) (sym before.1)
+    ∙ ap₂ (λ (m l : List Text). a.asks.called ∷ codes "watch" ∷ (a.before ++ (a.asks.first ++ (m ++ (a.asks.second ++ l))))) (sym middle.1) (sym after.1) ∙ sym a.behind in
+    subst (λ (w : List Text). IsTaken true w (watch period id) options) same taken
+
+pub asked_with : (words : List Text) (t : Asked) (options : Options) → length words ≤ usize_max → AsksWith words t options → IsTaken true words t options
+asked_with words show options fits a = with_options_asked words show options show_takes a
+asked_with words check options fits a = with_options_asked words check options check_takes a
+asked_with words list_blocks options fits a = with_options_asked words list_blocks options blocks_take a
+asked_with words rewrite options fits a = without_options_asked words rewrite options refl a
+asked_with words publish options fits a = without_options_asked words publish options refl a
+asked_with words import options fits a = without_options_asked words import options refl a
+asked_with words (replay blocks) options fits a = replay_with_asked words blocks options fits a
+asked_with words (watch period id) options fits a = watch_with_asked words period id options a

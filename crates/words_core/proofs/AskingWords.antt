@@ -1,6 +1,6 @@
 -- Words without a fault ask for their task by its name alone.
-use Rattle.std.proofs.Common.{◌≡◌, ◌∙◌, ℕ, Bool, true, false, true≢false, List, [], ◌∷◌, ◌++◌, Option, Some, None, option_map, option_and_then, unwrap_or, cond, refl, sym, ap, subst, append_assoc}
-use Rattle.std.specs.Prelude.{codes, find, fold, Ok, Err}
+use Rattle.std.proofs.Common.{◌≡◌, ◌&&◌, ◌∙◌, ℕ, zero, Bool, true, false, true≢false, List, [], ◌∷◌, ◌++◌, Option, Some, None, option_map, option_and_then, unwrap_or, cond, inl, inr, refl, sym, ap, ap₂, subst, append_assoc}
+use Rattle.std.specs.Prelude.{codes, find, fold, if◌then◌else◌, Ok, Err}
 use Rattle.std.specs.Global.{Global}
 use Rattle.std.specs.Option.{option_map_or}
 use Rattle.std.specs.List.{list_all, list_any}
@@ -10,20 +10,48 @@ use Rattle.std.proofs.lemmas.Slice.Eq.{bytes_eq-Decides}
 use Rattle.clap.specs.Words.{App, Row, Rule, Shape, Text, all_of, built, first_of, one_of}
 use Rattle.clap.specs.Faults.{entered_fault, level_fault, walk_fault}
 use Rattle.clap.specs.Simple.{entered, label_of, names_of, rows_at}
-use Rattle.clap.specs.Walk.{Names, Walk, answers_to, idle, nothing_held, stop_after, subcommand_met, walk_from, walked}
+use Rattle.clap.specs.Walk.{Names, Walk, answers_to, idle, nothing_held, rows_after, stop_after, subcommand_met, walk_from, walked}
 use Rattle.clap.proofs.OnLiterals.{clap_on_literals}
 use Rattle.clap.proofs.WalkLemmas.{find-map}
 use Rattle.block_core.specs.declared.block.Block.{Block}
 use Rattle.words_core.specs.CommandLine.{Asked, Asks, AsksByName, Meaning, Subcommand, blocks_in, check, command_line, faults, first_bad_block, import, is_plain, list_blocks, name_of, number_said, plain, publish, replay, replay_of, replay_shape, replaying, rewrite, show, subcommands, task_asked, task_of_words, watch, watch_shape, watching}
 use Rattle.words_core.proofs.KeptRows.{first_none, leaf, then_none}
-use Rattle.words_core.proofs.LoneFlags.{Behind, behind, dashes, help_flag, lone_mark, version_flag}
+use Rattle.words_core.specs.declared.option_words.Options.{Options}
+use Rattle.words_core.specs.RequestLine.{AsksByNameWith, AsksWith, Switch, Wish, capture, is_on, is_option, is_set, options_in, request_asked, skip_other, switch_name, takes_options, with_these}
+use Rattle.words_core.specs.computed.OfferedLine.{faults_by, line_of, offered, wish_by}
+use Rattle.words_core.proofs.LoneFlags.{AreFlags, help_flag, lone_mark, version_flag}
+use Rattle.words_core.proofs.OptionRows.{once_if, times_of, words_of}
+use Rattle.words_core.proofs.OptionWalks.{dashes}
+use Rattle.words_core.proofs.PlainWords.{IsEnd, given, none_given_at, none_yet, plain_leaf, plain_set}
 
--- the built command, and the names of its subcommands
-abbrev pub line : App
-line = built command_line
+-- the built command, its words before a subcommand, and the names of its subcommands
+abbrev pub line : Bool → App
+line offers = built (line_of offers)
+
+abbrev pub top : Shape
+top = (line false).top
 
 abbrev pub names : Names
-names = names_of line
+names = names_of (line false)
+
+abbrev wish_or : Asked × Options → Option Wish → Asked × Options
+wish_or d (Some (Ok wish)) = wish
+wish_or d _ = d
+
+no_wish : (w : Wish) → None ≡ Some w → ⊥
+no_wish w e = cc
+
+no_pair : (r : Text × List Row) → None ≡ Some r → ⊥
+no_pair r e = cc
+
+is_on_in : (o : Switch) (rows : List Row) → is_set (switch_name o) rows ≡ is_on (options_in rows) o
+is_on_in capture rows = refl
+is_on_in skip_other rows = refl
+
+all_options : (os : List Switch) → list_all is_option (words_of os) ≡ true
+all_options [] = refl
+all_options (capture ∷ os) = all_options os
+all_options (skip_other ∷ os) = all_options os
 
 -- ---- a subcommand is met by its name
 
@@ -40,15 +68,15 @@ met_name word name ((n, []) ∷ xs) all e = go (bytes_eq n word) refl (met_name 
     go true t rest = let same : Some n ≡ Some name = rw t at e in sym (ap (λ (o : Option Text). unwrap_or o n) same) ∙ (bytes_eq-Decides n word).0 t
     go false t rest = rest (rw t at e)
 
-entered_name : (name : Text) (words : List Text) (r : Text × List Row) → entered line (Some (name, words)) ≡ Some r → r.0 ≡ name
-entered_name name words r e = go (find (λ s. answers_to name (label_of s)) line.subs) refl
+entered_name : (offers : Bool) (name : Text) (words : List Text) (r : Text × List Row) → entered (line offers) (Some (name, words)) ≡ Some r → r.0 ≡ name
+entered_name offers name words r e = go (find (λ s. answers_to name (label_of s)) (line offers).subs) refl
   where
-    go : (o : Option Shape) → find (λ s. answers_to name (label_of s)) line.subs ≡ o → r.0 ≡ name
+    go : (o : Option Shape) → find (λ s. answers_to name (label_of s)) (line offers).subs ≡ o → r.0 ≡ name
     go None f = let bad : None ≡ Some r = rw f at e in cc
     go (Some s) f =
         let same : Some (rows_at s words) ≡ Some r = rw f at e in
         let found : option_map (λ l. l.0) (find (answers_to name) names) ≡ Some s.name =
-        ap (λ (o : Option (Text × List Text)). option_map (λ l. l.0) o) (sym (find-map (answers_to name) label_of line.subs) ∙ ap (option_map label_of) f) in
+        ap (λ (o : Option (Text × List Text)). option_map (λ l. l.0) o) (sym (find-map (answers_to name) label_of (line offers).subs) ∙ ap (option_map label_of) f) in
         sym (ap (λ (o : Option (Text × List Row)). (unwrap_or o r).0) same) ∙ met_name name s.name names refl found
 
 -- ---- a task has the name of its subcommand
@@ -103,41 +131,70 @@ asked_name (c ∷ cs) h name rows t e = go (bytes_eq c.shape.name name) refl (as
 
 -- ---- the words behind a subcommand are its own
 
-follow : (w : Walk) (p : Text × List Text) (words : List Text) → w.stopped ≡ Some p → (fold (walked line.top.rules names) w words).stopped ≡ Some (p.0, p.1 ++ words)
+follow : (w : Walk) (p : Text × List Text) (words : List Text) → w.stopped ≡ Some p → (fold (walked top.rules names) w words).stopped ≡ Some (p.0, p.1 ++ words)
 unfolding walked
 follow w p [] e = e ∙ ap (λ (l : List Text). Some (p.0, l)) (sym (append-nil p.1))
-follow w p (x ∷ xs) e = follow (walked line.top.rules names w x) (p.0, p.1 ++ x ∷ []) xs (rw e refl) ∙ ap (λ (l : List Text). Some (p.0, l)) (append_assoc p.1 (x ∷ []) xs)
+follow w p (x ∷ xs) e = follow (walked top.rules names w x) (p.0, p.1 ++ x ∷ []) xs (rw e refl) ∙ ap (λ (l : List Text). Some (p.0, l)) (append_assoc p.1 (x ∷ []) xs)
 
-pub stops : (word name : Text) (words : List Text) → subcommand_met names idle word ≡ Some name → stop_after line.top.rules names (word ∷ words) ≡ Some (name, words)
+pub stops : (word name : Text) (words : List Text) → subcommand_met names idle word ≡ Some name → stop_after top.rules names (word ∷ words) ≡ Some (name, words)
 unfolding walked
-stops word name words m = follow (walked line.top.rules names (walk_from nothing_held) word) (name, []) words (rw m refl)
+stops word name words m = follow (walked top.rules names (walk_from nothing_held) word) (name, []) words (rw m refl)
 
--- the flags of the program, and those of a subcommand without arguments
-program_flags : (P : Option Rule → Type 0) → P None → P (Some help_flag) → P (Some version_flag) → (test : Rule → Bool) → P (find test line.top.rules)
-program_flags P none help version test = go (test help_flag) (test version_flag)
+-- the flags of the program
+program_flags : AreFlags top.rules []
+program_flags P none help version test other = go (test help_flag) (test version_flag)
   where
     go : (a b : Bool) → P (cond a (Some help_flag) (cond b (Some version_flag) None))
     go true b = help
     go false true = version
     go false false = none
 
-leaf_flags : (P : Option Rule → Type 0) → P None → P (Some help_flag) → P (Some version_flag) → (test : Rule → Bool) → P (find test (help_flag ∷ []))
-leaf_flags P none help version test = go (test help_flag)
-  where
-    go : (a : Bool) → P (cond a (Some help_flag) None)
-    go true = help
-    go false = none
+-- the subcommand of this name takes options and no words of its own
+abbrev takes_by_name : Text → Bool
+takes_by_name name = list_any (λ t. bytes_eq (name_of t) name) (show ∷ check ∷ list_blocks ∷ [])
 
--- the subcommand of a task without words of its own has none but the mark
-abbrev HasNone : Shape → Type 0
-HasNone s = (t : Asked) → is_plain t ≡ true → name_of t ≡ s.name → (words : List Text) → walk_fault s [] (walk_from nothing_held) words ≡ [] → Behind words
+-- words behind the name of a subcommand without words of its own are options, each set where it stands, and then
+-- nothing or the mark
+record Behind (offers : Bool) (s : Shape) (words : List Text) : Type 0 where
+  options : List Switch
+  mark : List Text
+  are : words ≡ words_of options ++ mark
+  end : IsEnd mark
+  sets : (o : Switch) → times_of o options ≡ (if is_set (switch_name o) (rows_after s.rules [] words) then 1 else 0)
+  none : (offers && takes_by_name s.name) ≡ false → options ≡ []
 
-abbrev EachHasNone : List Shape → Type 0
-EachHasNone [] = Unit {0}
-EachHasNone (s ∷ rest) = HasNone s × EachHasNone rest
+abbrev HasOptions : Bool → Shape → Type 0
+HasOptions offers s = (t : Asked) → is_plain t ≡ true → name_of t ≡ s.name → (words : List Text) → walk_fault s [] (walk_from nothing_held) words ≡ [] → Behind offers s words
 
-plain_has_none : (u : Asked) → HasNone (leaf (plain u).shape)
-plain_has_none u t plainly name = behind (leaf (plain u).shape) leaf_flags refl
+abbrev EachHasOptions : Bool → List Shape → Type 0
+EachHasOptions offers [] = Unit {0}
+EachHasOptions offers (s ∷ rest) = HasOptions offers s × EachHasOptions offers rest
+
+-- no option is set where none is offered
+unset : (t : Asked) (mark : List Text) → IsEnd mark → (o : Switch) → zero ≡ once_if (is_set (switch_name o) (rows_after (plain_leaf false t).rules [] mark))
+unfolding walked
+unset t mark end o = elim end [
+  | inl e ↦ subst (λ (m : List Text). zero ≡ once_if (is_set (switch_name o) (rows_after (plain_leaf false t).rules [] m))) (sym e) refl
+  | inr e ↦ subst (λ (m : List Text). zero ≡ once_if (is_set (switch_name o) (rows_after (plain_leaf false t).rules [] m))) (sym e) refl
+]
+
+plain_has_none : (offers : Bool) (u : Asked) → HasOptions offers (plain_leaf false u)
+plain_has_none offers u t plainly name words e =
+    let end = none_given_at u words e in
+    record { options = []; mark = words; are = refl; end = end; sets = unset u words end; none = λ f. refl }
+
+plain_has : (offers : Bool) (u : Asked) → takes_by_name (name_of u) ≡ true → HasOptions offers (plain_leaf offers u)
+plain_has false u takes t plainly name words e = plain_has_none false u t plainly name words e
+plain_has true u takes t plainly name words e =
+    let g = given u words (λ o. 0) [] none_yet e in
+    record {
+      options = g.options;
+      mark = g.mark;
+      are = g.are;
+      end = g.end;
+      sets = λ o. subst (λ (w : List Text). times_of o g.options ≡ (if is_set (switch_name o) (rows_after (plain_leaf true u).rules [] w) then 1 else 0)) (sym g.are) (plain_set u g.options g.mark g.end g.new o);
+      none = λ f. absurd (true≢false (sym takes ∙ f));
+    }
 
 -- the name of a task without words of its own is one of these
 abbrev is_plain_name : Text → Bool
@@ -153,72 +210,144 @@ other_name import name e other n = true≢false (subst (λ (w : Text). is_plain_
 other_name (replay blocks) name e other n = true≢false (sym e)
 other_name (watch period id) name e other n = true≢false (sym e)
 
-other_has_none : (s : Shape) → is_plain_name s.name ≡ false → HasNone s
-other_has_none s other t e n words f = absurd (other_name t s.name e other n)
+other_has_none : (offers : Bool) (s : Shape) → is_plain_name s.name ≡ false → HasOptions offers s
+other_has_none offers s other t e n words f = absurd (other_name t s.name e other n)
 
-all_have_none : EachHasNone line.subs
-all_have_none = (plain_has_none show, (plain_has_none check, (plain_has_none rewrite, (plain_has_none list_blocks, (other_has_none (leaf replay_shape) refl, (plain_has_none publish, (other_has_none (leaf watch_shape) refl, (plain_has_none import, tt))))))))
+all_have : (offers : Bool) → EachHasOptions offers (line offers).subs
+all_have offers = (
+  plain_has offers show refl,
+  (
+    plain_has offers check refl,
+    (
+      plain_has_none offers rewrite,
+      (
+        plain_has offers list_blocks refl,
+        (
+          other_has_none offers (leaf (offered offers replay_shape)) refl,
+          (plain_has_none offers publish, (other_has_none offers (leaf (offered offers watch_shape)) refl, (plain_has_none offers import, tt))),
+        ),
+      ),
+    ),
+  ),
+)
 
-found_has_none : (xs : List Shape) → EachHasNone xs → (test : Shape → Bool) (s : Shape) → find test xs ≡ Some s → HasNone s
-found_has_none [] h test s f = cc
-found_has_none (x ∷ xs) h test s f = go (test x) refl (found_has_none xs h.1 test s)
+found_has : (offers : Bool) (xs : List Shape) → EachHasOptions offers xs → (test : Shape → Bool) (s : Shape) → find test xs ≡ Some s → HasOptions offers s
+found_has offers [] h test s f = cc
+found_has offers (x ∷ xs) h test s f = go (test x) refl (found_has offers xs h.1 test s)
   where
-    go : (b : Bool) → test x ≡ b → (find test xs ≡ Some s → HasNone s) → HasNone s
-    go true u rest = let same : Some x ≡ Some s = rw u at f in subst HasNone (ap (λ (o : Option Shape). unwrap_or o x) same) h.0
+    go : (b : Bool) → test x ≡ b → (find test xs ≡ Some s → HasOptions offers s) → HasOptions offers s
+    go true u rest = let same : Some x ≡ Some s = rw u at f in subst (HasOptions offers) (ap (λ (o : Option Shape). unwrap_or o x) same) h.0
     go false u rest = rest (rw u at f)
 
-below_none : (name : Text) (words : List Text) (r : Text × List Row) (t : Asked) → is_plain t ≡ true → name_of t ≡ r.0
-    → entered line (Some (name, words)) ≡ Some r → entered_fault line (Some (name, words)) ≡ [] → Behind words
-below_none name words r t plainly named e f = go (find (λ s. answers_to name (label_of s)) line.subs) refl
+-- the words are the name of a task without words of its own, options, and nothing or the mark
+pub record NamesPlainly (offers : Bool) (words : List Text) (t : Asked) (options : Options) : Type 0 where
+  pub called : Text
+  pub given : List Switch
+  pub mark : List Text
+  pub are : words ≡ called ∷ name_of t ∷ (words_of given ++ mark)
+  pub end : IsEnd mark
+  pub gives : (o : Switch) → times_of o given ≡ (if is_on options o then 1 else 0)
+  pub none : (offers && takes_by_name (name_of t)) ≡ false → given ≡ []
+
+-- what stands behind the name, with the options of its rows
+record Below (offers : Bool) (t : Asked) (words : List Text) (rows : List Row) : Type 0 where
+  options : List Switch
+  mark : List Text
+  are : words ≡ words_of options ++ mark
+  end : IsEnd mark
+  sets : (o : Switch) → times_of o options ≡ (if is_set (switch_name o) rows then 1 else 0)
+  none : (offers && takes_by_name (name_of t)) ≡ false → options ≡ []
+
+below : (offers : Bool) (name : Text) (words : List Text) (r : Text × List Row) (t : Asked) → is_plain t ≡ true → name_of t ≡ r.0
+    → entered (line offers) (Some (name, words)) ≡ Some r → entered_fault (line offers) (Some (name, words)) ≡ [] → Below offers t words r.1
+below offers name words r t plainly named e f = go (find (λ s. answers_to name (label_of s)) (line offers).subs) refl
   where
-    go : (o : Option Shape) → find (λ s. answers_to name (label_of s)) line.subs ≡ o → Behind words
-    go None g = let bad : None ≡ Some r = rw g at e in cc
+    go : (o : Option Shape) → find (λ s. answers_to name (label_of s)) (line offers).subs ≡ o → Below offers t words r.1
+    go None g = absurd (no_pair r (rw g at e))
     go (Some s) g =
         let level : level_fault s [] nothing_held words false [] ≡ [] = rw g at f in
         let same : Some (rows_at s words) ≡ Some r = rw g at e in
         let is : s.name ≡ r.0 = ap (λ (o : Option (Text × List Row)). (unwrap_or o r).0) same in
-        found_has_none line.subs all_have_none (λ s. answers_to name (label_of s)) s g t plainly (named ∙ sym is) words (first_none (walk_fault s [] (walk_from nothing_held) words) _ level)
+        let rows_are : rows_after s.rules [] words ≡ r.1 = ap (λ (o : Option (Text × List Row)). (unwrap_or o r).1) same in
+        let has = found_has offers (line offers).subs (all_have offers) (λ s. answers_to name (label_of s)) s g t plainly (named ∙ sym is) words (first_none (walk_fault s [] (walk_from nothing_held) words) _ level) in
+        record {
+          options = has.options;
+          mark = has.mark;
+          are = has.are;
+          end = has.end;
+          sets = λ o. subst (λ (l : List Row). times_of o has.options ≡ (if is_set (switch_name o) l then 1 else 0)) rows_are (has.sets o);
+          none = λ h. has.none (subst (λ (n : Text). (offers && takes_by_name n) ≡ false) (named ∙ sym is) h);
+        }
 
 -- ---- the words that ask for a task
 
 abbrev stop : List Text → Option (Text × List Text)
-stop words = stop_after line.top.rules names words
+stop words = stop_after top.rules names words
 
 -- what fails neither in the walk nor below it
-parts_none : (p : Text) (words : List Text) → faults (p ∷ words) ≡ [] → (walk_fault line.top names (walk_from nothing_held) words ≡ []) × (entered_fault line (stop words) ≡ [])
-parts_none p words f =
-    let rest = then_none (walk_fault line.top names (walk_from nothing_held) words) _ f in
-    (first_none (walk_fault line.top names (walk_from nothing_held) words) _ f, first_none (entered_fault line (stop words)) _ rest)
+parts_none : (offers : Bool) (p : Text) (words : List Text) → faults_by offers (p ∷ words) ≡ [] → (walk_fault top names (walk_from nothing_held) words ≡ []) × (entered_fault (line offers) (stop words) ≡ [])
+parts_none offers p words f =
+    let rest = then_none (walk_fault top names (walk_from nothing_held) words) _ f in
+    (first_none (walk_fault top names (walk_from nothing_held) words) _ f, first_none (entered_fault (line offers) (stop words)) _ rest)
 
-subcommand_asks : (p word name : Text) (words : List Text) (t : Asked) → is_plain t ≡ true → subcommand_met names idle word ≡ Some name → faults (p ∷ word ∷ words) ≡ []
-    → task_of_words (p ∷ word ∷ words) ≡ Some (Ok t) → (word ≡ name_of t) × Behind words
-subcommand_asks p word name words t plainly m f e = go (entered line (Some (name, words))) refl
+-- a wish is a task and the options of the rows
+wish_parts : (m : Option Meaning) (o : Options) (t : Asked) (options : Options) → option_map (with_these o) m ≡ Some (Ok (t, options)) → (m ≡ Some (Ok t)) × (o ≡ options)
+wish_parts None o t options e = cc
+wish_parts (Some (Err i)) o t options e = cc
+wish_parts (Some (Ok u)) o t options e = (
+  ap (λ (w : Option Wish). Some (Ok (wish_or (u, o) w).0)) e,
+  ap (λ (w : Option Wish). (wish_or (u, o) w).1) e,
+)
+
+subcommand_asks : (offers : Bool) (p word name : Text) (words : List Text) (t : Asked) (options : Options) → is_plain t ≡ true → subcommand_met names idle word ≡ Some name → faults_by offers (p ∷ word ∷ words) ≡ []
+    → wish_by offers (p ∷ word ∷ words) ≡ Some (Ok (t, options)) → NamesPlainly offers (p ∷ word ∷ words) t options
+subcommand_asks offers p word name words t options plainly m f e = go (entered (line offers) (Some (name, words))) refl
   where
-    met : option_and_then task_asked (entered line (Some (name, words))) ≡ Some (Ok t)
-    met = subst (λ (o : Option (Text × List Text)). option_and_then task_asked (entered line o) ≡ Some (Ok t)) (stops word name words m) e
+    met : option_and_then request_asked (entered (line offers) (Some (name, words))) ≡ Some (Ok (t, options))
+    met = subst (λ (o : Option (Text × List Text)). option_and_then request_asked (entered (line offers) o) ≡ Some (Ok (t, options))) (stops word name words m) e
 
-    below : entered_fault line (Some (name, words)) ≡ []
-    below = subst (λ (o : Option (Text × List Text)). entered_fault line o ≡ []) (stops word name words m) (parts_none p (word ∷ words) f).1
+    fault : entered_fault (line offers) (Some (name, words)) ≡ []
+    fault = subst (λ (o : Option (Text × List Text)). entered_fault (line offers) o ≡ []) (stops word name words m) (parts_none offers p (word ∷ words) f).1
 
-    go : (o : Option (Text × List Row)) → entered line (Some (name, words)) ≡ o → (word ≡ name_of t) × Behind words
-    go None n = let bad : None ≡ Some (Ok t) = rw n at met in cc
+    go : (o : Option (Text × List Row)) → entered (line offers) (Some (name, words)) ≡ o → NamesPlainly offers (p ∷ word ∷ words) t options
+    go None n = absurd (no_wish (Ok (t, options)) (rw n at met))
     go (Some r) n =
-        let named : name_of t ≡ r.0 = asked_name subcommands all_named r.0 r.1 t (rw n at met) in
-        (sym (named ∙ (entered_name name words r n ∙ met_name word name names refl m)), below_none name words r t plainly named n below)
+        let both = wish_parts (task_asked r) (options_in r.1) t options (rw n at met) in
+        let named : name_of t ≡ r.0 = asked_name subcommands all_named r.0 r.1 t both.0 in
+        let is : word ≡ name_of t = sym (named ∙ (entered_name offers name words r n ∙ met_name word name names refl m)) in
+        let b = below offers name words r t plainly named n fault in
+        record {
+          called = p;
+          given = b.options;
+          mark = b.mark;
+          are = ap₂ (λ (w : Text) (l : List Text). p ∷ w ∷ l) is b.are;
+          end = b.end;
+          gives = λ o. b.sets o ∙ ap once_if (is_on_in o r.1 ∙ ap (λ (x : Options). is_on x o) both.1);
+          none = b.none;
+        }
 
-mark_asks_nothing : (p : Text) (t : Asked) → task_of_words (p ∷ dashes ∷ []) ≡ Some (Ok t) → ⊥
+mark_asks_nothing : (offers : Bool) (p : Text) (t : Asked) (options : Options) → wish_by offers (p ∷ dashes ∷ []) ≡ Some (Ok (t, options)) → ⊥
 unfolding clap_on_literals
-mark_asks_nothing p t e = cc
+mark_asks_nothing offers p t options e = cc
 
-no_task : (p word : Text) (words : List Text) (t : Asked) → subcommand_met names idle word ≡ None → faults (p ∷ word ∷ words) ≡ [] → task_of_words (p ∷ word ∷ words) ≡ Some (Ok t) → ⊥
-no_task p word words t m f e =
-    let lone = lone_mark line.top names program_flags refl word words m (parts_none p (word ∷ words) f).0 in
-    mark_asks_nothing p t (subst (λ (rest : List Text). task_of_words (p ∷ dashes ∷ rest) ≡ Some (Ok t)) lone.1 (subst (λ (w : Text). task_of_words (p ∷ w ∷ words) ≡ Some (Ok t)) lone.0 e))
+no_task : (offers : Bool) (p word : Text) (words : List Text) (t : Asked) (options : Options) → subcommand_met names idle word ≡ None → faults_by offers (p ∷ word ∷ words) ≡ []
+    → wish_by offers (p ∷ word ∷ words) ≡ Some (Ok (t, options)) → ⊥
+no_task offers p word words t options m f e =
+    let lone = lone_mark top names program_flags refl word words m (parts_none offers p (word ∷ words) f).0 in
+    mark_asks_nothing offers p t options
+    (subst (λ (rest : List Text). wish_by offers (p ∷ dashes ∷ rest) ≡ Some (Ok (t, options))) lone.1 (subst (λ (w : Text). wish_by offers (p ∷ w ∷ words) ≡ Some (Ok (t, options))) lone.0 e))
 
-asks : (p word : Text) (words : List Text) (t : Asked) → (word ≡ name_of t) × Behind words → AsksByName (p ∷ word ∷ words) (name_of t)
-asks p word [] t h = h.0
-asks p word (mark ∷ []) t h = h
-asks p word (mark ∷ x ∷ xs) t h = absurd h.1
+-- words without a fault, and of a task without words of its own, name it with its options
+pub words_name : (offers : Bool) (words : List Text) (t : Asked) (options : Options) → faults_by offers words ≡ [] → wish_by offers words ≡ Some (Ok (t, options)) → is_plain t ≡ true → NamesPlainly offers words t options
+words_name offers [] t options f e plainly = cc
+words_name offers (p ∷ []) t options f e plainly = cc
+words_name offers (p ∷ word ∷ words) t options f e plainly = go (subcommand_met names idle word) refl
+  where
+    go : (o : Option Text) → subcommand_met names idle word ≡ o → NamesPlainly offers (p ∷ word ∷ words) t options
+    go (Some name) m = subcommand_asks offers p word name words t options plainly m f e
+    go None m = absurd (no_task offers p word words t options m f e)
+
+-- ---- such words ask as the definitions say
 
 asks_plainly : (words : List Text) (t : Asked) → is_plain t ≡ true → AsksByName words (name_of t) → Asks words t
 asks_plainly words show e a = a
@@ -230,12 +359,50 @@ asks_plainly words import e a = a
 asks_plainly words (replay blocks) e a = absurd (true≢false (sym e))
 asks_plainly words (watch period id) e a = absurd (true≢false (sym e))
 
--- words without a fault, and of a task without words of its own, ask for it
-pub words_ask : (words : List Text) (t : Asked) → faults words ≡ [] → task_of_words words ≡ Some (Ok t) → is_plain t ≡ true → Asks words t
-words_ask [] t f e plainly = cc
-words_ask (p ∷ []) t f e plainly = cc
-words_ask (p ∷ word ∷ words) t f e plainly = go (subcommand_met names idle word) refl
-  where
-    go : (o : Option Text) → subcommand_met names idle word ≡ o → Asks (p ∷ word ∷ words) t
-    go (Some name) m = asks_plainly (p ∷ word ∷ words) t plainly (asks p word words t (subcommand_asks p word name words t plainly m f e))
-    go None m = absurd (no_task p word words t m f e)
+by_name : (called name : Text) (mark : List Text) → IsEnd mark → AsksByName (called ∷ name ∷ mark) name
+by_name called name mark end = elim end [
+  | inl e ↦ subst (λ (m : List Text). AsksByName (called ∷ name ∷ m) name) (sym e) refl
+  | inr e ↦ subst (λ (m : List Text). AsksByName (called ∷ name ∷ m) name) (sym e) (refl, refl)
+]
+
+-- where no options are offered
+pub words_ask : (words : List Text) (t : Asked) (options : Options) → faults_by false words ≡ [] → wish_by false words ≡ Some (Ok (t, options)) → is_plain t ≡ true → Asks words t
+words_ask words t options f e plainly =
+    let n = words_name false words t options f e plainly in
+    let are : words ≡ n.called ∷ name_of t ∷ n.mark = n.are ∙ ap (λ (os : List Switch). n.called ∷ name_of t ∷ (words_of os ++ n.mark)) (n.none refl) in
+    asks_plainly words t plainly (subst (λ (w : List Text). AsksByName w (name_of t)) (sym are) (by_name n.called (name_of t) n.mark n.end))
+
+asks_with : (words : List Text) (t : Asked) (options : Options) → is_plain t ≡ true → AsksByNameWith words t options → AsksWith words t options
+asks_with words show options e a = a
+asks_with words check options e a = a
+asks_with words rewrite options e a = a
+asks_with words list_blocks options e a = a
+asks_with words publish options e a = a
+asks_with words import options e a = a
+asks_with words (replay blocks) options e a = absurd (true≢false (sym e))
+asks_with words (watch period id) options e a = absurd (true≢false (sym e))
+
+takes_none : (t : Asked) → is_plain t ≡ true → takes_options t ≡ false → takes_by_name (name_of t) ≡ false
+takes_none show e f = absurd (true≢false f)
+takes_none check e f = absurd (true≢false f)
+takes_none rewrite e f = refl
+takes_none list_blocks e f = absurd (true≢false f)
+takes_none publish e f = refl
+takes_none import e f = refl
+takes_none (replay blocks) e f = absurd (true≢false f)
+takes_none (watch period id) e f = absurd (true≢false f)
+
+-- where they are
+pub words_ask_with : (words : List Text) (t : Asked) (options : Options) → faults_by true words ≡ [] → wish_by true words ≡ Some (Ok (t, options)) → is_plain t ≡ true → AsksWith words t options
+words_ask_with words t options f e plainly =
+    let n = words_name true words t options f e plainly in
+    asks_with words t options plainly (record {
+      called = n.called;
+      given = words_of n.given;
+      mark = n.mark;
+      behind = n.are;
+      are_options = all_options n.given;
+      give = n.gives;
+      taken = λ h. ap words_of (n.none (takes_none t plainly h));
+      end = n.end;
+    })

@@ -16,6 +16,7 @@ use Rattle.clap.specs.declared.builder.action.ArgAction.TheVariants.{Set}
 use Rattle.clap.specs.declared.builder.value_parser.Reading.{Reading}
 use Rattle.clap.specs.declared.error.kind.ErrorKind.{ErrorKind}
 use Rattle.clap.specs.declared.error.kind.ErrorKind.TheVariants as kind
+use Rattle.clap.specs.declared.parser.matches.ValueSource.{ValueSource}
 use Rattle.clap.specs.declared.parser.matches.ValueSource.TheVariants.{CommandLine}
 use Rattle.words_core.specs.CommandLine.{command_line}
 
@@ -234,7 +235,7 @@ abbrev pub HasNoDefaults : List Rule → Type 0
 HasNoDefaults [] = Unit {0}
 HasNoDefaults (a ∷ rest) = (a.defaults ≡ []) × HasNoDefaults rest
 
-no_default : (a : Rule) (rows : List Row) → a.defaults ≡ [] → with_default rows a ≡ rows
+pub no_default : (a : Rule) (rows : List Row) → a.defaults ≡ [] → with_default rows a ≡ rows
 no_default a rows none = rw none (go (has_row a.id rows))
   where
     go : (b : Bool) → (if b then rows else rows) ≡ rows
@@ -277,13 +278,18 @@ first_more a [] more p = absurd p
 first_more a (v ∷ vs) more p = p
 
 -- a use in place of an earlier one
-set_keeps : (a b : Rule) (values : List Text) (rows : List Row) → (b.id ≡ a.id → FirstPasses a values × (reading_by b ≡ reading_by a)) → Kept a rows
+pub set_keeps : (a b : Rule) (values : List Text) (rows : List Row) → (b.id ≡ a.id → FirstPasses a values × (reading_by b ≡ reading_by a)) → Kept a rows
     → Kept a (with_values b.id (reading_by b) CommandLine values (without b.id rows))
 set_keeps a b values rows own h =
     kept_at a b.id (more_values CommandLine values) _ (without b.id rows)
     (λ r k. ((λ e. let p = k e in (first_more a r.values values p.0, p.1)), tt))
     (own, tt)
     (kept_at a b.id (λ _. []) [] rows (λ r k. tt) tt h)
+
+-- values of another argument
+pub more_keeps : (a b : Rule) (source : ValueSource) (values : List Text) (rows : List Row) → (b.id ≡ a.id → ⊥) → Kept a rows → Kept a (with_values b.id (reading_by b) source values rows)
+more_keeps a b source values rows other h =
+    kept_at a b.id (more_values source values) _ rows (λ r k. ((λ e. let p = k e in (first_more a r.values values p.0, p.1)), tt)) ((λ e. absurd (other e)), tt) h
 
 passes : (b : Bool) (k : ErrorKind) → (if b then [] else k ∷ []) ≡ [] → b ≡ true
 passes true k e = refl

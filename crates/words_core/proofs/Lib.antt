@@ -1,11 +1,16 @@
+pub mod OptionRows
 pub mod KeptRows
+pub mod OptionWalks
 pub mod WatchRows
 pub mod WordLemmas
 pub mod LoneFlags
+pub mod PlainWords
+pub mod SameWalks
 pub mod AskingWords
 pub mod BlockWords
 pub mod NamedWords
 pub mod ReplayWords
 pub mod WatchWords
 pub mod AskedWords
+pub mod AlikeWords
 pub mod StandardFacts

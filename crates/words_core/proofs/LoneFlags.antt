@@ -1,16 +1,18 @@
--- What the words of one command may be that have no fault, where it has flags for help and the version alone.
+-- What the words of one command may be that have no fault, where it has flags for help and the version, and perhaps the options.
 use Rattle.std.proofs.Common.{◌≡◌, ◌&&◌, ℕ, suc, Bool, true, false, not, List, [], ◌∷◌, length, Option, Some, None, is_some, cond, refl, sym, subst}
 use Rattle.std.specs.Prelude.{drop, encode_utf8, find, slice_get}
 use Rattle.std.specs.Option.{option_map_or}
+use Rattle.std.specs.List.{list_any}
 use Rattle.std.specs.Str.{bytes_eq, chars}
 use Rattle.std.proofs.lemmas.Slice.Eq.{bytes_eq-Decides}
 use Rattle.clap.specs.Lexer.{long_of, short_of}
-use Rattle.clap.specs.Words.{Kinds, Rule, Shape, Text}
+use Rattle.clap.specs.Words.{Kinds, Row, Rule, Shape, Text}
 use Rattle.clap.specs.Faults.{bundle_fault, flag_word_fault, flags_fault, long_fault, other_fault, short_fault, step_fault, turn_fault, walk_fault}
 use Rattle.clap.specs.Simple.{filled, help_rule, version_rule, with_index}
 use Rattle.clap.specs.Walk.{Held, Names, Step, Walk, after_flag, arg_by_index, arg_by_long, arg_by_short, bundle_met, has_long, has_short, idle, long_or_other, nothing_held, plain, short_or_plain, subcommand_met, subcommand_or_other, value, walk_from, walked}
 use Rattle.clap.specs.declared.error.kind.ErrorKind.TheVariants as kind
 use Rattle.words_core.proofs.KeptRows.{first_none, then_none}
+use Rattle.words_core.proofs.OptionWalks.{between, dashes, held}
 
 abbrev pub help_flag : Rule
 help_flag = with_index 1 (filled help_rule)
@@ -18,29 +20,45 @@ help_flag = with_index 1 (filled help_rule)
 abbrev pub version_flag : Rule
 version_flag = with_index 1 (filled version_rule)
 
--- the mark behind which no flag follows
-abbrev pub dashes : Text
-dashes = 45 ∷ 45 ∷ []
-
 stray : (b : Bool) → cond b (kind.UnknownArgument ∷ []) (kind.UnknownArgument ∷ kind.InvalidSubcommand ∷ []) ≡ [] → ⊥
 stray true e = cc
 stray false e = cc
 
-turn_none : (s : Shape) (names : Names) (w : Walk) (word : Text) (words : List Text) → walk_fault s names w (word ∷ words) ≡ []
+pub turn_none : (s : Shape) (names : Names) (w : Walk) (word : Text) (words : List Text) → walk_fault s names w (word ∷ words) ≡ []
     → (turn_fault s names w word ≡ []) × (walk_fault s names (walked s.rules names w word) words ≡ [])
 unfolding walk_fault
 turn_none s names w word words e = (first_none _ _ e, then_none _ _ e)
 
--- a command whose rules are at most the two flags: one that passes a test is that for help or that for the version
-module _ (s : Shape) (names : Names) (flags : (P : Option Rule → Type 0) → P None → P (Some help_flag) → P (Some version_flag) → (test : Rule → Bool) → P (find test s.rules)) (none : arg_by_index s.rules 1 ≡ None) where
-  long_fails : (name : Text) (v : Option Text) → long_fault s.rules s.args_override_self (arg_by_long s.rules name) v nothing_held ≡ [] → ⊥
-  long_fails name None = flags (λ o. long_fault s.rules s.args_override_self o None nothing_held ≡ [] → ⊥) (λ e. cc) (λ e. cc) (λ e. cc) (λ a. not (is_some a.index) && has_long a name)
-  long_fails name (Some v) = flags (λ o. long_fault s.rules s.args_override_self o (Some v) nothing_held ≡ [] → ⊥) (λ e. cc) (λ e. cc) (λ e. cc) (λ a. not (is_some a.index) && has_long a name)
+-- a long name is that of one of these arguments
+abbrev pub is_long_of : List Rule → Text → Bool
+is_long_of c name = list_any (λ a. not (is_some a.index) && has_long a name) c
 
-  short_fails : (x : ℕ) (rest : Text) (next : Held → Kinds) → short_fault s.rules s.args_override_self (arg_by_short s.rules x) rest nothing_held next ≡ [] → ⊥
-  short_fails x rest next = flags (λ o. short_fault s.rules s.args_override_self o rest nothing_held next ≡ [] → ⊥) (λ e. cc) (λ e. cc) (λ e. cc) (λ a. not (is_some a.index) && has_short a x)
+abbrev pub names_one : List Rule → Option (Text × Option Text) → Bool
+names_one c None = false
+names_one c (Some p) = is_long_of c p.0
 
-  bundle_fails : (n : ℕ) (bundle : Text) (x : ℕ) → slice_get (chars bundle) 0 ≡ Some x → flags_fault s.rules s.args_override_self (suc n) bundle 0 nothing_held ≡ [] → ⊥
+names_no_one : (o : Option (Text × Option Text)) → names_one [] o ≡ false
+names_no_one None = refl
+names_no_one (Some p) = refl
+
+-- the rules are the flags for help and the version, or one of them, and others
+abbrev pub AreFlags : List Rule → List Rule → Type 1
+AreFlags c others = (P : Option Rule → Type 0) → P None → P (Some help_flag) → P (Some version_flag) → (test : Rule → Bool) → list_any test others ≡ false → P (find test c)
+
+-- a command of such rules, between two words: a word that names none of the others fails
+module _ (s : Shape) (names : Names) (others : List Rule) (flags : AreFlags s.rules others) (no_short : (x : ℕ) → list_any (λ a. not (is_some a.index) && has_short a x) others ≡ false) (none : arg_by_index s.rules 1 ≡ None)
+    (rows : List Row) where
+  abbrev h : Held
+  h = held rows None
+
+  long_fails : (name : Text) (v : Option Text) → is_long_of others name ≡ false → long_fault s.rules s.args_override_self (arg_by_long s.rules name) v h ≡ [] → ⊥
+  long_fails name None other = flags (λ o. long_fault s.rules s.args_override_self o None h ≡ [] → ⊥) (λ e. cc) (λ e. cc) (λ e. cc) (λ a. not (is_some a.index) && has_long a name) other
+  long_fails name (Some v) other = flags (λ o. long_fault s.rules s.args_override_self o (Some v) h ≡ [] → ⊥) (λ e. cc) (λ e. cc) (λ e. cc) (λ a. not (is_some a.index) && has_long a name) other
+
+  short_fails : (x : ℕ) (rest : Text) (next : Held → Kinds) → short_fault s.rules s.args_override_self (arg_by_short s.rules x) rest h next ≡ [] → ⊥
+  short_fails x rest next = flags (λ o. short_fault s.rules s.args_override_self o rest h next ≡ [] → ⊥) (λ e. cc) (λ e. cc) (λ e. cc) (λ a. not (is_some a.index) && has_short a x) (no_short x)
+
+  bundle_fails : (n : ℕ) (bundle : Text) (x : ℕ) → slice_get (chars bundle) 0 ≡ Some x → flags_fault s.rules s.args_override_self (suc n) bundle 0 h ≡ [] → ⊥
   unfolding flags_fault
   bundle_fails n bundle x c e =
       let rest = drop (length (encode_utf8 x)) bundle in
@@ -50,67 +68,57 @@ module _ (s : Shape) (names : Names) (flags : (P : Option Rule → Type 0) → P
   abbrev Passes : Held × Step → Type 0
   Passes met = step_fault s 1 met.0 met.1 ≡ []
 
-  stray_fails : (h : Held) → Passes (h, value) → ⊥
-  stray_fails h e = stray s.is_leaf (rw none at e)
+  stray_fails : (i : Held) → Passes (i, value) → ⊥
+  stray_fails i e = stray s.is_leaf (rw none at e)
 
-  bundle_passes : (n : ℕ) (bundle : Text) (word : Text) → slice_get (chars bundle) 0 ≡ None → Passes (after_flag s.rules idle word (bundle_met s.rules (suc n) bundle 0 plain nothing_held).0 (bundle_met s.rules (suc n) bundle 0 plain nothing_held).1) → ⊥
+  bundle_passes : (n : ℕ) (bundle : Text) (word : Text) → slice_get (chars bundle) 0 ≡ None → Passes (after_flag s.rules idle word (bundle_met s.rules (suc n) bundle 0 plain h).0 (bundle_met s.rules (suc n) bundle 0 plain h).1) → ⊥
   unfolding bundle_met
-  bundle_passes n bundle word c e = stray_fails nothing_held (rw c at e)
+  bundle_passes n bundle word c e = stray_fails h (rw c at e)
 
-  short_or_fails : (word : Text) (o : Option Text) → option_map_or (λ bundle. bundle_fault s.rules s.args_override_self bundle nothing_held) o [] ≡ [] → Passes (short_or_plain s.rules idle word o nothing_held) → ⊥
+  short_or_fails : (word : Text) (o : Option Text) → option_map_or (λ bundle. bundle_fault s.rules s.args_override_self bundle h) o [] ≡ [] → Passes (short_or_plain s.rules idle word o h) → ⊥
   unfolding bundle_met
-  short_or_fails word None f e = stray_fails nothing_held e
-  short_or_fails word (Some []) f e = stray_fails nothing_held e
+  short_or_fails word None f e = stray_fails h e
+  short_or_fails word (Some []) f e = stray_fails h e
   short_or_fails word (Some (x ∷ xs)) f e = go (slice_get (chars (x ∷ xs)) 0) refl
     where
       go : (o : Option ℕ) → slice_get (chars (x ∷ xs)) 0 ≡ o → ⊥
       go None c = bundle_passes (length xs) (x ∷ xs) word c e
       go (Some k) c = bundle_fails (length xs) (x ∷ xs) k c f
 
-  long_or_fails : (word : Text) (o : Option (Text × Option Text)) → flag_word_fault s.rules s.args_override_self o word nothing_held ≡ [] → Passes (long_or_other s.rules idle word o nothing_held) → ⊥
-  long_or_fails word (Some p) f e = long_fails p.0 p.1 f
-  long_or_fails word None f e = short_or_fails word (short_of word) f e
+  long_or_fails : (word : Text) (o : Option (Text × Option Text)) → names_one others o ≡ false → flag_word_fault s.rules s.args_override_self o word h ≡ [] → Passes (long_or_other s.rules idle word o h) → ⊥
+  long_or_fails word (Some p) other f e = long_fails p.0 p.1 other f
+  long_or_fails word None other f e = short_or_fails word (short_of word) f e
 
-  other_fails : (word : Text) (o : Option Text) (b : Bool) → o ≡ None → bytes_eq word dashes ≡ b → b ≡ false → other_fault s o word nothing_held ≡ []
-      → Passes (subcommand_or_other s.rules o idle 1 word nothing_held) → ⊥
-  other_fails word (Some n) b m d u f e = cc
-  other_fails word None true m d u f e = cc
-  other_fails word None false m d u f e = long_or_fails word (long_of word) (rw d at f) (rw d at e)
+  other_fails : (word : Text) (o : Option Text) (b : Bool) → o ≡ None → bytes_eq word dashes ≡ b → b ≡ false → names_one others (long_of word) ≡ false → other_fault s o word h ≡ []
+      → Passes (subcommand_or_other s.rules o idle 1 word h) → ⊥
+  other_fails word (Some n) b m d u other f e = cc
+  other_fails word None true m d u other f e = cc
+  other_fails word None false m d u other f e = long_or_fails word (long_of word) other (rw d at f) (rw d at e)
 
-  turn_fails : (word : Text) → subcommand_met names idle word ≡ None → bytes_eq word dashes ≡ false → turn_fault s names (walk_from nothing_held) word ≡ [] → ⊥
-  turn_fails word m d e =
+  pub turn_fails : (word : Text) → subcommand_met names idle word ≡ None → bytes_eq word dashes ≡ false → names_one others (long_of word) ≡ false → turn_fault s names (between rows None) word ≡ [] → ⊥
+  turn_fails word m d other e =
       let named = subcommand_met names idle word in
-      let met = subcommand_or_other s.rules named idle 1 word nothing_held in
-      let word_none = first_none (other_fault s named word nothing_held) (step_fault s 1 met.0 met.1) e in
-      let step_none = then_none (other_fault s named word nothing_held) (step_fault s 1 met.0 met.1) e in
-      other_fails word named (bytes_eq word dashes) m refl d word_none step_none
+      let met = subcommand_or_other s.rules named idle 1 word h in
+      let word_none = first_none (other_fault s named word h) (step_fault s 1 met.0 met.1) e in
+      let step_none = then_none (other_fault s named word h) (step_fault s 1 met.0 met.1) e in
+      other_fails word named (bytes_eq word dashes) m refl d other word_none step_none
 
   -- behind the mark each word is one too many
-  trailing_fails : (word : Text) → turn_fault s names (record (walk_from nothing_held) { is_trailing = true }) word ≡ [] → ⊥
-  trailing_fails word e = stray_fails nothing_held e
+  trailing_fails : (word : Text) → turn_fault s names (record (between rows None) { is_trailing = true }) word ≡ [] → ⊥
+  trailing_fails word e = stray_fails h e
 
-  -- a first word that names no subcommand is the mark, and stands alone
-  pub lone_mark : (word : Text) (words : List Text) → subcommand_met names idle word ≡ None → walk_fault s names (walk_from nothing_held) (word ∷ words) ≡ [] → (word ≡ dashes) × (words ≡ [])
-  unfolding walked
-  lone_mark word words m e = go (bytes_eq word dashes) refl words (turn_none s names (walk_from nothing_held) word words e)
-    where
-      go : (b : Bool) → bytes_eq word dashes ≡ b → (rest : List Text)
-          → (turn_fault s names (walk_from nothing_held) word ≡ []) × (walk_fault s names (walked s.rules names (walk_from nothing_held) word) rest ≡ [])
-          → (word ≡ dashes) × (rest ≡ [])
-      go false d rest h = absurd (turn_fails word m d h.0)
-      go true d [] h = ((bytes_eq-Decides word dashes).0 d, refl)
-      go true d (x ∷ xs) h = absurd (trailing_fails x (rw (m, d) at (turn_none s names (walked s.rules names (walk_from nothing_held) word) x xs h.1).0))
+  -- the mark stands last
+  pub nothing_behind : (rest : List Text) → walk_fault s names (record (between rows None) { is_trailing = true }) rest ≡ [] → rest ≡ []
+  nothing_behind [] e = refl
+  nothing_behind (x ∷ xs) e = absurd (trailing_fails x (turn_none s names (record (between rows None) { is_trailing = true }) x xs e).0)
 
--- nothing stands behind a subcommand's name, or the mark alone
-abbrev pub Behind : List Text → Type 0
-Behind [] = Unit {0}
-Behind (mark ∷ []) = mark ≡ dashes
-Behind (mark ∷ x ∷ xs) = ⊥
-
--- such words of a command without subcommands are none, or the mark
-pub behind : (s : Shape) → ((P : Option Rule → Type 0) → P None → P (Some help_flag) → P (Some version_flag) → (test : Rule → Bool) → P (find test s.rules)) → arg_by_index s.rules 1 ≡ None
-    → (words : List Text) → walk_fault s [] (walk_from nothing_held) words ≡ [] → Behind words
-behind s flags none [] e = tt
-behind s flags none (word ∷ words) e =
-    let lone = lone_mark s [] flags none word words refl e in
-    subst (λ (rest : List Text). Behind (word ∷ rest)) (sym lone.1) lone.0
+-- a first word that names no subcommand is the mark, and stands alone, where there are no other arguments
+pub lone_mark : (s : Shape) (names : Names) → AreFlags s.rules [] → arg_by_index s.rules 1 ≡ None → (word : Text) (words : List Text) → subcommand_met names idle word ≡ None
+    → walk_fault s names (walk_from nothing_held) (word ∷ words) ≡ [] → (word ≡ dashes) × (words ≡ [])
+unfolding walked
+lone_mark s names flags none word words m e = go (bytes_eq word dashes) refl (turn_none s names (walk_from nothing_held) word words e)
+  where
+    go : (b : Bool) → bytes_eq word dashes ≡ b → (turn_fault s names (walk_from nothing_held) word ≡ []) × (walk_fault s names (walked s.rules names (walk_from nothing_held) word) words ≡ [])
+        → (word ≡ dashes) × (words ≡ [])
+    go false d h = absurd (turn_fails s names [] flags (λ x. refl) none [] word m d (names_no_one (long_of word)) h.0)
+    go true d h = ((bytes_eq-Decides word dashes).0 d, nothing_behind s names [] flags (λ x. refl) none [] words (rw (m, d) at h.1))

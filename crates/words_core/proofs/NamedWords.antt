@@ -1,28 +1,31 @@
 -- The words behind the name of a subcommand are its own, and pass where they do.
-use Rattle.std.proofs.Common.{◌≡◌, ◌∙◌, ◌&&◌, ◌||◌, Bool, true, false, not, List, [], ◌∷◌, ◌++◌, Some, is_some, refl, sym, ap, subst, append_assoc}
-use Rattle.std.specs.Prelude.{codes, fold}
+use Rattle.std.proofs.Common.{◌≡◌, ◌∙◌, ◌&&◌, ◌||◌, ◌≤◌, ℕ, Bool, true, false, not, List, [], ◌∷◌, ◌++◌, Option, Some, Ok, is_some, option_map, refl, sym, ap, ap₂, subst, append_assoc, arith}
+use Rattle.std.specs.Prelude.{codes, fold, if◌then◌else◌}
 use Rattle.std.specs.List.{list_all}
 use Rattle.std.specs.Str.{bytes_eq}
 use Rattle.std.proofs.lemmas.List.{append-nil}
-use Rattle.clap.specs.Words.{Text, is_simple, takes}
+use Rattle.clap.specs.Words.{Row, Text, is_simple, takes}
 use Rattle.clap.specs.Simple.{entered}
 use Rattle.clap.specs.Takes.{default_passes, entered_passes, is_valid, level_passes, settle_passes, walk_passes}
 use Rattle.clap.specs.Walk.{Walk, finished, idle, nothing_held, subcommand_met, walk, walk_from, walked}
-use Rattle.words_core.specs.CommandLine.{command_line}
-use Rattle.words_core.proofs.AskingWords.{line, names}
-
-pub both_true : (a b : Bool) → a ≡ true → b ≡ true → (a && b) ≡ true
-both_true a b e f = rw (e, f) refl
+use Rattle.words_core.specs.declared.option_words.Options.{Options}
+use Rattle.words_core.specs.CommandLine.{Asked, Meaning}
+use Rattle.words_core.specs.RequestLine.{Switch, capture, is_on, is_set, options_in, skip_other, switch_name, with_these}
+use Rattle.words_core.specs.computed.OfferedLine.{line_of, wish_by}
+use Rattle.words_core.proofs.AskingWords.{line, names, top}
+use Rattle.words_core.proofs.OptionRows.{once_if}
+use Rattle.words_core.proofs.OptionWalks.{both_true}
+use Rattle.words_core.proofs.WordLemmas.{simple_line}
 
 abbrev stopped_at : Text → List Text → Walk
 stopped_at name words = record (walk_from nothing_held) { stopped = Some (name, words) }
 
-behind_name : (name : Text) (before words : List Text) → fold (walked line.top.rules names) (stopped_at name before) words ≡ stopped_at name (before ++ words)
+behind_name : (name : Text) (before words : List Text) → fold (walked top.rules names) (stopped_at name before) words ≡ stopped_at name (before ++ words)
 unfolding walked
 behind_name name before [] = ap (stopped_at name) (sym (append-nil before))
 behind_name name before (word ∷ words) = behind_name name (before ++ word ∷ []) words ∙ ap (stopped_at name) (append_assoc before (word ∷ []) words)
 
-behind_passes : (name : Text) (before words : List Text) → walk_passes line.top names (stopped_at name before) words ≡ true
+behind_passes : (name : Text) (before words : List Text) → walk_passes top names (stopped_at name before) words ≡ true
 unfolding walk_passes walked
 behind_passes name before [] = refl
 behind_passes name before (word ∷ words) = behind_passes name (before ++ word ∷ []) words
@@ -32,25 +35,51 @@ not_help true = refl
 not_help false = refl
 
 module _ (name : Text) (words : List Text) (met : subcommand_met names idle name ≡ Some name) where
-  named_walk : walk line.top.rules names nothing_held (name ∷ words) ≡ stopped_at name words
+  named_walk : walk top.rules names nothing_held (name ∷ words) ≡ stopped_at name words
   unfolding walked
   named_walk = rw met (behind_name name [] words)
 
-  named_passes : walk_passes line.top names (walk_from nothing_held) (name ∷ words) ≡ true
+  named_passes : walk_passes top names (walk_from nothing_held) (name ∷ words) ≡ true
   unfolding walk_passes walked
   named_passes = rw (met, not_help (bytes_eq name (codes "help"))) (behind_passes name [] words)
 
-  top_passes : level_passes line.top names nothing_held (name ∷ words) true ≡ true
+  top_passes : level_passes top names nothing_held (name ∷ words) true ≡ true
   top_passes =
       both_true _ _ named_passes
-      (subst (λ (w : Walk). (settle_passes line.top.rules line.top.args_override_self w.held && (list_all default_passes line.top.rules && is_valid line.top (finished line.top.rules w.held) true)) ≡ true)
+      (subst (λ (w : Walk). (settle_passes top.rules top.args_override_self w.held && (list_all default_passes top.rules && is_valid top (finished top.rules w.held) true)) ≡ true)
       (sym named_walk) refl)
 
 -- the words are taken where those behind the name are
-pub taken_behind : (called name : Text) (words : List Text) → subcommand_met names idle name ≡ Some name → is_some (entered line (Some (name, words))) ≡ true
-    → entered_passes line (Some (name, words)) ≡ true → takes command_line (called ∷ name ∷ words) ≡ true
-taken_behind called name words met there below =
-    both_true (is_simple command_line) _ refl
-    (subst (λ (w : Walk). (entered_passes line w.stopped && level_passes line.top names nothing_held (name ∷ words) (is_some (entered line w.stopped))) ≡ true)
+pub taken_behind : (offers : Bool) (called name : Text) (words : List Text) → subcommand_met names idle name ≡ Some name → is_some (entered (line offers) (Some (name, words))) ≡ true
+    → entered_passes (line offers) (Some (name, words)) ≡ true → takes (line_of offers) (called ∷ name ∷ words) ≡ true
+taken_behind offers called name words met there below =
+    both_true (is_simple (line_of offers)) _ (simple_line offers)
+    (subst (λ (w : Walk). (entered_passes (line offers) w.stopped && level_passes top names nothing_held (name ∷ words) (is_some (entered (line offers) w.stopped))) ≡ true)
     (sym (named_walk name words met))
     (both_true _ _ below (rw there (top_passes name words met))))
+
+-- words that ask for a task with these options are taken, and it is theirs
+abbrev pub IsTaken : Bool → List Text → Asked → Options → Type 0
+IsTaken offers words t options = (wish_by offers words ≡ Some (Ok (t, options))) × (takes (line_of offers) words ≡ true)
+
+pub on_or_off : (a b : Bool) → once_if a ≡ once_if b → a ≡ b
+on_or_off true true e = refl
+on_or_off true false e = absurd (omega (arith, e))
+on_or_off false true e = absurd (omega (arith, e))
+on_or_off false false e = refl
+
+-- options that are set where they are on are these
+pub same_options : (options : Options) (rows : List Row) (n : Switch → ℕ) → ((o : Switch) → n o ≡ (if is_set (switch_name o) rows then 1 else 0)) → ((o : Switch) → n o ≡ (if is_on options o then 1 else 0))
+    → options_in rows ≡ options
+same_options options rows n sets gives =
+    let at = λ (o : Switch). on_or_off (is_set (switch_name o) rows) (is_on options o) (sym (sets o) ∙ gives o) in
+    ap₂ (λ (a b : Bool). record { is_capture = a; skips_other = b }) (at capture) (at skip_other)
+
+pub wished : (options : Options) (rows : List Row) (n : Switch → ℕ) (t : Asked) (m : Option Meaning) → m ≡ Some (Ok t) → ((o : Switch) → n o ≡ (if is_set (switch_name o) rows then 1 else 0))
+    → ((o : Switch) → n o ≡ (if is_on options o then 1 else 0)) → option_map (with_these (options_in rows)) m ≡ Some (Ok (t, options))
+wished options rows n t m asks sets gives =
+    ap (option_map (with_these (options_in rows))) asks ∙ ap (λ (o : Options). Some (Ok (t, o))) (same_options options rows n sets gives)
+
+pub at_most : (b : Bool) (n : ℕ) → n ≡ (if b then 1 else 0) → n ≤ 1
+at_most true n e = omega (arith, e)
+at_most false n e = omega (arith, e)

@@ -1,126 +1,424 @@
--- Words that ask for a replay are taken, and the replay is theirs.
-use Rattle.std.proofs.Common.{◌≡◌, ◌&&◌, ◌||◌, ◌∙◌, ◌≤◌, Bool, true, false, true≢false, List, [], ◌∷◌, ◌++◌, length, Option, Some, None, Ok, option_map, option_and_then, refl, sym, ap, subst, le-leb, append_assoc, arith}
-use Rattle.std.specs.Prelude.{codes, fold}
+-- Words that ask for a replay are taken, and the replay is theirs, with the options that stand among the texts.
+use Rattle.std.proofs.Common.{◌≡◌, ◌&&◌, ◌||◌, ◌+◌, ◌∙◌, ◌≤◌, ℕ, suc, Bool, true, false, true≢false, not, List, [], ◌∷◌, ◌++◌, length, Option, Some, None, Ok, is_some, option_map, option_and_then, unwrap_or, refl, sym, ap, subst, le-leb, append_assoc, length-append, arith}
+use Rattle.std.specs.Prelude.{codes, filter, fold, if◌then◌else◌}
 use Rattle.std.specs.Global.{Global}
 use Rattle.std.specs.List.{list_all, list_any}
+use Rattle.std.specs.Option.{option_map_or}
+use Rattle.std.specs.Str.{bytes_eq}
 use Rattle.std.proofs.lemmas.List.{append-nil}
+use Rattle.std.proofs.lemmas.Slice.Eq.{bytes_eq-Decides}
 use Rattle.clap.specs.Lexer.{usize_max}
-use Rattle.clap.specs.Words.{Shape, Text, all_of, takes}
-use Rattle.clap.specs.Simple.{entered}
-use Rattle.clap.specs.Takes.{default_passes, is_valid, level_passes, settle_passes, walk_passes}
-use Rattle.clap.specs.Walk.{Walk, finished, nothing_held, positional, rows_after, walk, walk_from, walked}
+use Rattle.clap.specs.Words.{Row, Rule, Shape, Text, all_of}
+use Rattle.clap.specs.Facts.{explicit_source}
+use Rattle.clap.specs.Simple.{entered, filled, with_index}
+use Rattle.clap.specs.declared.parser.matches.ValueSource.TheVariants.{CommandLine}
+use Rattle.clap.specs.Takes.{default_passes, is_given, is_valid, level_passes, settle_passes, turn_passes, values_pass, walk_passes}
+use Rattle.clap.specs.Walk.{Waiting, Walk, finished, has_row, idle, nothing_held, option, positional, rows_after, used, walk, walk_from, walked, with_default}
 use Rattle.block_core.specs.declared.block.Block.{Block}
-use Rattle.words_core.specs.CommandLine.{AsksReplay, Meaning, command_line, is_flag, replay, replay_of, replay_shape, task_asked, task_of_words}
-use Rattle.words_core.proofs.KeptRows.{leaf}
+use Rattle.words_core.specs.declared.option_words.Options.{Options}
+use Rattle.words_core.specs.CommandLine.{AsksReplay, Meaning, block_rule, is_flag, replay, replay_of, replay_shape}
+use Rattle.words_core.specs.RequestLine.{Switch, capture, is_on, is_option, is_set, request_asked, skip_other, switch_name, switch_word, times}
+use Rattle.words_core.specs.computed.OfferedLine.{offered}
+use Rattle.words_core.proofs.KeptRows.{leaf, no_default, no_defaults}
 use Rattle.words_core.proofs.AskingWords.{line, stops}
-use Rattle.words_core.proofs.NamedWords.{both_true, taken_behind}
+use Rattle.words_core.proofs.NamedWords.{IsTaken, at_most, taken_behind, wished}
 use Rattle.words_core.proofs.BlockWords.{all_said}
+use Rattle.words_core.proofs.LoneFlags.{help_flag}
+use Rattle.words_core.proofs.OptionRows.{Counted, counted_more, counted_past, default_other, default_set, more_given, more_other, more_own, none_given, once_if, one_if, one_more, recounted, row_at, set_other, set_where_given, switch_flag, times_first, times_own, use_switch}
+use Rattle.words_core.proofs.OptionWalks.{Pending, TakesOptions, between, both_true, held, settled_to, settles, state}
+use Rattle.words_core.proofs.PlainWords.{none_yet}
 
 -- the subcommand `replay` as it is built
-abbrev replays : Shape
-replays = leaf replay_shape
+abbrev pub replays : Bool → Shape
+replays offers = leaf (offered offers replay_shape)
 
--- between two texts of blocks
-abbrev among : List Text → Walk
-among before = record {
-  held = record { rows = []; pending = Some (codes "BLOCK", before); skip = 0 };
-  waiting = positional;
-  position = 1;
-  is_trailing = false;
-  stopped = None;
-}
+abbrev pub block_argument : Rule
+block_argument = with_index 1 (filled block_rule)
 
-first_text : (text : Text) → is_flag text ≡ false → walked replays.rules [] (walk_from nothing_held) text ≡ among (text ∷ [])
+replay_takes : TakesOptions (replays true)
 unfolding walked
-first_text [] e = refl
-first_text (c ∷ cs) e = rw e (rw e refl)
+replay_takes = record { walks = walks; passes = passes }
+  where
+    walks : (o : Switch) (waiting : Waiting) (rows : List Row) (pending : Pending)
+        → walked (replays true).rules [] (state waiting rows pending) (switch_word o) ≡ between (use_switch o (settled_to (replays true) rows pending)) None
+    walks capture idle rows pending = refl
+    walks capture (option id) rows pending = refl
+    walks capture positional rows pending = refl
+    walks skip_other idle rows pending = refl
+    walks skip_other (option id) rows pending = refl
+    walks skip_other positional rows pending = refl
 
-next_text : (before : List Text) (text : Text) → is_flag text ≡ false → walked replays.rules [] (among before) text ≡ among (before ++ text ∷ [])
+    passes : (o : Switch) (waiting : Waiting) (rows : List Row) (pending : Pending) → settles (replays true) rows pending ≡ true → has_row (switch_name o) (settled_to (replays true) rows pending) ≡ false
+        → turn_passes (replays true) [] (state waiting rows pending) (switch_word o) ≡ true
+    passes capture idle rows pending s u = rw (s, u) refl
+    passes capture (option id) rows pending s u = rw (s, u) refl
+    passes capture positional rows pending s u = rw (s, u) refl
+    passes skip_other idle rows pending s u = rw (s, u) refl
+    passes skip_other (option id) rows pending s u = rw (s, u) refl
+    passes skip_other positional rows pending s u = rw (s, u) refl
+
+-- ---- a state between two words
+
+-- texts of blocks that wait, the first one apart, or none behind an option
+data Texts : Type 0 where
+  none : Texts
+  some : Text → List Text → Texts
+
+abbrev pending_of : Texts → Pending
+pending_of none = None
+pending_of (some text texts) = Some (codes "BLOCK", text ∷ texts)
+
+abbrev texts_of : Texts → List Text
+texts_of none = []
+texts_of (some text texts) = text ∷ texts
+
+abbrev waiting_of : Texts → Waiting
+waiting_of none = idle
+waiting_of (some text texts) = positional
+
+-- behind words that gave these texts, of which the last ones wait
+abbrev among : List Row → Texts → Walk
+among rows texts = state (waiting_of texts) rows (pending_of texts)
+
+abbrev with_text : Texts → Text → Texts
+with_text none text = some text []
+with_text (some first texts) text = some first (texts ++ text ∷ [])
+
+-- the rows with the texts that wait
+abbrev with_waiting : List Row → Texts → List Row
+with_waiting rows none = rows
+with_waiting rows (some text texts) = used block_argument (text ∷ texts) rows
+
+settled_among : (offers : Bool) (rows : List Row) (texts : Texts) → settled_to (replays offers) rows (pending_of texts) ≡ with_waiting rows texts
+settled_among offers rows none = refl
+settled_among offers rows (some text texts) = refl
+
+next_text : (offers : Bool) (rows : List Row) (texts : Texts) (text : Text) → is_flag text ≡ false → walked (replays offers).rules [] (among rows texts) text ≡ among rows (with_text texts text)
 unfolding walked
-next_text before [] e = refl
-next_text before (c ∷ cs) e = rw e (rw e refl)
+next_text offers rows none [] e = refl
+next_text offers rows none (c ∷ cs) e = rw e (rw e refl)
+next_text offers rows (some first texts) [] e = refl
+next_text offers rows (some first texts) (c ∷ cs) e = rw e (rw e refl)
 
-both_false : (a b : Bool) → (a || b) ≡ false → (a ≡ false) × (b ≡ false)
-both_false false b e = (refl, e)
-both_false true b e = absurd (true≢false e)
-
-next_texts : (before texts : List Text) → list_any is_flag texts ≡ false → fold (walked replays.rules []) (among before) texts ≡ among (before ++ texts)
-next_texts before [] e = ap among (sym (append-nil before))
-next_texts before (text ∷ texts) e =
-    let plain = both_false (is_flag text) (list_any is_flag texts) e in
-    ap (λ (w : Walk). fold (walked replays.rules []) w texts) (next_text before text plain.0)
-    ∙ next_texts (before ++ text ∷ []) texts plain.1 ∙ ap among (append_assoc before (text ∷ []) texts)
-
--- the walk over one text or more
-all_texts : (text : Text) (texts : List Text) → list_any is_flag (text ∷ texts) ≡ false → walk replays.rules [] nothing_held (text ∷ texts) ≡ among (text ∷ texts)
-all_texts text texts e =
-    let plain = both_false (is_flag text) (list_any is_flag texts) e in
-    ap (λ (w : Walk). fold (walked replays.rules []) w texts) (first_text text plain.0) ∙ next_texts (text ∷ []) texts plain.1
-
-rows_are : (text : Text) (texts : List Text) → all_of (codes "BLOCK") (finished replays.rules (among (text ∷ texts)).held) ≡ Some (text ∷ texts)
-rows_are text texts = refl
-
--- the texts are what the argument has
-texts_given : (text : Text) (texts : List Text) → list_any is_flag (text ∷ texts) ≡ false → all_of (codes "BLOCK") (rows_after replays.rules [] (text ∷ texts)) ≡ Some (text ∷ texts)
-texts_given text texts e =
-    ap (λ (w : Walk). all_of (codes "BLOCK") (finished replays.rules w.held)) (all_texts text texts e) ∙ rows_are text texts
-
-asks_for : (called text : Text) (texts : List Text) → list_any is_flag (text ∷ texts) ≡ false
-    → task_of_words (called ∷ codes "replay" ∷ text ∷ texts) ≡ Some (replay_of (text ∷ texts))
-asks_for called text texts e =
-    ap (λ (o : Option (Text × List Text)). option_and_then task_asked (entered line o)) (stops (codes "replay") (codes "replay") (text ∷ texts) refl)
-    ∙ ap (λ (o : Option (List Text)). option_map replay_of o) (texts_given text texts e)
-
--- ---- such words are taken
-
-first_passes : (text : Text) (rest : List Text) → is_flag text ≡ false → walk_passes replays [] (among (text ∷ [])) rest ≡ true → walk_passes replays [] (walk_from nothing_held) (text ∷ rest) ≡ true
-unfolding walk_passes walked
-first_passes [] rest e p = p
-first_passes (c ∷ cs) rest e p = rw e (rw e p)
-
-next_passes : (before : List Text) (text : Text) (rest : List Text) → is_flag text ≡ false → walk_passes replays [] (among (before ++ text ∷ [])) rest ≡ true
-    → walk_passes replays [] (among before) (text ∷ rest) ≡ true
-unfolding walk_passes walked
-next_passes before [] rest e p = p
-next_passes before (c ∷ cs) rest e p = rw e (rw e p)
-
-texts_pass : (before texts : List Text) → list_any is_flag texts ≡ false → walk_passes replays [] (among before) texts ≡ true
-unfolding walk_passes
-texts_pass before [] e = refl
-texts_pass before (text ∷ texts) e =
-    let plain = both_false (is_flag text) (list_any is_flag texts) e in
-    next_passes before text texts plain.0 (texts_pass (before ++ text ∷ []) texts plain.1)
+text_passes : (offers : Bool) (rows : List Row) (texts : Texts) (text : Text) → is_flag text ≡ false → turn_passes (replays offers) [] (among rows texts) text ≡ true
+text_passes offers rows none [] e = refl
+text_passes offers rows none (c ∷ cs) e = rw e (rw e refl)
+text_passes offers rows (some first texts) [] e = refl
+text_passes offers rows (some first texts) (c ∷ cs) e = rw e (rw e refl)
 
 each_passes : (texts : List Text) → list_all (λ (text : Text). true) texts ≡ true
 each_passes [] = refl
 each_passes (text ∷ texts) = each_passes texts
 
-settled_passes : (text : Text) (texts : List Text) → length (text ∷ texts) ≤ usize_max → settle_passes replays.rules replays.args_override_self (among (text ∷ texts)).held ≡ true
-settled_passes text texts fits =
-    let some : 1 ≤ length (text ∷ texts) = omega arith in
-    rw (le-leb 1 (length (text ∷ texts)) some, le-leb (length (text ∷ texts)) usize_max fits) (each_passes texts)
+-- no more texts wait than fit
+abbrev Fits : Texts → ℕ → Type 0
+Fits texts more = length (texts_of texts) + more ≤ usize_max
 
-valid : (text : Text) (texts : List Text) → (list_all default_passes replays.rules && is_valid replays (finished replays.rules (among (text ∷ texts)).held) false) ≡ true
-valid text texts = refl
+waiting_passes : (offers : Bool) (rows : List Row) (texts : Texts) (more : ℕ) → Fits texts more → settles (replays offers) rows (pending_of texts) ≡ true
+waiting_passes offers rows none more fits = refl
+waiting_passes offers rows (some text texts) more fits =
+    let one : 1 ≤ length (text ∷ texts) = omega arith in
+    let most : length (text ∷ texts) ≤ usize_max = omega (arith, fits) in
+    rw (le-leb 1 (length (text ∷ texts)) one, le-leb (length (text ∷ texts)) usize_max most) (each_passes texts)
 
-below_passes : (text : Text) (texts : List Text) → list_any is_flag (text ∷ texts) ≡ false → length (text ∷ texts) ≤ usize_max → level_passes replays [] nothing_held (text ∷ texts) false ≡ true
-below_passes text texts e fits =
-    let plain = both_false (is_flag text) (list_any is_flag texts) e in
-    both_true _ _ (first_passes text texts plain.0 (texts_pass (text ∷ []) texts plain.1))
-    (subst (λ (w : Walk). (settle_passes replays.rules replays.args_override_self w.held && (list_all default_passes replays.rules && is_valid replays (finished replays.rules w.held) false)) ≡ true)
-    (sym (all_texts text texts e)) (both_true _ _ (settled_passes text texts fits) (valid text texts)))
+-- ---- what the rows say
 
-is_taken : (called text : Text) (texts : List Text) → list_any is_flag (text ∷ texts) ≡ false → length (text ∷ texts) ≤ usize_max
-    → takes command_line (called ∷ codes "replay" ∷ text ∷ texts) ≡ true
-is_taken called text texts e fits = taken_behind called (codes "replay") (text ∷ texts) refl refl (below_passes text texts e fits)
+-- the texts in the rows
+abbrev block_texts : List Row → List Text
+block_texts rows = unwrap_or (all_of (codes "BLOCK") rows) []
 
--- words that ask for a replay are taken, and it is theirs
-pub replay_asked : (words : List Text) (blocks : List (Block Global)) → length words ≤ usize_max → AsksReplay words blocks
-    → (task_of_words words ≡ Some (Ok (replay blocks))) × (takes command_line words ≡ true)
-replay_asked [] blocks fits a = absurd a
-replay_asked (called ∷ []) blocks fits a = absurd a
-replay_asked (called ∷ word ∷ []) blocks fits a = absurd a
-replay_asked (called ∷ word ∷ text ∷ texts) blocks fits a =
-    let less : length (text ∷ texts) ≤ usize_max = omega (arith, fits) in
-    subst (λ (n : Text). (task_of_words (called ∷ n ∷ text ∷ texts) ≡ Some (Ok (replay blocks))) × (takes command_line (called ∷ n ∷ text ∷ texts) ≡ true)) (sym a.0)
-    (asks_for called text texts a.1 ∙ ap (λ (m : Meaning). Some m) (all_said blocks (text ∷ texts) (sym a.2)), is_taken called text texts a.1 less)
+more_texts : (rows : List Row) (texts : Texts) → block_texts (with_waiting rows texts) ≡ block_texts rows ++ texts_of texts
+more_texts rows none = sym (append-nil (block_texts rows))
+more_texts rows (some text texts) = ap (λ (o : Option (List Text)). unwrap_or o []) (more_own (codes "BLOCK") _ CommandLine (text ∷ texts) rows)
+
+texts_with : (texts : Texts) (text : Text) → texts_of (with_text texts text) ≡ texts_of texts ++ text ∷ []
+texts_with none text = refl
+texts_with (some first texts) text = refl
+
+apart_from_block : (o : Switch) → bytes_eq (switch_name o) (codes "BLOCK") ≡ false
+apart_from_block capture = refl
+apart_from_block skip_other = refl
+
+pub block_apart : (o : Switch) → bytes_eq (codes "BLOCK") (switch_name o) ≡ false
+block_apart capture = refl
+block_apart skip_other = refl
+
+option_leaves : (o : Switch) (rows : List Row) → block_texts (use_switch o rows) ≡ block_texts rows
+option_leaves o rows = ap (λ (r : Option Row). unwrap_or (option_map (λ x. x.values) r) []) (set_other (switch_name o) (codes "BLOCK") (apart_from_block o) _ CommandLine _ rows)
+
+waiting_counted : (rows : List Row) (texts : Texts) (n : Switch → ℕ) → Counted rows n → Counted (with_waiting rows texts) n
+waiting_counted rows none n c = c
+waiting_counted rows (some text texts) n c = counted_past rows (with_waiting rows (some text texts)) n (λ o. more_other (codes "BLOCK") (switch_name o) (block_apart o) _ CommandLine (text ∷ texts) rows) c
+
+-- where blocks have a row, they were given
+abbrev Explicit : List Row → Type 0
+Explicit rows = is_some (row_at (codes "BLOCK") rows) ≡ true → is_given (codes "BLOCK") rows ≡ true
+
+waiting_explicit : (rows : List Row) (texts : Texts) → Explicit rows → Explicit (with_waiting rows texts)
+waiting_explicit rows none x = x
+waiting_explicit rows (some text texts) x = λ there. more_given (codes "BLOCK") _ (text ∷ texts) rows
+
+option_explicit : (o : Switch) (rows : List Row) → Explicit rows → Explicit (use_switch o rows)
+option_explicit o rows x =
+    let same = set_other (switch_name o) (codes "BLOCK") (apart_from_block o) _ CommandLine _ rows in
+    subst (λ (r : Option Row). is_some r ≡ true → option_map_or (λ y. explicit_source y.source) r false ≡ true) (sym same) x
+
+-- ---- the walk over all arguments
+
+-- the texts among the arguments, and how often an option stands there
+abbrev pub texts_in : List Text → List Text
+texts_in arguments = filter (λ word. not (is_option word)) arguments
+
+abbrev with_words : (Switch → ℕ) → List Text → Switch → ℕ
+with_words n arguments o = n o + times (switch_word o) arguments
+
+-- the arguments lead to rows that have the texts, and each option where it stands
+record Replays (offers : Bool) (rows : List Row) (texts : Texts) (n : Switch → ℕ) (arguments : List Text) : Type 0 where
+  to_rows : List Row
+  to_texts : Texts
+  walks : fold (walked (replays offers).rules []) (among rows texts) arguments ≡ among to_rows to_texts
+  passes : walk_passes (replays offers) [] (among rows texts) arguments ≡ true
+  fits : Fits to_texts 0
+  texts_are : block_texts (with_waiting to_rows to_texts) ≡ (block_texts rows ++ texts_of texts) ++ texts_in arguments
+  counted : Counted to_rows (with_words n arguments)
+  explicit : Explicit (with_waiting to_rows to_texts)
+
+-- an option's word, and one that is none
+pub some_option : (word : Text) → is_option word ≡ true → (o : Switch) × (word ≡ switch_word o)
+some_option word e = go (bytes_eq word (switch_word capture)) (bytes_eq word (switch_word skip_other)) refl refl e
+  where
+    go : (a b : Bool) → bytes_eq word (switch_word capture) ≡ a → bytes_eq word (switch_word skip_other) ≡ b → (a || (b || false)) ≡ true → (o : Switch) × (word ≡ switch_word o)
+    go true b t u f = (capture, (bytes_eq-Decides word (switch_word capture)).0 t)
+    go false true t u f = (skip_other, (bytes_eq-Decides word (switch_word skip_other)).0 u)
+    go false false t u f = absurd (true≢false (sym f))
+
+no_option : (word : Text) → is_option word ≡ false → (o : Switch) → bytes_eq word (switch_word o) ≡ false
+no_option word e capture = go (bytes_eq word (switch_word capture)) e
+  where
+    go : (a : Bool) → (a || (bytes_eq word (switch_word skip_other) || false)) ≡ false → a ≡ false
+    go true f = absurd (true≢false f)
+    go false f = refl
+no_option word e skip_other = go (bytes_eq word (switch_word capture)) (bytes_eq word (switch_word skip_other)) e
+  where
+    go : (a b : Bool) → (a || (b || false)) ≡ false → b ≡ false
+    go true b f = absurd (true≢false f)
+    go false true f = absurd (true≢false f)
+    go false false f = refl
+
+-- what is known before an argument
+record Before (rows : List Row) (texts : Texts) (n : Switch → ℕ) (arguments : List Text) : Type 0 where
+  plain : list_any is_flag (texts_in arguments) ≡ false
+  fits : Fits texts (length arguments)
+  counted : Counted rows n
+  most : (o : Switch) → with_words n arguments o ≤ 1
+  explicit : Explicit rows
+
+abbrev Later : Bool → List Text → Type 0
+Later offers arguments = (rows : List Row) (texts : Texts) (n : Switch → ℕ) → (offers ≡ false → list_any is_option arguments ≡ false) → Before rows texts n arguments → Replays offers rows texts n arguments
+
+both_false : (a b : Bool) → (a || b) ≡ false → (a ≡ false) × (b ≡ false)
+both_false false b e = (refl, e)
+both_false true b e = absurd (true≢false e)
+
+-- a text more
+words_past : (word : Text) (arguments : List Text) (n : Switch → ℕ) (o : Switch) → is_option word ≡ false → with_words n (word ∷ arguments) o ≡ with_words n arguments o
+words_past word arguments n o e = let other = no_option word e o in rw other refl
+
+at_text : (offers : Bool) (rows : List Row) (texts : Texts) (n : Switch → ℕ) (word : Text) (arguments : List Text) → Later offers arguments → (offers ≡ false → list_any is_option (word ∷ arguments) ≡ false)
+    → is_option word ≡ false → Before rows texts n (word ∷ arguments) → Replays offers rows texts n (word ∷ arguments)
+unfolding walk_passes
+at_text offers rows texts n word arguments later offered_so other b =
+    let plain = both_false (is_flag word) (list_any is_flag (texts_in arguments)) (rw other at b.plain) in
+    let longer : length (texts_of (with_text texts word)) ≡ length (texts_of texts) + 1 = ap length (texts_with texts word) ∙ length-append (texts_of texts) (word ∷ []) in
+    let rest = later rows (with_text texts word) n (λ f. (both_false (is_option word) (list_any is_option arguments) (offered_so f)).1) (record {
+      plain = plain.1;
+      fits = let f = b.fits in omega (arith, f, longer);
+      counted = b.counted;
+      most = λ o. subst (λ (k : ℕ). k ≤ 1) (words_past word arguments n o other) (b.most o);
+      explicit = b.explicit;
+    }) in
+    record {
+      to_rows = rest.to_rows;
+      to_texts = rest.to_texts;
+      walks = ap (λ (w : Walk). fold (walked (replays offers).rules []) w arguments) (next_text offers rows texts word plain.0) ∙ rest.walks;
+      passes = both_true _ _ (text_passes offers rows texts word plain.0) (subst (λ (w : Walk). walk_passes (replays offers) [] w arguments ≡ true) (sym (next_text offers rows texts word plain.0)) rest.passes);
+      fits = rest.fits;
+      texts_are = rest.texts_are ∙ ap (λ (l : List Text). (block_texts rows ++ l) ++ texts_in arguments) (texts_with texts word) ∙ regroup (block_texts rows) (texts_of texts) word (texts_in arguments)
+          ∙ sym (ap (λ (l : List Text). (block_texts rows ++ texts_of texts) ++ l) (kept word arguments other));
+      counted = recounted rest.to_rows (with_words n arguments) (with_words n (word ∷ arguments)) (λ o. sym (words_past word arguments n o other)) rest.counted;
+      explicit = rest.explicit;
+    }
+  where
+    regroup : (a b : List Text) (x : Text) (c : List Text) → (a ++ (b ++ x ∷ [])) ++ c ≡ (a ++ b) ++ x ∷ c
+    regroup a b x c = ap (λ (l : List Text). l ++ c) (sym (append_assoc a b (x ∷ []))) ∙ append_assoc (a ++ b) (x ∷ []) c
+
+    kept : (x : Text) (c : List Text) → is_option x ≡ false → texts_in (x ∷ c) ≡ x ∷ texts_in c
+    kept x c e = rw e refl
+
+-- an option more
+words_shift : (o p : Switch) (n : Switch → ℕ) (arguments : List Text) → with_words (one_more o n) arguments p ≡ with_words n (switch_word o ∷ arguments) p
+words_shift o p n arguments = go (bytes_eq (switch_name o) (switch_name p)) (times_first o p arguments)
+  where
+    go : (b : Bool) → times (switch_word p) (switch_word o ∷ arguments) ≡ one_if b (times (switch_word p) arguments)
+        → one_if b (n p) + times (switch_word p) arguments ≡ n p + times (switch_word p) (switch_word o ∷ arguments)
+    go true more = omega (arith, more)
+    go false more = omega (arith, more)
+
+an_option : (o : Switch) → is_option (switch_word o) ≡ true
+an_option capture = refl
+an_option skip_other = refl
+
+at_option : (rows : List Row) (texts : Texts) (n : Switch → ℕ) (o : Switch) (arguments : List Text) → Later true arguments → Before rows texts n (switch_word o ∷ arguments)
+    → Replays true rows texts n (switch_word o ∷ arguments)
+unfolding walk_passes
+at_option rows texts n o arguments later b =
+    let waiting = with_waiting rows texts in
+    let option = an_option o in
+    let counted = waiting_counted rows texts n b.counted in
+    let own : with_words n (switch_word o ∷ arguments) o ≤ 1 = b.most o in
+    let more = times_own o arguments in
+    let zero : n o ≡ 0 = omega (arith, own, more) in
+    let step : walked (replays true).rules [] (among rows texts) (switch_word o) ≡ among (use_switch o waiting) none =
+    replay_takes.walks o (waiting_of texts) rows (pending_of texts) ∙ ap (λ (l : List Row). between (use_switch o l) None) (settled_among true rows texts) in
+    let rest = later (use_switch o waiting) none (one_more o n) (λ f. absurd (true≢false f)) (record {
+      plain = rw option at b.plain;
+      fits = let f = b.fits in omega (arith, f);
+      counted = counted_more o waiting n counted zero;
+      most = λ p. subst (λ (k : ℕ). k ≤ 1) (sym (words_shift o p n arguments)) (b.most p);
+      explicit = option_explicit o waiting (waiting_explicit rows texts b.explicit);
+    }) in
+    let before : block_texts (use_switch o waiting) ++ [] ≡ block_texts rows ++ texts_of texts = append-nil (block_texts (use_switch o waiting)) ∙ option_leaves o waiting ∙ more_texts rows texts in
+    record {
+      to_rows = rest.to_rows;
+      to_texts = rest.to_texts;
+      walks = ap (λ (w : Walk). fold (walked (replays true).rules []) w arguments) step ∙ rest.walks;
+      passes = both_true _ _
+          (replay_takes.passes o (waiting_of texts) rows (pending_of texts) (waiting_passes true rows texts (length (switch_word o ∷ arguments)) b.fits)
+          (subst (λ (l : List Row). has_row (switch_name o) l ≡ false) (sym (settled_among true rows texts)) (none_given waiting n o counted zero)))
+          (subst (λ (w : Walk). walk_passes (replays true) [] w arguments ≡ true) (sym step) rest.passes);
+      fits = rest.fits;
+      texts_are = rest.texts_are ∙ ap (λ (l : List Text). l ++ texts_in arguments) before ∙ sym (ap (λ (l : List Text). (block_texts rows ++ texts_of texts) ++ l) (left_out o arguments));
+      counted = recounted rest.to_rows (with_words (one_more o n) arguments) (with_words n (switch_word o ∷ arguments)) (λ p. words_shift o p n arguments) rest.counted;
+      explicit = rest.explicit;
+    }
+  where
+    left_out : (x : Switch) (c : List Text) → texts_in (switch_word x ∷ c) ≡ texts_in c
+    left_out capture c = refl
+    left_out skip_other c = refl
+
+all_arguments : (offers : Bool) (arguments : List Text) → Later offers arguments
+unfolding walk_passes
+all_arguments offers [] rows texts n offered_so b = record {
+  to_rows = rows;
+  to_texts = texts;
+  walks = refl;
+  passes = refl;
+  fits = let f = b.fits in omega (arith, f);
+  texts_are = more_texts rows texts ∙ sym (append-nil (block_texts rows ++ texts_of texts));
+  counted = recounted rows n (with_words n []) (λ o. omega arith) b.counted;
+  explicit = waiting_explicit rows texts b.explicit;
+}
+all_arguments offers (word ∷ arguments) rows texts n offered_so b = go offers (is_option word) refl (all_arguments offers arguments) offered_so
+  where
+    go : (f k : Bool) → is_option word ≡ k → Later f arguments → (f ≡ false → list_any is_option (word ∷ arguments) ≡ false) → Replays f rows texts n (word ∷ arguments)
+    go f false e later so = at_text f rows texts n word arguments later so e b
+    go false true e later so = absurd (true≢false (sym e ∙ (both_false (is_option word) (list_any is_option arguments) (so refl)).0))
+    go true true e later so =
+        let o = some_option word e in
+        subst (λ (w : Text). Replays true rows texts n (w ∷ arguments)) (sym o.1) (at_option rows texts n o.0 arguments later (subst (λ (w : Text). Before rows texts n (w ∷ arguments)) o.1 b))
+
+-- ---- such words are taken
+
+pub block_default : (offers : Bool) (rows : List Row) → row_at (codes "BLOCK") (fold with_default rows (replays offers).rules) ≡ row_at (codes "BLOCK") rows
+block_default false rows = ap (row_at (codes "BLOCK")) (no_defaults (replays false).rules rows (refl, (refl, tt)))
+block_default true rows =
+    ap (λ (l : List Row). row_at (codes "BLOCK") (fold with_default l (switch_flag capture ∷ switch_flag skip_other ∷ help_flag ∷ []))) (no_default block_argument rows refl)
+    ∙ ap (row_at (codes "BLOCK")) (no_default help_flag (with_default (with_default rows (switch_flag capture)) (switch_flag skip_other)) refl)
+    ∙ default_other skip_other (codes "BLOCK") refl (with_default rows (switch_flag capture)) ∙ default_other capture (codes "BLOCK") refl rows
+
+pub replay_set : (offers : Bool) (o : Switch) (rows : List Row) → is_set (switch_name o) (fold with_default rows (replays offers).rules) ≡ is_set (switch_name o) rows
+replay_set false o rows = ap (is_set (switch_name o)) (no_defaults (replays false).rules rows (refl, (refl, tt)))
+replay_set true o rows =
+    ap (λ (l : List Row). is_set (switch_name o) (fold with_default l (switch_flag capture ∷ switch_flag skip_other ∷ help_flag ∷ []))) (no_default block_argument rows refl)
+    ∙ ap (is_set (switch_name o)) (no_default help_flag (with_default (with_default rows (switch_flag capture)) (switch_flag skip_other)) refl)
+    ∙ default_set o skip_other (with_default rows (switch_flag capture)) ∙ default_set o capture rows
+
+replay_defaults_pass : (offers : Bool) → list_all default_passes (replays offers).rules ≡ true
+replay_defaults_pass true = refl
+replay_defaults_pass false = refl
+
+replay_valid : (offers : Bool) (rows : List Row) → is_given (codes "BLOCK") rows ≡ true → is_valid (replays offers) rows false ≡ true
+replay_valid true rows given = rw given refl
+replay_valid false rows given = rw given refl
+
+-- texts that are there stand in a row
+texts_there : (o : Option (List Text)) (text : Text) (texts : List Text) → unwrap_or o [] ≡ text ∷ texts → o ≡ Some (text ∷ texts)
+texts_there None text texts e = cc
+texts_there (Some l) text texts e = ap (λ (x : List Text). Some x) e
+
+row_there : (r : Option Row) (texts : List Text) → option_map (λ x. x.values) r ≡ Some texts → is_some r ≡ true
+row_there None texts e = cc
+row_there (Some r) texts e = refl
+
+-- words that ask for a replay are taken, and it is theirs, with the options that stand among them
+pub replay_asked_for : (offers : Bool) (called : Text) (arguments : List Text) (blocks : List (Block Global)) (options : Options) → length arguments ≤ usize_max
+    → (offers ≡ false → list_any is_option arguments ≡ false) → AsksReplay (called ∷ codes "replay" ∷ texts_in arguments) blocks
+    → ((o : Switch) → times (switch_word o) arguments ≡ (if is_on options o then 1 else 0)) → IsTaken offers (called ∷ codes "replay" ∷ arguments) (replay blocks) options
+replay_asked_for offers called arguments blocks options fits so asks gives = go (texts_in arguments) refl asks
+  where
+    go : (l : List Text) → texts_in arguments ≡ l → AsksReplay (called ∷ codes "replay" ∷ l) blocks → IsTaken offers (called ∷ codes "replay" ∷ arguments) (replay blocks) options
+    go [] is a = absurd a
+    go (text ∷ texts) is a =
+        let r = all_arguments offers arguments [] none (λ o. 0) so (record {
+          plain = subst (λ (l : List Text). list_any is_flag l ≡ false) (sym is) a.1;
+          fits = omega (arith, fits);
+          counted = none_yet;
+          most = λ o. let m = at_most (is_on options o) (times (switch_word o) arguments) (gives o) in omega (arith, m);
+          explicit = λ there. absurd (true≢false (sym there));
+        }) in
+        let end = with_waiting r.to_rows r.to_texts in
+        let last = fold with_default end (replays offers).rules in
+        let rows_are : rows_after (replays offers).rules [] arguments ≡ last =
+        ap (λ (w : Walk). finished (replays offers).rules w.held) r.walks ∙ ap (λ (l : List Row). fold with_default l (replays offers).rules) (settled_among offers r.to_rows r.to_texts) in
+        let given : all_of (codes "BLOCK") end ≡ Some (text ∷ texts) = texts_there (all_of (codes "BLOCK") end) text texts (r.texts_are ∙ is) in
+        let all : all_of (codes "BLOCK") last ≡ Some (text ∷ texts) = ap (option_map (λ x. x.values)) (block_default offers end) ∙ given in
+        let explicit : is_given (codes "BLOCK") last ≡ true =
+        ap (λ (x : Option Row). option_map_or (λ y. explicit_source y.source) x false) (block_default offers end) ∙ r.explicit (row_there (row_at (codes "BLOCK") end) (text ∷ texts) given) in
+        let sets : (o : Switch) → with_words (λ p. 0) arguments o ≡ (if is_set (switch_name o) (rows_after (replays offers).rules [] arguments) then 1 else 0) = λ o. set_where_given end (with_words (λ p. 0) arguments) o (waiting_counted r.to_rows r.to_texts (with_words (λ p. 0) arguments) r.counted)
+        ∙ sym (ap once_if (ap (is_set (switch_name o)) rows_are ∙ replay_set offers o end)) in
+        let passes : level_passes (replays offers) [] nothing_held arguments false ≡ true =
+        both_true _ _ r.passes
+        (both_true _ _ (subst (λ (w : Walk). settle_passes (replays offers).rules false w.held ≡ true) (sym r.walks) (waiting_passes offers r.to_rows r.to_texts 0 r.fits))
+        (both_true _ _ (replay_defaults_pass offers) (subst (λ (l : List Row). is_valid (replays offers) l false ≡ true) (sym rows_are) (replay_valid offers last explicit)))) in
+        let asks_so : option_map replay_of (all_of (codes "BLOCK") (rows_after (replays offers).rules [] arguments)) ≡ Some (Ok (replay blocks)) =
+        ap (λ (l : List Row). option_map replay_of (all_of (codes "BLOCK") l)) rows_are ∙ ap (option_map replay_of) all ∙ ap (λ (m : Meaning). Some m) (all_said blocks (text ∷ texts) (sym a.2)) in (
+          ap (λ (o : Option (Text × List Text)). option_and_then request_asked (entered (line offers) o)) (stops (codes "replay") (codes "replay") arguments refl)
+              ∙ wished options (rows_after (replays offers).rules [] arguments) (with_words (λ p. 0) arguments) (replay blocks) (option_map replay_of (all_of (codes "BLOCK") (rows_after (replays offers).rules [] arguments))) asks_so sets
+              (λ o. let g = gives o in omega (arith, g)),
+          taken_behind offers called (codes "replay") arguments refl refl passes,
+        )
+
+-- a text is no option
+text_no_option : (text : Text) → is_flag text ≡ false → is_option text ≡ false
+text_no_option [] e = refl
+text_no_option (c ∷ cs) e = rw e refl
+
+pub texts_no_options : (texts : List Text) → list_any is_flag texts ≡ false → list_any is_option texts ≡ false
+texts_no_options [] e = refl
+texts_no_options (text ∷ texts) e =
+    let parts = both_false (is_flag text) (list_any is_flag texts) e in
+    let first = text_no_option text parts.0 in
+    rw first (texts_no_options texts parts.1)
+
+pub all_texts : (arguments : List Text) → list_any is_option arguments ≡ false → texts_in arguments ≡ arguments
+all_texts [] e = refl
+all_texts (word ∷ arguments) e =
+    let parts = both_false (is_option word) (list_any is_option arguments) e in
+    rw parts.0 (ap (λ (l : List Text). word ∷ l) (all_texts arguments parts.1))
+
+pub no_times : (arguments : List Text) → list_any is_option arguments ≡ false → (o : Switch) → times (switch_word o) arguments ≡ 0
+no_times [] e o = refl
+no_times (word ∷ arguments) e o =
+    let parts = both_false (is_option word) (list_any is_option arguments) e in
+    let other = no_option word parts.0 o in
+    rw other (no_times arguments parts.1 o)

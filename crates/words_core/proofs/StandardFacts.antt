@@ -1,9 +1,10 @@
 -- Command lines, with the period of a watch at both ends, computed: a wrong definition does not check.
-use Rattle.std.proofs.Common.{◌≡◌, true, false, List, [], ◌∷◌, Some, None, Ok, Err, refl}
+use Rattle.std.proofs.Common.{◌≡◌, Bool, true, false, List, [], ◌∷◌, Option, Some, None, Ok, Err, refl}
 use Rattle.std.specs.Prelude.{codes}
 use Rattle.clap.specs.Words.{Text, takes}
 use Rattle.clap.proofs.OnLiterals.{clap_on_literals}
-use Rattle.words_core.specs.CommandLine.{block_at, check, command_line, import, list_blocks, publish, replay_of, rewrite, show, task_of_words, watch}
+use Rattle.words_core.specs.RequestLine.{Wish, request_line, request_of_words}
+use Rattle.words_core.specs.CommandLine.{Asked, block_at, check, command_line, import, list_blocks, publish, replay_of, rewrite, show, task_of_words, watch}
 
 -- each command without arguments asks for its task
 pub record AreNames : Type 0 where
@@ -51,6 +52,38 @@ pub record AreWatches : Type 0 where
 pub watches : AreWatches
 unfolding clap_on_literals
 watches = record { two = refl; most = refl; joined = refl }
+
+-- a request with these options
+abbrev wishes : Asked → Bool → Bool → Option Wish
+wishes t is_capture skips_other = Some (Ok (t, record { is_capture = is_capture; skips_other = skips_other }))
+
+-- the options are those that stand behind the name, in any order, before the mark, once, and of a command that takes them
+pub record AreRequests : Type 0 where
+  pub none : request_of_words (codes "goose" ∷ codes "show" ∷ []) ≡ wishes show false false
+  pub one : request_of_words (codes "goose" ∷ codes "show" ∷ codes "--capture" ∷ []) ≡ wishes show true false
+  pub both : request_of_words (codes "goose" ∷ codes "check" ∷ codes "--skip-other" ∷ codes "--capture" ∷ codes "--" ∷ []) ≡ wishes check true true
+  pub between : request_of_words (codes "goose" ∷ codes "watch" ∷ codes "--id=A" ∷ codes "--capture" ∷ codes "--period" ∷ codes "2" ∷ []) ≡ wishes (watch 2 (codes "A")) true false
+  pub twice : takes request_line (codes "goose" ∷ codes "show" ∷ codes "--capture" ∷ codes "--capture" ∷ []) ≡ false
+  pub with_value : takes request_line (codes "goose" ∷ codes "show" ∷ codes "--capture=1" ∷ []) ≡ false
+  pub behind_mark : takes request_line (codes "goose" ∷ codes "show" ∷ codes "--" ∷ codes "--capture" ∷ []) ≡ false
+  pub as_text : request_of_words (codes "goose" ∷ codes "replay" ∷ codes "--" ∷ codes "--capture" ∷ []) ≡ Some (Err 0)
+  pub before_value : takes request_line (codes "goose" ∷ codes "watch" ∷ codes "--period" ∷ codes "2" ∷ codes "--id" ∷ codes "--capture" ∷ []) ≡ false
+  pub of_another : takes request_line (codes "goose" ∷ codes "rewrite" ∷ codes "--capture" ∷ []) ≡ false
+
+pub requests : AreRequests
+unfolding clap_on_literals
+requests = record {
+  none = refl;
+  one = refl;
+  both = refl;
+  between = refl;
+  twice = refl;
+  with_value = refl;
+  behind_mark = refl;
+  as_text = refl;
+  before_value = refl;
+  of_another = refl;
+}
 
 -- a block has six fields, and the first text that says none counts, from 0
 pub record AreNoBlocks : Type 0 where

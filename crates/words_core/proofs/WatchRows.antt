@@ -1,6 +1,6 @@
 -- The rows of a watch's two options: a period in range, and a text.
 use Rattle.std.proofs.Common.{◌≡◌, ◌∙◌, ◌||◌, ◌<◌, ◌^◌, ℕ, Bool, true, false, true≢false, not, List, [], ◌∷◌, Option, Some, None, Result, Ok, Err, length, option_map, option_and_then, refl, sym, ap, subst, arith, if◌then◌else◌}
-use Rattle.std.specs.Prelude.{codes, pos}
+use Rattle.std.specs.Prelude.{codes, fold, pos}
 use Rattle.std.specs.Str.Parse.{IsNumeral, ParsesUnsigned, digits_value, without_leading_plus}
 use Rattle.std.specs.Str.{bytes_eq}
 use Rattle.clap.specs.Lexer.{without_minus}
@@ -11,16 +11,20 @@ use Rattle.clap.specs.Faults.{level_fault}
 use Rattle.clap.specs.Kinds.{range_kinds}
 use Rattle.clap.specs.Simple.{filled, help_rule, with_index}
 use Rattle.clap.specs.Takes.{is_given}
-use Rattle.clap.specs.Walk.{nothing_held, rows_after, settled, walk}
+use Rattle.clap.specs.Walk.{has_row, nothing_held, rows_after, settled, values_or_missing, walk, with_default}
 use Rattle.clap.specs.declared.parser.matches.Found.{Found}
 use Rattle.clap.specs.declared.builder.value_parser.ValueParser.TheVariants as parses
 use Rattle.clap.specs.declared.error.kind.ErrorKind.TheVariants as kind
+use Rattle.clap.specs.declared.parser.matches.ValueSource.TheVariants.{DefaultValue}
 use Rattle.clap.proofs.WalkLemmas.{one_text-rows}
 use Rattle.clap.proofs.CallerReads.{signed_reads}
 use Rattle.clap.proofs.ValueTestLemmas.{Accepts-accepts, accepts-Accepts}
 use Rattle.block_core.specs.Period.{IsPeriod}
+use Rattle.words_core.specs.RequestLine.{Switch, capture, skip_other, switch_name}
+use Rattle.words_core.specs.computed.OfferedLine.{offered}
 use Rattle.words_core.specs.CommandLine.{Meaning, id_rule, number_said, period_rule, watch, watch_asked, watch_shape}
-use Rattle.words_core.proofs.KeptRows.{EachKeeps, Keeps, Kept, end_keeps, found_keeps, given_value, leaf, level_checked, no_defaults, single_keeps, then_none, wanted}
+use Rattle.words_core.proofs.KeptRows.{EachKeeps, Keeps, Kept, end_keeps, found_keeps, given_value, leaf, level_checked, more_keeps, no_default, no_defaults, set_keeps, single_keeps, then_none, wanted}
+use Rattle.words_core.proofs.OptionRows.{self_eq, switch_flag}
 
 -- ---- what a text is read as
 
@@ -74,8 +78,8 @@ period_read E G only f r none value =
 
 -- ---- the options as they are built
 
-abbrev pub watches : Shape
-watches = leaf watch_shape
+abbrev pub watches : Bool → Shape
+watches offers = leaf (offered offers watch_shape)
 
 abbrev pub period_option : Rule
 period_option = with_index 1 (filled period_rule)
@@ -93,44 +97,92 @@ help_keeps P values rows g e = let bad = then_none (range_kinds 0 0 (length valu
 two_names : codes "id" ≡ codes "period" → ⊥
 two_names e = true≢false (sym (ap (λ (w : Text). bytes_eq w (codes "period")) e))
 
-period_kept : EachKeeps false (Kept period_option) watches.rules
-period_kept = (
+-- an option leaves what is kept of another argument
+switch_keeps : (a : Rule) (o : Switch) → (switch_name o ≡ a.id → ⊥) → Keeps false (Kept a) (switch_flag o)
+switch_keeps a o other values rows h e = set_keeps a (switch_flag o) (values_or_missing (switch_flag o) values) rows (λ e. absurd (other e)) h
+
+apart : (o : Switch) (id : Text) → bytes_eq (switch_name o) id ≡ false → switch_name o ≡ id → ⊥
+apart o id e same = true≢false (sym (subst (λ (w : Text). bytes_eq w id ≡ true) (sym same) (self_eq id)) ∙ e)
+
+not_period : (o : Switch) → switch_name o ≡ codes "period" → ⊥
+not_period capture = apart capture (codes "period") refl
+not_period skip_other = apart skip_other (codes "period") refl
+
+not_id : (o : Switch) → switch_name o ≡ codes "id" → ⊥
+not_id capture = apart capture (codes "id") refl
+not_id skip_other = apart skip_other (codes "id") refl
+
+period_kept : (offers : Bool) → EachKeeps false (Kept period_option) (watches offers).rules
+period_kept false = (
   single_keeps false period_option period_option (refl, refl) (λ e. refl),
   (single_keeps false period_option id_option (refl, refl) (λ e. absurd (two_names e)), (help_keeps (Kept period_option), tt)),
 )
+period_kept true = (
+  single_keeps false period_option period_option (refl, refl) (λ e. refl),
+  (
+    single_keeps false period_option id_option (refl, refl) (λ e. absurd (two_names e)),
+    (switch_keeps period_option capture (not_period capture), (switch_keeps period_option skip_other (not_period skip_other), (help_keeps (Kept period_option), tt))),
+  ),
+)
 
-id_kept : EachKeeps false (Kept id_option) watches.rules
-id_kept = (
+id_kept : (offers : Bool) → EachKeeps false (Kept id_option) (watches offers).rules
+id_kept false = (
   single_keeps false id_option period_option (refl, refl) (λ e. absurd (two_names (sym e))),
   (single_keeps false id_option id_option (refl, refl) (λ e. refl), (help_keeps (Kept id_option), tt)),
 )
+id_kept true = (
+  single_keeps false id_option period_option (refl, refl) (λ e. absurd (two_names (sym e))),
+  (
+    single_keeps false id_option id_option (refl, refl) (λ e. refl),
+    (switch_keeps id_option capture (not_id capture), (switch_keeps id_option skip_other (not_id skip_other), (help_keeps (Kept id_option), tt))),
+  ),
+)
 
 -- words of `watch` without a fault
-abbrev IsFaultless : List Text → Type 0
-IsFaultless words = level_fault watches [] nothing_held words false [] ≡ []
+abbrev IsFaultless : Bool → List Text → Type 0
+IsFaultless offers words = level_fault (watches offers) [] nothing_held words false [] ≡ []
 
-abbrev rows : List Text → List Row
-rows words = rows_after watches.rules [] words
+abbrev rows : Bool → List Text → List Row
+rows offers words = rows_after (watches offers).rules [] words
 
-kept_rows : (P : List Row → Type 0) → EachKeeps false P watches.rules → P [] → (words : List Text) → IsFaultless words → P (rows words)
-kept_rows P all start words f =
-    let end = settled watches.rules (walk watches.rules [] nothing_held words).held in
-    subst P (sym (no_defaults watches.rules end.rows (refl, (refl, (refl, tt)))))
-    (end_keeps watches [] P (found_keeps false P watches.rules all) words false [] start f)
-
-given : (words : List Text) → IsFaultless words → (is_given (codes "period") (rows words) ≡ true) × (is_given (codes "id") (rows words) ≡ true)
-given words f = go (is_given (codes "period") (rows words)) (is_given (codes "id") (rows words)) (wanted false false _ (level_checked watches [] nothing_held words false [] f))
+-- the defaults of the options do too
+switch_default_keeps : (a : Rule) (o : Switch) → (switch_name o ≡ a.id → ⊥) → (given : List Row) → Kept a given → Kept a (with_default given (switch_flag o))
+switch_default_keeps a o other given h = go (has_row (switch_name o) given) refl
   where
-    go : (a b : Bool) → (not a || (not b || false)) ≡ false → (a ≡ true) × (b ≡ true)
-    go true true e = (refl, refl)
-    go true false e = absurd (true≢false e)
-    go false b e = absurd (true≢false e)
+    go : (b : Bool) → has_row (switch_name o) given ≡ b → Kept a (with_default given (switch_flag o))
+    go true f = rw f h
+    go false f = rw f (more_keeps a (switch_flag o) DefaultValue (codes "false" ∷ []) given other h)
+
+defaults_keep : (offers : Bool) (a : Rule) → ((o : Switch) → switch_name o ≡ a.id → ⊥) → (given : List Row) → Kept a given → Kept a (fold with_default given (watches offers).rules)
+defaults_keep false a other given h = subst (Kept a) (sym (no_defaults (watches false).rules given (refl, (refl, (refl, tt))))) h
+defaults_keep true a other given h =
+    let own = no_defaults (period_option ∷ id_option ∷ []) given (refl, (refl, tt)) in
+    let both = switch_default_keeps a skip_other (other skip_other) (with_default given (switch_flag capture)) (switch_default_keeps a capture (other capture) given h) in
+    subst (λ (l : List Row). Kept a (fold with_default l (switch_flag capture ∷ switch_flag skip_other ∷ help_option ∷ []))) (sym own)
+    (subst (Kept a) (sym (no_default help_option (with_default (with_default given (switch_flag capture)) (switch_flag skip_other)) refl)) both)
+
+kept_rows : (offers : Bool) (a : Rule) → ((o : Switch) → switch_name o ≡ a.id → ⊥) → EachKeeps false (Kept a) (watches offers).rules → (words : List Text) → IsFaultless offers words → Kept a (rows offers words)
+kept_rows offers a other all words f =
+    let end = settled (watches offers).rules (walk (watches offers).rules [] nothing_held words).held in
+    defaults_keep offers a other end.rows (end_keeps (watches offers) [] (Kept a) (found_keeps false (Kept a) (watches offers).rules all) words false [] tt f)
+
+given : (offers : Bool) (words : List Text) → IsFaultless offers words → (is_given (codes "period") (rows offers words) ≡ true) × (is_given (codes "id") (rows offers words) ≡ true)
+given offers words f = go offers f
+  where
+    both : (a b : Bool) → (not a || (not b || false)) ≡ false → (a ≡ true) × (b ≡ true)
+    both true true e = (refl, refl)
+    both true false e = absurd (true≢false e)
+    both false b e = absurd (true≢false e)
+
+    go : (o : Bool) → IsFaultless o words → (is_given (codes "period") (rows o words) ≡ true) × (is_given (codes "id") (rows o words) ≡ true)
+    go false g = both (is_given (codes "period") (rows false words)) (is_given (codes "id") (rows false words)) (wanted false false _ (level_checked (watches false) [] nothing_held words false [] g))
+    go true g = both (is_given (codes "period") (rows true words)) (is_given (codes "id") (rows true words)) (wanted false false _ (level_checked (watches true) [] nothing_held words false [] g))
 
 -- they ask for a watch, and its period is in range
-pub watch_says : (words : List Text) → IsFaultless words → (n : ℕ) × (t : Text) × (watch_asked (rows words) ≡ Some (Ok (watch n t))) × IsPeriod n
-watch_says words f =
-    let both = given words f in
-    let period = given_value period_option (rows words) (kept_rows (Kept period_option) period_kept tt words f) both.0 in
-    let id = given_value id_option (rows words) (kept_rows (Kept id_option) id_kept tt words f) both.1 in
+pub watch_says : (offers : Bool) (words : List Text) → IsFaultless offers words → (n : ℕ) × (t : Text) × (watch_asked (rows offers words) ≡ Some (Ok (watch n t))) × IsPeriod n
+watch_says offers words f =
+    let both = given offers words f in
+    let period = given_value period_option (rows offers words) (kept_rows offers period_option not_period (period_kept offers) words f) both.0 in
+    let id = given_value id_option (rows offers words) (kept_rows offers id_option not_id (id_kept offers) words f) both.1 in
     let n = says_period period.0 (accepts-Accepts false (parses.Signed (pos 2) (pos 65536)) period.0 period.3) in
     (n.0, id.0, rw (period.2, id.1) (ap (option_map {T = ℕ} {U = Meaning} (λ (k : ℕ). Ok (watch k id.0))) n.1), n.2)

@@ -1,63 +1,52 @@
 -- Words that ask for a watch are taken, and the watch is theirs.
-use Rattle.std.proofs.Common.{◌≡◌, ◌&&◌, ◌∙◌, ◌==◌, ℕ, Bool, true, false, List, [], ◌∷◌, ◌++◌, Option, Some, None, option_and_then, refl, sym, ap, subst, inl, inr, arith, cond, drop, slice_index}
-use Rattle.std.specs.Prelude.{Ok, codes, fold, pos}
+use Rattle.std.proofs.Common.{◌≡◌, ◌&&◌, ◌∙◌, ◌≤◌, ◌==◌, ℕ, Bool, true, false, List, [], ◌∷◌, ◌++◌, Option, Some, None, is_some, option_and_then, refl, sym, ap, subst, inl, inr, arith, cond, drop, slice_index}
+use Rattle.std.specs.Prelude.{Ok, codes, fold, if◌then◌else◌, pos}
 use Rattle.std.specs.List.{list_all}
+use Rattle.std.specs.Str.{bytes_eq}
 use Rattle.std.specs.Str.Parse.{IsNumeral, digits_value, without_leading_plus}
 use Rattle.std.specs.Int.{IsInRange}
 use Rattle.std.proofs.lemmas.Bool.{ne_eqb}
 use Rattle.std.proofs.lemmas.Int.{ints}
-use Rattle.std.proofs.lemmas.List.Sums.{fold-append}
 use Rattle.std.proofs.lemmas.Str.Parse.{digit_from_value}
 use Rattle.clap.specs.Lexer.{without_minus}
 use Rattle.clap.specs.ValueTests.{accepts}
-use Rattle.clap.specs.Words.{Row, Rule, Text, takes}
+use Rattle.clap.specs.Words.{Row, Rule, Text}
 use Rattle.clap.specs.Simple.{entered}
-use Rattle.clap.specs.Takes.{default_passes, is_valid, level_passes, settle_passes, use_passes, walk_passes}
-use Rattle.clap.specs.Walk.{Held, Walk, finished, idle, nothing_held, rows_after, settled_rows, used, walk, walked}
+use Rattle.clap.specs.Takes.{default_passes, is_valid, level_passes, turn_passes, use_passes, value_passes, walk_passes}
+use Rattle.clap.specs.Walk.{Waiting, has_row, idle, nothing_held, option, positional, reading_by, rows_after, used, walked, with_default, with_values, without}
 use Rattle.clap.specs.declared.builder.value_parser.ValueParser.TheVariants as parses
+use Rattle.clap.specs.declared.parser.matches.ValueSource.TheVariants.{CommandLine}
 use Rattle.clap.proofs.ValueTestLemmas.{Accepts-accepts}
-use Rattle.clap.proofs.WalkLemmas.{both}
 use Rattle.block_core.specs.Period.{IsPeriod}
-use Rattle.words_core.specs.CommandLine.{AsksWatch, SayBoth, SaysOption, command_line, is_flag, number_said, task_asked, task_of_words, watch, watch_asked}
+use Rattle.words_core.specs.declared.option_words.Options.{Options}
+use Rattle.words_core.specs.CommandLine.{AsksWatch, SayBoth, SaysOption, is_flag, number_said, watch, watch_asked}
+use Rattle.words_core.specs.RequestLine.{Switch, capture, is_on, is_set, request_asked, skip_other, switch_name, switch_word}
 use Rattle.words_core.proofs.AskingWords.{line, stops}
-use Rattle.words_core.proofs.KeptRows.{no_defaults}
-use Rattle.words_core.proofs.NamedWords.{both_true, taken_behind}
+use Rattle.words_core.proofs.KeptRows.{no_default, no_defaults}
+use Rattle.words_core.proofs.LoneFlags.{help_flag}
+use Rattle.words_core.proofs.NamedWords.{IsTaken, at_most, taken_behind, wished}
+use Rattle.words_core.proofs.OptionRows.{AtMostOnce, Counted, all_past, counted_all, counted_past, default_other, default_set, has_at, once_if, row_at, set_other, set_own, set_where_given, switch_flag, use_all, use_switch, with_times, words_of}
+use Rattle.words_core.proofs.OptionWalks.{Ends, Leads, Pending, TakesOptions, between, chain, ends, level_ends, options_lead, rows_end, settled_to, settles, state}
+use Rattle.words_core.proofs.PlainWords.{none_yet}
 use Rattle.words_core.proofs.WatchRows.{fits_back, id_option, period_option, watches}
 
 -- ---- one option and its value
 
-abbrev Pending : Type 0
-Pending = Option (Text × List Text)
-
-abbrev held : List Row → Pending → Held
-held rows pending = record { rows = rows; pending = pending; skip = 0 }
-
--- between two options
-abbrev between : List Row → Pending → Walk
-between rows pending = record { held = held rows pending; waiting = idle; position = 1; is_trailing = false; stopped = None }
-
--- the rows with what is pending, and whether that passes
-abbrev settled_to : List Row → Pending → List Row
-settled_to rows pending = settled_rows watches.rules pending rows
-
-abbrev settles : List Row → Pending → Bool
-settles rows pending = settle_passes watches.rules false (held rows pending)
-
 -- what a walk makes of an option by its name and a value
-record Walks (a : Rule) (name : Text) : Type 0 where
-  joined : (rows : List Row) (pending : Pending) (v : Text) → walked watches.rules [] (between rows pending) (name ++ (61 ∷ v)) ≡ between (used a (v ∷ []) (settled_to rows pending)) None
-  named : (rows : List Row) (pending : Pending) (v : Text) → is_flag v ≡ false
-      → walked watches.rules [] (walked watches.rules [] (between rows pending) name) v ≡ between (settled_to rows pending) (Some (a.id, v ∷ []))
-  settled : (rows : List Row) (v : Text) → settled_to rows (Some (a.id, v ∷ [])) ≡ used a (v ∷ []) rows
-  joined_passes : (rows : List Row) (pending : Pending) (v : Text) → settles rows pending ≡ true → use_passes false a (v ∷ []) (settled_to rows pending) ≡ true
-      → walk_passes watches [] (between rows pending) ((name ++ (61 ∷ v)) ∷ []) ≡ true
-  named_passes : (rows : List Row) (pending : Pending) (v : Text) → is_flag v ≡ false → settles rows pending ≡ true
-      → walk_passes watches [] (between rows pending) (name ∷ v ∷ []) ≡ true
-  settle_passes : (rows : List Row) (v : Text) → use_passes false a (v ∷ []) rows ≡ true → settles rows (Some (a.id, v ∷ [])) ≡ true
+pub record Walks (offers : Bool) (a : Rule) (name : Text) : Type 0 where
+  pub joined : (rows : List Row) (pending : Pending) (v : Text) → walked (watches offers).rules [] (between rows pending) (name ++ (61 ∷ v)) ≡ between (used a (v ∷ []) (settled_to (watches offers) rows pending)) None
+  pub named : (rows : List Row) (pending : Pending) (v : Text) → is_flag v ≡ false
+      → walked (watches offers).rules [] (walked (watches offers).rules [] (between rows pending) name) v ≡ between (settled_to (watches offers) rows pending) (Some (a.id, v ∷ []))
+  pub settled : (rows : List Row) (v : Text) → settled_to (watches offers) rows (Some (a.id, v ∷ [])) ≡ used a (v ∷ []) rows
+  pub joined_passes : (rows : List Row) (pending : Pending) (v : Text) → settles (watches offers) rows pending ≡ true → use_passes false a (v ∷ []) (settled_to (watches offers) rows pending) ≡ true
+      → walk_passes (watches offers) [] (between rows pending) ((name ++ (61 ∷ v)) ∷ []) ≡ true
+  pub named_passes : (rows : List Row) (pending : Pending) (v : Text) → is_flag v ≡ false → settles (watches offers) rows pending ≡ true
+      → walk_passes (watches offers) [] (between rows pending) (name ∷ v ∷ []) ≡ true
+  pub settle_passes : (rows : List Row) (v : Text) → use_passes false a (v ∷ []) rows ≡ true → settles (watches offers) rows (Some (a.id, v ∷ [])) ≡ true
 
-period_walks : Walks period_option (codes "--period")
+period_walks : (offers : Bool) → Walks offers period_option (codes "--period")
 unfolding walked walk_passes
-period_walks = record {
+period_walks offers = record {
   joined = λ rows pending v. refl;
   named = named;
   settled = λ rows v. refl;
@@ -67,17 +56,17 @@ period_walks = record {
 }
   where
     named : (rows : List Row) (pending : Pending) (v : Text) → is_flag v ≡ false
-        → walked watches.rules [] (walked watches.rules [] (between rows pending) (codes "--period")) v ≡ between (settled_to rows pending) (Some (codes "period", v ∷ []))
+        → walked (watches offers).rules [] (walked (watches offers).rules [] (between rows pending) (codes "--period")) v ≡ between (settled_to (watches offers) rows pending) (Some (codes "period", v ∷ []))
     named rows pending [] e = refl
     named rows pending (c ∷ cs) e = rw e (rw e refl)
 
-    passes : (rows : List Row) (pending : Pending) (v : Text) → is_flag v ≡ false → settles rows pending ≡ true → walk_passes watches [] (between rows pending) (codes "--period" ∷ v ∷ []) ≡ true
+    passes : (rows : List Row) (pending : Pending) (v : Text) → is_flag v ≡ false → settles (watches offers) rows pending ≡ true → walk_passes (watches offers) [] (between rows pending) (codes "--period" ∷ v ∷ []) ≡ true
     passes rows pending [] e s = rw s refl
     passes rows pending (c ∷ cs) e s = rw (s, e) (rw e refl)
 
-id_walks : Walks id_option (codes "--id")
+id_walks : (offers : Bool) → Walks offers id_option (codes "--id")
 unfolding walked walk_passes
-id_walks = record {
+id_walks offers = record {
   joined = λ rows pending v. refl;
   named = named;
   settled = λ rows v. refl;
@@ -87,78 +76,221 @@ id_walks = record {
 }
   where
     named : (rows : List Row) (pending : Pending) (v : Text) → is_flag v ≡ false
-        → walked watches.rules [] (walked watches.rules [] (between rows pending) (codes "--id")) v ≡ between (settled_to rows pending) (Some (codes "id", v ∷ []))
+        → walked (watches offers).rules [] (walked (watches offers).rules [] (between rows pending) (codes "--id")) v ≡ between (settled_to (watches offers) rows pending) (Some (codes "id", v ∷ []))
     named rows pending [] e = refl
     named rows pending (c ∷ cs) e = rw e (rw e refl)
 
-    passes : (rows : List Row) (pending : Pending) (v : Text) → is_flag v ≡ false → settles rows pending ≡ true → walk_passes watches [] (between rows pending) (codes "--id" ∷ v ∷ []) ≡ true
+    passes : (rows : List Row) (pending : Pending) (v : Text) → is_flag v ≡ false → settles (watches offers) rows pending ≡ true → walk_passes (watches offers) [] (between rows pending) (codes "--id" ∷ v ∷ []) ≡ true
     passes rows pending [] e s = rw s refl
     passes rows pending (c ∷ cs) e s = rw (s, e) (rw e refl)
 
 -- the words of an option, in either form, lead to rows that have its value too
-record Leads (a : Rule) (v : Text) (words : List Text) (rows : List Row) (pending : Pending) : Type 0 where
-  to_rows : List Row
-  to_pending : Pending
-  walks : fold (walked watches.rules []) (between rows pending) words ≡ between to_rows to_pending
-  settled : settled_to to_rows to_pending ≡ used a (v ∷ []) (settled_to rows pending)
-  passes : walk_passes watches [] (between rows pending) words ≡ true
-  settling : settles to_rows to_pending ≡ true
-
-leads : (a : Rule) (name v : Text) → Walks a name → (words : List Text) → SaysOption name v words → (rows : List Row) (pending : Pending)
-    → settles rows pending ≡ true → use_passes false a (v ∷ []) (settled_to rows pending) ≡ true → Leads a v words rows pending
-leads a name v w [] says rows pending s u = absurd says
-leads a name v w (word ∷ []) says rows pending s u =
-    subst (λ (x : Text). Leads a v (x ∷ []) rows pending) (sym says) (record {
-      to_rows = used a (v ∷ []) (settled_to rows pending);
+leads : (offers : Bool) (a : Rule) (name v : Text) → Walks offers a name → (words : List Text) → SaysOption name v words → (rows : List Row) (pending : Pending)
+    → settles (watches offers) rows pending ≡ true → use_passes false a (v ∷ []) (settled_to (watches offers) rows pending) ≡ true → Leads (watches offers) (used a (v ∷ [])) words rows pending
+leads offers a name v w [] says rows pending s u = absurd says
+leads offers a name v w (word ∷ []) says rows pending s u =
+    subst (λ (x : Text). Leads (watches offers) (used a (v ∷ [])) (x ∷ []) rows pending) (sym says) (record {
+      to_rows = used a (v ∷ []) (settled_to (watches offers) rows pending);
       to_pending = None;
       walks = w.joined rows pending v;
       settled = refl;
       passes = w.joined_passes rows pending v s u;
       settling = refl;
     })
-leads a name v w (word ∷ text ∷ []) says rows pending s u =
-    subst (λ (x : Text). Leads a v (x ∷ text ∷ []) rows pending) (sym says.0)
-    (subst (λ (x : Text). Leads a v (name ∷ x ∷ []) rows pending) (sym says.1) (record {
-      to_rows = settled_to rows pending;
+leads offers a name v w (word ∷ text ∷ []) says rows pending s u =
+    subst (λ (x : Text). Leads (watches offers) (used a (v ∷ [])) (x ∷ text ∷ []) rows pending) (sym says.0)
+    (subst (λ (x : Text). Leads (watches offers) (used a (v ∷ [])) (name ∷ x ∷ []) rows pending) (sym says.1) (record {
+      to_rows = settled_to (watches offers) rows pending;
       to_pending = Some (a.id, v ∷ []);
       walks = w.named rows pending v says.2;
-      settled = w.settled (settled_to rows pending) v;
+      settled = w.settled (settled_to (watches offers) rows pending) v;
       passes = w.named_passes rows pending v says.2 s;
-      settling = w.settle_passes (settled_to rows pending) v u;
+      settling = w.settle_passes (settled_to (watches offers) rows pending) v u;
     }))
-leads a name v w (word ∷ text ∷ x ∷ more) says rows pending s u = absurd says
+leads offers a name v w (word ∷ text ∷ x ∷ more) says rows pending s u = absurd says
 
--- ---- both options
+-- ---- both options of a watch, and those on the input before, between and behind them
 
-passes_behind : (w : Walk) (first second : List Text) → walk_passes watches [] w first ≡ true → walk_passes watches [] (fold (walked watches.rules []) w first) second ≡ true
-    → walk_passes watches [] w (first ++ second) ≡ true
+-- an option of a watch by its name
+pub record Argument (offers : Bool) (a : Rule) (name : Text) : Type 0 where
+  pub walks : Walks offers a name
+  pub passes : (v : Text) (rows : List Row) → value_passes a v ≡ true → has_row a.id rows ≡ false → use_passes false a (v ∷ []) rows ≡ true
+  pub uses : (v : Text) (rows : List Row) → used a (v ∷ []) rows ≡ with_values a.id (reading_by a) CommandLine (v ∷ []) (without a.id rows)
+  pub before_option : (o : Switch) → bytes_eq (switch_name o) a.id ≡ false
+  pub after_option : (o : Switch) → bytes_eq a.id (switch_name o) ≡ false
+
+period_argument : (offers : Bool) → Argument offers period_option (codes "--period")
+period_argument offers = record { walks = period_walks offers; passes = λ v rows p h. rw (h, p) refl; uses = λ v rows. refl; before_option = before; after_option = after }
+  where
+    before : (o : Switch) → bytes_eq (switch_name o) (codes "period") ≡ false
+    before capture = refl
+    before skip_other = refl
+
+    after : (o : Switch) → bytes_eq (codes "period") (switch_name o) ≡ false
+    after capture = refl
+    after skip_other = refl
+
+id_argument : (offers : Bool) → Argument offers id_option (codes "--id")
+id_argument offers = record { walks = id_walks offers; passes = λ v rows p h. rw (h, p) refl; uses = λ v rows. refl; before_option = before; after_option = after }
+  where
+    before : (o : Switch) → bytes_eq (switch_name o) (codes "id") ≡ false
+    before capture = refl
+    before skip_other = refl
+
+    after : (o : Switch) → bytes_eq (codes "id") (switch_name o) ≡ false
+    after capture = refl
+    after skip_other = refl
+
+-- the row of such an option
+abbrev pub row_of_use : Rule → Text → Row
+row_of_use a v = record { id = a.id; values = v ∷ []; count = None; source = Some CommandLine; reading = reading_by a }
+
+watch_takes : TakesOptions (watches true)
+unfolding walked
+watch_takes = record { walks = walks; passes = passes }
+  where
+    walks : (o : Switch) (waiting : Waiting) (rows : List Row) (pending : Pending)
+        → walked (watches true).rules [] (state waiting rows pending) (switch_word o) ≡ between (use_switch o (settled_to (watches true) rows pending)) None
+    walks capture idle rows pending = refl
+    walks capture (option id) rows pending = refl
+    walks capture positional rows pending = refl
+    walks skip_other idle rows pending = refl
+    walks skip_other (option id) rows pending = refl
+    walks skip_other positional rows pending = refl
+
+    passes : (o : Switch) (waiting : Waiting) (rows : List Row) (pending : Pending) → settles (watches true) rows pending ≡ true → has_row (switch_name o) (settled_to (watches true) rows pending) ≡ false
+        → turn_passes (watches true) [] (state waiting rows pending) (switch_word o) ≡ true
+    passes capture idle rows pending s u = rw (s, u) refl
+    passes capture (option id) rows pending s u = rw (s, u) refl
+    passes capture positional rows pending s u = rw (s, u) refl
+    passes skip_other idle rows pending s u = rw (s, u) refl
+    passes skip_other (option id) rows pending s u = rw (s, u) refl
+    passes skip_other positional rows pending s u = rw (s, u) refl
+
+-- options where they are offered, else none
+watch_options : (offers : Bool) (os : List Switch) → (offers ≡ false → os ≡ []) → (n : Switch → ℕ) (rows : List Row) (pending : Pending) → settles (watches offers) rows pending ≡ true
+    → Counted (settled_to (watches offers) rows pending) n → AtMostOnce n os → Leads (watches offers) (use_all os) (words_of os) rows pending
 unfolding walk_passes
-passes_behind w [] second p q = q
-passes_behind w (x ∷ first) second p q =
-    let parts = both _ _ p in
-    both_true _ _ parts.0 (passes_behind (walked watches.rules [] w x) first second parts.1 q)
+watch_options true os none n rows pending settling c new = options_lead (watches true) watch_takes os n rows pending settling c new
+watch_options false os none n rows pending settling c new =
+    subst (λ (l : List Switch). Leads (watches false) (use_all l) (words_of l) rows pending) (sym (none refl))
+    (record { to_rows = rows; to_pending = pending; walks = refl; settled = refl; passes = refl; settling = settling })
 
-module _ (a b : Rule) (v u : Text) (first second : List Text) (l : Leads a v first [] None) (m : Leads b u second l.to_rows l.to_pending) where
-  -- the rows of both
-  abbrev given : List Row
-  given = used b (u ∷ []) (used a (v ∷ []) [])
+-- how often an option stands before, between and behind
+abbrev pub in_all : List Switch → List Switch → List Switch → Switch → ℕ
+in_all before middle after = with_times (with_times (with_times (λ o. 0) before) middle) after
 
-  walk_is : walk watches.rules [] nothing_held (first ++ second) ≡ between m.to_rows m.to_pending
-  walk_is = fold-append (walked watches.rules []) (between [] None) first second ∙ ap (λ (w : Walk). fold (walked watches.rules []) w second) l.walks ∙ m.walks
+module _ (offers : Bool) (a b : Rule) (name other : Text) (v u : Text) (x : Argument offers a name) (y : Argument offers b other) (apart : bytes_eq a.id b.id ≡ false) (also : bytes_eq b.id a.id ≡ false)
+    (pass : value_passes a v ≡ true) (also_pass : value_passes b u ≡ true) (first second : List Text) (says : SaysOption name v first) (also_says : SaysOption other u second)
+    (before middle after : List Switch) (no_before : offers ≡ false → before ≡ []) (no_middle : offers ≡ false → middle ≡ []) (no_after : offers ≡ false → after ≡ [])
+    (most : (o : Switch) → in_all before middle after o ≤ 1) where
+  -- the rows behind each part
+  abbrev pub rows_1 : List Row
+  rows_1 = use_all before []
 
-  finished_is : finished watches.rules (held m.to_rows m.to_pending) ≡ given
-  finished_is =
-      no_defaults watches.rules (settled_to m.to_rows m.to_pending) (refl, (refl, (refl, tt)))
-      ∙ m.settled ∙ ap (λ (rows : List Row). used b (u ∷ []) rows) l.settled
+  abbrev pub rows_2 : List Row
+  rows_2 = used a (v ∷ []) rows_1
 
-  rows_given : rows_after watches.rules [] (first ++ second) ≡ given
-  rows_given = ap (λ (w : Walk). finished watches.rules w.held) walk_is ∙ finished_is
+  abbrev pub rows_3 : List Row
+  rows_3 = use_all middle rows_2
 
-  both_pass : is_valid watches given false ≡ true → level_passes watches [] nothing_held (first ++ second) false ≡ true
-  both_pass valid =
-      both_true _ _ (passes_behind (between [] None) first second l.passes (subst (λ (w : Walk). walk_passes watches [] w second ≡ true) (sym l.walks) m.passes))
-      (subst (λ (w : Walk). (settle_passes watches.rules false w.held && (list_all default_passes watches.rules && is_valid watches (finished watches.rules w.held) false)) ≡ true)
-      (sym walk_is) (both_true _ _ m.settling (subst (λ (rows : List Row). is_valid watches rows false ≡ true) (sym finished_is) valid)))
+  abbrev pub rows_4 : List Row
+  rows_4 = used b (u ∷ []) rows_3
+
+  abbrev pub rows_5 : List Row
+  rows_5 = use_all after rows_4
+
+  counted_1 : Counted rows_1 (with_times (λ o. 0) before)
+  counted_1 = counted_all before [] (λ o. 0) none_yet (λ o. let m = most o in omega (arith, m))
+
+  counted_2 : Counted rows_2 (with_times (λ o. 0) before)
+  counted_2 = counted_past rows_1 rows_2 (with_times (λ o. 0) before) (λ o. ap (row_at (switch_name o)) (x.uses v rows_1) ∙ set_other a.id (switch_name o) (x.after_option o) _ CommandLine _ rows_1) counted_1
+
+  counted_3 : Counted rows_3 (with_times (with_times (λ o. 0) before) middle)
+  counted_3 = counted_all middle rows_2 (with_times (λ o. 0) before) counted_2 (λ o. let m = most o in omega (arith, m))
+
+  counted_4 : Counted rows_4 (with_times (with_times (λ o. 0) before) middle)
+  counted_4 =
+      counted_past rows_3 rows_4 (with_times (with_times (λ o. 0) before) middle) (λ o. ap (row_at (switch_name o)) (y.uses u rows_3) ∙ set_other b.id (switch_name o) (y.after_option o) _ CommandLine _ rows_3) counted_3
+
+  pub counted_5 : Counted rows_5 (in_all before middle after)
+  counted_5 = counted_all after rows_4 (with_times (with_times (λ o. 0) before) middle) counted_4 most
+
+  -- the options' own rows
+  none_at_1 : (id : Text) → ((o : Switch) → bytes_eq (switch_name o) id ≡ false) → row_at id rows_1 ≡ None
+  none_at_1 id past = all_past id past before []
+
+  at_2 : row_at a.id rows_2 ≡ Some (row_of_use a v)
+  at_2 = ap (row_at a.id) (x.uses v rows_1) ∙ set_own a.id (reading_by a) CommandLine (v ∷ []) rows_1 (none_at_1 a.id x.before_option)
+
+  none_at_3 : row_at b.id rows_3 ≡ None
+  none_at_3 = all_past b.id y.before_option middle rows_2 ∙ ap (row_at b.id) (x.uses v rows_1) ∙ set_other a.id b.id apart _ CommandLine _ rows_1 ∙ none_at_1 b.id y.before_option
+
+  pub first_row : row_at a.id rows_5 ≡ Some (row_of_use a v)
+  first_row = all_past a.id x.before_option after rows_4 ∙ ap (row_at a.id) (y.uses u rows_3) ∙ set_other b.id a.id also _ CommandLine _ rows_3 ∙ all_past a.id x.before_option middle rows_2 ∙ at_2
+
+  pub second_row : row_at b.id rows_5 ≡ Some (row_of_use b u)
+  second_row = all_past b.id y.before_option after rows_4 ∙ ap (row_at b.id) (y.uses u rows_3) ∙ set_own b.id (reading_by b) CommandLine (u ∷ []) rows_3 none_at_3
+
+  has_none : (id : Text) (rows : List Row) → row_at id rows ≡ None → has_row id rows ≡ false
+  has_none id rows e = has_at id rows ∙ ap is_some e
+
+  lead_1 : Leads (watches offers) (use_all before) (words_of before) [] None
+  lead_1 = watch_options offers before no_before (λ o. 0) [] None refl none_yet (λ o. let m = most o in omega (arith, m))
+
+  lead_2 : Leads (watches offers) (used a (v ∷ [])) first lead_1.to_rows lead_1.to_pending
+  lead_2 =
+      leads offers a name v x.walks first says lead_1.to_rows lead_1.to_pending lead_1.settling
+      (subst (λ (rows : List Row). use_passes false a (v ∷ []) rows ≡ true) (sym lead_1.settled) (x.passes v rows_1 pass (has_none a.id rows_1 (none_at_1 a.id x.before_option))))
+
+  settled_2 : settled_to (watches offers) lead_2.to_rows lead_2.to_pending ≡ rows_2
+  settled_2 = lead_2.settled ∙ ap (λ (rows : List Row). used a (v ∷ []) rows) lead_1.settled
+
+  lead_3 : Leads (watches offers) (use_all middle) (words_of middle) lead_2.to_rows lead_2.to_pending
+  lead_3 =
+      watch_options offers middle no_middle (with_times (λ o. 0) before) lead_2.to_rows lead_2.to_pending lead_2.settling
+      (subst (λ (rows : List Row). Counted rows (with_times (λ o. 0) before)) (sym settled_2) counted_2) (λ o. let m = most o in omega (arith, m))
+
+  settled_3 : settled_to (watches offers) lead_3.to_rows lead_3.to_pending ≡ rows_3
+  settled_3 = lead_3.settled ∙ ap (use_all middle) settled_2
+
+  lead_4 : Leads (watches offers) (used b (u ∷ [])) second lead_3.to_rows lead_3.to_pending
+  lead_4 =
+      leads offers b other u y.walks second also_says lead_3.to_rows lead_3.to_pending lead_3.settling
+      (subst (λ (rows : List Row). use_passes false b (u ∷ []) rows ≡ true) (sym settled_3) (y.passes u rows_3 also_pass (has_none b.id rows_3 none_at_3)))
+
+  settled_4 : settled_to (watches offers) lead_4.to_rows lead_4.to_pending ≡ rows_4
+  settled_4 = lead_4.settled ∙ ap (λ (rows : List Row). used b (u ∷ []) rows) settled_3
+
+  lead_5 : Leads (watches offers) (use_all after) (words_of after) lead_4.to_rows lead_4.to_pending
+  lead_5 =
+      watch_options offers after no_after (with_times (with_times (λ o. 0) before) middle) lead_4.to_rows lead_4.to_pending lead_4.settling
+      (subst (λ (rows : List Row). Counted rows (with_times (with_times (λ o. 0) before) middle)) (sym settled_4) counted_4) most
+
+  pub both_end : Ends (watches offers) (λ rows. use_all after (used b (u ∷ []) (use_all middle (used a (v ∷ []) (use_all before rows))))) (words_of before ++ (first ++ (words_of middle ++ (second ++ words_of after))))
+  both_end =
+      ends (watches offers) (λ rows. use_all after (used b (u ∷ []) (use_all middle (used a (v ∷ []) (use_all before rows))))) (words_of before ++ (first ++ (words_of middle ++ (second ++ words_of after))))
+      (chain (watches offers) (use_all before) (λ rows. use_all after (used b (u ∷ []) (use_all middle (used a (v ∷ []) rows)))) (words_of before) _ [] None lead_1
+      (chain (watches offers) (λ rows. used a (v ∷ []) rows) (λ rows. use_all after (used b (u ∷ []) (use_all middle rows))) first _ lead_1.to_rows lead_1.to_pending lead_2
+      (chain (watches offers) (use_all middle) (λ rows. use_all after (used b (u ∷ []) rows)) (words_of middle) _ lead_2.to_rows lead_2.to_pending lead_3
+      (chain (watches offers) (λ rows. used b (u ∷ []) rows) (use_all after) second (words_of after) lead_3.to_rows lead_3.to_pending lead_4 lead_5))))
+
+-- the defaults at the end leave the rows of the two, and whether an option is set
+pub watch_default : (offers : Bool) (id : Text) → ((o : Switch) → bytes_eq (switch_name o) id ≡ false) → (rows : List Row) → row_at id (fold with_default rows (watches offers).rules) ≡ row_at id rows
+watch_default false id apart rows = ap (row_at id) (no_defaults (watches false).rules rows (refl, (refl, (refl, tt))))
+watch_default true id apart rows =
+    let own = no_defaults (period_option ∷ id_option ∷ []) rows (refl, (refl, tt)) in
+    ap (λ (l : List Row). row_at id (fold with_default l (switch_flag capture ∷ switch_flag skip_other ∷ help_flag ∷ []))) own
+    ∙ ap (row_at id) (no_default help_flag (with_default (with_default rows (switch_flag capture)) (switch_flag skip_other)) refl)
+    ∙ default_other skip_other id (apart skip_other) (with_default rows (switch_flag capture)) ∙ default_other capture id (apart capture) rows
+
+pub watch_set : (offers : Bool) (o : Switch) (rows : List Row) → is_set (switch_name o) (fold with_default rows (watches offers).rules) ≡ is_set (switch_name o) rows
+watch_set false o rows = ap (is_set (switch_name o)) (no_defaults (watches false).rules rows (refl, (refl, (refl, tt))))
+watch_set true o rows =
+    let own = no_defaults (period_option ∷ id_option ∷ []) rows (refl, (refl, tt)) in
+    ap (λ (l : List Row). is_set (switch_name o) (fold with_default l (switch_flag capture ∷ switch_flag skip_other ∷ help_flag ∷ []))) own
+    ∙ ap (is_set (switch_name o)) (no_default help_flag (with_default (with_default rows (switch_flag capture)) (switch_flag skip_other)) refl)
+    ∙ default_set o skip_other (with_default rows (switch_flag capture)) ∙ default_set o capture rows
 
 -- ---- the period
 
@@ -192,32 +324,62 @@ module _ (digits : Text) (are : IsNumeral 10 digits) where
 
 -- ---- the words that ask for a watch
 
--- what stands behind the subcommand's name asks for this watch, and passes
-abbrev AsksFor : ℕ → Text → List Text → Type 0
-AsksFor period id words = (watch_asked (rows_after watches.rules [] words) ≡ Some (Ok (watch period id))) × (level_passes watches [] nothing_held words false ≡ true)
+-- what stands behind the subcommand's name asks for this watch and sets the options so, and passes
+record AsksFor (offers : Bool) (period : ℕ) (id : Text) (n : Switch → ℕ) (words : List Text) : Type 0 where
+  watch_is : watch_asked (rows_after (watches offers).rules [] words) ≡ Some (Ok (watch period id))
+  sets : (o : Switch) → n o ≡ (if is_set (switch_name o) (rows_after (watches offers).rules [] words) then 1 else 0)
+  passes : level_passes (watches offers) [] nothing_held words false ≡ true
 
-options_ask : (digits id : Text) (period : ℕ) → accepts false (parses.Signed (pos 2) (pos 65536)) digits ≡ true → number_said (without_minus digits) ≡ Some period
-    → (first second : List Text) → SayBoth (codes "--period") digits (codes "--id") id first second → AsksFor period id (first ++ second)
-options_ask digits id period pass say first second (inl h) =
-    let l = leads period_option (codes "--period") digits period_walks first h.0 [] None refl (rw pass refl) in
-    let use_id = subst (λ (rows : List Row). use_passes false id_option (id ∷ []) rows ≡ true) (sym l.settled) refl in
-    let m = leads id_option (codes "--id") id id_walks second h.1 l.to_rows l.to_pending l.settling use_id in
-    (ap watch_asked (rows_given period_option id_option digits id first second l m) ∙ rw say refl, both_pass period_option id_option digits id first second l m refl)
-options_ask digits id period pass say first second (inr h) =
-    let l = leads id_option (codes "--id") id id_walks first h.0 [] None refl refl in
-    let use_period = subst (λ (rows : List Row). use_passes false period_option (digits ∷ []) rows ≡ true) (sym l.settled) (rw pass refl) in
-    let m = leads period_option (codes "--period") digits period_walks second h.1 l.to_rows l.to_pending l.settling use_period in
-    (ap watch_asked (rows_given id_option period_option id digits first second l m) ∙ rw say refl, both_pass id_option period_option id digits first second l m refl)
+watch_defaults_pass : (offers : Bool) → list_all default_passes (watches offers).rules ≡ true
+watch_defaults_pass true = refl
+watch_defaults_pass false = refl
 
-behind_watch : (called : Text) (words : List Text) (period : ℕ) (id : Text) → AsksFor period id words
-    → (task_of_words (called ∷ codes "watch" ∷ words) ≡ Some (Ok (watch period id))) × (takes command_line (called ∷ codes "watch" ∷ words) ≡ true)
-behind_watch called words period id a =
-    (ap (λ (o : Option (Text × List Text)). option_and_then task_asked (entered line o)) (stops (codes "watch") (codes "watch") words refl) ∙ a.0, taken_behind called (codes "watch") words refl refl a.1)
+watch_valid : (offers : Bool) (rows : List Row) (digits id : Text) → row_at (codes "period") rows ≡ Some (row_of_use period_option digits) → row_at (codes "id") rows ≡ Some (row_of_use id_option id)
+    → is_valid (watches offers) rows false ≡ true
+watch_valid true rows digits id p i = rw (p, i) refl
+watch_valid false rows digits id p i = rw (p, i) refl
 
--- words that ask for a watch are taken, and it is theirs
-pub watch_asked_for : (words : List Text) (period : ℕ) (id : Text) → AsksWatch words period id → (task_of_words words ≡ Some (Ok (watch period id))) × (takes command_line words ≡ true)
-watch_asked_for words period id a =
+asks_by_rows : (offers : Bool) (f : List Row → List Row) (words : List Text) (digits id : Text) (period : ℕ) (n : Switch → ℕ) → Ends (watches offers) f words
+    → row_at (codes "period") (f []) ≡ Some (row_of_use period_option digits) → row_at (codes "id") (f []) ≡ Some (row_of_use id_option id) → Counted (f []) n
+    → number_said (without_minus digits) ≡ Some period → AsksFor offers period id n words
+asks_by_rows offers f words digits id period n e p i c say =
+    let last = fold with_default (f []) (watches offers).rules in
+    let at_period : row_at (codes "period") last ≡ Some (row_of_use period_option digits) = watch_default offers (codes "period") (period_argument offers).before_option (f []) ∙ p in
+    let at_id : row_at (codes "id") last ≡ Some (row_of_use id_option id) = watch_default offers (codes "id") (id_argument offers).before_option (f []) ∙ i in
+    let are = rows_end (watches offers) f words e in
+    record {
+      watch_is = ap watch_asked are ∙ rw (at_period, at_id) (rw say refl);
+      sets = λ o. set_where_given (f []) n o c ∙ sym (ap once_if (ap (is_set (switch_name o)) are ∙ watch_set offers o (f [])));
+      passes = level_ends (watches offers) f words e refl (watch_defaults_pass offers) (watch_valid offers last digits id at_period at_id);
+    }
+
+watch_asks : (offers : Bool) (digits id : Text) (period : ℕ) → accepts false (parses.Signed (pos 2) (pos 65536)) digits ≡ true → number_said (without_minus digits) ≡ Some period
+    → (first second : List Text) → SayBoth (codes "--period") digits (codes "--id") id first second → (before middle after : List Switch) → (offers ≡ false → before ≡ []) → (offers ≡ false → middle ≡ [])
+    → (offers ≡ false → after ≡ []) → ((o : Switch) → in_all before middle after o ≤ 1)
+    → AsksFor offers period id (in_all before middle after) (words_of before ++ (first ++ (words_of middle ++ (second ++ words_of after))))
+watch_asks offers digits id period pass say first second (inl h) before middle after no_before no_middle no_after most =
+    let end = both_end offers period_option id_option (codes "--period") (codes "--id") digits id (period_argument offers) (id_argument offers) refl refl pass refl first second h.0 h.1 before middle after no_before no_middle no_after most in
+    let p = first_row offers period_option id_option (codes "--period") (codes "--id") digits id (period_argument offers) (id_argument offers) refl refl pass refl first second h.0 h.1 before middle after no_before no_middle no_after most in
+    let i = second_row offers period_option id_option (codes "--period") (codes "--id") digits id (period_argument offers) (id_argument offers) refl refl pass refl first second h.0 h.1 before middle after no_before no_middle no_after most in
+    let c = counted_5 offers period_option id_option (codes "--period") (codes "--id") digits id (period_argument offers) (id_argument offers) refl refl pass refl first second h.0 h.1 before middle after no_before no_middle no_after most in
+    asks_by_rows offers _ _ digits id period _ end p i c say
+watch_asks offers digits id period pass say first second (inr h) before middle after no_before no_middle no_after most =
+    let end = both_end offers id_option period_option (codes "--id") (codes "--period") id digits (id_argument offers) (period_argument offers) refl refl refl pass first second h.0 h.1 before middle after no_before no_middle no_after most in
+    let i = first_row offers id_option period_option (codes "--id") (codes "--period") id digits (id_argument offers) (period_argument offers) refl refl refl pass first second h.0 h.1 before middle after no_before no_middle no_after most in
+    let p = second_row offers id_option period_option (codes "--id") (codes "--period") id digits (id_argument offers) (period_argument offers) refl refl refl pass first second h.0 h.1 before middle after no_before no_middle no_after most in
+    let c = counted_5 offers id_option period_option (codes "--id") (codes "--period") id digits (id_argument offers) (period_argument offers) refl refl refl pass first second h.0 h.1 before middle after no_before no_middle no_after most in
+    asks_by_rows offers _ _ digits id period _ end p i c say
+
+-- words that ask for a watch are taken, and it is theirs, with the options that stand there
+pub watch_asked_for : (offers : Bool) (words : List Text) (period : ℕ) (id : Text) (options : Options) (a : AsksWatch words period id) (before middle after : List Switch) → (offers ≡ false → before ≡ [])
+    → (offers ≡ false → middle ≡ []) → (offers ≡ false → after ≡ []) → ((o : Switch) → in_all before middle after o ≡ (if is_on options o then 1 else 0))
+    → IsTaken offers (a.called ∷ codes "watch" ∷ (words_of before ++ (a.first ++ (words_of middle ++ (a.second ++ words_of after))))) (watch period id) options
+watch_asked_for offers words period id options a before middle after no_before no_middle no_after gives =
     let pass = digits_pass a.digits a.are_digits period a.number a.range in
     let say = digits_say a.digits a.are_digits period a.number a.range in
-    subst (λ (w : List Text). (task_of_words w ≡ Some (Ok (watch period id))) × (takes command_line w ≡ true)) (sym a.behind)
-    (behind_watch a.called (a.first ++ a.second) period id (options_ask a.digits id period pass say a.first a.second a.options))
+    let asks = watch_asks offers a.digits id period pass say a.first a.second a.options before middle after no_before no_middle no_after (λ o. at_most (is_on options o) (in_all before middle after o) (gives o)) in
+    let rest = words_of before ++ (a.first ++ (words_of middle ++ (a.second ++ words_of after))) in (
+      ap (λ (o : Option (Text × List Text)). option_and_then request_asked (entered (line offers) o)) (stops (codes "watch") (codes "watch") rest refl)
+          ∙ wished options (rows_after (watches offers).rules [] rest) (in_all before middle after) (watch period id) (watch_asked (rows_after (watches offers).rules [] rest)) asks.watch_is asks.sets gives,
+      taken_behind offers a.called (codes "watch") rest refl refl asks.passes,
+    )

@@ -4,7 +4,7 @@ use Rattle.std.specs.Prelude.{Box, IfOk, IfErr, codes, find}
 use Rattle.std.specs.Option.{option_map_or}
 use Rattle.std.specs.Str.{bytes_eq}
 use Rattle.std.specs.Box.{box_value}
-use Rattle.clap.specs.Words.{App, HasKind, Kinds, Row, Shape, Text, all_of, built, fault_of, kind_of, subcommand_name_of, subcommand_of, subcommand_rows, subcommand_rows_of, takes}
+use Rattle.clap.specs.Words.{App, HasKind, IsAmong, Kinds, Row, Shape, Text, all_of, built, fault_of, is_simple, is_simple_and_free, kind_of, subcommand_name_of, subcommand_of, subcommand_rows, subcommand_rows_of, takes}
 use Rattle.clap.specs.Kinds.{check_kinds}
 use Rattle.clap.specs.Faults.{entered_fault, level_fault, walk_fault}
 use Rattle.clap.specs.Simple.{argument_words, entered, names_of, rows_at}
@@ -17,13 +17,17 @@ use Rattle.clap.specs.declared.error.Error.{Error}
 use Rattle.clap.specs.declared.error.kind.ErrorKind.{ErrorKind}
 use Rattle.clap.specs.declared.error.kind.ErrorKind.TheVariants as kind
 use Rattle.clap.proofs.OnLiterals.{clap_on_literals}
+use Rattle.words_core.specs.declared.option_words.Options.{Options}
+use Rattle.words_core.specs.declared.words.Request.{Request}
 use Rattle.words_core.specs.declared.words.Task.{Task}
 use Rattle.words_core.specs.declared.words.WordsError.{WordsError}
 use Rattle.words_core.specs.declared.words.WordsError.TheVariants as refused
 use Rattle.words_core.proofs.KeptRows.{first_none, leaf, level_checked, then_none, wanted}
 use Rattle.words_core.proofs.WatchRows.{watch_says}
-use Rattle.words_core.specs.CommandLine.{Asked, AsksByName, HasPeriod, IsNoMistake, MayRefuse, Meaning, blocks_in, check, command_line, faults, first_bad_block, import, is_plain, list_blocks, name_of, plain, publish, replay, replay_of, replay_shape, rewrite, asked_by, show, task_asked, task_of_words, watch, watch_shape}
+use Rattle.words_core.specs.CommandLine.{AnswersBadBlock, AnswersTask, Asked, AsksByName, HasPeriod, IsBlockError, IsNoMistake, MayRefuse, Meaning, blocks_in, check, command_line, faults, first_bad_block, import, is_plain, list_blocks, name_of, plain, publish, replay, replay_of, replay_shape, rewrite, asked_by, show, task_asked, task_of_words, watch, watch_shape}
+use Rattle.words_core.specs.RequestLine.{AnswersRequest, AsksWith, MayRefuseRequest, RefusesBlock, Wish, options_in, request_asked, with_these}
 use Rattle.words_core.specs.computed.PrivateCalls.{MayAnswer}
+use Rattle.words_core.specs.computed.OfferedLine.{MayGrant, MayRefuseBy, faults_by, line_of, offered, task_by, wish_by}
 
 -- where a subcommand is required and the last checks pass, there is one
 checked : (has help required argument : Bool) → required ≡ true → check_kinds (not has && help) (not has && required) argument ≡ [] → has ≡ true
@@ -39,6 +43,35 @@ subcommand_given : (a : App) (words : List Text) → (built a).top.subcommand_re
 subcommand_given a words r e =
     let stop = stop_after (built a).top.rules (names_of (built a)) (argument_words a words) in
     level_named (built a).top (names_of (built a)) nothing_held (argument_words a words) (is_some (entered (built a) stop)) (entered_fault (built a) stop) r e
+
+abbrev a_meaning : Asked → Option Meaning
+a_meaning t = Some (Ok t)
+
+abbrev no_meaning : ℕ → Option Meaning
+no_meaning i = Some (Err i)
+
+abbrev a_wish : Asked → Options → Option Wish
+a_wish t options = Some (Ok (t, options))
+
+abbrev task_or : Asked → Option Wish → Asked
+task_or d (Some (Ok wish)) = wish.0
+task_or d _ = d
+
+abbrev place_or : ℕ → Option Wish → ℕ
+place_or d (Some (Err i)) = i
+place_or d _ = d
+
+abbrev block_or : ℕ → Option Meaning → ℕ
+block_or d (Some (Err i)) = i
+block_or d _ = d
+
+abbrev asked_or : Asked → Option Meaning → Asked
+asked_or d (Some (Ok t)) = t
+asked_or d _ = d
+
+abbrev options_or : Options → Option Wish → Options
+options_or d (Some (Ok wish)) = wish.1
+options_or d _ = d
 
 -- something is asked for; where that is a watch, its period is one that a watch may have
 abbrev pub IsAsked : Option Meaning → Type 0
@@ -85,8 +118,8 @@ pub met : (m : ArgMatches) (name : Text) (rows : List Row) → subcommand_name_o
 met m name rows e f = met_rows (out-ArgMatches m).subcommand name rows e f
 
 -- an argument that is given has values
-given_row : (id : Text) (rows : List Row) → (not (is_given id rows) || false) ≡ false → is_some (all_of id rows) ≡ true
-given_row id rows e = go (find (λ r. bytes_eq r.id id) rows) refl
+a_row : (id : Text) (rows : List Row) → (not (is_given id rows) || false) ≡ false → is_some (all_of id rows) ≡ true
+a_row id rows e = go (find (λ r. bytes_eq r.id id) rows) refl
   where
     go : (o : Option Row) → find (λ r. bytes_eq r.id id) rows ≡ o → is_some (all_of id rows) ≡ true
     go None f = let bad : true ≡ false = rw f at e in cc
@@ -100,33 +133,40 @@ replay_asked (Some texts) e = go (first_bad_block texts)
     go None = tt
     go (Some i) = tt
 
-plain_gives : (t : Asked) → is_plain t ≡ true → AsksForSomething (leaf (plain t).shape)
-plain_gives show e words f = tt
-plain_gives check e words f = tt
-plain_gives rewrite e words f = tt
-plain_gives list_blocks e words f = tt
-plain_gives publish e words f = tt
-plain_gives import e words f = tt
-plain_gives (replay blocks) e words f = absurd (true≢false (sym e))
-plain_gives (watch period id) e words f = absurd (true≢false (sym e))
+plain_gives : (offers : Bool) (t : Asked) → is_plain t ≡ true → AsksForSomething (leaf (offered offers (plain t).shape))
+plain_gives offers show e words f = tt
+plain_gives offers check e words f = tt
+plain_gives offers rewrite e words f = tt
+plain_gives offers list_blocks e words f = tt
+plain_gives offers publish e words f = tt
+plain_gives offers import e words f = tt
+plain_gives offers (replay blocks) e words f = absurd (true≢false (sym e))
+plain_gives offers (watch period id) e words f = absurd (true≢false (sym e))
 
-replay_gives : AsksForSomething (leaf replay_shape)
-replay_gives words f =
-    let rows = rows_after (leaf replay_shape).rules [] words in
-    replay_asked (all_of (codes "BLOCK") rows) (given_row (codes "BLOCK") rows (wanted false false _ (level_checked (leaf replay_shape) [] nothing_held words false [] f)))
+replay_gives : (offers : Bool) → AsksForSomething (leaf (offered offers replay_shape))
+replay_gives false words f =
+    let rows = rows_after (leaf (offered false replay_shape)).rules [] words in
+    replay_asked (all_of (codes "BLOCK") rows) (a_row (codes "BLOCK") rows (wanted false false _ (level_checked (leaf (offered false replay_shape)) [] nothing_held words false [] f)))
+replay_gives true words f =
+    let rows = rows_after (leaf (offered true replay_shape)).rules [] words in
+    replay_asked (all_of (codes "BLOCK") rows) (a_row (codes "BLOCK") rows (wanted false false _ (level_checked (leaf (offered true replay_shape)) [] nothing_held words false [] f)))
 
-watch_gives : AsksForSomething (leaf watch_shape)
-watch_gives words f = let says = watch_says words f in rw says.2 says.3
+watch_gives : (offers : Bool) → AsksForSomething (leaf (offered offers watch_shape))
+watch_gives offers words f = let says = watch_says offers words f in rw says.2 says.3
 
-all_give : EachAsks (built command_line).subs
-all_give = (plain_gives show refl, (plain_gives check refl, (plain_gives rewrite refl, (plain_gives list_blocks refl, (replay_gives, (plain_gives publish refl, (watch_gives, (plain_gives import refl, tt))))))))
+all_give : (offers : Bool) → EachAsks (built (line_of offers)).subs
+all_give offers = (
+  plain_gives offers show refl,
+  (plain_gives offers check refl, (plain_gives false rewrite refl, (plain_gives offers list_blocks refl, (replay_gives offers, (plain_gives false publish refl, (watch_gives offers, (plain_gives false import refl, tt))))))),
+)
 
 -- words without a fault ask for something
-pub faultless_asks : (words : List Text) → faults words ≡ [] → IsAsked (task_of_words words)
-faultless_asks words e =
-    let stop = stop_after (built command_line).top.rules (names_of (built command_line)) (argument_words command_line words) in
-    let below = then_none (walk_fault (built command_line).top (names_of (built command_line)) (walk_from nothing_held) (argument_words command_line words)) _ e in
-    entered_gives (built command_line) stop all_give (subcommand_given command_line words refl e) (first_none (entered_fault (built command_line) stop) _ below)
+pub faultless_asks : (offers : Bool) (words : List Text) → faults_by offers words ≡ [] → IsAsked (task_by offers words)
+faultless_asks offers words e =
+    let line = line_of offers in
+    let stop = stop_after (built line).top.rules (names_of (built line)) (argument_words line words) in
+    let below = then_none (walk_fault (built line).top (names_of (built line)) (walk_from nothing_held) (argument_words line words)) _ e in
+    entered_gives (built line) stop (all_give offers) (subcommand_given line words refl e) (first_none (entered_fault (built line) stop) _ below)
 
 -- a task's name asks for that task and is taken, also before the mark behind which no flag follows
 abbrev IsTaken : List Text → Asked → Type 0
@@ -185,11 +225,11 @@ memory_or_not kind.Format = inr (λ e. cc)
 memory_or_not kind.OutOfMemory = inl refl
 
 -- an error of the words, told apart from want of memory, is one of their faults
-pub may_refuse : (words : List Text) (e : Error) (r : WordsError) → HasKind (faults words) e → (kind_of e ≡ kind.OutOfMemory → r ≡ refused.Memory)
-    → ((kind_of e ≢ kind.OutOfMemory) → r ≡ refused.Words e) → MayRefuse words r
-may_refuse words e r has memory other = elim (memory_or_not (kind_of e)) [
-  | inl k ↦ subst (MayRefuse words) (sym (memory k)) tt
-  | inr k ↦ subst (MayRefuse words) (sym (other k)) (elim has [
+pub may_refuse : (offers : Bool) (words : List Text) (e : Error) (r : WordsError) → HasKind (faults_by offers words) e → (kind_of e ≡ kind.OutOfMemory → r ≡ refused.Memory)
+    → ((kind_of e ≢ kind.OutOfMemory) → r ≡ refused.Words e) → MayRefuseBy offers words r
+may_refuse offers words e r has memory other = elim (memory_or_not (kind_of e)) [
+  | inl k ↦ subst (MayRefuseBy offers words) (sym (memory k)) tt
+  | inr k ↦ subst (MayRefuseBy offers words) (sym (other k)) (elim has [
     | inl out ↦ absurd (k out)
     | inr among ↦ among
   ])
@@ -198,38 +238,145 @@ may_refuse words e r has memory other = elim (memory_or_not (kind_of e)) [
 -- ---- what is answered, where the words have no fault
 
 abbrev Answer : Type 0
-Answer = Result Task WordsError
+Answer = Result Request WordsError
 
-pub answers_found : (P : Asked → Type 0) (words : List Text) (answer : Answer) → ((t : Asked) → task_of_words words ≡ Some (Ok t) → P t)
-    → MayAnswer (task_of_words words) (Some answer) → IfOk answer (λ t. P (asked_by t))
-answers_found P words answer h may = go (task_of_words words) refl answer may
+abbrev Granted : Bool → List Text → Request → Type 0
+Granted offers words r = wish_by offers words ≡ Some (Ok (asked_by r.task, r.options))
+
+pub answers_found : (offers : Bool) (words : List Text) (answer : Answer) → MayGrant (wish_by offers words) (Some answer) → IfOk answer (Granted offers words)
+answers_found offers words answer may = go (wish_by offers words) refl answer may
   where
-    go : (o : Option Meaning) → task_of_words words ≡ o → (a : Answer) → MayAnswer o (Some a) → IfOk a (λ t. P (asked_by t))
+    go : (o : Option Wish) → wish_by offers words ≡ o → (a : Answer) → MayGrant o (Some a) → IfOk a (Granted offers words)
     go None e a m = absurd m
-    go (Some (Ok t)) e (Ok u) m = subst P (sym m) (h t e)
+    go (Some (Ok t)) e (Ok r) m = e ∙ ap₂ (λ (u : Asked) (o : Options). Some (Ok (u, o))) (sym m.0) (sym m.1)
     go (Some (Ok t)) e (Err u) m = tt
-    go (Some (Err i)) e (Ok u) m = absurd m
+    go (Some (Err i)) e (Ok r) m = absurd m
     go (Some (Err i)) e (Err u) m = tt
 
-pub answers_refused : (words : List Text) (answer : Answer) → faults words ≡ [] → MayAnswer (task_of_words words) (Some answer) → IfErr answer (λ e. MayRefuse words e × IsNoMistake e)
-answers_refused words answer none may = go (task_of_words words) refl answer may
+pub answers_refused : (offers : Bool) (words : List Text) (answer : Answer) → faults_by offers words ≡ [] → MayGrant (wish_by offers words) (Some answer)
+    → IfErr answer (λ e. MayRefuseBy offers words e × IsNoMistake e)
+answers_refused offers words answer none may = go (wish_by offers words) refl answer may
   where
-    go : (o : Option Meaning) → task_of_words words ≡ o → (a : Answer) → MayAnswer o (Some a) → IfErr a (λ e. MayRefuse words e × IsNoMistake e)
+    go : (o : Option Wish) → wish_by offers words ≡ o → (a : Answer) → MayGrant o (Some a) → IfErr a (λ e. MayRefuseBy offers words e × IsNoMistake e)
     go None e a m = absurd m
-    go (Some (Ok t)) e (Ok u) m = tt
-    go (Some (Ok t)) e (Err u) m = subst (λ (w : WordsError). MayRefuse words w × IsNoMistake w) (sym m) (tt, tt)
-    go (Some (Err i)) e (Ok u) m = absurd m
+    go (Some (Ok t)) e (Ok r) m = tt
+    go (Some (Ok t)) e (Err u) m = subst (λ (w : WordsError). MayRefuseBy offers words w × IsNoMistake w) (sym m) (tt, tt)
+    go (Some (Err i)) e (Ok r) m = absurd m
     go (Some (Err i)) e (Err (refused.Words error)) m = absurd m
     go (Some (Err i)) e (Err (refused.Block j)) m = ((none, e ∙ ap (λ (k : ℕ). Some (Err k)) (sym m)), tt)
     go (Some (Err i)) e (Err refused.Memory) m = (tt, tt)
 
--- where the words have no fault, a parse fails for want of memory alone
-pub faultless_memory : (words : List Text) (e : Error) → faults words ≡ [] → HasKind (faults words) e → kind_of e ≡ kind.OutOfMemory
-faultless_memory words e none has = elim (subst (λ (k : Kinds). HasKind k e) none has) [
-  | inl memory ↦ memory
-  | inr among ↦ absurd among
-]
-
-pub nothing_answered : (o : Option Meaning) → IsAsked o → MayAnswer o None → ⊥
+pub nothing_answered : (o : Option (Text × List Row)) → IsAsked (option_and_then task_asked o) → MayGrant (option_and_then request_asked o) None → ⊥
 nothing_answered None e m = e
-nothing_answered (Some meaning) e m = m
+nothing_answered (Some met) e m = go (task_asked met) e m
+  where
+    go : (o : Option Meaning) → IsAsked o → MayGrant (option_map (with_these (options_in met.1)) o) None → ⊥
+    go None f n = f
+    go (Some meaning) f n = n
+
+-- ---- what was answered, told of the task and of the words
+
+-- a wish without its options
+pub task_wished : (offers : Bool) (words : List Text) (t : Asked) (options : Options) → wish_by offers words ≡ Some (Ok (t, options)) → task_by offers words ≡ Some (Ok t)
+task_wished offers words t options e = go (subcommand_of (line_of offers) words) e
+  where
+    wished : (m : Option Meaning) (o : Options) → option_map (with_these o) m ≡ Some (Ok (t, options)) → m ≡ Some (Ok t)
+    wished None o f = cc
+    wished (Some (Ok u)) o f = ap (λ (w : Option Wish). Some (Ok (task_or u w))) f
+    wished (Some (Err i)) o f = cc
+
+    go : (met : Option (Text × List Row)) → option_and_then request_asked met ≡ Some (Ok (t, options)) → option_and_then task_asked met ≡ Some (Ok t)
+    go None f = cc
+    go (Some met) f = wished (task_asked met) (options_in met.1) f
+
+pub block_wished : (offers : Bool) (words : List Text) (i : ℕ) → wish_by offers words ≡ Some (Err i) → task_by offers words ≡ Some (Err i)
+block_wished offers words i e = go (subcommand_of (line_of offers) words) e
+  where
+    wished : (m : Option Meaning) (o : Options) → option_map (with_these o) m ≡ Some (Err i) → m ≡ Some (Err i)
+    wished None o f = cc
+    wished (Some (Ok u)) o f = cc
+    wished (Some (Err j)) o f = ap (λ (w : Option Wish). Some (Err (place_or j w))) f
+
+    go : (met : Option (Text × List Row)) → option_and_then request_asked met ≡ Some (Err i) → option_and_then task_asked met ≡ Some (Err i)
+    go None f = cc
+    go (Some met) f = wished (task_asked met) (options_in met.1) f
+
+pub asked_period : (offers : Bool) (words : List Text) (t : Asked) → faults_by offers words ≡ [] → task_by offers words ≡ Some (Ok t) → HasPeriod t
+asked_period offers words t none e = subst IsAsked e (faultless_asks offers words none)
+
+-- words that are taken are refused for want of memory alone, where what they ask for is a task
+pub memory_alone : (offers : Bool) (words : List Text) (t : Asked) (e : WordsError) → task_by offers words ≡ Some (Ok t) → MayRefuseBy offers words e → IsNoMistake e → e ≡ refused.Memory
+memory_alone offers words t (refused.Words error) asks may sure = absurd sure
+memory_alone offers words t (refused.Block i) asks may sure = let bad : Some (Ok t) ≡ Some (Err i) = sym asks ∙ block_wished offers words i may.1 in cc
+memory_alone offers words t refused.Memory asks may sure = refl
+
+-- words without a fault, of which a text says no block, are refused by that text
+pub block_alone : (offers : Bool) (words : List Text) (i : ℕ) (e : WordsError) → faults_by offers words ≡ [] → task_by offers words ≡ Some (Err i) → MayRefuseBy offers words e → IsBlockError i e
+block_alone offers words i (refused.Words error) none bad may = subst (λ (k : Kinds). IsAmong (kind_of error) k) none may
+block_alone offers words i (refused.Block j) none bad may =
+    let same : no_meaning j ≡ Some (Err i) = sym (block_wished offers words j may.1) ∙ bad in ap (λ (m : Option Meaning). block_or j m) same
+block_alone offers words i refused.Memory none bad may = tt
+
+pub one_task : (t u : Asked) → a_meaning t ≡ Some (Ok u) → t ≡ u
+one_task t u e = ap (λ (m : Option Meaning). asked_or t m) e
+
+pub one_block : (t : Asked) (i : ℕ) → a_meaning t ≡ Some (Err i) → ⊥
+one_block t i e = cc
+
+-- what `read_words` says of its refusals
+pub refused_words : (words : List Text) (e : WordsError) → MayRefuseBy false words e → MayRefuse words e
+refused_words words (refused.Words error) may = may
+refused_words words (refused.Block i) may = (may.0, block_wished false words i may.1)
+refused_words words refused.Memory may = tt
+
+-- what `read_request` says of its answers
+pub request_refused : (words : List Text) (answer : Answer) → IfErr answer (MayRefuseBy true words) → IfErr answer (MayRefuseRequest words)
+request_refused words (Ok r) may = tt
+request_refused words (Err (refused.Words error)) may = may
+request_refused words (Err (refused.Block i)) may = may
+request_refused words (Err refused.Memory) may = tt
+
+pub answered_plainly : (words : List Text) (answer : Answer) → IfOk answer (λ r. faults_by true words ≡ []) → IfOk answer (Granted true words)
+    → ((t : Asked) (options : Options) → faults_by true words ≡ [] → wish_by true words ≡ Some (Ok (t, options)) → is_plain t ≡ true → AsksWith words t options)
+    → IfOk answer (λ r. is_plain (asked_by r.task) ≡ true → AsksWith words (asked_by r.task) r.options)
+answered_plainly words (Ok r) none granted asks = asks (asked_by r.task) r.options none granted
+answered_plainly words (Err e) none granted asks = tt
+
+pub answered_period : (offers : Bool) (words : List Text) (answer : Answer) → IfOk answer (λ r. faults_by offers words ≡ []) → IfOk answer (Granted offers words) → IfOk answer (λ r. HasPeriod (asked_by r.task))
+answered_period offers words (Ok r) none granted = asked_period offers words (asked_by r.task) none (task_wished offers words (asked_by r.task) r.options granted)
+answered_period offers words (Err e) none granted = tt
+
+one_wish : (t u : Asked) (o p : Options) → a_wish t o ≡ Some (Ok (u, p)) → (t ≡ u) × (o ≡ p)
+one_wish t u o p e = (ap (λ (w : Option Wish). task_or t w) e, ap (λ (w : Option Wish). options_or o w) e)
+
+pub request_granted : (offers : Bool) (words : List Text) (t : Asked) (options : Options) (answer : Answer) → IfOk answer (Granted offers words) → IfErr answer (MayRefuseBy offers words)
+    → IfErr answer IsNoMistake → wish_by offers words ≡ Some (Ok (t, options)) → AnswersRequest t options answer
+request_granted offers words t options (Ok r) granted may sure wish = one_wish (asked_by r.task) t r.options options (sym granted ∙ wish)
+request_granted offers words t options (Err e) granted may sure wish = memory_alone offers words t e (task_wished offers words t options wish) may sure
+
+pub block_refused : (offers : Bool) (words : List Text) (i : ℕ) (answer : Answer) → IfOk answer (Granted offers words) → IfErr answer (MayRefuseBy offers words) → faults_by offers words ≡ []
+    → wish_by offers words ≡ Some (Err i) → RefusesBlock i answer
+block_refused offers words i (Ok r) granted may none bad = let other : Some (Ok (asked_by r.task, r.options)) ≡ Some (Err i) = sym granted ∙ bad in cc
+block_refused offers words i (Err e) granted may none bad = block_alone offers words i e none (block_wished offers words i bad) may
+
+-- ---- both command lines are such that `clap` says what it does
+
+pub simple_line : (offers : Bool) → is_simple (line_of offers) ≡ true
+simple_line true = refl
+simple_line false = refl
+
+pub free_line : (offers : Bool) → is_simple_and_free (line_of offers) ≡ true
+free_line true = refl
+free_line false = refl
+
+-- ---- a task becomes a request
+
+pub grants : (m : Option Meaning) (o : Options) (a : Result Task WordsError) (r : Answer) → ((t : Asked) → AnswersTask t a → AnswersRequest t o r) → ((i : ℕ) → AnswersBadBlock i a → RefusesBlock i r)
+    → MayAnswer m (Some a) → MayGrant (option_map (with_these o) m) (Some r)
+grants None o a r answered refuses may = absurd may
+grants (Some (Ok t)) o a r answered refuses may = answered t may
+grants (Some (Err i)) o a r answered refuses may = refuses i may
+
+pub grants_none : (m : Option Meaning) (rows : List Row) → MayAnswer m None → MayGrant (option_map (with_these (options_in rows)) m) None
+grants_none None rows may = tt
+grants_none (Some meaning) rows may = absurd may

@@ -1,6 +1,8 @@
-//! The command line of `goose`: which task its words ask for.
+//! The command line of `goose`: which task its words ask for, and with which options.
 #![tactic(auto)]
 
+mod option_words;
 mod words;
 
-pub use words::{Task, WordsError, read_words};
+pub use option_words::Options;
+pub use words::{Request, Task, WordsError, read_request, read_words};

@@ -5,7 +5,10 @@ ghost use Rattle.clap.specs.Walk.{texts};
 ghost use Rattle.clap.specs.declared.error.kind.ErrorKind.TheVariants.{OutOfMemory};
 ghost use Rattle.words_core.specs.CommandLine.{AnswersBadBlock, AnswersTask, Asked, Asks, HasPeriod, IsNoMistake, MayRefuse, bare_program, block_rule, command_line, faults, id_rule, is_plain, name_of, period_rule, readers, replay_of, replay_shape, asked_by, task_asked, task_of_words, watch, watch_asked, watch_shape};
 ghost use Rattle.words_core.specs.computed.PrivateCalls.{AnswersWords, MayAnswer};
+ghost use Rattle.words_core.specs.RequestLine.{AnsweredAlike, AnswersRequest, AsksWith, MayRefuseRequest, RefusesBlock, request_asked, request_faults, request_line, request_of_words};
+ghost use Rattle.words_core.specs.computed.OfferedLine.{MayGrant, MayRefuseBy, faults_by, line_of, offered, reader_shapes, wish_by};
 
+use crate::option_words::{Options, options_met, with_offering};
 use block_core::{Block, BlockError, read_block};
 use clap::error::ErrorKind;
 use clap::{Arg, ArgMatches, Command, value_parser};
@@ -21,7 +24,7 @@ pub enum Task {
     Check,
     /// The list in written form.
     Rewrite,
-    /// One line a control block or a stream that a list holds, and one where it is configured anew.
+    /// One line a control block or a stream that a list holds, and one where its configuration changes.
     Blocks,
     /// One line an entry of a subscriber of these control blocks.
     Replay(Vec<Block<Global>, Global>),
@@ -54,6 +57,15 @@ impl Task {
             Task::Import => "import",
         }
     }
+}
+
+/// What a command line asks for where commands take options.
+#[derive(Drop)]
+pub struct Request {
+    /// What to do.
+    pub task: Task,
+    /// How to take the input.
+    pub options: Options,
 }
 
 /// Why words ask for nothing that can be done.
@@ -101,7 +113,9 @@ fn program<'a>(alloc: Global) -> Command<'a>
 {
     Command::new(alloc, "goose")
         .version("1.0.0")
-        .before_help("Example: echo 'C 2000' | goose show")
+        .before_help(
+            "Example: goose import < FILE.pcap | goose blocks\nWireshark saves pcapng: editcap -F pcap FILE.pcapng FILE.pcap makes a classic capture of it",
+        )
         .after_help(
             "Run goose COMMAND --help for an example of each command.\nTimes in lists and scripts are microseconds where the first line is V2, else milliseconds; what is written is always in microseconds.\nExit status: 0 done, 1 something was found, 2 wrong arguments, 3 an error in the input, 4 reading or writing failed, 5 out of memory.\nMore: man goose",
         )
@@ -112,22 +126,23 @@ fn program<'a>(alloc: Global) -> Command<'a>
         .subcommand_required(true)
 }
 
-// The program with one more subcommand, which takes no words of its own.
+// The program with one more subcommand, which takes no words of its own, but the options where they are offered.
 fn with_plain<'a>(
     alloc: Global,
     program: Command<'a>,
+    offers: bool,
     name: &'a str,
     about: &'a str,
     example: &'a str,
     more: &'a str,
 ) -> Result<Command<'a>, AllocError>
-    ensures { IfOk result (λ c. app_of c ≡ with_subcommand (app_of program.entry) (new_app name.now).top) }
+    ensures { IfOk result (λ c. app_of c ≡ with_subcommand (app_of program.entry) (offered offers (new_app name.now).top)) }
 {
     let plain = Command::new(alloc, name)
         .before_help(example)
         .after_help(more)
         .about(about);
-    program.subcommand(plain)
+    with_offering(alloc, program, plain, offers)
 }
 
 // The words of `replay`: the texts of its control blocks, one or more.
@@ -141,15 +156,21 @@ fn block_words<'a>(alloc: Global) -> Arg<'a>
 }
 
 // The program with the subcommand `replay`.
-fn with_replay<'a>(alloc: Global, program: Command<'a>) -> Result<Command<'a>, AllocError>
-    ensures { IfOk result (λ c. app_of c ≡ with_subcommand (app_of program.entry) replay_shape) }
+fn with_replay<'a>(
+    alloc: Global,
+    program: Command<'a>,
+    offers: bool,
+) -> Result<Command<'a>, AllocError>
+    ensures { IfOk result (λ c. app_of c ≡ with_subcommand (app_of program.entry) (offered offers replay_shape)) }
 {
     let replay = Command::new(alloc, "replay")
-        .before_help("Example: goose replay 0001,G,D,,1,1 < examples/repeated_frames.list")
+        .before_help(
+            "Example: goose replay '3001,BAY1PROT/LLN0$GO$gcbTrip,BAY1PROT/LLN0$dsTrip,BAY1_Trip,1,2' < examples/trip_recording.list",
+        )
         .after_help(REPLAY_MORE)
         .about("Shows what a device that subscribes to control blocks does with each frame")
         .arg(block_words(alloc))?;
-    program.subcommand(replay)
+    with_offering(alloc, program, replay, offers)
 }
 
 // The option `--period` of `watch`.
@@ -180,8 +201,12 @@ fn id_option<'a>(alloc: Global) -> Arg<'a>
 }
 
 // The program with the subcommand `watch`.
-fn with_watch<'a>(alloc: Global, program: Command<'a>) -> Result<Command<'a>, AllocError>
-    ensures { IfOk result (λ c. app_of c ≡ with_subcommand (app_of program.entry) watch_shape) }
+fn with_watch<'a>(
+    alloc: Global,
+    program: Command<'a>,
+    offers: bool,
+) -> Result<Command<'a>, AllocError>
+    ensures { IfOk result (λ c. app_of c ≡ with_subcommand (app_of program.entry) (offered offers watch_shape)) }
 {
     let watch = Command::new(alloc, "watch")
         .before_help("Example: goose watch --period 4000 --id MU01 < examples/sample_counts.list")
@@ -189,16 +214,21 @@ fn with_watch<'a>(alloc: Global, program: Command<'a>) -> Result<Command<'a>, Al
         .about("Shows each sample of one stream, and whether its count is the next one")
         .arg(period_option(alloc))?
         .arg(id_option(alloc))?;
-    program.subcommand(watch)
+    with_offering(alloc, program, watch, offers)
 }
 
 // The program with the subcommands that read a list and take no words of their own.
-fn with_readers<'a>(alloc: Global, program: Command<'a>) -> Result<Command<'a>, AllocError>
-    ensures { IfOk result (λ c. app_of c ≡ fold with_subcommand (app_of program.entry) (map (λ s. s.shape) readers)) }
+fn with_readers<'a>(
+    alloc: Global,
+    program: Command<'a>,
+    offers: bool,
+) -> Result<Command<'a>, AllocError>
+    ensures { IfOk result (λ c. app_of c ≡ fold with_subcommand (app_of program.entry) (reader_shapes offers)) }
 {
     let program = with_plain(
         alloc,
         program,
+        offers,
         "show",
         "Shows each event on one line: every field of a frame, or its first error",
         "Example: goose show < examples/one_frame.list",
@@ -207,6 +237,7 @@ fn with_readers<'a>(alloc: Global, program: Command<'a>) -> Result<Command<'a>, 
     let program = with_plain(
         alloc,
         program,
+        offers,
         "check",
         "Writes a line for each error of a frame, and for each note on a valid one",
         "Example: goose check < examples/notes.list",
@@ -215,6 +246,7 @@ fn with_readers<'a>(alloc: Global, program: Command<'a>) -> Result<Command<'a>, 
     let program = with_plain(
         alloc,
         program,
+        false,
         "rewrite",
         "Writes the list again, each valid frame in its canonical encoding",
         "Example: goose rewrite < examples/long_lengths.list",
@@ -223,32 +255,35 @@ fn with_readers<'a>(alloc: Global, program: Command<'a>) -> Result<Command<'a>, 
     with_plain(
         alloc,
         program,
+        offers,
         "blocks",
-        "Lists the control blocks and streams of a list, and each that is configured anew",
-        "Example: goose blocks < examples/repeated_frames.list",
+        "Lists the control blocks and streams of a list, and each whose datSet, goID, confRev or size changes",
+        "Example: goose blocks < examples/two_bays.list",
         SHOW_MORE,
     )
 }
 
-// The whole command line.
-fn command<'a>(alloc: Global) -> Result<Command<'a>, AllocError>
-    ensures { IfOk result (λ c. app_of c ≡ command_line) }
+// The whole command line, with the options where they are offered.
+fn command<'a>(alloc: Global, offers: bool) -> Result<Command<'a>, AllocError>
+    ensures { IfOk result (λ c. app_of c ≡ line_of offers) }
 {
     let program = program(alloc);
-    let program = with_readers(alloc, program)?;
-    let program = with_replay(alloc, program)?;
+    let program = with_readers(alloc, program, offers)?;
+    let program = with_replay(alloc, program, offers)?;
     let program = with_plain(
         alloc,
         program,
+        false,
         "publish",
         "Reads a script and writes the list of frames that a publisher sends",
         "Example: goose publish < examples/publisher.script",
         SHOW_MORE,
     )?;
-    let program = with_watch(alloc, program)?;
+    let program = with_watch(alloc, program, offers)?;
     with_plain(
         alloc,
         program,
+        false,
         "import",
         "Reads a capture (classic libpcap, as tcpdump -w writes) and writes it as a list",
         "Example: goose import < examples/two_frames.pcap",
@@ -322,12 +357,38 @@ fn task_of(alloc: Global, name: &str, matches: &ArgMatches<'_>) -> Option<Result
     }
 }
 
-// The task of the subcommand that the words named.
-fn task_met(alloc: Global, matches: &ArgMatches<'_>) -> Option<Result<Task, WordsError>>
-    ensures { MayAnswer (option_and_then task_asked (subcommand_rows_of matches.now)) result }
+// The request of a task, where there is one.
+fn with_these(answer: Result<Task, WordsError>, options: Options) -> Result<Request, WordsError>
+    ensures answered { (asked : Asked) → AnswersTask asked answer → AnswersRequest asked options result }
+    ensures refused { (i : ℕ) → AnswersBadBlock i answer → RefusesBlock i result }
+{
+    match answer {
+        Ok(task) => Ok(Request { task, options }),
+        Err(error) => Err(error),
+    }
+}
+
+// The request of a subcommand's name and its matches.
+fn request_of(
+    alloc: Global,
+    name: &str,
+    matches: &ArgMatches<'_>,
+) -> Option<Result<Request, WordsError>>
+    ensures { MayGrant (request_asked (name.now, rows_of (found_of matches.now))) result }
+{
+    let options = options_met(matches);
+    match task_of(alloc, name, matches) {
+        Some(answer) => Some(with_these(answer, options)),
+        None => None,
+    }
+}
+
+// The request of the subcommand that the words named.
+fn request_met(alloc: Global, matches: &ArgMatches<'_>) -> Option<Result<Request, WordsError>>
+    ensures { MayGrant (option_and_then request_asked (subcommand_rows_of matches.now)) result }
 {
     match matches.subcommand() {
-        Some((name, inner)) => task_of(alloc, name, inner),
+        Some((name, inner)) => request_of(alloc, name, inner),
         None => None,
     }
 }
@@ -340,6 +401,26 @@ fn refusal(error: clap::Error) -> WordsError
     match error.kind() {
         ErrorKind::OutOfMemory => WordsError::Memory,
         _ => WordsError::Words(error),
+    }
+}
+
+// The request that the words make where the options are offered or not.
+fn read_by<'a>(alloc: Global, words: &'a [&'a str], offers: bool) -> Result<Request, WordsError>
+    ensures wish { IfOk result (λ r. wish_by offers (texts words.now) ≡ Some (Ok (asked_by r.task, r.options))) }
+    ensures faultless { IfOk result (λ r. faults_by offers (texts words.now) ≡ []) }
+    ensures taken { takes (line_of offers) (texts words.now) ≡ true → IfErr result IsNoMistake }
+    ensures refused { IfErr result (MayRefuseBy offers (texts words.now)) }
+{
+    let Ok(command) = command(alloc, offers) else {
+        return Err(WordsError::Memory);
+    };
+    match command.try_get_matches_from(words) {
+        Ok(matches) => match request_met(alloc, &matches) {
+            Some(answer) => answer,
+            // A subcommand is required, and each has its task.
+            None => unreachable!(),
+        },
+        Err(error) => Err(refusal(error)),
     }
 }
 
@@ -359,15 +440,28 @@ pub fn read_words<'a>(alloc: Global, words: &'a [&'a str]) -> Result<Task, Words
     ensures refused { IfErr result (MayRefuse (texts words.now)) }
     ensures bad_block { (i : ℕ) → faults (texts words.now) ≡ [] → task_of_words (texts words.now) ≡ Some (Err i) → AnswersBadBlock i result }
 {
-    let Ok(command) = command(alloc) else {
-        return Err(WordsError::Memory);
-    };
-    match command.try_get_matches_from(words) {
-        Ok(matches) => match task_met(alloc, &matches) {
-            Some(answer) => answer,
-            // A subcommand is required, and each has its task.
-            None => unreachable!(),
-        },
-        Err(error) => Err(refusal(error)),
+    match read_by(alloc, words, false) {
+        Ok(request) => Ok(request.task),
+        Err(error) => Err(error),
     }
+}
+
+/// The task that the words ask for and its options, `--capture` and `--skip-other`, which the commands
+/// `show`, `check`, `blocks`, `replay` and `watch` take. The first word is the program's name.
+///
+/// # Errors
+///
+/// As of [`read_words`]. An option that is given twice is a mistake, and so is one of another command.
+pub fn read_request<'a>(alloc: Global, words: &'a [&'a str]) -> Result<Request, WordsError>
+    ensures found { IfOk result (λ r. is_plain (asked_by r.task) ≡ true → AsksWith (texts words.now) (asked_by r.task) r.options) }
+    ensures only { (asked : Asked) (options : Options) → AsksWith (texts words.now) asked options → AnswersRequest asked options result }
+    ensures period { IfOk result (λ r. HasPeriod (asked_by r.task)) }
+    ensures request { IfOk result (λ r. request_of_words (texts words.now) ≡ Some (Ok (asked_by r.task, r.options))) }
+    ensures faultless { IfOk result (λ r. request_faults (texts words.now) ≡ []) }
+    ensures taken { takes request_line (texts words.now) ≡ true → IfErr result IsNoMistake }
+    ensures refused { IfErr result (MayRefuseRequest (texts words.now)) }
+    ensures alike { AnsweredAlike (texts words.now) }
+    ensures bad_block { (i : ℕ) → request_faults (texts words.now) ≡ [] → request_of_words (texts words.now) ≡ Some (Err i) → RefusesBlock i result }
+{
+    read_by(alloc, words, true)
 }

@@ -1,4 +1,4 @@
-use Rattle.std.proofs.Common.{take, ◌++◌, arith}
+use Rattle.std.proofs.Common.{take, ◌++◌, ◌∙◌, arith}
 use Rattle.std.proofs.lemmas.List.{length-append, length-drop, length-take}
 use Rattle.list_core.proofs.Devices.{Consumes-append, Gives-append}
 use Rattle.list_core.proofs.Readers.{OnlyOpen-append}
@@ -17,6 +17,7 @@ pieces-preserved g c =
         simp length-append (omega (arith, before.1, count, sized)),
         Consumes-append _ _ _ _ _ before.2 filled.0,
         OnlyOpen-append _ _ _ _ _ before.3 filled.1,
+        filled.2 ∙ before.4,
       );
     }
 

@@ -7,7 +7,8 @@ abbrev pub invariant-pieces : goal.invariant-pieces
 invariant-pieces g l = record {
   sized : length l.piece ≡ 4096;
   passed : (given : List ℕ) × (length given + l.left ≡ l.size) × Consumes (g.R.Source.left l.initial.reader) (g.R.Source.left l.reader) given
-      × OnlyOpen (g.R.Source.ending l.initial.reader) given (g.R.Source.ending l.reader);
+      × OnlyOpen (g.R.Source.ending l.initial.reader) given (g.R.Source.ending l.reader)
+      × (g.R.Source.ending l.reader ≡ g.R.Source.ending l.initial.reader);
 }
 
 abbrev pub decreases-pieces : goal.decreases-pieces

@@ -1,0 +1,43 @@
+use Rattle.std.proofs.Common.{◌≡◌, ℕ, ◌<◌, ◌++◌, ◌∙◌, List, [], length, take, Ok, Err, ap, sym, refl, arith}
+use Rattle.std.proofs.lemmas.List.{length-take-le}
+use Rattle.list_core.specs.declared.device.InputEnd.{InputEnd}
+use Rattle.capture_core.specs.Capture.{cut}
+use Rattle.capture_core.specs.computed.Sections.{settled}
+use Rattle.capture_core.proofs.BlocksRead.{next_cut, next_open, next_some, next_told}
+use Rattle.capture_core.proofs.Fronts.{front_behind, front_cut, front_same}
+use Rattle.capture_core.proofs.block.read_block.Goals as goal
+
+pub returns-in-Short : goal.returns-in-Short
+returns-in-Short g c =
+    let f = c.in-Short.ensures in
+    let s = settled c.args.section in
+    let size : length (take c.in-Short.field-0 c.fill.new.into) ≡ c.in-Short.field-0 = length-take-le c.in-Short.field-0 c.fill.new.into (omega (arith, f.0)) in (
+      _,
+      refl,
+      front_cut _ (take c.in-Short.field-0 c.fill.new.into) _ _ _ _ c.args.number _ f.1 f.2 f.3
+          (λ front few. next_open c.args.number s front (omega (arith, few, size, f.0)))
+          (λ y. next_cut y c.args.number s (take c.in-Short.field-0 c.fill.new.into) (omega (arith, size, c.in-Short.field-0-test)) (omega (arith, size, f.0)))
+          (ap (λ (z : InputEnd). cut z c.args.number) (sym c.ending-in-Short.ensures) ∙ c.cut_in.ensures.fault),
+    )
+
+pub returns-in-Ok : goal.returns-in-Ok
+returns-in-Ok g c =
+    let f = c.in-Whole.ensures in
+    let s = settled c.args.section in
+    let r = c.in-Ok.ensures in (
+      r.0,
+      r.1,
+      front_behind _ _ [] c.fill.new.into _ _ _ _ _ _ f.0 f.1 f.2 (λ front few. next_open c.args.number s front (omega (arith, few, c.fill.auto.into)))
+          (front_same _ _ _ c.fill.new.into _ _ _ _ (λ y rest. next_some y c.args.number s c.fill.new.into rest (omega (arith, c.fill.auto.into))) r.2),
+    )
+
+pub returns-in-Err : goal.returns-in-Err
+returns-in-Err g c =
+    let f = c.in-Whole.ensures in
+    let s = settled c.args.section in
+    let r = c.in-Err.ensures in (
+      r.0,
+      next_told g.row.A.Denot c.in-Err.error r.0 r.1,
+      front_behind _ _ [] c.fill.new.into _ _ _ _ _ _ f.0 f.1 f.2 (λ front few. next_open c.args.number s front (omega (arith, few, c.fill.auto.into)))
+          (front_same _ _ _ c.fill.new.into _ _ _ _ (λ y rest. next_some y c.args.number s c.fill.new.into rest (omega (arith, c.fill.auto.into))) r.2),
+    )

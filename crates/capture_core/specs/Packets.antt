@@ -1,0 +1,53 @@
+-- A capture as packets, each with its number, and how they stop.
+use Rattle.std.specs.Prelude.{ℕ, ◌==◌, List, [], ◌∷◌, map, Option, Some, None, if◌then◌else◌}
+use Rattle.list_core.specs.Lines.{Stop, finished, faulty}
+use Rattle.list_core.specs.declared.event.Event.{Event}
+use Rattle.list_core.specs.declared.event.EventKind.{EventKind}
+use Rattle.list_core.specs.declared.event.EventKind.TheVariants.{Frame, Clock}
+use Rattle.capture_core.specs.Capture.{Capture, CaptureRecord}
+use Rattle.capture_core.specs.declared.capture_fault.CaptureFault.{CaptureFault}
+
+-- a packet: the moment at which it was captured, in microseconds since 1970, the type of its link, and the captured octets
+pub record Packet : Type 0 where
+  pub moment : ℕ
+  pub link_type : ℕ
+  pub octets : List ℕ
+
+-- things with their numbers, up to the first fault of a capture, and how they stop
+pub record Numbered (X : Type 0) : Type 0 where
+  pub items : List (ℕ × X)
+  pub stop : Stop CaptureFault
+
+-- nothing before this stop
+abbrev pub stopped : {X : Type 0} → Stop CaptureFault → Numbered X
+stopped s = record { items = []; stop = s }
+
+-- how a capture stops at its end, or by its first fault
+abbrev pub stop_of : Option CaptureFault → Stop CaptureFault
+stop_of None = finished
+stop_of (Some f) = faulty f
+
+-- one thing with its number before the others
+abbrev pub put_numbered : {X : Type 0} → ℕ × X → Numbered X → Numbered X
+put_numbered e l = record { items = e ∷ l.items; stop = l.stop }
+
+-- what happened where such octets were captured on such a link: a frame, if the link is Ethernet, type 1, and there are any; else only time has passed
+abbrev pub kind_of : {A : Type 0} → ℕ → List ℕ → EventKind A
+kind_of link [] = Clock
+kind_of link (x ∷ xs) = if link == 1 then Frame (x ∷ xs) else Clock
+
+-- the event of a packet
+abbrev pub event_of : {A : Type 0} → Packet → Event A
+event_of p = record { moment = p.moment; kind = kind_of p.link_type p.octets }
+
+-- the events of packets, with the packets' numbers
+abbrev pub events_of : {A : Type 0} → Numbered Packet → Numbered (Event A)
+events_of l = record { items = map (λ p. (p.0, event_of p.1)) l.items; stop = l.stop }
+
+-- the packet of a record of the classic form, which is on Ethernet
+abbrev pub packet_of_record : CaptureRecord → Packet
+packet_of_record r = record { moment = r.moment; link_type = 1; octets = r.octets }
+
+-- the packets of the records of the classic form
+abbrev pub packets_of_records : Capture → Numbered Packet
+packets_of_records c = record { items = map (λ r. (r.0, packet_of_record r.1)) c.records; stop = c.stop }

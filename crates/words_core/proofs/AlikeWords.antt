@@ -1,0 +1,379 @@
+-- Words none of which names an option are answered alike where options are offered and where they are not.
+use Rattle.std.proofs.Common.{◌≡◌, ◌&&◌, ◌||◌, ◌∙◌, ℕ, Bool, true, false, true≢false, not, List, [], ◌∷◌, ◌++◌, drop, Option, Some, None, is_some, option_map, option_and_then, unwrap_or, refl, sym, ap, ap₂, subst}
+use Rattle.std.specs.Prelude.{Ok, codes, find, fold, if◌then◌else◌, slice_get}
+use Rattle.std.specs.List.{list_any}
+use Rattle.std.specs.Option.{option_map_or}
+use Rattle.std.specs.Str.{bytes_eq}
+use Rattle.clap.specs.Facts.{explicit_source}
+use Rattle.clap.specs.Words.{Kinds, Row, Rule, Shape, Text, all_of, first_of, one_of}
+use Rattle.clap.specs.Kinds.{check_kinds, or_else}
+use Rattle.clap.specs.Faults.{check_fault, default_fault, defaults_fault, entered_fault, level_fault, settle_fault, walk_fault}
+use Rattle.clap.specs.Simple.{entered, label_of, rows_at}
+use Rattle.clap.specs.Takes.{is_given}
+use Rattle.clap.specs.Walk.{Held, Names, Step, Walk, after_step, answers_to, arg_by_id, arg_by_index, arg_by_long, arg_by_short, finished, has_long, has_row, has_short, next, nothing_held, row_text, rows_after, settled, stop_after, subcommand, to_positional, trailing, used, value, walk, walk_from, walked, walked_from, with_default, word_met}
+use Rattle.clap.specs.declared.parser.matches.ValueSource.TheVariants.{CommandLine}
+use Rattle.words_core.specs.declared.option_words.Options.{Options}
+use Rattle.words_core.specs.CommandLine.{Asked, Meaning, check, import, list_blocks, name_of, number_said, publish, replay_of, rewrite, show, task_asked, watch, watch_asked}
+use Rattle.words_core.specs.RequestLine.{AnsweredAlike, Switch, Wish, capture, is_set, names_option, no_options, options_in, request_asked, skip_other, switch_name, with_these}
+use Rattle.words_core.proofs.AskingWords.{line, names, top}
+use Rattle.words_core.proofs.KeptRows.{no_default}
+use Rattle.words_core.proofs.LoneFlags.{help_flag}
+use Rattle.words_core.proofs.OptionRows.{more_other, row_at, set_other, switch_flag}
+use Rattle.words_core.proofs.PlainWords.{plain_defaults, plain_leaf}
+use Rattle.words_core.proofs.ReplayWords.{block_apart, block_argument, block_default, replay_set, replays}
+use Rattle.words_core.proofs.SameWalks.{IsOther, NoSwitchRow, OtherHeld, OtherRule, Turns, is_switch_name, settled_same, settle_fault_same, settled_held, walk_alike}
+use Rattle.words_core.proofs.WatchRows.{id_option, period_option, watches}
+use Rattle.words_core.proofs.WatchWords.{watch_default, watch_set}
+
+-- ---- the rules of each subcommand, with the options and without
+
+-- the rules of a shape and those with the options find the same for what is no option
+record Offered (s : Shape) (c : List Rule) : Type 0 where
+  long : (name : Text) → IsOther name → arg_by_long c name ≡ arg_by_long s.rules name
+  short : (x : ℕ) → arg_by_short c x ≡ arg_by_short s.rules x
+  index : (i : ℕ) → arg_by_index c i ≡ arg_by_index s.rules i
+  by_id : (id : Text) → IsOther id → arg_by_id c id ≡ arg_by_id s.rules id
+  own : (test : Rule → Bool) → OtherRule (find test s.rules)
+
+no_name : (name : Text) → IsOther name → (bytes_eq (codes "capture") name ≡ false) × (bytes_eq (codes "skip-other") name ≡ false)
+no_name name e = go (bytes_eq (codes "capture") name) (bytes_eq (codes "skip-other") name) e
+  where
+    go : (a b : Bool) → (a || (b || false)) ≡ false → (a ≡ false) × (b ≡ false)
+    go true b f = absurd (true≢false f)
+    go false true f = absurd (true≢false f)
+    go false false f = (refl, refl)
+
+help_own : OtherRule (Some help_flag)
+help_own = (refl, λ o values rows. refl)
+
+plain_offered : (t : Asked) → Offered (plain_leaf false t) (plain_leaf true t).rules
+plain_offered t = record {
+  long = λ name e. let p = no_name name e in rw (p.0, p.1) refl;
+  short = λ x. refl;
+  index = λ i. refl;
+  by_id = λ id e. let p = no_name id e in rw (p.0, p.1) refl;
+  own = λ test. go (test help_flag);
+}
+  where
+    go : (a : Bool) → OtherRule (if a then Some help_flag else None)
+    go true = help_own
+    go false = tt
+
+-- a subcommand that takes no options
+plain_same : (t : Asked) → Offered (plain_leaf false t) (plain_leaf false t).rules
+plain_same t = record { long = λ name e. refl; short = λ x. refl; index = λ i. refl; by_id = λ id e. refl; own = (plain_offered t).own }
+
+block_own : OtherRule (Some block_argument)
+block_own = (refl, λ o values rows. more_other (codes "BLOCK") (switch_name o) (block_apart o) _ CommandLine _ rows)
+
+replay_offered : Offered (replays false) (replays true).rules
+replay_offered = record {
+  long = λ name e. let p = no_name name e in rw (p.0, p.1) refl;
+  short = λ x. refl;
+  index = λ i. refl;
+  by_id = λ id e. let p = no_name id e in rw (p.0, p.1) refl;
+  own = λ test. go (test block_argument) (test help_flag);
+}
+  where
+    go : (a b : Bool) → OtherRule (if a then Some block_argument else (if b then Some help_flag else None))
+    go true b = block_own
+    go false true = help_own
+    go false false = tt
+
+period_own : OtherRule (Some period_option)
+period_own = (refl, λ o values rows. set_other (codes "period") (switch_name o) (apart o) _ CommandLine _ rows)
+  where
+    apart : (o : Switch) → bytes_eq (codes "period") (switch_name o) ≡ false
+    apart capture = refl
+    apart skip_other = refl
+
+id_own : OtherRule (Some id_option)
+id_own = (refl, λ o values rows. set_other (codes "id") (switch_name o) (apart o) _ CommandLine _ rows)
+  where
+    apart : (o : Switch) → bytes_eq (codes "id") (switch_name o) ≡ false
+    apart capture = refl
+    apart skip_other = refl
+
+watch_offered : Offered (watches false) (watches true).rules
+watch_offered = record {
+  long = λ name e. let p = no_name name e in rw (p.0, p.1) refl;
+  short = λ x. refl;
+  index = λ i. refl;
+  by_id = λ id e. let p = no_name id e in rw (p.0, p.1) refl;
+  own = λ test. go (test period_option) (test id_option) (test help_flag);
+}
+  where
+    go : (a b c : Bool) → OtherRule (if a then Some period_option else (if b then Some id_option else (if c then Some help_flag else None)))
+    go true b c = period_own
+    go false true c = id_own
+    go false false true = help_own
+    go false false false = tt
+
+-- ---- one level of the parse
+
+abbrev NameNone : List Text → Type 0
+NameNone words = list_any names_option words ≡ false
+
+-- the defaults of these rules pass
+abbrev DefaultsPass : List Rule → Type 0
+DefaultsPass c = (rows : List Row) → defaults_fault rows c ≡ []
+
+no_fault : (a : Rule) (rows : List Row) → a.defaults ≡ [] → default_fault rows a ≡ []
+no_fault a rows e = go (has_row a.id rows) refl
+  where
+    go : (b : Bool) → has_row a.id rows ≡ b → default_fault rows a ≡ []
+    go true h = rw h refl
+    go false h = rw (h, e) refl
+
+switch_fault : (o : Switch) (rows : List Row) → default_fault rows (switch_flag o) ≡ []
+switch_fault o rows = go (has_row (switch_name o) rows) refl
+  where
+    go : (b : Bool) → has_row (switch_name o) rows ≡ b → default_fault rows (switch_flag o) ≡ []
+    go true h = rw h refl
+    go false h = rw h refl
+
+record Level (s : Shape) (c : List Rule) (words : List Text) : Type 0 where
+  rows : List Row
+  none : NoSwitchRow rows
+  with_options : rows_after c [] words ≡ fold with_default rows c
+  without : rows_after s.rules [] words ≡ fold with_default rows s.rules
+  fault : level_fault (record s { rules = c }) [] nothing_held words false [] ≡ level_fault s [] nothing_held words false []
+
+level_alike : (s : Shape) (c : List Rule) → Offered s c → DefaultsPass c → DefaultsPass s.rules
+    → ((rows : List Row) → check_fault (record s { rules = c }) (fold with_default rows c) false ≡ check_fault s (fold with_default rows s.rules) false) → (words : List Text) → NameNone words → Level s c words
+level_alike s c k pass pass_without last words n =
+    let start : OtherHeld nothing_held = record { rows = λ o. refl; pending = tt } in
+    let w = walk_alike s c k.long k.short k.index k.by_id k.own words (walk_from nothing_held) n (record { held = start; waiting = tt; stopped = refl }) in
+    let end = (walk s.rules [] nothing_held words).held in
+    let o = w.other.held in
+    let settle = settled_same s c k.long k.short k.index k.by_id k.own end o in
+    let same : (walk c [] nothing_held words).held ≡ end = ap (λ (x : Walk). x.held) w.met in
+    let all = ap (settled c) same ∙ settle in
+    let rows = (settled s.rules end).rows in
+    record {
+      rows = rows;
+      none = (settled_held s c k.long k.short k.index k.by_id k.own end o).rows;
+      with_options = ap (λ (h : Held). fold with_default h.rows c) all;
+      without = refl;
+      fault = ap₂ or_else w.fault
+          (ap₂ or_else (ap (settle_fault c s.args_override_self) same ∙ settle_fault_same s c k.long k.short k.index k.by_id k.own end o)
+          (ap₂ or_else (pass (settled c (walk c [] nothing_held words).held).rows ∙ sym (pass_without rows))
+          (ap (λ (h : Held). check_fault (record s { rules = c }) (fold with_default h.rows c) false) all ∙ last rows)));
+    }
+
+-- ---- the subcommands
+
+-- the subcommand with the options and the one without
+record SameSub (x y : Shape) : Type 0 where
+  label : label_of x ≡ label_of y
+  fault : (words : List Text) → NameNone words → level_fault x [] nothing_held words false [] ≡ level_fault y [] nothing_held words false []
+  wish : (words : List Text) → NameNone words → request_asked (rows_at x words) ≡ option_map (with_these no_options) (task_asked (rows_at y words))
+
+-- where no option is set
+none_set : (rows : List Row) → ((o : Switch) → is_set (switch_name o) rows ≡ false) → options_in rows ≡ no_options
+none_set rows off = ap₂ (λ (a b : Bool). record { is_capture = a; skips_other = b }) (off capture) (off skip_other)
+
+no_row_set : (o : Switch) (rows : List Row) → NoSwitchRow rows → is_set (switch_name o) rows ≡ false
+no_row_set o rows none = let at = none o in rw at refl
+
+-- the options and the flag for help
+switches_pass : DefaultsPass (switch_flag capture ∷ switch_flag skip_other ∷ help_flag ∷ [])
+unfolding defaults_fault
+switches_pass rows =
+    ap₂ or_else (switch_fault capture rows)
+    (ap₂ or_else (switch_fault skip_other (with_default rows (switch_flag capture))) (ap₂ or_else (no_fault help_flag (with_default (with_default rows (switch_flag capture)) (switch_flag skip_other)) refl) refl))
+
+plain_pass : (offers : Bool) (t : Asked) → DefaultsPass (plain_leaf offers t).rules
+unfolding defaults_fault
+plain_pass true t rows = switches_pass rows
+plain_pass false t rows = ap₂ or_else (no_fault help_flag rows refl) refl
+
+plain_wish : (t : Asked) (rows other : List Row) → ((r : List Row) → task_asked (name_of t, r) ≡ Some (Ok t)) → ((o : Switch) → is_set (switch_name o) rows ≡ false)
+    → request_asked (name_of t, rows) ≡ option_map (with_these no_options) (task_asked (name_of t, other))
+plain_wish t rows other asks off =
+    ap (option_map (with_these (options_in rows))) (asks rows) ∙ ap (λ (o : Options). Some (Ok (t, o))) (none_set rows off) ∙ sym (ap (option_map (with_these no_options)) (asks other))
+
+plain_sub : (t : Asked) → ((r : List Row) → task_asked (name_of t, r) ≡ Some (Ok t)) → SameSub (plain_leaf true t) (plain_leaf false t)
+plain_sub t asks = record {
+  label = refl;
+  fault = λ words n. (level words n).fault;
+  wish = λ words n. plain_wish t (rows_after (plain_leaf true t).rules [] words) (rows_after (plain_leaf false t).rules [] words) asks
+      (λ o. ap (is_set (switch_name o)) (level words n).with_options ∙ plain_defaults t o (level words n).rows ∙ no_row_set o (level words n).rows (level words n).none);
+}
+  where
+    level : (words : List Text) → NameNone words → Level (plain_leaf false t) (plain_leaf true t).rules words
+    level words n = level_alike (plain_leaf false t) (plain_leaf true t).rules (plain_offered t) (plain_pass true t) (plain_pass false t) (λ rows. refl) words n
+
+lone_sub : (t : Asked) → ((r : List Row) → task_asked (name_of t, r) ≡ Some (Ok t)) → SameSub (plain_leaf false t) (plain_leaf false t)
+lone_sub t asks = record {
+  label = refl;
+  fault = λ words n. refl;
+  wish = λ words n. plain_wish t (rows_after (plain_leaf false t).rules [] words) (rows_after (plain_leaf false t).rules [] words) asks
+      (λ o. ap (is_set (switch_name o)) ((level words n).with_options ∙ no_default help_flag (level words n).rows refl) ∙ no_row_set o (level words n).rows (level words n).none);
+}
+  where
+    level : (words : List Text) → NameNone words → Level (plain_leaf false t) (plain_leaf false t).rules words
+    level words n = level_alike (plain_leaf false t) (plain_leaf false t).rules (plain_same t) (plain_pass false t) (plain_pass false t) (λ rows. refl) words n
+
+-- a row, whether it was given
+abbrev given_by : Option Row → Bool
+given_by r = option_map_or (λ x. explicit_source x.source) r false
+
+replay_pass : (offers : Bool) → DefaultsPass (replays offers).rules
+unfolding defaults_fault
+replay_pass true rows = ap₂ or_else (no_fault block_argument rows refl) (switches_pass (with_default rows block_argument))
+replay_pass false rows = ap₂ or_else (no_fault block_argument rows refl) (ap₂ or_else (no_fault help_flag (with_default rows block_argument) refl) refl)
+
+block_rows_same : (rows : List Row) → row_at (codes "BLOCK") (fold with_default rows (replays true).rules) ≡ row_at (codes "BLOCK") (fold with_default rows (replays false).rules)
+block_rows_same rows = block_default true rows ∙ sym (block_default false rows)
+
+replay_sub : SameSub (replays true) (replays false)
+replay_sub = record {
+  label = refl;
+  fault = λ words n. (level words n).fault;
+  wish = λ words n. wish words (level words n);
+}
+  where
+    level : (words : List Text) → NameNone words → Level (replays false) (replays true).rules words
+    level words n = level_alike (replays false) (replays true).rules replay_offered (replay_pass true) (replay_pass false)
+        (λ rows. ap (λ (r : Option Row). check_kinds false false (not (given_by r) || false)) (block_rows_same rows)) words n
+
+    wish : (words : List Text) → Level (replays false) (replays true).rules words
+        → request_asked (codes "replay", rows_after (replays true).rules [] words) ≡ option_map (with_these no_options) (task_asked (codes "replay", rows_after (replays false).rules [] words))
+    wish words l =
+        ap (λ (r : List Row). option_map (with_these (options_in r)) (option_map replay_of (all_of (codes "BLOCK") r))) l.with_options
+        ∙ ap₂ (λ (o : Options) (r : Option Row). option_map (with_these o) (option_map replay_of (option_map (λ x. x.values) r)))
+        (none_set (fold with_default l.rows (replays true).rules) (λ o. replay_set true o l.rows ∙ no_row_set o l.rows l.none)) (block_rows_same l.rows)
+        ∙ sym (ap (λ (r : List Row). option_map (with_these no_options) (option_map replay_of (all_of (codes "BLOCK") r))) l.without)
+
+watch_pass : (offers : Bool) → DefaultsPass (watches offers).rules
+unfolding defaults_fault
+watch_pass true rows =
+    ap₂ or_else (no_fault period_option rows refl)
+    (ap₂ or_else (no_fault id_option (with_default rows period_option) refl) (switches_pass (with_default (with_default rows period_option) id_option)))
+watch_pass false rows =
+    ap₂ or_else (no_fault period_option rows refl)
+    (ap₂ or_else (no_fault id_option (with_default rows period_option) refl) (ap₂ or_else (no_fault help_flag (with_default (with_default rows period_option) id_option) refl) refl))
+
+period_past : (o : Switch) → bytes_eq (switch_name o) (codes "period") ≡ false
+period_past capture = refl
+period_past skip_other = refl
+
+id_past : (o : Switch) → bytes_eq (switch_name o) (codes "id") ≡ false
+id_past capture = refl
+id_past skip_other = refl
+
+watch_rows_same : (id : Text) → ((o : Switch) → bytes_eq (switch_name o) id ≡ false) → (rows : List Row)
+    → row_at id (fold with_default rows (watches true).rules) ≡ row_at id (fold with_default rows (watches false).rules)
+watch_rows_same id past rows = watch_default true id past rows ∙ sym (watch_default false id past rows)
+
+-- the watch that two rows say
+abbrev watch_by : Option Row → Option Row → Option Meaning
+watch_by p i = option_and_then (λ period. option_map (λ id. Ok (watch period id)) (option_and_then (λ r. slice_get r.values 0) i)) (option_and_then number_said (option_and_then row_text p))
+
+watch_sub : SameSub (watches true) (watches false)
+watch_sub = record {
+  label = refl;
+  fault = λ words n. (level words n).fault;
+  wish = λ words n. wish words (level words n);
+}
+  where
+    level : (words : List Text) → NameNone words → Level (watches false) (watches true).rules words
+    level words n = level_alike (watches false) (watches true).rules watch_offered (watch_pass true) (watch_pass false)
+        (λ rows. ap₂ (λ (p i : Option Row). check_kinds false false (not (given_by p) || (not (given_by i) || false))) (watch_rows_same (codes "period") period_past rows) (watch_rows_same (codes "id") id_past rows)) words n
+
+    wish : (words : List Text) → Level (watches false) (watches true).rules words
+        → request_asked (codes "watch", rows_after (watches true).rules [] words) ≡ option_map (with_these no_options) (task_asked (codes "watch", rows_after (watches false).rules [] words))
+    wish words l =
+        let last = fold with_default l.rows (watches true).rules in
+        let none = none_set last (λ o. watch_set true o l.rows ∙ no_row_set o l.rows l.none) in
+        ap (λ (r : List Row). option_map (with_these (options_in r)) (watch_asked r)) l.with_options
+        ∙ ap (λ (o : Options). option_map (with_these o) (watch_asked last)) none
+        ∙ ap₂ (λ (p i : Option Row). option_map (with_these no_options) (watch_by p i)) (watch_rows_same (codes "period") period_past l.rows) (watch_rows_same (codes "id") id_past l.rows)
+        ∙ sym (ap (λ (r : List Row). option_map (with_these no_options) (watch_asked r)) l.without)
+
+abbrev SameSubs : List Shape → List Shape → Type 0
+SameSubs [] [] = Unit {0}
+SameSubs (x ∷ xs) (y ∷ ys) = SameSub x y × SameSubs xs ys
+SameSubs _ _ = ⊥
+
+all_same : SameSubs (line true).subs (line false).subs
+all_same = (
+  plain_sub show (λ r. refl),
+  (
+    plain_sub check (λ r. refl),
+    (lone_sub rewrite (λ r. refl), (plain_sub list_blocks (λ r. refl), (replay_sub, (lone_sub publish (λ r. refl), (watch_sub, (lone_sub import (λ r. refl), tt)))))),
+  ),
+)
+
+-- what is found of a subcommand's name
+record SameFound (x y : Option Shape) (words : List Text) : Type 0 where
+  there : is_some (option_map (λ s. rows_at s words) x) ≡ is_some (option_map (λ s. rows_at s words) y)
+  fault : option_map_or (λ s. level_fault s [] nothing_held words false []) x [] ≡ option_map_or (λ s. level_fault s [] nothing_held words false []) y []
+  wish : option_and_then request_asked (option_map (λ s. rows_at s words) x) ≡ option_map (with_these no_options) (option_and_then task_asked (option_map (λ s. rows_at s words) y))
+
+found_same : (xs ys : List Shape) → SameSubs xs ys → (name : Text) (words : List Text) → NameNone words
+    → SameFound (find (λ s. answers_to name (label_of s)) xs) (find (λ s. answers_to name (label_of s)) ys) words
+found_same [] [] k name words n = record { there = refl; fault = refl; wish = refl }
+found_same [] (y ∷ ys) k name words n = absurd k
+found_same (x ∷ xs) [] k name words n = absurd k
+found_same (x ∷ xs) (y ∷ ys) k name words n =
+    subst (λ (l : Text × List Text). SameFound (if answers_to name l then Some x else find (λ s. answers_to name (label_of s)) xs) (find (λ s. answers_to name (label_of s)) (y ∷ ys)) words) (sym k.0.label)
+    (go (answers_to name (label_of y)) refl (found_same xs ys k.1 name words n))
+  where
+    go : (b : Bool) → answers_to name (label_of y) ≡ b → SameFound (find (λ s. answers_to name (label_of s)) xs) (find (λ s. answers_to name (label_of s)) ys) words
+        → SameFound (if b then Some x else find (λ s. answers_to name (label_of s)) xs) (if b then Some y else find (λ s. answers_to name (label_of s)) ys) words
+    go true t later = record { there = refl; fault = k.0.fault words n; wish = k.0.wish words n }
+    go false t later = later
+
+-- ---- the words behind a subcommand's name
+
+abbrev StopsClear : Option (Text × List Text) → Type 0
+StopsClear o = option_map_or (λ p. list_any names_option p.1) o false ≡ false
+
+any_append : (words : List Text) (word : Text) → NameNone words → names_option word ≡ false → NameNone (words ++ word ∷ [])
+any_append [] word n e = rw e refl
+any_append (x ∷ words) word n e = go (names_option x) n (λ f. any_append words word f e)
+  where
+    go : (b : Bool) → (b || list_any names_option words) ≡ false → (NameNone words → NameNone (words ++ word ∷ [])) → (b || list_any names_option (words ++ word ∷ [])) ≡ false
+    go true f later = absurd (true≢false f)
+    go false f later = later f
+
+to_clear : (x : Option Rule) (word : Text) (w : Walk) (h : Held) → w.stopped ≡ None → StopsClear (to_positional top.rules x word w h).stopped
+to_clear None word w h e = rw e refl
+to_clear (Some a) word w h e = refl
+
+step_clear : (word : Text) (w : Walk) (h : Held) (x : Step) → w.stopped ≡ None → StopsClear (after_step top.rules word w h x).stopped
+step_clear word w h (next waiting) e = rw e refl
+step_clear word w h (trailing position) e = rw e refl
+step_clear word w h (subcommand name) e = refl
+step_clear word w h value e = to_clear (arg_by_index top.rules w.position) word w h e
+
+turn_clear : (o : Option (Text × List Text)) (w : Walk) (word : Text) → w.stopped ≡ o → StopsClear o → names_option word ≡ false → StopsClear (walked_from top.rules names o w word).stopped
+turn_clear None w word e k n =
+    let met = word_met top.rules names w.is_trailing w.waiting w.position word w.held in step_clear word w met.0 met.1 e
+turn_clear (Some p) w word e k n = any_append p.1 word k n
+
+walk_clear : (words : List Text) (w : Walk) → NameNone words → StopsClear w.stopped → StopsClear (fold (walked top.rules names) w words).stopped
+unfolding walked
+walk_clear [] w n k = k
+walk_clear (word ∷ words) w n k = go (names_option word) refl n (walk_clear words (walked top.rules names w word))
+  where
+    go : (b : Bool) → names_option word ≡ b → (b || list_any names_option words) ≡ false
+        → (NameNone words → StopsClear (walked top.rules names w word).stopped → StopsClear (fold (walked top.rules names) (walked top.rules names w word) words).stopped)
+        → StopsClear (fold (walked top.rules names) (walked top.rules names w word) words).stopped
+    go true t f later = absurd (true≢false f)
+    go false t f later = later f (turn_clear w.stopped w word refl k t)
+
+-- ---- the whole line
+
+pub answered_alike : (words : List Text) → AnsweredAlike words
+answered_alike words n = go (stop_after top.rules names (drop 1 words)) (walk_clear (drop 1 words) (walk_from nothing_held) n refl)
+  where
+    go : (o : Option (Text × List Text)) → StopsClear o
+        → (level_fault top names nothing_held (drop 1 words) (is_some (entered (line true) o)) (entered_fault (line true) o) ≡ level_fault top names nothing_held (drop 1 words) (is_some (entered (line false) o)) (entered_fault (line false) o))
+        × (option_and_then request_asked (entered (line true) o) ≡ option_map (with_these no_options) (option_and_then task_asked (entered (line false) o)))
+    go None k = (refl, refl)
+    go (Some p) k =
+        let f = found_same (line true).subs (line false).subs all_same p.0 p.1 k in
+        (ap₂ (λ (b : Bool) (x : Kinds). level_fault top names nothing_held (drop 1 words) b x) f.there f.fault, f.wish)

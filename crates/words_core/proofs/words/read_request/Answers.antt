@@ -1,0 +1,34 @@
+use Rattle.std.proofs.Common.{◌≡◌, ◌∙◌, ◌≤◌, Some, true, sym, ap, rules, length, arith}
+use Rattle.std.specs.Borrow.{Bor}
+use Rattle.std.proofs.lemmas.List.{length-map}
+use Rattle.clap.specs.Lexer.{usize_max}
+use Rattle.clap.specs.Words.{Text}
+use Rattle.clap.specs.Walk.{texts}
+use Rattle.words_core.proofs.WordLemmas.{answered_period, answered_plainly, request_granted, request_refused, block_refused}
+use Rattle.words_core.proofs.AskingWords.{words_ask_with}
+use Rattle.words_core.proofs.AlikeWords.{answered_alike}
+use Rattle.words_core.proofs.AskedWords.{asked_with}
+use Rattle.words_core.proofs.words.read_request.Goals as goal
+
+pub returns-clause-found : goal.returns-clause-found
+returns-clause-found c = answered_plainly (texts c.args.words.now) c.read_by.result c.read_by.ensures.faultless c.read_by.ensures.wish (words_ask_with (texts c.args.words.now))
+
+pub returns-clause-only : goal.returns-clause-only
+returns-clause-only c = λ wish options asks.
+    let words = texts c.args.words.now in
+    let count : length c.args.words.now ≤ usize_max = search rules in
+    let fits : length words ≤ usize_max = omega (arith, count, length-map c.args.words.now (λ (w : Bor Text). w.now)) in
+    let taken = asked_with words wish options fits asks in
+    request_granted true words wish options c.read_by.result c.read_by.ensures.wish c.read_by.ensures.refused (c.read_by.ensures.taken taken.1) taken.0
+
+pub returns-clause-period : goal.returns-clause-period
+returns-clause-period c = answered_period true (texts c.args.words.now) c.read_by.result c.read_by.ensures.faultless c.read_by.ensures.wish
+
+pub returns-clause-refused : goal.returns-clause-refused
+returns-clause-refused c = request_refused (texts c.args.words.now) c.read_by.result c.read_by.ensures.refused
+
+pub returns-clause-bad_block : goal.returns-clause-bad_block
+returns-clause-bad_block c = λ i faultless bad. block_refused true (texts c.args.words.now) i c.read_by.result c.read_by.ensures.wish c.read_by.ensures.refused faultless bad
+
+pub returns-clause-alike : goal.returns-clause-alike
+returns-clause-alike c = answered_alike (texts c.args.words.now)

@@ -1,0 +1,165 @@
+-- The command line with options: the task and the options of its words, and why words may be refused.
+use Rattle.std.specs.Prelude.{◌≡◌, ◌⊎◌, ℕ, true, false, not, Bool, List, [], ◌∷◌, ◌++◌, map, fold, filter, length, drop, Option, Some, None, Result, Ok, Err, MatchResult, option_and_then, option_map, codes, if◌then◌else◌}
+use Rattle.std.specs.Global.{Global}
+use Rattle.std.specs.List.{list_all, list_any}
+use Rattle.std.specs.Option.{option_map_or}
+use Rattle.std.specs.Str.{bytes_eq}
+use Rattle.clap.specs.Lexer.{long_of}
+use Rattle.clap.specs.Words.{App, IsAmong, Kinds, Row, Rule, Shape, Text, fault_of, kind_of, new_rule, one_of, subcommand_of, with_subcommand}
+use Rattle.clap.specs.declared.builder.action.ArgAction.TheVariants.{SetTrue}
+use Rattle.block_core.specs.declared.block.Block.{Block}
+use Rattle.words_core.specs.declared.option_words.Options.{Options}
+use Rattle.words_core.specs.declared.words.Request.{Request}
+use Rattle.words_core.specs.declared.words.WordsError.{WordsError}
+use Rattle.words_core.specs.declared.words.WordsError.TheVariants as refused
+use Rattle.words_core.specs.CommandLine.{Asked, AsksReplay, AsksWatch, IsBlockError, Meaning, asked_by, bare_program, check, faults, import, list_blocks, name_of, plain, publish, replay, replay_shape, rewrite, show, task_asked, task_of_words, watch, watch_shape}
+
+-- the options, which are given or not; a further one is one more constructor, name and line below
+pub data Switch : Type 0 where
+  capture : Switch
+  skip_other : Switch
+
+abbrev pub switches : List Switch
+switches = capture ∷ skip_other ∷ []
+
+-- the name of an option
+abbrev pub switch_name : Switch → Text
+switch_name capture = codes "capture"
+switch_name skip_other = codes "skip-other"
+
+-- the option is given
+abbrev pub is_on : Options → Switch → Bool
+is_on options capture = options.is_capture
+is_on options skip_other = options.skips_other
+
+-- the word that gives an option
+abbrev pub switch_word : Switch → Text
+switch_word s = codes "--" ++ switch_name s
+
+-- an option without a value, by this name
+abbrev pub option_named : Text → Rule
+option_named name = record (new_rule name) { long = Some name; action = Some SetTrue }
+
+-- a subcommand that takes the options beside words of its own
+abbrev pub with_switches : Shape → Shape
+with_switches s = record s { rules = s.rules ++ map (λ o. option_named (switch_name o)) switches }
+
+-- the subcommand of this task takes the options
+abbrev pub takes_options : Asked → Bool
+takes_options rewrite = false
+takes_options publish = false
+takes_options import = false
+takes_options _ = true
+
+-- the program with its subcommands, of which those that read events take the options
+abbrev pub request_line : App
+request_line = fold with_subcommand bare_program (
+    with_switches (plain show).shape ∷ with_switches (plain check).shape ∷ (plain rewrite).shape ∷ with_switches (plain list_blocks).shape
+    ∷ with_switches replay_shape ∷ (plain publish).shape ∷ with_switches watch_shape ∷ (plain import).shape ∷ [])
+
+-- an option of this name is given by the matches of a subcommand
+abbrev pub is_set : Text → List Row → Bool
+is_set name rows = option_map_or (bytes_eq (codes "true")) (one_of name rows) false
+
+-- the options that the matches of a subcommand give
+abbrev pub options_in : List Row → Options
+options_in rows = record { is_capture = is_set (switch_name capture) rows; skips_other = is_set (switch_name skip_other) rows }
+
+-- what the matches of a subcommand ask for: a task with options, or none because of the text at this position
+abbrev pub Wish : Type 0
+Wish = Result (Asked × Options) ℕ
+
+abbrev pub with_these : Options → Meaning → Wish
+with_these options (Ok t) = Ok (t, options)
+with_these options (Err i) = Err i
+
+-- what the subcommand that was met asks for, from its name and its matches
+abbrev pub request_asked : Text × List Row → Option Wish
+request_asked met = option_map (with_these (options_in met.1)) (task_asked met)
+
+-- what the subcommand that the words name asks for; the first word is the program's name
+abbrev pub request_of_words : List Text → Option Wish
+request_of_words words = option_and_then request_asked (subcommand_of request_line words)
+
+-- what may be wrong with the words, or asked for in place of a task: the kinds of error of the
+-- first step that fails; empty where no step fails
+abbrev pub request_faults : List Text → Kinds
+request_faults = fault_of request_line
+
+-- the word gives an option
+abbrev pub is_option : Text → Bool
+is_option word = list_any (λ o. bytes_eq word (switch_word o)) switches
+
+-- no option is given
+abbrev pub no_options : Options
+no_options = record { is_capture = false; skips_other = false }
+
+-- the word names an option, alone or with a value behind `=`
+abbrev pub names_option : Text → Bool
+names_option word = option_map_or (λ p. list_any (λ o. bytes_eq (switch_name o) p.0) switches) (long_of word) false
+
+-- how often a word stands among words
+abbrev pub times : Text → List Text → ℕ
+times word words = length (filter (λ w. bytes_eq w word) words)
+
+-- each option that is given has its word once among these, and each other has none
+abbrev pub Give : List Text → Options → Type 0
+Give words options = (o : Switch) → times (switch_word o) words ≡ (if is_on options o then 1 else 0)
+
+-- the program's name, the task's name, the words of the options in any order, where its subcommand takes them, and
+-- then nothing, or the mark behind which no option follows
+pub record AsksByNameWith (words : List Text) (t : Asked) (options : Options) : Type 0 where
+  pub called : Text
+  pub given : List Text
+  pub mark : List Text
+  pub behind : words ≡ called ∷ name_of t ∷ (given ++ mark)
+  pub are_options : list_all is_option given ≡ true
+  pub give : Give given options
+  pub taken : takes_options t ≡ false → given ≡ []
+  pub end : (mark ≡ []) ⊎ (mark ≡ codes "--" ∷ [])
+
+-- the program's name, `replay`, and words that give the options and, these left out, ask for a replay
+pub record AsksReplayWith (words : List Text) (blocks : List (Block Global)) (options : Options) : Type 0 where
+  pub called : Text
+  pub arguments : List Text
+  pub behind : words ≡ called ∷ codes "replay" ∷ arguments
+  pub give : Give arguments options
+  pub asks : AsksReplay (called ∷ codes "replay" ∷ filter (λ word. not (is_option word)) arguments) blocks
+
+-- words that ask for a watch, and the words of the options before, between and behind its own two
+pub record AsksWatchWith (words : List Text) (period : ℕ) (id : Text) (options : Options) : Type 0 where
+  pub alone : List Text
+  pub asks : AsksWatch alone period id
+  pub before : List Text
+  pub between : List Text
+  pub after : List Text
+  pub behind : words ≡ asks.called ∷ codes "watch" ∷ (before ++ (asks.first ++ (between ++ (asks.second ++ after))))
+  pub are_options : list_all is_option (before ++ (between ++ after)) ≡ true
+  pub give : Give (before ++ (between ++ after)) options
+
+-- the words ask for this task with these options
+abbrev pub AsksWith : List Text → Asked → Options → Type 0
+AsksWith words (replay blocks) options = AsksReplayWith words blocks options
+AsksWith words (watch period id) options = AsksWatchWith words period id options
+AsksWith words t options = AsksByNameWith words t options
+
+-- words none of which names an option, the program's name aside, are the same with the options offered as without: they have
+-- the same faults, and ask for the same with no options
+abbrev pub AnsweredAlike : List Text → Type 0
+AnsweredAlike words = list_any names_option (drop 1 words) ≡ false
+    → (request_faults words ≡ faults words) × (request_of_words words ≡ option_map (with_these no_options) (task_of_words words))
+
+-- the words may be refused so: by one of their faults, by the first text that says no control block
+-- where they have no fault, or because memory was refused
+abbrev pub MayRefuseRequest : List Text → WordsError → Type 0
+MayRefuseRequest words (refused.Words error) = IsAmong (kind_of error) (request_faults words)
+MayRefuseRequest words (refused.Block i) = (request_faults words ≡ []) × (request_of_words words ≡ Some (Err i))
+MayRefuseRequest words refused.Memory = Unit {0}
+
+-- this task with these options is answered, refused memory aside
+abbrev pub AnswersRequest : Asked → Options → Result Request WordsError → Type 0
+AnswersRequest asked options answer = MatchResult answer (λ r. (asked_by r.task ≡ asked) × (r.options ≡ options)) (λ error. error ≡ refused.Memory)
+
+-- no task is answered: the words are refused by the text of a control block at this position, refused memory aside
+abbrev pub RefusesBlock : ℕ → Result Request WordsError → Type 0
+RefusesBlock i answer = MatchResult answer (λ r. ⊥) (IsBlockError i)

@@ -1,0 +1,61 @@
+-- The command line with the options offered or not, of which both public calls are cases.
+use Rattle.std.specs.Prelude.{◌≡◌, ℕ, Bool, true, false, not, List, [], ◌∷◌, ◌++◌, map, fold, Option, Some, None, Result, Ok, Err, option_and_then}
+use Rattle.clap.specs.Words.{App, IsAmong, Kinds, Row, Rule, Shape, Text, fault_of, kind_of, subcommand_of, with_subcommand}
+use Rattle.clap.specs.declared.builder.command.Command.{Command}
+use Rattle.clap.specs.declared.builder.command.Command.TheViews.{out-Command}
+use Rattle.words_core.specs.declared.words.Request.{Request}
+use Rattle.words_core.specs.declared.words.WordsError.{WordsError}
+use Rattle.words_core.specs.declared.words.WordsError.TheVariants as refused
+use Rattle.words_core.specs.CommandLine.{Meaning, bare_program, check, import, list_blocks, plain, publish, replay_shape, rewrite, show, task_asked, watch_shape}
+use Rattle.words_core.specs.RequestLine.{AnswersRequest, RefusesBlock, Wish, option_named, request_asked, switch_name, switches}
+
+-- the options' rules, where they are offered
+abbrev pub offered_rules : Bool → List Rule
+offered_rules true = map (λ o. option_named (switch_name o)) switches
+offered_rules false = []
+
+abbrev pub offered : Bool → Shape → Shape
+offered offers s = record s { rules = s.rules ++ offered_rules offers }
+
+abbrev pub offering : Bool → App → App
+offering offers a = record a { top = offered offers a.top }
+
+-- no argument of the command is one of its subcommands too
+abbrev pub is_local : Command → Bool
+is_local c = not (out-Command c).has_globals
+
+-- the subcommands that read a list and take no words but the options
+abbrev pub reader_shapes : Bool → List Shape
+reader_shapes offers = offered offers (plain show).shape ∷ offered offers (plain check).shape ∷ (plain rewrite).shape ∷ offered offers (plain list_blocks).shape ∷ []
+
+abbrev pub shapes : Bool → List Shape
+shapes offers = reader_shapes offers ++ (offered offers replay_shape ∷ (plain publish).shape ∷ offered offers watch_shape ∷ (plain import).shape ∷ [])
+
+abbrev pub line_of : Bool → App
+line_of offers = fold with_subcommand bare_program (shapes offers)
+
+abbrev pub faults_by : Bool → List Text → Kinds
+faults_by offers = fault_of (line_of offers)
+
+abbrev pub task_by : Bool → List Text → Option Meaning
+task_by offers words = option_and_then task_asked (subcommand_of (line_of offers) words)
+
+abbrev pub wish_by : Bool → List Text → Option Wish
+wish_by offers words = option_and_then request_asked (subcommand_of (line_of offers) words)
+
+-- the words may be refused so
+abbrev pub MayRefuseBy : Bool → List Text → WordsError → Type 0
+MayRefuseBy offers words (refused.Words error) = IsAmong (kind_of error) (faults_by offers words)
+MayRefuseBy offers words (refused.Block i) = (faults_by offers words ≡ []) × (wish_by offers words ≡ Some (Err i))
+MayRefuseBy offers words refused.Memory = Unit {0}
+
+-- what is wished for is answered, refused memory aside
+abbrev pub AnswersWish : Wish → Result Request WordsError → Type 0
+AnswersWish (Ok wish) answer = AnswersRequest wish.0 wish.1 answer
+AnswersWish (Err i) answer = RefusesBlock i answer
+
+-- the same, where something is wished for
+abbrev pub MayGrant : Option Wish → Option (Result Request WordsError) → Type 0
+MayGrant None None = Unit {0}
+MayGrant (Some wish) (Some answer) = AnswersWish wish answer
+MayGrant _ _ = ⊥
