@@ -6,6 +6,7 @@ pub mod FrameViews
 pub mod Memory
 pub mod GooseFrame
 pub mod FrameFault
+pub mod OtherType
 pub mod Written
 pub mod Laws
 pub mod computed

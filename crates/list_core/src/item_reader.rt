@@ -1,5 +1,5 @@
 //! The items of a list, one at a time, by the rules of its kind.
-ghost use Rattle.std.specs.Prelude.{◌≡◌, []};
+ghost use Rattle.std.specs.Prelude.{◌≡◌, ◌≢◌, ◌+◌, [], MatchOption};
 
 use crate::device::Source;
 use crate::line_reader::LineReader;
@@ -57,6 +57,19 @@ impl<R: Source, G> ItemReader<R, G> {
         ensures { result ≡ item_number self.now }
     {
         self.number
+    }
+
+    /// The octets that are held from the start of a line on, if that line is the next one. The line of a fault of the list is,
+    /// and these octets begin with it, or with its first 4,097 octets where it is longer.
+    pub fn held_from(&self, line: u64) -> Option<&[u8]>
+        ensures { MatchOption result (line ≢ (item_state R.left R.ending self.now).taken + 1)
+            (λ octets. (line ≡ (item_state R.left R.ending self.now).taken + 1) × (octets.now ≡ (item_state R.left R.ending self.now).held)) }
+    {
+        if line == self.lines.next_number() {
+            Some(self.lines.rest())
+        } else {
+            None
+        }
     }
 
     /// Tries the next line.

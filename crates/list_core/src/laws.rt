@@ -41,7 +41,7 @@ pub fn stops_tell_the_ending<S, X, C>()
 
 /// What the lines of events look like: `C`, a space and the digits of a moment; `F`, a space, the digits of a moment,
 /// a space and the hexadecimal digits of a frame; or `M`, a space, the digits of a moment, a space and `on` or `off`.
-/// A line says an event exactly where it looks so.
+/// A line is an event exactly where it matches this grammar.
 pub fn a_line_says_what_it_spells<A: Allocator>()
     ensures clock { (unit : MomentUnit) (line : List ℕ) (moment : ℕ) →
         (event_of {A = A} unit line ≡ Ok (Some (record { moment = moment; kind = Clock })))

@@ -273,6 +273,13 @@ impl<R: Source> LineReader<R> {
         }
     }
 
+    /// The octets that are held and not answered, from the start of the next line on.
+    pub(crate) fn rest(&self) -> &[u8]
+        ensures { result.now ≡ held self.now }
+    {
+        &self.buffer[self.start..self.end]
+    }
+
     /// The number of the line last answered or refused, 0 before the first.
     pub fn line_number(&self) -> u64
         ensures { result ≡ reader_number self.now }

@@ -9,6 +9,7 @@ mod line_reading;
 mod list_reading;
 mod list_writing;
 mod making;
+mod other_types;
 mod refused_lists;
 mod sampled_frames;
 pub mod sentences;

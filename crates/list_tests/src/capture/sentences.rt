@@ -24,6 +24,22 @@ fn faults_of_captures_name_the_record_and_the_cause(rt: HostRuntime) {
             "record 7: the capture has over 999999 records",
         ),
         (CaptureCause::ReadFailed, "record 7: reading failed"),
+        (
+            CaptureCause::BlockForm,
+            "record 7: a block has not the form of its type",
+        ),
+        (
+            CaptureCause::BlockLength,
+            "record 7: the total length of a block is wrong",
+        ),
+        (
+            CaptureCause::Interface,
+            "record 7: a packet is of an interface that is not described",
+        ),
+        (
+            CaptureCause::PacketTime,
+            "record 7: the time of a packet is before 1970 or after 999999999999999999 microseconds",
+        ),
     ] {
         let fault = CaptureFault { number: 7, cause };
         assert!(rt; says(rt.alloc(), fault, sentence), "{sentence}");

@@ -1,0 +1,31 @@
+// Frames of other protocols.
+
+ghost use Rattle.std.specs.Prelude.{◌≡◌, ℕ, IfSome, Some};
+ghost use Rattle.ber_core.specs.Faults.{fault_of};
+ghost use Rattle.ber_core.specs.declared.fault.Cause.TheVariants as causes;
+ghost use Rattle.frame_core.specs.Envelope.{ether_place};
+ghost use Rattle.frame_core.specs.FrameFault.{FrameFault};
+ghost use Rattle.frame_core.specs.OtherType.{IsOther};
+
+use crate::envelope::{MOST_OCTETS, announces_apdu, ether_type_place, word};
+
+/// The EtherType of a frame of another protocol than GOOSE and Sampled Values (IEEE 802.3, IEEE 802.1Q): one whose first
+/// fault is its EtherType. `None` for each other frame, so where it is too long, and where it ends before its EtherType does.
+pub fn other_ether_type(octets: &[u8]) -> Option<u16>
+    ensures found { IfSome result (λ t. IsOther t octets.now) }
+    ensures only { (t : ℕ) → IsOther t octets.now → result ≡ Some t }
+    ensures fault { IfSome result (λ t. FrameFault (fault_of (ether_place octets.now) causes.EtherType) octets.now) }
+{
+    if octets.len() > MOST_OCTETS || octets.len() < 14 {
+        return None;
+    }
+    let place = ether_type_place(octets);
+    if octets.len() < place + 2 {
+        return None;
+    }
+    let ether_type = word(octets, place);
+    if announces_apdu(ether_type) {
+        return None;
+    }
+    Some(ether_type)
+}
