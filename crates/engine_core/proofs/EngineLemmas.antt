@@ -20,11 +20,13 @@ use Rattle.list_core.proofs.Devices.{Appends-append, Appends-none, AppendsPrefix
 use Rattle.list_core.proofs.Readers.{CanFollow-none, off_after, starts_after}
 use Rattle.list_core.proofs.ItemReaders.{TakesItems-push, TakesItems-none, gives_both, list_whole}
 use Rattle.engine_core.specs.declared.ending.Ending.{Ending}
-use Rattle.engine_core.specs.declared.ending.Ending.TheVariants.{Done, Findings, WriteFault}
+use Rattle.engine_core.specs.declared.ending.Ending.TheVariants.{Done, Findings, WriteFault, Memory}
 use Rattle.engine_core.specs.Ending.{ending_of, ending_at}
 use Rattle.engine_core.specs.EngineText.{Text, ItemText, has_finding, joined_texts, next_text, step_text}
-use Rattle.engine_core.specs.Run.{AtLine, EndsAt, EndsByFault, EndsWell, Writes, said_onward}
-use Rattle.engine_core.specs.computed.EngineStep.{Stops, WantsFor, due, closes, step_fault}
+use Rattle.engine_core.specs.declared.stopped.Halt.{Halt}
+use Rattle.engine_core.specs.declared.stopped.Halt.TheVariants as halt
+use Rattle.engine_core.specs.Run.{AtLine, EndsAt, EndsByFault, EndsWell, WritesTo, fault_at, said_onward}
+use Rattle.engine_core.specs.computed.EngineStep.{Stops, WantsFor, due, closes, ending_by_halt, fault_by_halt, step_fault}
 use Rattle.engine_core.proofs.ItemTexts.{AreNext, are_texts, next_push, or_false}
 use Rattle.engine_core.proofs.Wanted.{wanted_behind, wanted_rest}
 
@@ -89,26 +91,30 @@ module _ {X C : Type 0} (t : Text X C) (es : List (ℕ × X)) where
 
   -- an answer by which the text ends, in its line
   ends_by : (ending : Ending) (answer : Answer X C) (onward rest : Listing X C) (taken n : ℕ) → Tells answer onward rest → CountsTo answer taken n → (f : ItemFault C) → closes t es answer ≡ Some f →
-      ending_at f ≡ ending → (old new : Option (List ℕ)) → Appends old new (due t es answer) → EndsByFault t ending es (lines_before answer n) onward old new
+      ending_at f ≡ ending → (old new : Option (List ℕ)) → Appends old new (due t es answer) → (ends : EndsByFault t ending es (lines_before answer n) onward old new) × (ends.why ≡ f)
   ends_by ending (Ok (Some e)) onward rest taken n h counted f x is old new w =
-      let s = step_refused e.0 (t.of_item es e) f x in
-      record {
-        why = f;
-        is_next = inr (record { item = e; others = rest; cause = s.0; is_next = h; refused = s.1; in_line = s.2 });
-        in_line = rw s.2 (omega (arith, counted.0, counted.1));
-        has_ending = is;
-        told = subst (λ l. Appends old new l) (ap (step_text t e.0) s.1 ∙ ap t.last (sym s.2)) w;
-      }
+      let s = step_refused e.0 (t.of_item es e) f x in (
+        record {
+          why = f;
+          is_next = inr (record { item = e; others = rest; cause = s.0; is_next = h; refused = s.1; in_line = s.2 });
+          in_line = rw s.2 (omega (arith, counted.0, counted.1));
+          has_ending = is;
+          told = subst (λ l. Appends old new l) (ap (step_text t e.0) s.1 ∙ ap t.last (sym s.2)) w;
+        },
+        refl,
+      )
   ends_by ending (Ok None) onward rest taken n h counted f x is old new w = cc
   ends_by ending (Err (Some g)) onward rest taken n h counted f x is old new w =
-      let same : g ≡ f = cc in
-      record {
-        why = f;
-        is_next = inl (rw same at h.0);
-        in_line = rw same at counted.1;
-        has_ending = is;
-        told = rw same at w;
-      }
+      let same : g ≡ f = cc in (
+        record {
+          why = f;
+          is_next = inl (rw same at h.0);
+          in_line = rw same at counted.1;
+          has_ending = is;
+          told = rw same at w;
+        },
+        refl,
+      )
   ends_by ending (Err None) onward rest taken n h counted f x is old new w = cc
 
 module _ {S X C : Type 0} {r : Rules S X C} {s : S} {z : InputEnd} {read : List ℕ} {items : List (ℕ × X)} (t : Text X C) (texts : List ItemText) (line : AtLine r s z read items) (held new : Option (List ℕ)) where
@@ -129,11 +135,32 @@ module _ {S X C : Type 0} {r : Rules S X C} {s : S} {z : InputEnd} {read : List 
   by_end true w = w
   by_end false w = w
 
+  -- that fault is the one by which it ended
+  of_cause : (why : ListCause) (w : EndsByFault t (ending_of why) items line.lines_before (said_onward z line) held new) → fault_at t (ending_of why) z texts line held new (by_cause why w) ≡ Some w.why
+  unfolding by_cause
+  of_cause ReadFailed w = refl
+  of_cause LineTooLong w = refl
+  of_cause LineForm w = refl
+  of_cause Moment w = refl
+  of_cause Hex w = refl
+  of_cause ListTooLong w = refl
+
+  of_fault : (f : ItemFault C) (w : EndsByFault t (ending_at f) items line.lines_before (said_onward z line) held new) → fault_at t (ending_at f) z texts line held new (by_fault f w) ≡ Some w.why
+  unfolding by_fault
+  of_fault (fault.Lines f) w = of_cause f.cause w
+  of_fault (fault.Line k why) w = refl
+
+  -- at the end there is none
+  of_end : (found : Bool) (w : EndsWell found texts (said_onward z line) held new) → fault_at t (if found then Findings else Done) z texts line held new (by_end found w) ≡ None
+  unfolding by_end
+  of_end true w = refl
+  of_end false w = refl
+
 -- a run that began with no line and no octet held
 module _ {S X C : Type 0} (r : Rules S X C) (t : Text X C) (a b c : ReaderState S) (es : List (ℕ × X)) (old start mid new : Option (List ℕ)) (found : Bool)
     (no_line : a.taken ≡ 0) (no_octet : a.held ≡ []) (first : Appends old start t.first) (p : Ran r t a b es start mid found) where
-  abbrev Leaves : Ending → Type 0
-  Leaves ending = (given : List ℕ) × GivesOctets a.left c.left given × Writes r a.settled t ending c.ending given old new
+  abbrev Leaves : Ending → Option (ItemFault C) → Type 0
+  Leaves ending fault = (given : List ℕ) × GivesOctets a.left c.left given × WritesTo r a.settled t ending c.ending given old new fault
 
   module _ (answer : Answer X C) (q : AnswersItem r b answer c) where
     -- the octets that were read
@@ -162,40 +189,48 @@ module _ {S X C : Type 0} (r : Rules S X C) (t : Text X C) (a b c : ReaderState 
     unfolding line
     tells = subst (λ l. Tells answer l (listing r c.settled c.ending c.taken (c.held ++ []))) onward_same (q.reads [] c.ending (CanFollow-none c.ending))
 
-    leaves : (ending : Ending) → EndsAt t ending c.ending p.texts line mid new → Leaves ending
+    leaves : (ending : Ending) (fault : Option (ItemFault C)) (ends : EndsAt t ending c.ending p.texts line mid new) → fault ≡ fault_at t ending c.ending p.texts line mid new ends → Leaves ending fault
     unfolding octets
-    leaves ending ends = (
+    leaves ending fault ends by = (
       octets,
       gives_both r a b c es answer p.took q,
-      inr (record {
-        items = es;
-        texts = p.texts;
-        are_texts = are_texts t es p.texts p.are_next;
-        held = mid;
-        written = Appends-append old start mid t.first (joined_texts p.texts) first p.wrote;
-        line = line;
-        ends = ends;
-      }),
+      (
+        inr (record {
+          items = es;
+          texts = p.texts;
+          are_texts = are_texts t es p.texts p.are_next;
+          held = mid;
+          written = Appends-append old start mid t.first (joined_texts p.texts) first p.wrote;
+          line = line;
+          ends = ends;
+        }),
+        by,
+      ),
     )
 
     -- the run stopped
-    pub stopped : (ending : Ending) → Stops (WantsFor t es answer) (due t es answer) (closes t es answer) ending mid new → Leaves ending
+    pub stopped : (h : Halt (ItemFault C)) → Stops (WantsFor t es answer) (due t es answer) (closes t es answer) h mid new → Leaves (ending_by_halt h) (fault_by_halt h)
     unfolding line
-    stopped ending (inl x) = rw x.for_memory (leaves _ (record {
-      wanted = elim x.wanted [
+    stopped (halt.Fault why) x =
+        let ends = ends_by t es (ending_at why) answer _ _ b.taken c.taken tells q.lines.counted why x.0 refl mid new x.1 in
+        leaves (ending_at why) (Some why) (by_fault t p.texts line mid new why ends.0) (ap Some (sym ends.1) ∙ sym (of_fault t p.texts line mid new why ends.0))
+    stopped halt.WriteFault x = leaves WriteFault None (due_front t es answer _ _ tells mid new x) refl
+    stopped halt.Memory x = leaves Memory None (record {
+      wanted = elim x.0 [
         | inl e ↦ inl (subst (λ o. OnlyKept r q.settled c.ending (lines_before answer c.taken) q.rest o) e q.kept)
         | inr due_some ↦ inr (λ none. due_some (due_none t es answer _ _ tells none))
       ];
-      no_more = x.unwritten;
-    }))
-    stopped ending (inr (inl x)) = rw x.by_writer (leaves WriteFault (due_front t es answer _ _ tells mid new x.written))
-    stopped ending (inr (inr x)) = rw x.has_ending (leaves (ending_at x.why) (by_fault t p.texts line mid new x.why (ends_by t es (ending_at x.why) answer _ _ b.taken c.taken tells q.lines.counted x.why x.closes refl mid new x.written)))
+      no_more = x.1;
+    }) refl
 
   -- the list has ended
-  pub ended : (q : AnswersItem r b (Ok None) c) → new ≡ mid → Leaves (if found then Findings else Done)
-  ended q x = leaves (Ok None) q _ (by_end t p.texts (line (Ok None) q) mid new found (record { list_ends = (tells (Ok None) q).0; finds = p.finds; no_more = x }))
+  pub ended : (q : AnswersItem r b (Ok None) c) → new ≡ mid → Leaves (if found then Findings else Done) None
+  ended q x =
+      let ends : EndsWell found p.texts (said_onward c.ending (line (Ok None) q)) mid new = record { list_ends = (tells (Ok None) q).0; finds = p.finds; no_more = x } in
+      leaves (Ok None) q _ None (by_end t p.texts (line (Ok None) q) mid new found ends) (sym (of_end t p.texts (line (Ok None) q) mid new found ends))
 
 -- the first text was not written whole, and the reader is untouched
-pub not_begun : {S X C : Type 0} (r : Rules S X C) (s : S) (t : Text X C) (z : InputEnd) (left old new : Option (List ℕ)) → z ≡ Open → AppendsPrefix old new t.first →
-    (given : List ℕ) × GivesOctets left left given × Writes r s t WriteFault z given old new
-not_begun r s t z left old new is w = ([], Gives-from_Consumes left left [] (Consumes-none left), inl (record { write_fault = refl; untouched = (is, refl); written = w }))
+pub not_begun : {S X C : Type 0} (r : Rules S X C) (s : S) (t : Text X C) (z : InputEnd) (left new_left old new : Option (List ℕ)) → z ≡ Open → new_left ≡ left → AppendsPrefix old new t.first →
+    (given : List ℕ) × GivesOctets left new_left given × WritesTo r s t WriteFault z given old new None
+not_begun r s t z left new_left old new is same w =
+    ([], rw same (Gives-from_Consumes left left [] (Consumes-none left)), (inl (record { write_fault = refl; untouched = (is, refl); written = w }), refl))

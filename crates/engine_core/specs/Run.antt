@@ -1,5 +1,6 @@
 -- A run of an engine: what it read, what it wrote of each item, where it ended and why.
-use Rattle.std.specs.Prelude.{◌≡◌, ◌≤◌, ◌⊎◌, ℕ, ◌+◌, Bool, true, false, List, [], ◌++◌, length, Option, None, Err}
+use Rattle.std.specs.Prelude.{◌≡◌, ◌≤◌, ◌⊎◌, ℕ, ◌+◌, Bool, true, false, List, [], ◌++◌, length, Option, Some, None, Err}
+use Rattle.std.proofs.Common.{inl, inr}
 use Rattle.std.specs.Io.KnownBytes.{Appends}
 use Rattle.list_core.specs.declared.device.InputEnd.{InputEnd}
 use Rattle.list_core.specs.declared.device.InputEnd.TheVariants.{Open}
@@ -111,11 +112,38 @@ pub record FailsAtFirst {X C : Type 0} (t : Text X C) (ending : Ending) (z : Inp
 abbrev pub Writes : {S X C : Type 0} → Rules S X C → S → Text X C → Ending → InputEnd → List ℕ → Option (List ℕ) → Option (List ℕ) → Type 0
 Writes r s t ending z read old new = FailsAtFirst t ending z read old new ⊎ Run r s t ending z read old new
 
+-- ---- the fault by which it ended
+
+-- the fault by which a run ended at a line, if it ended by one: that of which the last text tells
+abbrev pub fault_at : {S X C : Type 0} {r : Rules S X C} {s : S} {read : List ℕ} {items : List (ℕ × X)} (t : Text X C) (ending : Ending) (z : InputEnd) (texts : List ItemText) (line : AtLine r s z read items) (held new : Option (List ℕ)) →
+    EndsAt t ending z texts line held new → Option (ItemFault C)
+fault_at t Done z texts line held new ends = None
+fault_at t Findings z texts line held new ends = None
+fault_at t InputFault z texts line held new ends = Some ends.why
+fault_at t ReadFault z texts line held new ends = Some ends.why
+fault_at t WriteFault z texts line held new ends = None
+fault_at t Memory z texts line held new ends = None
+
+-- the fault by which a run ended, if it ended by one
+abbrev pub ended_by : {S X C : Type 0} (r : Rules S X C) (s : S) (t : Text X C) (ending : Ending) (z : InputEnd) (read : List ℕ) (old new : Option (List ℕ)) → Writes r s t ending z read old new → Option (ItemFault C)
+ended_by r s t ending z read old new (inl fails) = None
+ended_by r s t ending z read old new (inr run) = fault_at t ending z run.texts run.line run.held new run.ends
+
+-- what a run leaves written of what was read, and the fault by which it ended
+abbrev pub WritesTo : {S X C : Type 0} → Rules S X C → S → Text X C → Ending → InputEnd → List ℕ → Option (List ℕ) → Option (List ℕ) → Option (ItemFault C) → Type 0
+WritesTo r s t ending z read old new fault = (run : Writes r s t ending z read old new) × (fault ≡ ended_by r s t ending z read old new run)
+
+-- ---- runs of a kind of text
+
 -- a run writes a text of this kind
 pub record WritesSome {S X C : Type 0} (Is : Text X C → Type 0) (r : Rules S X C) (s : S) (ending : Ending) (z : InputEnd) (read : List ℕ) (old new : Option (List ℕ)) : Type 0 where
   pub text : Text X C
   pub is_text : Is text
   pub run : Writes r s text ending z read old new
+
+-- a run writes a text of this kind, and ends by this fault
+abbrev pub WritesSomeTo : {S X C : Type 0} → (Text X C → Type 0) → Rules S X C → S → Ending → InputEnd → List ℕ → Option (List ℕ) → Option (List ℕ) → Option (ItemFault C) → Type 0
+WritesSomeTo Is r s ending z read old new fault = (some : WritesSome Is r s ending z read old new) × (fault ≡ ended_by r s some.text ending z read old new some.run)
 
 -- a run that is refused before it reads: its one text was written, or the writer failed at a prefix of it
 abbrev pub LeavesRefused : List ℕ → Ending → Option (List ℕ) → Option (List ℕ) → Type 0

@@ -13,9 +13,9 @@ pub enum Ending {
     InputFault,
     /// The reader failed: the last line written says where.
     ReadFault,
-    /// The writer failed: a prefix of the text stands written.
+    /// The writer failed: a prefix of the text was written.
     WriteFault,
-    /// Memory was refused: whole lines of the earlier events stand written.
+    /// Memory was refused: whole lines of the earlier events were written.
     Memory,
 }
 

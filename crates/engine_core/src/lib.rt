@@ -4,6 +4,8 @@
 mod ending;
 pub mod laws;
 mod running;
+mod stopped;
 
 pub use crate::ending::{Ending, status};
-pub use crate::running::{Engine, Next, ending_where, refuse, run};
+pub use crate::running::{Engine, Next, ending_where, refuse, run, run_to_stop};
+pub use crate::stopped::{Halt, Stopped};

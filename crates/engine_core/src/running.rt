@@ -6,10 +6,11 @@ ghost use Rattle.list_core.specs.Device.{GivesOctets};
 ghost use Rattle.list_core.specs.ItemReader.{Answer, AnswersItem, item_state};
 ghost use Rattle.engine_core.specs.Ending.{ending_at, ending_of, is_write_fault};
 ghost use Rattle.engine_core.specs.EngineText.{Text};
-ghost use Rattle.engine_core.specs.Run.{LeavesRefused, Writes};
-ghost use Rattle.engine_core.specs.computed.EngineStep.{StepWrites, Stops, Takes, stops_by};
+ghost use Rattle.engine_core.specs.Run.{LeavesRefused, Writes, WritesTo};
+ghost use Rattle.engine_core.specs.computed.EngineStep.{StepWrites, Stops, Takes, ending_by_halt, fault_by_halt, is_failed_write, stops_by};
 
 use crate::ending::Ending;
+use crate::stopped::{Halt, Stopped};
 use list_core::{
     ItemError, ItemFault, ItemReader, LineError, LineRules, ListCause, Sink, Source, put_all,
 };
@@ -31,7 +32,7 @@ pub trait Engine<A: Allocator> {
 
     /// Appends the text of the next item, and answers whether the item is a finding; or why it is
     /// refused. Memory is wanted for a text alone: an item that writes nothing asks for none. Where it is
-    /// refused, what stood in the line before still stands in front. An item that is used up may be left as spare.
+    /// refused, the line's earlier text remains. An item that is used up may be left as spare.
     fn put_item(
         &mut self,
         line: &mut Vec<u8, A>,
@@ -44,7 +45,7 @@ pub trait Engine<A: Allocator> {
             Takes (text self.old) (stands self.new) before (number, item) result line.old.items line.new.items }
         ensures kept { OnErr result (take (length line.old.items) line.new.items ≡ line.old.items) };
 
-    /// Appends the last text on a fault. Where memory is refused, what stood in the line before still stands in front.
+    /// Appends the last text on a fault. Where memory is refused, the line's earlier text remains.
     fn put_last(
         &self,
         line: &mut Vec<u8, A>,
@@ -56,14 +57,14 @@ pub trait Engine<A: Allocator> {
 }
 
 /// How a run goes on after an answer of the reader.
-#[derive(Clone, Copy, Debug, PartialEq, Eq)]
-pub enum Next {
+#[derive(Drop)]
+pub enum Next<F> {
     /// An item's text was written; the item is a finding or not.
     Wrote(bool),
     /// The list has ended.
     Ended,
     /// The run ends here.
-    Stop(Ending),
+    Stop(Halt<F>),
 }
 
 // The ending at a fault of the lines.
@@ -90,20 +91,20 @@ fn ending_for<C>(fault: &ItemFault<C>) -> Ending
 fn answer_fault<A: Allocator, E: Engine<A>, W: Sink>(
     engine: &E,
     line: &mut Vec<u8, A>,
-    fault: &ItemFault<E::Cause>,
+    fault: ItemFault<E::Cause>,
     writer: &mut W,
-) -> Ending
+) -> Halt<ItemFault<E::Cause>>
     requires { W.failed writer.old ≡ false }
-    ensures stops { Stops ((E.text engine.now).last fault.now ≡ [] → ⊥) ((E.text engine.now).last fault.now) (Some fault.now) result (W.contents writer.old) (W.contents writer.new) }
-    ensures fails { W.failed writer.new ≡ is_write_fault result }
+    ensures stops { Stops ((E.text engine.now).last fault ≡ [] → ⊥) ((E.text engine.now).last fault) (Some fault) result (W.contents writer.old) (W.contents writer.new) }
+    ensures fails { W.failed writer.new ≡ is_failed_write result }
 {
     line.clear();
-    match engine.put_last(line, fault) {
+    match engine.put_last(line, &fault) {
         Ok(()) => match put_all(writer, line.as_slice()) {
-            Ok(()) => ending_for(fault),
-            Err(_) => Ending::WriteFault,
+            Ok(()) => Halt::Fault(fault),
+            Err(_) => Halt::WriteFault,
         },
-        Err(_) => Ending::Memory,
+        Err(_) => Halt::Memory,
     }
 }
 
@@ -115,23 +116,23 @@ fn answer_item<A: Allocator, E: Engine<A>, W: Sink>(
     item: E::Item,
     spare: &mut Option<E::Item>,
     writer: &mut W,
-) -> Next
+) -> Next<ItemFault<E::Cause>>
     requires { W.failed writer.old ≡ false }
     ensures same { E.text engine.new ≡ E.text engine.old }
     ensures step { (before : List (ℕ × E.Item)) → E.stands engine.old before →
         StepWrites (E.text engine.old) (E.stands engine.new) before (Ok (Some (number, item))) result (W.contents writer.old) (W.contents writer.new) }
-    ensures fails { W.failed writer.new ≡ stops_by is_write_fault result }
+    ensures fails { W.failed writer.new ≡ stops_by is_failed_write result }
 {
     line.clear();
     match engine.put_item(line, number, item, spare) {
         Ok(found) => match put_all(writer, line.as_slice()) {
             Ok(()) => Next::Wrote(found),
-            Err(_) => Next::Stop(Ending::WriteFault),
+            Err(_) => Next::Stop(Halt::WriteFault),
         },
         Err(LineError::Cause(cause)) => {
-            Next::Stop(answer_fault(engine, line, &ItemFault::Line(number, cause), writer))
+            Next::Stop(answer_fault(engine, line, ItemFault::Line(number, cause), writer))
         }
-        Err(LineError::Memory(_)) => Next::Stop(Ending::Memory),
+        Err(LineError::Memory(_)) => Next::Stop(Halt::Memory),
     }
 }
 
@@ -149,19 +150,19 @@ fn answer_next<
     items: &mut ItemReader<R, G>,
     spare: &mut Option<G::Item>,
     writer: &mut W,
-) -> Next
+) -> Next<ItemFault<E::Cause>>
     requires { W.failed writer.old ≡ false }
     ensures same { E.text engine.new ≡ E.text engine.old }
     ensures step { (answer : Answer G.Item G.Cause) × AnswersItem G.rules (item_state R.left R.ending items.old) answer (item_state R.left R.ending items.new)
         × ((before : List (ℕ × G.Item)) → E.stands engine.old before →
         StepWrites (E.text engine.old) (E.stands engine.new) before answer result (W.contents writer.old) (W.contents writer.new)) }
-    ensures fails { W.failed writer.new ≡ stops_by is_write_fault result }
+    ensures fails { W.failed writer.new ≡ stops_by is_failed_write result }
 {
     match items.next(alloc, spare) {
         Ok(None) => Next::Ended,
         Ok(Some(item)) => answer_item(engine, line, items.line_number(), item, spare, writer),
-        Err(ItemError::Fault(fault)) => Next::Stop(answer_fault(engine, line, &fault, writer)),
-        Err(ItemError::Memory(_)) => Next::Stop(Ending::Memory),
+        Err(ItemError::Fault(fault)) => Next::Stop(answer_fault(engine, line, fault, writer)),
+        Err(ItemError::Memory(_)) => Next::Stop(Halt::Memory),
     }
 }
 
@@ -176,6 +177,94 @@ pub fn ending_where(found: bool) -> Ending
     }
 }
 
+// How a run ends that stops early, and the fault by which it does.
+fn stopped<C>(halt: Halt<ItemFault<C>>) -> (Ending, Option<ItemFault<C>>)
+    ensures ending { result.0 ≡ ending_by_halt halt }
+    ensures fault { result.1 ≡ fault_by_halt halt }
+{
+    match halt {
+        Halt::Fault(fault) => (ending_for(&fault), Some(fault)),
+        Halt::WriteFault => (Ending::WriteFault, None),
+        Halt::Memory => (Ending::Memory, None),
+    }
+}
+
+// Writes the first text, then the text of each item, and the last text where the list has a fault or an item is refused; and
+// answers how that ended. The reader of the items is lent: it holds 8,192 octets, so each move of it needs as much of the stack.
+fn run_on<
+    A: Allocator + Copy,
+    G: LineRules<A>,
+    E: Engine<A, Item = G::Item, Cause = G::Cause>,
+    R: Source,
+    W: Sink,
+>(
+    alloc: A,
+    engine: &mut E,
+    first: &[u8],
+    items: &mut ItemReader<R, G>,
+    writer: &mut W,
+) -> (Ending, Option<ItemFault<G::Cause>>)
+    requires open { (item_state R.left R.ending items.old).ending ≡ InputEnd.Open }
+    requires taken { (item_state R.left R.ending items.old).taken ≡ 0 }
+    requires held { (item_state R.left R.ending items.old).held ≡ [] }
+    requires works { W.failed writer.old ≡ false }
+    requires first { first.now ≡ (E.text engine.old).first }
+    requires fresh { E.stands engine.old [] }
+    ensures text { (given : List ℕ) × GivesOctets (item_state R.left R.ending items.old).left (item_state R.left R.ending items.new).left given
+        × WritesTo G.rules (item_state R.left R.ending items.old).settled (E.text engine.old) result.0 (item_state R.left R.ending items.new).ending given (W.contents writer.old) (W.contents writer.new) result.1 }
+    ensures read_fault { result.0 ≡ Ending.ReadFault → (item_state R.left R.ending items.new).ending ≡ InputEnd.Failed }
+    ensures fault { W.failed writer.new ≡ is_write_fault result.0 }
+{
+    match put_all(writer, first) {
+        Ok(()) => {}
+        Err(_) => return stopped(Halt::WriteFault),
+    }
+    let mut line = Vec::new(alloc);
+    let mut spare = None;
+    let mut found = false;
+    'answers: loop {
+        match answer_next(alloc, engine, &mut line, items, &mut spare, writer) {
+            Next::Wrote(is_finding) => found |= is_finding,
+            Next::Ended => return (ending_where(found), None),
+            Next::Stop(halt) => return stopped(halt),
+        }
+    }
+}
+
+/// Writes the first text, then the text of each item of a list in its turn, and the last text where
+/// the list has a fault or an item is refused. Hands out how that ended, the fault by which it did, and the reader of the items.
+pub fn run_to_stop<
+    A: Allocator + Copy,
+    G: LineRules<A> + Drop,
+    E: Engine<A, Item = G::Item, Cause = G::Cause> + Drop,
+    R: Source,
+    W: Sink,
+>(
+    alloc: A,
+    rules: G,
+    mut engine: E,
+    first: &[u8],
+    reader: R,
+    writer: &mut W,
+) -> Stopped<ItemReader<R, G>, ItemFault<G::Cause>>
+    requires open { R.ending reader ≡ InputEnd.Open }
+    requires works { W.failed writer.old ≡ false }
+    requires first { first.now ≡ (E.text engine).first }
+    requires fresh { E.stands engine [] }
+    ensures text { (given : List ℕ) × GivesOctets (R.left reader) (item_state R.left R.ending result.reader).left given
+        × WritesTo G.rules rules (E.text engine) result.ending (item_state R.left R.ending result.reader).ending given (W.contents writer.old) (W.contents writer.new) result.fault }
+    ensures read_fault { result.ending ≡ Ending.ReadFault → (item_state R.left R.ending result.reader).ending ≡ InputEnd.Failed }
+    ensures fault { W.failed writer.new ≡ is_write_fault result.ending }
+{
+    let mut items = ItemReader::new(reader, rules);
+    let (ending, fault) = run_on(alloc, &mut engine, first, &mut items, writer);
+    Stopped {
+        ending,
+        fault,
+        reader: items,
+    }
+}
+
 /// Writes the first text, then the text of each item of a list in its turn, and the last text where
 /// the list has a fault or an item is refused.
 pub fn run<
@@ -184,7 +273,7 @@ pub fn run<
     E: Engine<A, Item = G::Item, Cause = G::Cause> + Drop,
     R: Source,
     W: Sink,
->(alloc: A, rules: G, mut engine: E, first: &[u8], reader: R, writer: &mut W) -> (Ending, R)
+>(alloc: A, rules: G, engine: E, first: &[u8], reader: R, writer: &mut W) -> (Ending, R)
     requires open { R.ending reader ≡ InputEnd.Open }
     requires works { W.failed writer.old ≡ false }
     requires first { first.now ≡ (E.text engine).first }
@@ -194,28 +283,7 @@ pub fn run<
     ensures read_fault { result.0 ≡ Ending.ReadFault → R.ending result.1 ≡ InputEnd.Failed }
     ensures fault { W.failed writer.new ≡ is_write_fault result.0 }
 {
-    match put_all(writer, first) {
-        Ok(()) => {}
-        Err(_) => return (Ending::WriteFault, reader),
-    }
-    let mut line = Vec::new(alloc);
-    let mut items = ItemReader::new(reader, rules);
-    let mut spare = None;
-    let mut found = false;
-    'answers: loop {
-        match answer_next(
-            alloc,
-            &mut engine,
-            &mut line,
-            &mut items,
-            &mut spare,
-            writer,
-        ) {
-            Next::Wrote(is_finding) => found |= is_finding,
-            Next::Ended => return (ending_where(found), items.into_reader()),
-            Next::Stop(ending) => return (ending, items.into_reader()),
-        }
-    }
+    run_to_stop(alloc, rules, engine, first, reader, writer).into_source()
 }
 
 /// Writes one text alone and reads nothing, where a run is refused.

@@ -2,7 +2,7 @@
 
 use crate::blocks::{Fields, has_fields};
 use clap::error::ErrorKind;
-use goose_cmd::{Task, WordsError, read_words};
+use goose_cmd::{Request, Task, WordsError, read_request, read_words};
 use std::test::Fail;
 
 // The name of the task that these words ask for, or `none`.
@@ -207,5 +207,204 @@ fn each_refusal_has_its_kind(rt: HostRuntime) -> Result<(), Fail> {
         assert!(rt; is_refused_by(&rt, words, kind), "case {case}");
         case = case.saturating_add(1);
     }
+    Ok(())
+}
+
+// The name of the task that these words ask for with these options, or `none`.
+fn request_named(
+    rt: &HostRuntime,
+    words: &[&str],
+    is_capture: bool,
+    skips_other: bool,
+) -> &'static str {
+    match read_request(rt.alloc(), words) {
+        Ok(Request { task, options })
+            if options.is_capture == is_capture && options.skips_other == skips_other => {
+            task.name()
+        }
+        _ => "none",
+    }
+}
+
+// Words that ask for a task with options: its name, and whether `--capture` and `--skip-other` are given.
+const REQUESTS: [(&[&str], &str, bool, bool); 14] = [
+    (&["goose", "show"], "show", false, false),
+    (&["goose", "show", "--capture"], "show", true, false),
+    (
+        &["goose", "check", "--skip-other", "--capture"],
+        "check",
+        true,
+        true,
+    ),
+    (
+        &["goose", "blocks", "--capture", "--skip-other", "--"],
+        "blocks",
+        true,
+        true,
+    ),
+    (&["goose", "rewrite"], "rewrite", false, false),
+    (&["goose", "publish", "--"], "publish", false, false),
+    (&["goose", "import"], "import", false, false),
+    // An option stands anywhere among the texts, before the mark.
+    (
+        &["goose", "replay", "--skip-other", "0001,G,D,,1,1"],
+        "replay",
+        false,
+        true,
+    ),
+    (
+        &[
+            "goose",
+            "replay",
+            "0001,G,D,,1,1",
+            "--capture",
+            "0002,G,D,,1,1",
+        ],
+        "replay",
+        true,
+        false,
+    ),
+    (
+        &["goose", "replay", "--capture", "--", "0001,G,D,,1,1"],
+        "replay",
+        true,
+        false,
+    ),
+    (
+        &["goose", "watch", "--id", "S", "--capture", "--period", "5"],
+        "watch",
+        true,
+        false,
+    ),
+    (
+        &[
+            "goose",
+            "watch",
+            "--skip-other",
+            "--id=S",
+            "--period=5",
+            "--capture",
+        ],
+        "watch",
+        true,
+        true,
+    ),
+    // What stands behind `=` is the value of an option, whatever it is.
+    (
+        &["goose", "watch", "--id=--capture", "--period", "5"],
+        "watch",
+        false,
+        false,
+    ),
+    // The first word is the program's name.
+    (&["--capture", "show"], "show", false, false),
+];
+
+#[test]
+fn a_request_has_its_options(rt: HostRuntime) -> Result<(), Fail> {
+    let mut case = 0u32;
+    for (words, wanted, is_capture, skips_other) in REQUESTS {
+        assert!(rt;
+            request_named(&rt, words, is_capture, skips_other) == wanted,
+            "case {case}"
+        );
+        case = case.saturating_add(1);
+    }
+    Ok(())
+}
+
+// Whether the options are refused where they are offered, by this kind of error.
+fn is_no_request(rt: &HostRuntime, words: &[&str], kind: ErrorKind) -> bool {
+    match read_request(rt.alloc(), words) {
+        Err(WordsError::Words(error)) => error.kind() == kind,
+        _ => false,
+    }
+}
+
+// Words with options that are refused, and by which kind of error.
+const NO_REQUESTS: [(&[&str], ErrorKind); 11] = [
+    (
+        &["goose", "rewrite", "--capture"],
+        ErrorKind::UnknownArgument,
+    ),
+    (
+        &["goose", "publish", "--skip-other"],
+        ErrorKind::UnknownArgument,
+    ),
+    (
+        &["goose", "import", "--capture"],
+        ErrorKind::UnknownArgument,
+    ),
+    (&["goose", "--capture", "show"], ErrorKind::UnknownArgument),
+    (&["goose", "show", "--cap"], ErrorKind::UnknownArgument),
+    // Behind the mark no word is an option.
+    (
+        &["goose", "show", "--", "--capture"],
+        ErrorKind::UnknownArgument,
+    ),
+    (
+        &["goose", "show", "--capture", "--capture"],
+        ErrorKind::ArgumentConflict,
+    ),
+    (
+        &["goose", "blocks", "--skip-other=yes"],
+        ErrorKind::TooManyValues,
+    ),
+    (
+        &["goose", "replay", "--capture"],
+        ErrorKind::MissingRequiredArgument,
+    ),
+    (
+        &["goose", "watch", "--id", "--capture", "--period", "5"],
+        ErrorKind::InvalidValue,
+    ),
+    (&["goose", "show", "--help"], ErrorKind::DisplayHelp),
+];
+
+#[test]
+fn each_refused_request_has_its_kind(rt: HostRuntime) -> Result<(), Fail> {
+    let mut case = 0u32;
+    for (words, kind) in NO_REQUESTS {
+        assert!(rt; is_no_request(&rt, words, kind), "case {case}");
+        case = case.saturating_add(1);
+    }
+    Ok(())
+}
+
+// The position of the text that these words are refused by where options are offered, or 99.
+fn bad_block_of_request(rt: &HostRuntime, words: &[&str]) -> usize {
+    match read_request(rt.alloc(), words) {
+        Err(WordsError::Block(position)) => position,
+        _ => 99,
+    }
+}
+
+#[test]
+fn an_option_is_no_text_of_a_block(rt: HostRuntime) -> Result<(), Fail> {
+    let words = ["goose", "replay", "--capture", "0001,G,D,,1,1", "x"];
+    assert!(rt; bad_block_of_request(&rt, words.as_slice()) == 1);
+    // Behind the mark it is one, and says no block.
+    let words = ["goose", "replay", "0001,G,D,,1,1", "--", "--capture"];
+    assert!(rt; bad_block_of_request(&rt, words.as_slice()) == 1);
+    Ok(())
+}
+
+// The commands without the options, which `read_words` reads, refuse them.
+#[test]
+fn words_without_options_refuse_them(rt: HostRuntime) -> Result<(), Fail> {
+    assert!(rt;
+        is_refused_by(
+            &rt,
+            &["goose", "show", "--capture"],
+            ErrorKind::UnknownArgument
+        )
+    );
+    assert!(rt;
+        is_refused_by(
+            &rt,
+            &["goose", "watch", "--skip-other"],
+            ErrorKind::UnknownArgument
+        )
+    );
     Ok(())
 }

@@ -1,5 +1,6 @@
 -- The text of `replay`: the entries that a whole list of events has for some control blocks, event by event.
-use Rattle.std.specs.Prelude.{◌≡◌, ◌⊎◌, ℕ, Bool, List, [], ◌∷◌, ◌++◌, length, map, false, Option, Result, Ok, codes}
+use Rattle.std.specs.Prelude.{◌≡◌, ◌⊎◌, ℕ, Bool, List, [], ◌∷◌, ◌++◌, length, map, false, Option, Some, None, option_map, Result, Ok, codes}
+use Rattle.std.proofs.Common.{inl, inr}
 use Rattle.std.specs.Fmt.{decimal}
 use Rattle.list_core.specs.declared.device.InputEnd.{InputEnd}
 use Rattle.list_core.specs.declared.device.InputEnd.TheVariants.{Open}
@@ -14,9 +15,11 @@ use Rattle.subscribe_core.specs.declared.entry.Entry.{Entry}
 use Rattle.subscribe_core.specs.Entries.{AreEntriesAt}
 use Rattle.subscribe_core.specs.Apart.{AreApart, IsFirstTwice}
 use Rattle.engine_core.specs.declared.ending.Ending.{Ending}
-use Rattle.engine_core.specs.declared.ending.Ending.TheVariants.{Memory}
+use Rattle.engine_core.specs.declared.ending.Ending.TheVariants.{Done, Findings, InputFault, ReadFault, WriteFault, Memory}
 use Rattle.engine_core.specs.EngineText.{Text}
-use Rattle.engine_core.specs.Run.{IsUntouched, LeavesRefused, WritesSome}
+use Rattle.engine_core.specs.Run.{IsUntouched, LeavesRefused, WritesSome, ended_by}
+use Rattle.exchange_engines.specs.declared.engines.replay.ReplayFault.{ReplayFault}
+use Rattle.exchange_engines.specs.declared.engines.replay.ReplayFault.TheVariants as of
 use Rattle.exchange_engines.specs.EntryText.{entry_lines}
 use Rattle.text_core.specs.LineText.{list_fault_line}
 
@@ -63,3 +66,22 @@ pub record RunsReplay {A : Type 0} (blocks : List (Block A)) (ending : Ending) (
 -- what a replay of these blocks leaves written of what was read
 abbrev pub ReplayWrites : {A : Type 0} → List (Block A) → Ending → InputEnd → List ℕ → Option (List ℕ) → Option (List ℕ) → Type 0
 ReplayWrites blocks ending z read old new = RefusesTwice blocks ending z read old new ⊎ KeepsNone blocks ending z read old new ⊎ RunsReplay blocks ending z read old new
+
+-- the fault by which a replay ends so that was given a block twice, the first one at this position: none, unless its line was written
+abbrev pub twice_fault : Ending → ℕ → Option ReplayFault
+twice_fault Done position = None
+twice_fault Findings position = None
+twice_fault InputFault position = Some (of.SameBlockTwice position)
+twice_fault ReadFault position = None
+twice_fault WriteFault position = None
+twice_fault Memory position = None
+
+-- the fault by which a replay ended, if it ended by one
+abbrev pub replay_ended_by : {A : Type 0} (blocks : List (Block A)) (ending : Ending) (z : InputEnd) (read : List ℕ) (old new : Option (List ℕ)) → ReplayWrites blocks ending z read old new → Option ReplayFault
+replay_ended_by blocks ending z read old new (inl twice) = twice_fault ending twice.position
+replay_ended_by blocks ending z read old new (inr (inl none)) = None
+replay_ended_by blocks ending z read old new (inr (inr ran)) = option_map of.List (ended_by event_rules First ran.runs.text ending z read old new ran.runs.run)
+
+-- what a replay of these blocks leaves written of what was read, and the fault by which it ended
+abbrev pub ReplayWritesTo : {A : Type 0} → List (Block A) → Ending → InputEnd → List ℕ → Option (List ℕ) → Option (List ℕ) → Option ReplayFault → Type 0
+ReplayWritesTo blocks ending z read old new fault = (replay : ReplayWrites blocks ending z read old new) × (fault ≡ replay_ended_by blocks ending z read old new replay)

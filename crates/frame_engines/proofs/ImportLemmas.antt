@@ -14,13 +14,16 @@ use Rattle.list_core.proofs.Readers.{CanFollow-given, CanFollow-none, OnlyOpen-a
 use Rattle.capture_core.specs.declared.form.CaptureForm.{CaptureForm}
 use Rattle.capture_core.specs.declared.capture_fault.CaptureFault.{CaptureFault}
 use Rattle.capture_core.specs.declared.capture_fault.CaptureCause.{CaptureCause}
-use Rattle.capture_core.specs.declared.capture_fault.CaptureCause.TheVariants.{CaptureHeader, CaptureShort, RecordLength, TooManyRecords, ReadFailed}
+use Rattle.capture_core.specs.declared.capture_fault.CaptureCause.TheVariants.{CaptureHeader, CaptureShort, RecordLength, TooManyRecords, ReadFailed, BlockForm, BlockLength, Interface, PacketTime}
 use Rattle.capture_core.specs.Capture.{Capture, CaptureRecord, capture, records_after, no_records}
 use Rattle.capture_core.specs.RecordAnswers.{ReadsHeader, ReadsRecord, TakesFor, behind_record}
 use Rattle.engine_core.specs.declared.ending.Ending.{Ending}
-use Rattle.engine_core.specs.declared.ending.Ending.TheVariants.{Done, Findings, WriteFault}
-use Rattle.frame_engines.specs.ImportText.{AtRecord, EndsBehind, FailsBehind, Imports, ImportsToFault, capture_fault_line, ending_of_capture, is_left_out, last_line, put_records, record_line, text_behind}
-use Rattle.frame_engines.specs.computed.ImportStep.{FaultWrites, import_due}
+use Rattle.engine_core.specs.declared.stopped.Halt.{Halt}
+use Rattle.engine_core.specs.declared.stopped.Halt.TheVariants as halt
+use Rattle.engine_core.specs.computed.EngineStep.{fault_by_halt}
+use Rattle.engine_core.specs.declared.ending.Ending.TheVariants.{Done, Findings, ReadFault, WriteFault}
+use Rattle.frame_engines.specs.ImportText.{AtRecord, EndsBehind, FailsBehind, ImportsTo, ImportsToFault, capture_fault_line, ending_of_capture, is_left_out, last_line, put_records, record_line, text_behind}
+use Rattle.frame_engines.specs.computed.ImportStep.{ImportHalts, ending_of_halt, import_due}
 
 -- ---- texts
 
@@ -117,54 +120,62 @@ given_all form a b c z w v rs n answer p q =
 
 -- ---- the exits of the run
 
-abbrev Imported : InputEnd → Ending → Option (List ℕ) → Option (List ℕ) → InputEnd → Option (List ℕ) → Option (List ℕ) → Type 0
-Imported z ending a c v old new = (given : List ℕ) × GivesOctets a c given × Imports z ending v given old new
+abbrev Imported : InputEnd → Ending → Option CaptureFault → Option (List ℕ) → Option (List ℕ) → InputEnd → Option (List ℕ) → Option (List ℕ) → Type 0
+Imported z ending fault a c v old new = (given : List ℕ) × GivesOctets a c given × ImportsTo z ending v given old new fault
 
 -- the first line was not written whole, and the reader is untouched
-pub not_begun : (a : Option (List ℕ)) (z : InputEnd) (old new : Option (List ℕ)) → AppendsPrefix old new (codes "V2\n") → Imported z WriteFault a a z old new
-not_begun a z old new w = ([], no_more a, record { prefix = AppendsPrefix-more old new (codes "V2\n") (text_behind (capture z [])) w; fails_at = inl (refl, refl) })
+pub not_begun : (a : Option (List ℕ)) (z : InputEnd) (old new : Option (List ℕ)) → AppendsPrefix old new (codes "V2\n") → Imported z WriteFault None a a z old new
+not_begun a z old new w = ([], no_more a, (record { prefix = AppendsPrefix-more old new (codes "V2\n") (text_behind (capture z [])) w; fails_at = inl (refl, refl) }, refl))
 
 module _ (z v : InputEnd) (given : List ℕ) (start held new : Option (List ℕ)) (first : Appends start held (codes "V2\n")) where
-  well : (found : Bool) → (capture v given).stop ≡ finished → list_any is_left_out (capture v given).records ≡ found → Appends held new (text_behind (capture v given)) → Imports z (if found then Findings else Done) v given start new
-  well true s f w = record { capture_ends = s; finds = f; written = Appends-append start held new (codes "V2\n") (text_behind (capture v given)) first w }
-  well false s f w = record { capture_ends = s; finds = f; written = Appends-append start held new (codes "V2\n") (text_behind (capture v given)) first w }
+  well : (found : Bool) → (capture v given).stop ≡ finished → list_any is_left_out (capture v given).records ≡ found → Appends held new (text_behind (capture v given)) → ImportsTo z (if found then Findings else Done) v given start new None
+  well true s f w = (record { capture_ends = s; finds = f; written = Appends-append start held new (codes "V2\n") (text_behind (capture v given)) first w }, refl)
+  well false s f w = (record { capture_ends = s; finds = f; written = Appends-append start held new (codes "V2\n") (text_behind (capture v given)) first w }, refl)
 
-  by_cause : (why : CaptureCause) → ImportsToFault (ending_of_capture why) v given start new → Imports z (ending_of_capture why) v given start new
-  by_cause ReadFailed w = w
-  by_cause CaptureHeader w = w
-  by_cause CaptureShort w = w
-  by_cause RecordLength w = w
-  by_cause TooManyRecords w = w
+  by_cause : (why : CaptureCause) (w : ImportsToFault (ending_of_capture why) v given start new) → ImportsTo z (ending_of_capture why) v given start new (Some w.why)
+  by_cause ReadFailed w = (w, refl)
+  by_cause CaptureHeader w = (w, refl)
+  by_cause CaptureShort w = (w, refl)
+  by_cause RecordLength w = (w, refl)
+  by_cause TooManyRecords w = (w, refl)
+  by_cause BlockForm w = (w, refl)
+  by_cause BlockLength w = (w, refl)
+  by_cause Interface w = (w, refl)
+  by_cause PacketTime w = (w, refl)
 
-  badly : (f : CaptureFault) → (capture v given).stop ≡ faulty f → Appends held new (text_behind (capture v given)) → EndsBehind v given (capture v given).records → Imports z (ending_of_capture f.cause) v given start new
+  badly : (f : CaptureFault) → (capture v given).stop ≡ faulty f → Appends held new (text_behind (capture v given)) → EndsBehind v given (capture v given).records → ImportsTo z (ending_of_capture f.cause) v given start new (Some f)
   badly f s w i =
       by_cause f.cause (record { why = f; has_fault = s; has_ending = refl; written = Appends-append start held new (codes "V2\n") (text_behind (capture v given)) first w; none_behind = i })
 
-  in_part : (rs : List (ℕ × CaptureRecord)) (others : Capture) (mid : Option (List ℕ)) → EndsBehind v given rs → capture v given ≡ put_records rs others → Appends held mid (text_to rs) → AppendsPrefix mid new (text_behind others) → Imports z WriteFault v given start new
+  in_part : (rs : List (ℕ × CaptureRecord)) (others : Capture) (mid : Option (List ℕ)) → EndsBehind v given rs → capture v given ≡ put_records rs others → Appends held mid (text_to rs) → AppendsPrefix mid new (text_behind others) → ImportsTo z WriteFault v given start new None
   in_part rs others mid i e w p =
       let text : text_behind (capture v given) ≡ text_to rs ++ text_behind others = ap text_behind e ∙ text_parts rs others in
       let front : AppendsPrefix held new (text_behind (capture v given)) = subst (AppendsPrefix held new) (sym text) (AppendsPrefix-append held mid new (text_to rs) (text_behind others) w p) in
       let behind : FailsBehind v given start new =
       record { records = rs; others = others; says = e; none_behind = i; held = mid; written = Appends-append start held mid (codes "V2\n") (text_to rs) first w; next = p } in
-      record { prefix = AppendsPrefix-append start held new (codes "V2\n") (text_behind (capture v given)) first front; fails_at = inr behind }
+      (record { prefix = AppendsPrefix-append start held new (codes "V2\n") (text_behind (capture v given)) first front; fails_at = inr behind }, refl)
 
 -- a fault ends the text behind these records
-faulted : (rs : List (ℕ × CaptureRecord)) (z v : InputEnd) (given : List ℕ) (f : CaptureFault) (ending : Ending) (start held mid new : Option (List ℕ)) → Appends start held (codes "V2\n") →
-    capture v given ≡ put_records rs (no_records (faulty f)) → EndsBehind v given rs → Appends held mid (text_to rs) → FaultWrites f ending mid new → Imports z ending v given start new
-faulted rs z v given f ending start held mid new first e i w (inl q) = rw q.0 (in_part z v given start held new first rs (no_records (faulty f)) mid i e w q.1)
-faulted rs z v given f ending start held mid new first e i w (inr q) =
+faulted : (rs : List (ℕ × CaptureRecord)) (z v : InputEnd) (given : List ℕ) (f : CaptureFault) (start held mid new : Option (List ℕ)) → Appends start held (codes "V2\n") →
+    capture v given ≡ put_records rs (no_records (faulty f)) → EndsBehind v given rs → Appends held mid (text_to rs) → Appends mid new (capture_fault_line f) → ImportsTo z (ending_of_capture f.cause) v given start new (Some f)
+faulted rs z v given f start held mid new first e i w q =
     let text : text_behind (capture v given) ≡ text_to rs ++ capture_fault_line f = ap text_behind e ∙ text_parts rs (no_records (faulty f)) in
     let all : (capture v given).records ≡ rs = ap (λ (c : Capture). c.records) e ∙ append-nil rs in
-    rw q.0 (badly z v given start held new first f (ap (λ (c : Capture). c.stop) e) (subst (Appends held new) (sym text) (Appends-append held mid new (text_to rs) (capture_fault_line f) w q.1)) (subst (EndsBehind v given) (sym all) i))
+    badly z v given start held new first f (ap (λ (c : Capture). c.stop) e) (subst (Appends held new) (sym text) (Appends-append held mid new (text_to rs) (capture_fault_line f) w q)) (subst (EndsBehind v given) (sym all) i)
 
 -- the header has a fault
-pub bad_header : (a b : Option (List ℕ)) (z w : InputEnd) (f : CaptureFault) (ending : Ending) (start held new : Option (List ℕ)) → ReadsHeader a z (Err f) b w → Appends start held (codes "V2\n") → FaultWrites f ending held new → Imported z ending a b w start new
-bad_header a b z w f ending start held new h first p =
-    (h.given, h.took, faulted [] z w h.given f ending start held held new first (ap (capture w) (sym (append-nil h.given)) ∙ h.reads [] w (CanFollow-none w)) (inl (refl, h.few)) (Appends-none held) p)
+pub bad_header : (a b : Option (List ℕ)) (z w : InputEnd) (f : CaptureFault) (h : Halt CaptureFault) (start held new : Option (List ℕ)) → ReadsHeader a z (Err f) b w → Appends start held (codes "V2\n") → ImportHalts 0 (Err f) h held new →
+    Imported z (ending_of_halt h) (fault_by_halt h) a b w start new
+bad_header a b z w f (halt.Fault why) start held new read first p =
+    let same : f ≡ why = cc in
+    rw (← same) (read.given, read.took, faulted [] z w read.given f start held held new first (ap (capture w) (sym (append-nil read.given)) ∙ read.reads [] w (CanFollow-none w)) (inl (refl, read.few)) (Appends-none held) (rw (← same) at p.1))
+bad_header a b z w f halt.WriteFault start held new read first p =
+    (read.given, read.took, in_part z w read.given start held new first [] (no_records (faulty f)) held (inl (refl, read.few)) (ap (capture w) (sym (append-nil read.given)) ∙ read.reads [] w (CanFollow-none w)) (Appends-none held) p)
+bad_header a b z w f halt.Memory start held new read first p = absurd p
 
 module _ (form : CaptureForm) (a b c : Option (List ℕ)) (z w v : InputEnd) (rs : List (ℕ × CaptureRecord)) (n : ℕ) (start held mid new : Option (List ℕ)) (p : Took form a z rs n b w) (first : Appends start held (codes "V2\n")) (so_far : Appends held mid (text_to rs)) where
   -- the capture has ended
-  pub import_ended : (found : Bool) → found ≡ list_any is_left_out rs → ReadsRecord form n [] b w (Ok None) c v → new ≡ mid → Imported z (if found then Findings else Done) a c v start new
+  pub import_ended : (found : Bool) → found ≡ list_any is_left_out rs → ReadsRecord form n [] b w (Ok None) c v → new ≡ mid → Imported z (if found then Findings else Done) None a c v start new
   import_ended found finds q same =
       let g = given_all form a b c z w v rs n (Ok None) p q in
       let text : text_behind (capture v g.given) ≡ text_to rs = ap text_behind g.is ∙ text_parts rs (no_records finished) ∙ append-nil (text_to rs) in
@@ -172,13 +183,30 @@ module _ (form : CaptureForm) (a b c : Option (List ℕ)) (z w v : InputEnd) (rs
       (g.given, g.gives, well z v g.given start held new first found (ap (λ (k : Capture). k.stop) g.is) all (subst (Appends held new) (sym text) (rw same so_far)))
 
   -- the run stops at an answer
-  pub import_stopped : (answer : Result (Option CaptureRecord) CaptureFault) (ending : Ending) → ReadsRecord form n [] b w answer c v →
-      (((ending ≡ WriteFault) × AppendsPrefix mid new (import_due n answer)) ⊎ ((f : CaptureFault) × (answer ≡ Err f) × FaultWrites f ending mid new)) → Imported z ending a c v start new
-  import_stopped answer ending q (inl s) =
+  pub import_stopped : (answer : Result (Option CaptureRecord) CaptureFault) (h : Halt CaptureFault) → ReadsRecord form n [] b w answer c v → ImportHalts n answer h mid new → Imported z (ending_of_halt h) (fault_by_halt h) a c v start new
+  import_stopped answer (halt.Fault why) q s =
+      let g = given_all form a b c z w v rs n answer p q in
+      (g.given, g.gives, faulted rs z v g.given why start held mid new first (g.is ∙ ap (λ o. put_records rs (behind_record form n o v [])) s.0) (inr g.at_record) so_far s.1)
+  import_stopped answer halt.WriteFault q s =
       let g = given_all form a b c z w v rs n answer p q in
       let d = due_first form n v answer in
-      let front : AppendsPrefix mid new (text_behind (behind_record form n answer v [])) = subst (AppendsPrefix mid new) (sym d.1) (AppendsPrefix-more mid new (import_due n answer) d.0 s.1) in
-      (g.given, g.gives, rw s.0 (in_part z v g.given start held new first rs (behind_record form n answer v []) mid (inr g.at_record) g.is so_far front))
-  import_stopped answer ending q (inr s) =
-      let g = given_all form a b c z w v rs n answer p q in
-      (g.given, g.gives, faulted rs z v g.given s.0 ending start held mid new first (g.is ∙ ap (λ o. put_records rs (behind_record form n o v [])) s.1) (inr g.at_record) so_far s.2)
+      let front : AppendsPrefix mid new (text_behind (behind_record form n answer v [])) = subst (AppendsPrefix mid new) (sym d.1) (AppendsPrefix-more mid new (import_due n answer) d.0 s) in
+      (g.given, g.gives, in_part z v g.given start held new first rs (behind_record form n answer v []) mid (inr g.at_record) g.is so_far front)
+  import_stopped answer halt.Memory q s = absurd s
+
+by_reading : (why : CaptureCause) → ending_of_capture why ≡ ReadFault → why ≡ ReadFailed
+by_reading ReadFailed e = refl
+by_reading CaptureHeader e = cc
+by_reading CaptureShort e = cc
+by_reading RecordLength e = cc
+by_reading TooManyRecords e = cc
+by_reading BlockForm e = cc
+by_reading BlockLength e = cc
+by_reading Interface e = cc
+by_reading PacketTime e = cc
+
+-- a run that stops at a fault ends by a read fault only where the source failed
+pub read_failed : (n : ℕ) (f : CaptureFault) (h : Halt CaptureFault) (old new : Option (List ℕ)) → ImportHalts n (Err f) h old new → ending_of_halt h ≡ ReadFault → f.cause ≡ ReadFailed
+read_failed n f (halt.Fault why) old new p e = let same : f ≡ why = cc in rw same (by_reading why.cause e)
+read_failed n f halt.WriteFault old new p e = cc
+read_failed n f halt.Memory old new p e = absurd p

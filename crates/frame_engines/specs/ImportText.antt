@@ -1,5 +1,5 @@
 -- The text of `import`: a capture as a list of version 2, of which each record is the line of its frame, or a comment where no list can hold it.
-use Rattle.std.specs.Prelude.{◌≡◌, ◌≤◌, ◌⊎◌, ℕ, Bool, true, false, not, ◌&&◌, nat_le, nat_lt, List, [], ◌++◌, length, Option, codes, if◌then◌else◌}
+use Rattle.std.specs.Prelude.{◌≡◌, ◌≤◌, ◌⊎◌, ℕ, Bool, true, false, not, ◌&&◌, nat_le, nat_lt, List, [], ◌++◌, length, Option, Some, None, codes, if◌then◌else◌}
 use Rattle.std.specs.List.{flat_map, list_any}
 use Rattle.std.specs.Fmt.{decimal}
 use Rattle.std.specs.Io.KnownBytes.{Appends}
@@ -12,7 +12,7 @@ use Rattle.capture_core.specs.Capture.{Capture, CaptureRecord, capture, records_
 use Rattle.capture_core.specs.RecordAnswers.{WithinRecord}
 use Rattle.capture_core.specs.declared.form.CaptureForm.{CaptureForm}
 use Rattle.capture_core.specs.declared.capture_fault.CaptureCause.{CaptureCause}
-use Rattle.capture_core.specs.declared.capture_fault.CaptureCause.TheVariants.{CaptureHeader, CaptureShort, RecordLength, TooManyRecords, ReadFailed}
+use Rattle.capture_core.specs.declared.capture_fault.CaptureCause.TheVariants.{CaptureHeader, CaptureShort, RecordLength, TooManyRecords, ReadFailed, BlockForm, BlockLength, Interface, PacketTime}
 use Rattle.capture_core.specs.declared.capture_fault.CaptureFault.{CaptureFault}
 use Rattle.engine_core.specs.Run.{IsUntouched}
 use Rattle.engine_core.specs.declared.ending.Ending.{Ending}
@@ -64,6 +64,10 @@ ending_of_capture CaptureHeader = InputFault
 ending_of_capture CaptureShort = InputFault
 ending_of_capture RecordLength = InputFault
 ending_of_capture TooManyRecords = InputFault
+ending_of_capture BlockForm = InputFault
+ending_of_capture BlockLength = InputFault
+ending_of_capture Interface = InputFault
+ending_of_capture PacketTime = InputFault
 
 -- A record of the octets given, or what stands in its place: before it stand the header and these records. From its start on stand at most the octets of one record, and they read as the records after `number` others.
 pub record AtRecord (z : InputEnd) (given : List ℕ) (records : List (ℕ × CaptureRecord)) : Type 0 where
@@ -117,3 +121,16 @@ Imports before InputFault z given old new = ImportsToFault InputFault z given ol
 Imports before ReadFault z given old new = ImportsToFault ReadFault z given old new
 Imports before WriteFault z given old new = ImportsPrefix before z given old new
 Imports before Memory z given old new = ⊥
+
+-- the fault by which an import ended, if it ended by one
+abbrev pub import_ended_by : (before : InputEnd) (ending : Ending) (z : InputEnd) (given : List ℕ) (old new : Option (List ℕ)) → Imports before ending z given old new → Option CaptureFault
+import_ended_by before Done z given old new ends = None
+import_ended_by before Findings z given old new ends = None
+import_ended_by before InputFault z given old new ends = Some ends.why
+import_ended_by before ReadFault z given old new ends = Some ends.why
+import_ended_by before WriteFault z given old new ends = None
+import_ended_by before Memory z given old new ends = None
+
+-- what `import` leaves written of the octets that a reader gave, and the fault by which it ended
+abbrev pub ImportsTo : InputEnd → Ending → InputEnd → List ℕ → Option (List ℕ) → Option (List ℕ) → Option CaptureFault → Type 0
+ImportsTo before ending z given old new fault = (imported : Imports before ending z given old new) × (fault ≡ import_ended_by before ending z given old new imported)

@@ -4,7 +4,7 @@
 mod engines;
 pub mod texts;
 
-pub use crate::engines::check::check;
-pub use crate::engines::import::import;
-pub use crate::engines::rewrite::rewrite;
-pub use crate::engines::show::show;
+pub use crate::engines::check::{check, check_to_stop};
+pub use crate::engines::import::{import, import_to_stop};
+pub use crate::engines::rewrite::{rewrite, rewrite_to_stop};
+pub use crate::engines::show::{show, show_to_stop};

@@ -10,15 +10,14 @@ mod performing;
 ghost use Rattle.std.specs.Prelude.{IfOk};
 ghost use Rattle.words_core.specs.CommandLine.{HasPeriod, asked_by};
 
-use crate::input::{BLOCK, Input, Recent};
+use crate::input::{BLOCK, Input, Seen};
 use crate::output::Output;
-use crate::performing::perform;
+use crate::performing::{Performed, perform};
 use clap::error::ErrorKind as WordsErrorKind;
 use engine_core::{Ending, status};
 use list_core::{FromRead, ToWrite};
-use message_core::{Seen, advice, block_fault, stop_in};
+use message_core::{Advice, Failure, Stop, Unheard, advice_by_head, block_fault};
 use std::alloc::AllocError;
-use std::cell::RefCell;
 use std::io::{BufReader, ErrorKind, IsTerminal};
 use std::process::ExitCode;
 use std::{env, io};
@@ -46,14 +45,24 @@ fn advice_on(kind: WordsErrorKind) -> Option<&'static str> {
     }
 }
 
+// Says that a device failed, and why as far as it is known, and answers the exit status.
+#[inline(never)]
+fn answer_failure(rt: &HostRuntime, failure: Option<Failure>) -> u8 {
+    let _ = match failure {
+        Some(failure) => eprintln!(rt; "read or write fault: {failure}"),
+        None => rt.eprintln("read or write fault"),
+    };
+    status(&Ending::WriteFault)
+}
+
 // Says what the parser says of the words, and answers the exit status. Help that cannot be written is a write fault; a
 // mistake in the words stays one, whether it can be told or not.
 #[inline(never)]
 fn answer_words(rt: &HostRuntime, error: &clap::Error) -> u8 {
     let code = error.exit_code() as u8;
-    if error.print(rt).is_err() {
+    if let Err(failure) = error.print(rt) {
         return if code == 0 {
-            status(&Ending::WriteFault)
+            answer_failure(rt, Some(Failure::Write(failure)))
         } else {
             code
         };
@@ -96,7 +105,7 @@ fn task_of(rt: &HostRuntime, words: &[&str]) -> Result<Task, WordsError>
     read_words(rt.alloc(), words)
 }
 
-// Says on a terminal that input is awaited, and how it ends.
+// Says on a terminal what is awaited.
 #[inline(never)]
 fn say_awaited(rt: &HostRuntime, task: &Task) {
     if rt.stdin().is_terminal() {
@@ -106,7 +115,7 @@ fn say_awaited(rt: &HostRuntime, task: &Task) {
             _ => "list",
         };
         let _ = eprintln!(rt;
-            "goose {}: a {awaited} is awaited; end it with Ctrl-D",
+            "goose {}: waiting for a {awaited} on standard input (did you forget `< FILE`?)",
             task.name()
         );
     }
@@ -114,70 +123,124 @@ fn say_awaited(rt: &HostRuntime, task: &Task) {
 
 // Says why the input ended a run, and what to do about it, where something is known of that.
 #[inline(never)]
-fn say_stop(rt: &HostRuntime, command: &str, last: &[u8], recent: &Recent) {
-    let Some(stop) = stop_in(last) else {
-        return;
-    };
+fn say_stop(rt: &HostRuntime, command: &str, stop: &Stop, advice: Option<Advice>) {
     let _ = eprintln!(rt; "goose {command}: {stop}");
-    let seen = Seen {
-        head: recent.head(),
-        line: recent.line(stop.number),
-    };
-    if let Some(text) = advice(&stop, &seen) {
-        let _ = rt.eprintln(text);
+    if let Some(advice) = advice {
+        let _ = eprintln!(rt; "{advice}");
     }
 }
 
-// Runs a task from standard input to standard output, and answers the exit status.
-fn run(rt: &HostRuntime, task: Task) -> u8
-    requires { HasPeriod (asked_by task) }
-{
-    let Ok(output) = Output::new(rt.alloc(), io::writer(rt)) else {
-        return status(&Ending::Memory);
-    };
-    let Ok(recent) = Recent::new(rt.alloc()) else {
-        return status(&Ending::Memory);
-    };
-    let recent = RefCell::new(recent);
-    let input = Input {
-        reader: rt.reader(),
-        output: &output,
-        recent: &recent,
-    };
-    let Ok(input) = BufReader::with_capacity(rt.alloc(), BLOCK, input) else {
-        return status(&Ending::Memory);
-    };
-    say_awaited(rt, &task);
-    let command = task.name();
-    let mut writer = ToWrite::new(&output);
-    let ending = perform(rt.alloc(), task, FromRead::new(input), &mut writer).0;
-    let last = output.last_held();
-    let is_written = match ending {
-        Ending::WriteFault => true,
-        _ => output.hand_on().is_ok(),
-    };
-    output.let_go();
-    if !is_written {
-        return status(&Ending::WriteFault);
+// Why a device failed, if one did. A read may fail because what was written could not be handed on before.
+fn failure_of<W: io::Write + Drop>(output: &Output<W>, seen: &Seen) -> Option<Failure> {
+    match (output.failure(), seen.failure()) {
+        (Some(error), _) => Some(Failure::Write(error)),
+        (None, Some(error)) => Some(Failure::Read(error)),
+        (None, None) => None,
     }
-    if ending == Ending::InputFault {
-        say_stop(rt, command, last.as_slice(), &recent.into_inner());
-    }
-    status(&ending)
 }
 
-// Says which text is no control block, and why, and answers the exit status. The texts stand behind the name of the
-// command, with perhaps the mark `--` among them.
-#[inline(never)]
-fn answer_block(rt: &HostRuntime, words: &[&str], position: usize) -> u8 {
-    let _ = eprintln!(rt; "block {position} BlockForm");
+// How many blocks of which no frame came are told one by one.
+const MOST_UNHEARD: usize = 16;
+
+// A flag for each block of a replay, to be set where a frame of it comes; none where memory is refused, and then nothing is
+// said of them.
+fn flags_for(rt: &HostRuntime, task: &Task) -> Vec<bool> {
+    let mut flags = Vec::new(rt.alloc());
+    if let Task::Replay(blocks) = task {
+        let _ = flags.resize(blocks.len(), false);
+    }
+    flags
+}
+
+// The text of the block at a position. The texts stand behind the name of the command, with perhaps the mark `--` among them.
+fn block_text<'a>(words: &[&'a str], position: usize) -> Option<&'a str> {
     let mark = words
         .iter()
         .position(|word| *word == "--")
         .unwrap_or(words.len());
     let at = position.saturating_add(2);
     let at = if at >= mark { at.saturating_add(1) } else { at };
-    let fault = match words.get(at) {
+    words.get(at).copied()
+}
+
+// Says of which blocks no frame came.
+#[inline(never)]
+fn say_unheard(rt: &HostRuntime, words: &[&str], heard: &[bool]) {
+    let mut count = 0usize;
+    for (position, is_heard) in heard.iter().enumerate() {
+        if *is_heard {
+            continue;
+        }
+        if count < MOST_UNHEARD {
+            let text = block_text(words, position).unwrap_or("");
+            let _ = eprintln!(rt; "goose replay: {}", Unheard { position, text });
+        }
+        count = count.saturating_add(1);
+    }
+    if count > MOST_UNHEARD {
+        let _ = eprintln!(rt;
+            "goose replay: {} more were never seen",
+            count - MOST_UNHEARD
+        );
+    }
+}
+
+// Runs a task from standard input to standard output, and answers the exit status.
+fn run(rt: &HostRuntime, task: Task, words: &[&str]) -> u8
+    requires { HasPeriod (asked_by task) }
+{
+    let Ok(output) = Output::new(rt.alloc(), io::writer(rt)) else {
+        return status(&Ending::Memory);
+    };
+    let seen = Seen::new();
+    let input = Input {
+        reader: rt.reader(),
+        output: &output,
+        seen: &seen,
+    };
+    let Ok(input) = BufReader::with_capacity(rt.alloc(), BLOCK, input) else {
+        return status(&Ending::Memory);
+    };
+    say_awaited(rt, &task);
+    let command = task.name();
+    let mut heard = flags_for(rt, &task);
+    let mut writer = ToWrite::new(&output);
+    let Performed {
+        ending,
+        stop,
+        advice,
+        reader: _,
+    } = perform(
+        rt.alloc(),
+        task,
+        FromRead::new(input),
+        heard.as_mut_slice(),
+        &mut writer,
+    );
+    let is_written = ending != Ending::WriteFault && output.hand_on().is_ok();
+    let failure = failure_of(&output, &seen);
+    output.let_go();
+    match (ending, stop) {
+        _ if !is_written => answer_failure(rt, failure),
+        (Ending::ReadFault, _) => answer_failure(rt, failure),
+        (Ending::InputFault, Some(stop)) => {
+            let by_head = advice_by_head(&stop, seen.into_head().as_slice());
+            say_stop(rt, command, &stop, by_head.or(advice));
+            status(&ending)
+        }
+        (Ending::Done, _) => {
+            say_unheard(rt, words, heard.as_slice());
+            status(&ending)
+        }
+        _ => status(&ending),
+    }
+}
+
+// Says which text is no control block, and why, and answers the exit status.
+#[inline(never)]
+fn answer_block(rt: &HostRuntime, words: &[&str], position: usize) -> u8 {
+    let _ = eprintln!(rt; "block {position} BlockForm");
+    let fault = match block_text(words, position) {
         Some(text) => block_fault(text),
         None => None,
     };
@@ -194,24 +257,44 @@ fn answer(rt: &HostRuntime, texts: &[String]) -> u8 {
         return status(&Ending::Memory);
     };
     match task_of(rt, words.as_slice()) {
-        Ok(task) => run(rt, task),
+        Ok(task) => run(rt, task, words.as_slice()),
         Err(WordsError::Words(error)) => answer_words(rt, &error),
         Err(WordsError::Block(position)) => answer_block(rt, words.as_slice(), position),
         Err(WordsError::Memory) => status(&Ending::Memory),
     }
 }
 
-// Says on standard error what status 4 or 5 means; what status 2 does is said by then.
+// Says on standard error what status 5 means; what the others do is said by then.
 fn say(rt: &HostRuntime, code: u8) {
-    let _ = match code {
-        4 => rt.eprintln("read or write fault"),
-        5 => rt.eprintln("out of memory"),
-        _ => Ok(()),
-    };
+    if code == status(&Ending::Memory) {
+        let _ = rt.eprintln("out of memory");
+    }
+}
+
+/// How much of the stack any task takes, and some more.
+const STACK: usize = 393_216;
+
+// The last octet.
+#[inline(never)]
+fn last_of(octets: &[u8]) -> u8 {
+    match octets.last() {
+        Some(octet) => *octet,
+        None => 0,
+    }
+}
+
+// Takes as much of the stack as any task does, and gives it back. What a system gives to the stack it leaves there: so where
+// memory is limited, a task is refused what it asks for and can say so, and never lacks the stack.
+#[inline(never)]
+fn grow_stack() -> u8 {
+    let room = [0u8; STACK];
+    last_of(&room)
 }
 
 fn main(rt: HostRuntime) -> ExitCode {
     let code = match texts_of(&rt) {
+        // Nothing is written there, so the answer is 0.
+        Ok(_) if grow_stack() != 0 => status(&Ending::Memory),
         Ok(texts) => answer(&rt, texts.as_slice()),
         Err(2) => {
             let _ = rt.eprintln("error: each argument must be text in UTF-8, and one is not");

@@ -1,4 +1,4 @@
-//! What the program `goose` does: its engines, its command line, and the laws about what they write.
+//! The engines and the command line of `goose` under one name, for other crates, and laws about what they write.
 #![tactic(auto)]
 
 pub mod laws;
@@ -8,4 +8,4 @@ pub use engine_core::{Ending, status};
 pub use exchange_engines::{publish, replay, watch};
 pub use frame_engines::{check, import, rewrite, show};
 pub use inventory_engine::blocks;
-pub use words_core::{Task, WordsError, read_words};
+pub use words_core::{Options, Request, Task, WordsError, read_request, read_words};

@@ -1,51 +1,103 @@
 //! What to do about an input that ended a run, where its octets tell.
 
-use crate::stop::{Sort, Stop};
-use list_core::cut_first;
+use crate::stop::Stop;
+use capture_core::CaptureCause;
+use list_core::{ItemFault, ListCause, cut_first};
+use script_core::ScriptCause;
+use std::fmt;
 
-/// What a person can look at of an input that ended a run.
+/// What to do about an input that ended a run.
 #[derive(Clone, Copy, Debug)]
-pub struct Seen<'a> {
-    /// The first octets of the input, four where it has as many.
-    pub head: &'a [u8],
-    /// The line at which the run ended, without its LF, where it is kept.
-    pub line: Option<&'a [u8]>,
+pub enum Advice {
+    /// The input is compressed by gzip.
+    Gzip,
+    /// The input is compressed by xz.
+    Xz,
+    /// The input is compressed by zstd.
+    Zstd,
+    /// The input is compressed by bzip2.
+    Bzip2,
+    /// The input is a pcapng capture.
+    Pcapng,
+    /// The input is a libpcap capture, and the command reads something else.
+    Capture,
+    /// The input begins with the byte order mark of UTF-8.
+    ByteOrderMark,
+    /// The input begins with a byte order mark of UTF-16.
+    Utf16,
+    /// The line has a CR inside.
+    CarriageReturns,
+    /// The line of a list has a tab.
+    Tabs,
+    /// The line ends with a space.
+    Blanks,
+    /// The line is `V2`, and not the first.
+    SecondVersion,
+    /// The octets of a frame have something between them.
+    Apart,
+    /// The line is of a script, in a list.
+    ScriptAsList,
+    /// The line is of a list, in a script.
+    ListAsScript,
+    /// The line is not recognised, in a list.
+    ListForms,
+    /// The line is not recognised, in a script.
+    ScriptForms,
+    /// The capture has too many records.
+    Split,
 }
 
-const PCAPNG: &str =
-    "The input is a pcapng capture: make a libpcap capture of it by editcap -F pcap FILE - or tcpdump -r FILE -w -, and give that to goose import";
+impl fmt::Display for Advice {
+    fn fmt<W: fmt::Write>(&self, f: &mut fmt::Formatter<W>) -> fmt::Result {
+        f.write_str(match self {
+            Advice::Gzip =>
+                "The input is compressed by gzip: zcat FILE | goose .. reads what is in it",
+            Advice::Xz =>
+                "The input is compressed by xz: xzcat FILE | goose .. reads what is in it",
+            Advice::Zstd =>
+                "The input is compressed by zstd: zstdcat FILE | goose .. reads what is in it",
+            Advice::Bzip2 =>
+                "The input is compressed by bzip2: bzcat FILE | goose .. reads what is in it",
+            Advice::Pcapng =>
+                "The input is a pcapng capture: make a libpcap capture of it by editcap -F pcap FILE - or tcpdump -r FILE -w -, and give that to goose import",
+            Advice::Capture => "The input is a libpcap capture: goose import writes it as a list",
+            Advice::ByteOrderMark =>
+                "The input begins with a byte order mark, which no list or script has: tail -c +4 FILE leaves it out",
+            Advice::Utf16 =>
+                "The input is a text in UTF-16: iconv -f UTF-16 -t ASCII FILE makes a list or script of it",
+            Advice::CarriageReturns =>
+                "A line ends with LF, and here CR is in its place: tr '\\r' '\\n' < FILE fixes that",
+            Advice::Tabs =>
+                "Fields are divided by one space, and here is a tab: tr '\\t' ' ' < FILE fixes that",
+            Advice::Blanks => "The line ends with a space: sed 's/ *\\r*$//' FILE leaves it out",
+            Advice::SecondVersion =>
+                "V2 must be the first line: join lists of one version alone, with V2 once",
+            Advice::Apart =>
+                "The octets of a frame are written in one piece, with nothing between them",
+            Advice::ScriptAsList =>
+                "The input is a script: goose publish writes its frames as a list",
+            Advice::ListAsScript =>
+                "The line is a list's, and publish reads a script: 'control,..' comes first",
+            Advice::ListForms =>
+                "A line is 'F TIME OCTETS', 'C TIME', 'M TIME on', 'M TIME off', '# ..' or empty",
+            Advice::ScriptForms =>
+                "First comes 'control,..', then 'step,WAIT,LIVE', then 'change,TIME,T,MEMBERS' and 'poll,TIME'",
+            Advice::Split =>
+                "Split it: editcap -F pcap -c 900000 FILE PART makes captures of 900000 records; docs/RECIPES.md has the rest",
+        })
+    }
+}
 
-const CAPTURE: &str = "The input is a libpcap capture: goose import writes it as a list";
+/// How many octets of a line are looked at: one more than a line may have.
+const LOOKED_AT: usize = 4097;
 
-const BYTE_ORDER_MARK: &str =
-    "The input begins with a byte order mark, which no list or script has: tail -c +4 FILE leaves it out";
-
-const UTF_16: &str =
-    "The input is a text in UTF-16: iconv -f UTF-16 -t ASCII FILE makes a list or script of it";
-
-const CARRIAGE_RETURNS: &str =
-    "A line ends with LF, and here CR is in its place: tr '\\r' '\\n' < FILE fixes that";
-
-const TABS: &str =
-    "Fields are divided by one space, and here is a tab: tr '\\t' ' ' < FILE fixes that";
-
-const BLANKS: &str = "The line ends with a space: sed 's/ *\\r*$//' FILE leaves it out";
-
-const SECOND_VERSION: &str =
-    "V2 must be the first line: join lists of one version alone, with V2 once";
-
-const APART: &str = "The octets of a frame are written in one piece, with nothing between them";
-
-const SCRIPT_AS_LIST: &str = "The input is a script: goose publish writes its frames as a list";
-
-const LIST_AS_SCRIPT: &str =
-    "The line is a list's, and publish reads a script: 'control,..' comes first";
-
-const LIST_FORMS: &str =
-    "A line is 'F TIME OCTETS', 'C TIME', 'M TIME on', 'M TIME off', '# ..' or empty";
-
-const SCRIPT_FORMS: &str =
-    "First comes 'control,..', then 'step,WAIT,LIVE', then 'change,TIME,T,MEMBERS' and 'poll,TIME'";
+/// How files begin that are compressed: the first octets, four at most, and what to do.
+const COMPRESSED: [(&[u8], Advice); 4] = [
+    (&[0x1F, 0x8B], Advice::Gzip),
+    (&[0xFD, 0x37, 0x7A, 0x58], Advice::Xz),
+    (&[0x28, 0xB5, 0x2F, 0xFD], Advice::Zstd),
+    (&[0x42, 0x5A, 0x68], Advice::Bzip2),
+];
 
 /// How a pcapng capture begins.
 const PCAPNG_HEAD: [u8; 4] = [0x0A, 0x0D, 0x0D, 0x0A];
@@ -58,24 +110,34 @@ const CAPTURE_HEADS: [[u8; 4]; 4] = [
     [0x4D, 0x3C, 0xB2, 0xA1],
 ];
 
-// What the first octets tell.
-fn by_head(sort: Sort, head: &[u8]) -> Option<&'static str> {
-    if head == PCAPNG_HEAD.as_slice() {
-        return Some(PCAPNG);
-    }
-    if sort == Sort::Capture {
-        return None;
-    }
+// What the first octets of a text tell.
+fn by_text(head: &[u8]) -> Option<Advice> {
     if CAPTURE_HEADS.iter().any(|magic| head == magic.as_slice()) {
-        return Some(CAPTURE);
+        return Some(Advice::Capture);
     }
     if head.starts_with(&[0xEF, 0xBB, 0xBF]) {
-        return Some(BYTE_ORDER_MARK);
+        return Some(Advice::ByteOrderMark);
     }
     if head.starts_with(&[0xFF, 0xFE]) || head.starts_with(&[0xFE, 0xFF]) {
-        return Some(UTF_16);
+        return Some(Advice::Utf16);
     }
     None
+}
+
+/// What to do about an input that begins with these octets, four where it has as many, if they tell.
+pub fn advice_by_head(stop: &Stop, head: &[u8]) -> Option<Advice> {
+    for (first, advice) in COMPRESSED {
+        if head.starts_with(first) {
+            return Some(advice);
+        }
+    }
+    if head == PCAPNG_HEAD.as_slice() {
+        return Some(Advice::Pcapng);
+    }
+    match stop {
+        Stop::Capture(_) => None,
+        _ => by_text(head),
+    }
 }
 
 // Whether the line of a frame has a time, and something between its octets.
@@ -99,53 +161,73 @@ fn is_of_list(line: &[u8]) -> bool {
     line.starts_with(b"F ") || line.starts_with(b"C ") || line.starts_with(b"M ")
 }
 
-// What the octets of a line without its CR tell.
-fn by_line(stop: &Stop<'_>, line: &[u8]) -> Option<&'static str> {
+// What the octets of a line tell, of a list or of a script.
+fn by_octets(is_list: bool, line: &[u8]) -> Option<Advice> {
     if line.contains(&b'\r') {
-        return Some(CARRIAGE_RETURNS);
+        return Some(Advice::CarriageReturns);
     }
-    if stop.name == "LineTooLong" {
-        return None;
-    }
-    if stop.sort == Sort::List && line.contains(&b'\t') {
-        return Some(TABS);
+    if is_list && line.contains(&b'\t') {
+        return Some(Advice::Tabs);
     }
     if line.ends_with(b" ") {
-        return Some(BLANKS);
+        return Some(Advice::Blanks);
     }
     if line == b"V2".as_slice() {
-        return Some(SECOND_VERSION);
+        return Some(Advice::SecondVersion);
     }
-    if stop.sort == Sort::List && is_apart(line) {
-        return Some(APART);
+    if is_list && is_apart(line) {
+        return Some(Advice::Apart);
     }
     None
 }
 
-// What to do where the octets tell nothing more.
-fn by_form(stop: &Stop<'_>, line: &[u8]) -> Option<&'static str> {
-    match stop.name {
-        "LineForm" if line.starts_with(b"control,") => Some(SCRIPT_AS_LIST),
-        "LineForm" => Some(LIST_FORMS),
-        "ScriptForm" if is_of_list(line) => Some(LIST_AS_SCRIPT),
-        "ScriptForm" => Some(SCRIPT_FORMS),
+// What to do about a line of a list.
+fn on_list(cause: ListCause, line: &[u8]) -> Option<Advice> {
+    match by_octets(true, line) {
+        Some(advice) => Some(advice),
+        None if cause != ListCause::LineForm => None,
+        None if line.starts_with(b"control,") => Some(Advice::ScriptAsList),
+        None => Some(Advice::ListForms),
+    }
+}
+
+// What to do about a line of a script.
+fn on_script(cause: ScriptCause, line: &[u8]) -> Option<Advice> {
+    match by_octets(false, line) {
+        Some(advice) => Some(advice),
+        None if cause != ScriptCause::ScriptForm => None,
+        None if is_of_list(line) => Some(Advice::ListAsScript),
+        None => Some(Advice::ScriptForms),
+    }
+}
+
+// What to do about a line that is too long, or one line too many.
+fn on_length(cause: ListCause, line: &[u8]) -> Option<Advice> {
+    match cause {
+        ListCause::LineTooLong if line.contains(&b'\r') => Some(Advice::CarriageReturns),
         _ => None,
     }
 }
 
-/// What to do about an input that ended a run, where there is something.
-pub fn advice(stop: &Stop<'_>, seen: &Seen<'_>) -> Option<&'static str> {
-    if let Some(advice) = by_head(stop.sort, seen.head) {
-        return Some(advice);
-    }
-    match (stop.sort, stop.name) {
-        (Sort::Capture, _) | (Sort::Blocks, _) | (_, "ListTooLong") => return None,
-        _ => {}
-    }
-    let line = seen.line.unwrap_or(b"");
-    let line = line.strip_suffix(b"\r").unwrap_or(line);
-    match by_line(stop, line) {
-        Some(advice) => Some(advice),
-        None => by_form(stop, line),
+// The line with which these octets begin, without its CR, or the front of one that is too long.
+fn line_in(octets: &[u8]) -> &[u8] {
+    let (line, _) = cut_first(octets, b'\n');
+    let line = &line[..line.len().min(LOOKED_AT)];
+    line.strip_suffix(b"\r").unwrap_or(line)
+}
+
+/// What to do about what stands where the input ended the run, if that tells. The octets are those that are held from the
+/// start of its line on, or none.
+pub fn advice_by_line(stop: &Stop, octets: &[u8]) -> Option<Advice> {
+    let line = line_in(octets);
+    match stop {
+        Stop::List(fault) => match fault.cause {
+            ListCause::LineTooLong | ListCause::ListTooLong => on_length(fault.cause, line),
+            cause => on_list(cause, line),
+        },
+        Stop::Script(ItemFault::Lines(fault)) => on_length(fault.cause, line),
+        Stop::Script(ItemFault::Line(_, cause)) => on_script(*cause, line),
+        Stop::Capture(fault) if fault.cause == CaptureCause::TooManyRecords => Some(Advice::Split),
+        Stop::Capture(_) | Stop::SameBlockTwice(_) => None,
     }
 }

@@ -4,8 +4,12 @@
 
 mod advising;
 mod block_fields;
+mod failure;
 mod stop;
+mod unheard;
 
-pub use crate::advising::{Seen, advice};
+pub use crate::advising::{Advice, advice_by_head, advice_by_line};
 pub use crate::block_fields::{BlockFault, block_fault};
-pub use crate::stop::{Sort, Stop, stop_in};
+pub use crate::failure::Failure;
+pub use crate::stop::Stop;
+pub use crate::unheard::Unheard;

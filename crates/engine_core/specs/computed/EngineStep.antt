@@ -1,5 +1,5 @@
 -- What one answer of a reader of items makes an engine write.
-use Rattle.std.specs.Prelude.{◌≡◌, ◌⊎◌, ℕ, Bool, List, [], ◌∷◌, ◌++◌, Option, Some, None, Result, Ok, Err, false}
+use Rattle.std.specs.Prelude.{◌≡◌, ◌⊎◌, ℕ, Bool, List, [], ◌∷◌, ◌++◌, Option, Some, None, Result, Ok, Err, true, false}
 use Rattle.std.specs.Io.KnownBytes.{Appends}
 use Rattle.list_core.specs.Device.{AppendsPrefix}
 use Rattle.list_core.specs.declared.line_rules.ItemFault.{ItemFault}
@@ -11,6 +11,8 @@ use Rattle.engine_core.specs.declared.ending.Ending.{Ending}
 use Rattle.engine_core.specs.declared.ending.Ending.TheVariants.{WriteFault, Memory}
 use Rattle.engine_core.specs.declared.running.Next.{Next}
 use Rattle.engine_core.specs.declared.running.Next.TheVariants as next
+use Rattle.engine_core.specs.declared.stopped.Halt.{Halt}
+use Rattle.engine_core.specs.declared.stopped.Halt.TheVariants as halt
 use Rattle.engine_core.specs.Ending.{ending_at}
 use Rattle.engine_core.specs.EngineText.{Text, step_text}
 
@@ -50,27 +52,23 @@ closes t before (Err None) = None
 abbrev pub WantsFor : {X C : Type 0} → Text X C → List (ℕ × X) → Answer X C → Type 0
 WantsFor t before answer = (answer ≡ Err None) ⊎ (due t before answer ≡ [] → ⊥)
 
--- memory was wanted, and refused: nothing was written
-pub record StopsUnwritten (wants : Type 0) (ending : Ending) (old new : Option (List ℕ)) : Type 0 where
-  pub for_memory : ending ≡ Memory
-  pub wanted : wants
-  pub unwritten : new ≡ old
+-- The run stops: memory was wanted and nothing was written; the writer failed at a prefix of the text; or the text was written, and ends by the fault that is handed out.
+abbrev pub Stops : {C : Type 0} → Type 0 → List ℕ → Option (ItemFault C) → Halt (ItemFault C) → Option (List ℕ) → Option (List ℕ) → Type 0
+Stops wants text closing (halt.Fault why) old new = (closing ≡ Some why) × Appends old new text
+Stops wants text closing halt.WriteFault old new = AppendsPrefix old new text
+Stops wants text closing halt.Memory old new = wants × (new ≡ old)
 
--- the writer failed at a prefix of the text
-pub record StopsInText (text : List ℕ) (ending : Ending) (old new : Option (List ℕ)) : Type 0 where
-  pub by_writer : ending ≡ WriteFault
-  pub written : AppendsPrefix old new text
+-- the ending of a run that stops
+abbrev pub ending_by_halt : {C : Type 0} → Halt (ItemFault C) → Ending
+ending_by_halt (halt.Fault why) = ending_at why
+ending_by_halt halt.WriteFault = WriteFault
+ending_by_halt halt.Memory = Memory
 
--- the text was written, and ends by a fault
-pub record StopsByFault {C : Type 0} (text : List ℕ) (closing : Option (ItemFault C)) (ending : Ending) (old new : Option (List ℕ)) : Type 0 where
-  pub why : ItemFault C
-  pub closes : closing ≡ Some why
-  pub has_ending : ending ≡ ending_at why
-  pub written : Appends old new text
-
--- the run stops: for want of memory, because its writer failed, or by a fault
-abbrev pub Stops : {C : Type 0} → Type 0 → List ℕ → Option (ItemFault C) → Ending → Option (List ℕ) → Option (List ℕ) → Type 0
-Stops wants text closing ending old new = StopsUnwritten wants ending old new ⊎ (StopsInText text ending old new ⊎ StopsByFault text closing ending old new)
+-- the fault that it hands out
+abbrev pub fault_by_halt : {F : Type 0} → Halt F → Option F
+fault_by_halt (halt.Fault why) = Some why
+fault_by_halt halt.WriteFault = None
+fault_by_halt halt.Memory = None
 
 -- an item was answered, and its text was written; the engine stands after this item too
 pub record ItemWritten {X C : Type 0} (t : Text X C) (stands : List (ℕ × X) → Type 0) (before : List (ℕ × X)) (answer : Answer X C) (found : Bool) (old new : Option (List ℕ)) : Type 0 where
@@ -82,13 +80,19 @@ pub record ItemWritten {X C : Type 0} (t : Text X C) (stands : List (ℕ × X) �
   pub stands_after : stands (before ++ item ∷ [])
 
 -- what is written after an answer, and how the run goes on: an item was written, the list has ended, or the run stops
-abbrev pub StepWrites : {X C : Type 0} → Text X C → (List (ℕ × X) → Type 0) → List (ℕ × X) → Answer X C → Next → Option (List ℕ) → Option (List ℕ) → Type 0
+abbrev pub StepWrites : {X C : Type 0} → Text X C → (List (ℕ × X) → Type 0) → List (ℕ × X) → Answer X C → Next (ItemFault C) → Option (List ℕ) → Option (List ℕ) → Type 0
 StepWrites t stands before answer (next.Wrote found) old new = ItemWritten t stands before answer found old new
 StepWrites t stands before answer next.Ended old new = (answer ≡ Ok None) × (new ≡ old)
-StepWrites t stands before answer (next.Stop ending) old new = Stops (WantsFor t before answer) (due t before answer) (closes t before answer) ending old new
+StepWrites t stands before answer (next.Stop halt) old new = Stops (WantsFor t before answer) (due t before answer) (closes t before answer) halt old new
 
--- whether the run stops, by such an ending
-abbrev pub stops_by : (Ending → Bool) → Next → Bool
+-- whether a run stops because its writer failed
+abbrev pub is_failed_write : {F : Type 0} → Halt F → Bool
+is_failed_write (halt.Fault why) = false
+is_failed_write halt.WriteFault = true
+is_failed_write halt.Memory = false
+
+-- whether the run stops, for such a reason
+abbrev pub stops_by : {F : Type 0} → (Halt F → Bool) → Next F → Bool
 stops_by is (next.Wrote found) = false
 stops_by is next.Ended = false
-stops_by is (next.Stop ending) = is ending
+stops_by is (next.Stop halt) = is halt

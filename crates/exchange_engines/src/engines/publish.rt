@@ -8,15 +8,16 @@ ghost use Rattle.publish_core.specs.State.{PublisherStandsAfter};
 ghost use Rattle.script_core.specs.declared.script.ScriptItem.{ScriptItem as SpecItem};
 ghost use Rattle.script_core.specs.declared.script.ScriptLines.TheVariants.{First};
 ghost use Rattle.engine_core.specs.Ending.{is_write_fault};
-ghost use Rattle.engine_core.specs.Run.{WritesSome};
+ghost use Rattle.list_core.specs.ItemReader.{item_state};
+ghost use Rattle.engine_core.specs.Run.{WritesSome, WritesSomeTo};
 ghost use Rattle.exchange_engines.specs.PublishText.{IsPublishText, IsScriptSound, script_cause};
 ghost use Rattle.exchange_engines.specs.computed.PublishStep.{Begins, Holds, Progress, Runs, TakesCall, TakesItem, progress_after, publish_text, setup_cause};
 ghost use Rattle.script_core.specs.Script.{script_rules};
 
 use crate::texts::script::put_script_fault_line;
 use arrayvec::ArrayVec;
-use engine_core::{Ending, Engine, run};
-use frame_core::{ItemFault, LineError, Sink, Source};
+use engine_core::{Ending, Engine, Stopped, run_to_stop};
+use frame_core::{ItemFault, ItemReader, LineError, Sink, Source};
 use mms_data::{UtcTime, ValueList};
 use publish_core::{Control, MOST_STEPS, PublishFault, Publisher, Step, Table};
 use script_core::{ScriptCause, ScriptItem, ScriptLines};
@@ -276,12 +277,9 @@ impl<A: Allocator> Engine<A> for Publishing<A> {
 /// Where the script has a fault, or a change is refused, the last line is a comment with the number
 /// of the line and the cause, and the run ends with `InputFault`.
 ///
-/// The reader is Open and the writer has not failed. The text is that of the octets that the reader
-/// gave: whole at `Done`, `InputFault` and `ReadFault`, a prefix of it at `WriteFault`, and the line
-/// `V2` with the lines of the earlier calls at `Memory`. At `Memory` and `WriteFault` at most 8,192
-/// of the octets given stand from the start of the line on at which the run stopped. `Memory` is for
-/// a control line, a change or a line to be written, never for a step, for a poll that gives no frame
-/// or for the script's end.
+/// The reader is Open and the writer has not failed. The whole text is written at `Done`, `InputFault`
+/// and `ReadFault`, a prefix of it at `WriteFault`, and its first lines at `Memory`: docs/PROOFS.md says
+/// it in full, under "What a run leaves written".
 #[inline(never)]
 pub fn publish<A: Allocator + Copy, R: Source, W: Sink>(
     alloc: A,
@@ -295,7 +293,24 @@ pub fn publish<A: Allocator + Copy, R: Source, W: Sink>(
     ensures read_fault { result.0 ≡ Ending.ReadFault → R.ending result.1 ≡ InputEnd.Failed }
     ensures fault { W.failed writer.new ≡ is_write_fault result.0 }
 {
-    run(
+    publish_to_stop(alloc, reader, writer).into_source()
+}
+
+/// As `publish`, and hands out the fault by which it ended, and the reader of the script.
+#[inline(never)]
+pub fn publish_to_stop<A: Allocator + Copy, R: Source, W: Sink>(
+    alloc: A,
+    reader: R,
+    writer: &mut W,
+) -> Stopped<ItemReader<R, ScriptLines>, ItemFault<ScriptCause>>
+    requires open { R.ending reader ≡ InputEnd.Open }
+    requires works { W.failed writer.old ≡ false }
+    ensures text { (given : List ℕ) × GivesOctets (R.left reader) (item_state R.left R.ending result.reader).left given
+        × WritesSomeTo (IsPublishText {A = A}) script_rules First result.ending (item_state R.left R.ending result.reader).ending given (W.contents writer.old) (W.contents writer.new) result.fault }
+    ensures read_fault { result.ending ≡ Ending.ReadFault → (item_state R.left R.ending result.reader).ending ≡ InputEnd.Failed }
+    ensures fault { W.failed writer.new ≡ is_write_fault result.ending }
+{
+    run_to_stop(
         alloc,
         ScriptLines::First,
         Publishing {

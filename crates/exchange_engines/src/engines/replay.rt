@@ -1,29 +1,59 @@
 //! `replay`: the entries of a subscriber, one line an entry.
-ghost use Rattle.std.specs.Prelude.{◌≡◌, ◌++◌, ℕ, List, false, codes};
+ghost use Rattle.std.specs.Prelude.{◌≡◌, ◌++◌, ℕ, List, false, option_map, codes};
 ghost use Rattle.std.specs.Fmt.{decimal};
 ghost use Rattle.list_core.specs.declared.device.InputEnd.{InputEnd};
 ghost use Rattle.list_core.specs.Device.{GivesOctets};
+ghost use Rattle.list_core.specs.ItemReader.{item_state};
 ghost use Rattle.engine_core.specs.Ending.{is_write_fault};
 ghost use Rattle.text_core.specs.Pieces.{AppendsText};
-ghost use Rattle.exchange_engines.specs.ReplayText.{ReplayWrites};
+ghost use Rattle.exchange_engines.specs.ReplayText.{ReplayWrites, ReplayWritesTo, twice_fault};
 ghost use Rattle.exchange_engines.specs.computed.ReplayStep.{kept_after, replay_text};
 
 use crate::texts::entry::put_entries;
-use engine_core::{Ending, Engine, refuse, run};
-use frame_core::{Event, EventLines, ItemFault, LineError, ListCause, Sink, Source, fault_of_list};
+use engine_core::{Ending, Engine, Stopped, refuse, run_to_stop};
+use frame_core::{
+    Event, EventLines, ItemFault, ItemReader, LineError, ListCause, Sink, Source, fault_of_list,
+};
 use std::alloc::{AllocError, Allocator};
 use subscribe_core::{Block, Entry, SubscribeFault, Subscriber};
 use text_core::line::put_list_fault_line;
 use text_core::pieces::put_decimal;
 
-/// What `replay` writes: what a subscriber answers. The memory of the entries of an event is used again for those of the next.
-#[derive(Drop)]
-struct Replaying<A: Allocator> {
-    subscriber: Subscriber<A>,
-    entries: Vec<Entry<A>, A>,
+// The position of the block that an entry speaks of.
+fn block_of<A: Allocator>(entry: &Entry<A>) -> Option<usize> {
+    match entry {
+        Entry::Expired { block }
+        | Entry::Switched { block }
+        | Entry::Act { block, .. }
+        | Entry::Refreshed { block, .. }
+        | Entry::Repeated { block, .. }
+        | Entry::Older { block, .. }
+        | Entry::Refused { block, .. } => Some(*block),
+        Entry::NotSubscribed | Entry::Sampled | Entry::Faulty(_) => None,
+    }
 }
 
-impl<A: Allocator + Copy> Engine<A> for Replaying<A> {
+// Sets the flags of the blocks that entries speak of.
+fn note<A: Allocator>(heard: &mut [bool], entries: &[Entry<A>]) {
+    for entry in entries {
+        if let Some(block) = block_of(entry) {
+            if let Some(flag) = heard.get_mut(block) {
+                *flag = true;
+            }
+        }
+    }
+}
+
+/// What `replay` writes: what a subscriber answers. The memory of the entries of an event is used again for those of the next.
+#[derive(Drop)]
+struct Replaying<'a, A: Allocator> {
+    subscriber: Subscriber<A>,
+    entries: Vec<Entry<A>, A>,
+    /// Whether a block, by its position, has had an entry, for as many blocks as there are flags.
+    heard: &'a mut [bool],
+}
+
+impl<A: Allocator + Copy> Engine<A> for Replaying<'_, A> {
     type Item = Event<A>;
 
     type Cause = ListCause;
@@ -46,7 +76,10 @@ impl<A: Allocator + Copy> Engine<A> for Replaying<A> {
             Err(error) => return Err(LineError::Memory(error)),
         }
         match put_entries(line, number, self.entries.as_slice()) {
-            Ok(()) => Ok(false),
+            Ok(()) => {
+                note(self.heard, self.entries.as_slice());
+                Ok(false)
+            }
             Err(error) => Err(LineError::Memory(error)),
         }
     }
@@ -73,6 +106,67 @@ fn put_position<A: Allocator>(
     line.extend_from_slice(b"\n")
 }
 
+/// Why a replay ended before its list did.
+#[derive(Drop)]
+pub enum ReplayFault {
+    /// The list has this fault.
+    List(ItemFault<ListCause>),
+    /// The block at this position, from 0, has the APPID and the gocbRef of an earlier one. It is the first such.
+    SameBlockTwice(usize),
+}
+
+// The fault by which a replay ends so that was given a block twice.
+fn fault_of_twice(ending: Ending, position: usize) -> Option<ReplayFault>
+    ensures { result ≡ twice_fault ending position }
+{
+    match ending {
+        Ending::InputFault => Some(ReplayFault::SameBlockTwice(position)),
+        _ => None,
+    }
+}
+
+// What a replay hands out that read nothing.
+fn unread<R: Source>(
+    ending: Ending,
+    fault: Option<ReplayFault>,
+    reader: R,
+) -> Stopped<ItemReader<R, EventLines>, ReplayFault>
+    ensures ending { result.ending ≡ ending }
+    ensures fault { result.fault ≡ fault }
+    ensures left { (item_state R.left R.ending result.reader).left ≡ R.left reader }
+    ensures source { (item_state R.left R.ending result.reader).ending ≡ R.ending reader }
+{
+    Stopped {
+        ending,
+        fault,
+        reader: ItemReader::new(reader, EventLines::First),
+    }
+}
+
+// What a replay hands out that ran over its list.
+fn replayed<R>(
+    stopped: Stopped<ItemReader<R, EventLines>, ItemFault<ListCause>>,
+) -> Stopped<ItemReader<R, EventLines>, ReplayFault>
+    ensures ending { result.ending ≡ stopped.ending }
+    ensures fault { result.fault ≡ option_map ReplayFault.List stopped.fault }
+    ensures reader { result.reader ≡ stopped.reader }
+{
+    let Stopped {
+        ending,
+        fault,
+        reader,
+    } = stopped;
+    let fault = match fault {
+        Some(fault) => Some(ReplayFault::List(fault)),
+        None => None,
+    };
+    Stopped {
+        ending,
+        fault,
+        reader,
+    }
+}
+
 /// Writes the entries that the events of a list have for a subscriber of these control blocks, one line
 /// an entry: which frames it acts on, which it refuses and why, and when a block expires or is switched
 /// between real and simulated frames. Where the list has a fault, a last line tells it.
@@ -80,12 +174,9 @@ fn put_position<A: Allocator>(
 /// A block has the APPID and the gocbRef of no earlier one; else that is written in one line, nothing is
 /// read, and the run ends with `InputFault`.
 ///
-/// The reader is Open and the writer has not failed. The text is that of the octets that the reader
-/// gave: whole at `Done`, `InputFault` and `ReadFault`, a prefix of it at `WriteFault`, and whole lines of
-/// the earlier events at `Memory`. At these two and at a fault at most 8,192 of the octets given stand
-/// from the start of the line on at which the run stopped. `Memory` is for a frame or a line to be
-/// written, never for a clock moment or a mode without entries or for the list's end; or it is for what the
-/// subscriber keeps of its blocks, and then nothing was read.
+/// The reader is Open and the writer has not failed. The whole text is written at `Done`, `InputFault`
+/// and `ReadFault`, a prefix of it at `WriteFault`, and its first lines at `Memory`, or nothing where that
+/// is for the blocks: docs/PROOFS.md says it in full, under "What a run leaves written".
 #[inline(never)]
 pub fn replay<A: Allocator + Copy, R: Source, W: Sink>(
     alloc: A,
@@ -100,25 +191,49 @@ pub fn replay<A: Allocator + Copy, R: Source, W: Sink>(
     ensures read_fault { result.0 ≡ Ending.ReadFault → R.ending result.1 ≡ InputEnd.Failed }
     ensures fault { W.failed writer.new ≡ is_write_fault result.0 }
 {
+    replay_to_stop(alloc, reader, blocks, &mut [], writer).into_source()
+}
+
+/// As `replay`, and hands out the fault by which it ended, and the reader of the events. Of each block that has had an entry,
+/// which a frame of it has, the flag at its position is set, if there is one.
+#[inline(never)]
+pub fn replay_to_stop<A: Allocator + Copy, R: Source, W: Sink>(
+    alloc: A,
+    reader: R,
+    blocks: Vec<Block<A>, A>,
+    heard: &mut [bool],
+    writer: &mut W,
+) -> Stopped<ItemReader<R, EventLines>, ReplayFault>
+    requires open { R.ending reader ≡ InputEnd.Open }
+    requires works { W.failed writer.old ≡ false }
+    ensures text { (given : List ℕ) × GivesOctets (R.left reader) (item_state R.left R.ending result.reader).left given
+        × ReplayWritesTo blocks.items result.ending (item_state R.left R.ending result.reader).ending given (W.contents writer.old) (W.contents writer.new) result.fault }
+    ensures read_fault { result.ending ≡ Ending.ReadFault → (item_state R.left R.ending result.reader).ending ≡ InputEnd.Failed }
+    ensures fault { W.failed writer.new ≡ is_write_fault result.ending }
+{
     match Subscriber::new(alloc, blocks) {
-        Ok(subscriber) => run(
+        Ok(subscriber) => replayed(run_to_stop(
             alloc,
             EventLines::First,
             Replaying {
                 subscriber,
                 entries: Vec::new(alloc),
+                heard,
             },
             b"",
             reader,
             writer,
-        ),
+        )),
         Err(SubscribeFault::SameBlockTwice(position)) => {
             let mut line = Vec::new(alloc);
             match put_position(&mut line, b"blocks SameBlockTwice ", position) {
-                Ok(()) => refuse(line.as_slice(), reader, writer),
-                Err(_) => (Ending::Memory, reader),
+                Ok(()) => {
+                    let (ending, reader) = refuse(line.as_slice(), reader, writer);
+                    unread(ending, fault_of_twice(ending, position), reader)
+                }
+                Err(_) => unread(Ending::Memory, None, reader),
             }
         }
-        Err(SubscribeFault::Memory(_)) => (Ending::Memory, reader),
+        Err(SubscribeFault::Memory(_)) => unread(Ending::Memory, None, reader),
     }
 }

@@ -8,15 +8,16 @@ ghost use Rattle.pdu_core.specs.SampledViews.{asdu_of, asdus_left};
 ghost use Rattle.block_core.specs.Period.{IsPeriod};
 ghost use Rattle.subscribe_core.specs.computed.WatchAnswers.{seen_all};
 ghost use Rattle.engine_core.specs.Ending.{is_write_fault};
-ghost use Rattle.engine_core.specs.Run.{WritesSome};
+ghost use Rattle.list_core.specs.ItemReader.{item_state};
+ghost use Rattle.engine_core.specs.Run.{WritesSome, WritesSomeTo};
 ghost use Rattle.exchange_engines.specs.WatchText.{IsWatchText, counts, counts_of, is_unexpected as unexpected, sample_at, samples_from, samples_of, watched};
 ghost use Rattle.exchange_engines.specs.computed.WatchStep.{SamplesAppended, last_of, watch_text};
 
 use crate::texts::watched::put_sample;
-use engine_core::{Ending, Engine, run};
+use engine_core::{Ending, Engine, Stopped, run_to_stop};
 use frame_core::{
-    ApduView, Event, EventKind, EventLines, ItemFault, LineError, ListCause, Sink, Source,
-    fault_of_list, view_frame,
+    ApduView, Event, EventKind, EventLines, ItemFault, ItemReader, LineError, ListCause, Sink,
+    Source, fault_of_list, view_frame,
 };
 use pdu_core::{AsduView, SvView};
 use std::alloc::{AllocError, Allocator};
@@ -162,11 +163,9 @@ impl<A: Allocator> Engine<A> for Watching<'_> {
 /// Ends with `Findings` where a line other than `first` or `next` was written, and else with `Done`,
 /// unless the list has a fault.
 ///
-/// The reader is Open and the writer has not failed. The text is that of the octets that the reader
-/// gave: whole at `Done`, `Findings`, `InputFault` and `ReadFault`, a prefix of it at `WriteFault`, and
-/// whole lines of the earlier events at `Memory`. At `Memory` and `WriteFault` at most 8,192 of the
-/// octets given stand from the start of the line on at which the run stopped. `Memory` is for a frame or a
-/// line to be written, never for the clock, a mode or the list's end.
+/// The reader is Open and the writer has not failed. The whole text is written at `Done`, `Findings`,
+/// `InputFault` and `ReadFault`, a prefix of it at `WriteFault`, and its first lines at `Memory`:
+/// docs/PROOFS.md says it in full, under "What a run leaves written".
 #[inline(never)]
 pub fn watch<A: Allocator + Copy, R: Source, W: Sink>(
     alloc: A,
@@ -183,8 +182,28 @@ pub fn watch<A: Allocator + Copy, R: Source, W: Sink>(
     ensures read_fault { result.0 ≡ Ending.ReadFault → R.ending result.1 ≡ InputEnd.Failed }
     ensures fault { W.failed writer.new ≡ is_write_fault result.0 }
 {
+    watch_to_stop(alloc, reader, period, id, writer).into_source()
+}
+
+/// As `watch`, and hands out the fault by which it ended, and the reader of the events.
+#[inline(never)]
+pub fn watch_to_stop<A: Allocator + Copy, R: Source, W: Sink>(
+    alloc: A,
+    reader: R,
+    period: u32,
+    id: &[u8],
+    writer: &mut W,
+) -> Stopped<ItemReader<R, EventLines>, ItemFault<ListCause>>
+    requires open { R.ending reader ≡ InputEnd.Open }
+    requires works { W.failed writer.old ≡ false }
+    requires period { IsPeriod period }
+    ensures text { (given : List ℕ) × GivesOctets (R.left reader) (item_state R.left R.ending result.reader).left given
+        × WritesSomeTo (IsWatchText {A = A} period id.now) event_rules First result.ending (item_state R.left R.ending result.reader).ending given (W.contents writer.old) (W.contents writer.new) result.fault }
+    ensures read_fault { result.ending ≡ Ending.ReadFault → (item_state R.left R.ending result.reader).ending ≡ InputEnd.Failed }
+    ensures fault { W.failed writer.new ≡ is_write_fault result.ending }
+{
     match Watch::new(period) {
-        Ok(watch) => run(
+        Ok(watch) => run_to_stop(
             alloc,
             EventLines::First,
             Watching { watch, id },

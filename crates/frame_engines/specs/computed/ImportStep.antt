@@ -1,13 +1,15 @@
 -- What one answer of a reader of records makes `import` write.
-use Rattle.std.specs.Prelude.{◌≡◌, ◌+◌, ◌⊎◌, ℕ, List, [], Option, Some, None, Result, Ok, Err}
+use Rattle.std.specs.Prelude.{◌≡◌, ◌+◌, ℕ, List, [], Option, Some, None, Result, Ok, Err}
 use Rattle.std.specs.Io.KnownBytes.{Appends}
 use Rattle.list_core.specs.Device.{AppendsPrefix}
 use Rattle.capture_core.specs.Capture.{CaptureRecord}
 use Rattle.capture_core.specs.declared.capture_fault.CaptureFault.{CaptureFault}
 use Rattle.engine_core.specs.declared.ending.Ending.{Ending}
-use Rattle.engine_core.specs.declared.ending.Ending.TheVariants.{WriteFault}
+use Rattle.engine_core.specs.declared.ending.Ending.TheVariants.{WriteFault, Memory}
 use Rattle.engine_core.specs.declared.running.Next.{Next}
 use Rattle.engine_core.specs.declared.running.Next.TheVariants as next
+use Rattle.engine_core.specs.declared.stopped.Halt.{Halt}
+use Rattle.engine_core.specs.declared.stopped.Halt.TheVariants as halt
 use Rattle.frame_engines.specs.ImportText.{capture_fault_line, ending_of_capture, is_left_out, record_line}
 
 -- the text that an answer behind n records asks for
@@ -16,13 +18,20 @@ import_due n (Ok (Some r)) = record_line (n + 1, r)
 import_due n (Ok None) = []
 import_due n (Err f) = capture_fault_line f
 
--- the line of a fault was written, or a prefix of it where the writer failed
-abbrev pub FaultWrites : CaptureFault → Ending → Option (List ℕ) → Option (List ℕ) → Type 0
-FaultWrites f ending old new = ((ending ≡ WriteFault) × AppendsPrefix old new (capture_fault_line f)) ⊎ ((ending ≡ ending_of_capture f.cause) × Appends old new (capture_fault_line f))
+-- what is written of an answer behind n records at which the run stops: the line of its fault, which is handed out; or a prefix of what is due, where the writer failed
+abbrev pub ImportHalts : ℕ → Result (Option CaptureRecord) CaptureFault → Halt CaptureFault → Option (List ℕ) → Option (List ℕ) → Type 0
+ImportHalts n answer (halt.Fault why) old new = (answer ≡ Err why) × Appends old new (capture_fault_line why)
+ImportHalts n answer halt.WriteFault old new = AppendsPrefix old new (import_due n answer)
+ImportHalts n answer halt.Memory old new = ⊥
+
+-- the ending of a run that stops
+abbrev pub ending_of_halt : Halt CaptureFault → Ending
+ending_of_halt (halt.Fault why) = ending_of_capture why.cause
+ending_of_halt halt.WriteFault = WriteFault
+ending_of_halt halt.Memory = Memory
 
 -- what is written after an answer behind n records, and how the run goes on
-abbrev pub ImportWrites : ℕ → Result (Option CaptureRecord) CaptureFault → Next → Option (List ℕ) → Option (List ℕ) → Type 0
+abbrev pub ImportWrites : ℕ → Result (Option CaptureRecord) CaptureFault → Next CaptureFault → Option (List ℕ) → Option (List ℕ) → Type 0
 ImportWrites n answer (next.Wrote found) old new = (r : CaptureRecord) × (answer ≡ Ok (Some r)) × (found ≡ is_left_out (n + 1, r)) × Appends old new (record_line (n + 1, r))
 ImportWrites n answer next.Ended old new = (answer ≡ Ok None) × (new ≡ old)
-ImportWrites n answer (next.Stop ending) old new =
-    ((ending ≡ WriteFault) × AppendsPrefix old new (import_due n answer)) ⊎ ((f : CaptureFault) × (answer ≡ Err f) × FaultWrites f ending old new)
+ImportWrites n answer (next.Stop halt) old new = ImportHalts n answer halt old new

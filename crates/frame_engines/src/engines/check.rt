@@ -10,15 +10,16 @@ ghost use Rattle.frame_core.specs.computed.WrittenTest.{fits};
 ghost use Rattle.text_core.specs.Pieces.{AppendsText};
 ghost use Rattle.frame_engines.specs.CheckText.{check_text, goes_where_recommended, has_text, is_form, note_unless, notes, octets_notes};
 ghost use Rattle.engine_core.specs.Ending.{is_write_fault};
-ghost use Rattle.engine_core.specs.Run.{Writes};
+ghost use Rattle.list_core.specs.ItemReader.{item_state};
+ghost use Rattle.engine_core.specs.Run.{Writes, WritesTo};
 ghost use Rattle.frame_engines.specs.WrittenForm.{fitting_form};
 
 use arrayvec::ArrayVec;
 use byteorder::{BigEndian, ByteOrder};
-use engine_core::{Ending, Engine, run};
+use engine_core::{Ending, Engine, Stopped, run_to_stop};
 use frame_core::{
-    ApduView, Event, EventKind, EventLines, FrameView, ItemFault, LineError, ListCause, Sink,
-    Source, encode_view, fault_of_list, see_frame, written_length,
+    ApduView, Event, EventKind, EventLines, FrameView, ItemFault, ItemReader, LineError, ListCause,
+    Sink, Source, encode_view, fault_of_list, see_frame, written_length,
 };
 use std::alloc::{AllocError, Allocator};
 use text_core::line::{put_fault_line, put_list_fault_line};
@@ -195,12 +196,9 @@ impl<A: Allocator> Engine<A> for CheckText {
 /// Ends with `Findings` where a line was written for an event, and else with `Done`, unless the list
 /// has a fault.
 ///
-/// The reader is Open and the writer has not failed. The text is that of the octets that the reader
-/// gave: whole at `Done`, `Findings`, `InputFault` and `ReadFault`, a prefix of it at `WriteFault`,
-/// and whole lines of it at `Memory`. At `Memory`, and at `WriteFault` if anything was read, the
-/// lines of all earlier events stand written. Then, and at a fault, at most 8,192 of the octets given
-/// stand from the start of the line on at which the run stopped. `Memory` is for a frame or a line to
-/// be written, never for the clock, a mode or the list's end.
+/// The reader is Open and the writer has not failed. The whole text is written at `Done`, `Findings`,
+/// `InputFault` and `ReadFault`, a prefix of it at `WriteFault`, and its first lines at `Memory`:
+/// docs/PROOFS.md says it in full, under "What a run leaves written".
 #[inline(never)]
 pub fn check<A: Allocator + Copy, R: Source, W: Sink>(
     alloc: A,
@@ -214,5 +212,22 @@ pub fn check<A: Allocator + Copy, R: Source, W: Sink>(
     ensures read_fault { result.0 ≡ Ending.ReadFault → R.ending result.1 ≡ InputEnd.Failed }
     ensures fault { W.failed writer.new ≡ is_write_fault result.0 }
 {
-    run(alloc, EventLines::First, CheckText, b"", reader, writer)
+    check_to_stop(alloc, reader, writer).into_source()
+}
+
+/// As `check`, and hands out the fault by which it ended, and the reader of the events.
+#[inline(never)]
+pub fn check_to_stop<A: Allocator + Copy, R: Source, W: Sink>(
+    alloc: A,
+    reader: R,
+    writer: &mut W,
+) -> Stopped<ItemReader<R, EventLines>, ItemFault<ListCause>>
+    requires open { R.ending reader ≡ InputEnd.Open }
+    requires works { W.failed writer.old ≡ false }
+    ensures text { (given : List ℕ) × GivesOctets (R.left reader) (item_state R.left R.ending result.reader).left given
+        × WritesTo event_rules First (check_text {A = A}) result.ending (item_state R.left R.ending result.reader).ending given (W.contents writer.old) (W.contents writer.new) result.fault }
+    ensures read_fault { result.ending ≡ Ending.ReadFault → (item_state R.left R.ending result.reader).ending ≡ InputEnd.Failed }
+    ensures fault { W.failed writer.new ≡ is_write_fault result.ending }
+{
+    run_to_stop(alloc, EventLines::First, CheckText, b"", reader, writer)
 }

@@ -1,21 +1,21 @@
 //! `import`: a capture as a list.
-ghost use Rattle.std.specs.Prelude.{◌≡◌, ◌≤◌, ℕ, List, Option, Result, [], false};
+ghost use Rattle.std.specs.Prelude.{◌≡◌, ◌≤◌, ℕ, List, Option, Result, Err, [], false};
 ghost use Rattle.list_core.specs.declared.device.InputEnd.{InputEnd};
 ghost use Rattle.list_core.specs.Device.{GivesOctets};
 ghost use Rattle.capture_core.specs.Capture.{CaptureRecord};
 ghost use Rattle.capture_core.specs.RecordAnswers.{ReadsRecord};
 ghost use Rattle.capture_core.specs.declared.capture_fault.CaptureFault as fault;
-ghost use Rattle.engine_core.specs.computed.EngineStep.{stops_by};
+ghost use Rattle.engine_core.specs.computed.EngineStep.{fault_by_halt, is_failed_write, stops_by};
 ghost use Rattle.engine_core.specs.Ending.{is_write_fault};
-ghost use Rattle.frame_engines.specs.computed.ImportStep.{FaultWrites, ImportWrites};
-ghost use Rattle.frame_engines.specs.ImportText.{Imports, capture_fault_line, ending_of_capture, left_out_line};
+ghost use Rattle.frame_engines.specs.computed.ImportStep.{ImportHalts, ImportWrites, ending_of_halt};
+ghost use Rattle.frame_engines.specs.ImportText.{Imports, ImportsTo, capture_fault_line, ending_of_capture, left_out_line};
 
 use crate::texts::names::capture_cause_name;
 use arrayvec::ArrayVec;
 use capture_core::{
     CaptureCause, CaptureFault, CaptureForm, Captured, LONGEST_FRAME, read_header, read_record,
 };
-use engine_core::{Ending, Next, ending_where};
+use engine_core::{Ending, Halt, Next, Stopped, ending_where};
 use frame_core::{FrameLines, Sink, Source, put_all};
 use itoa::Buffer;
 use std::alloc::Allocator;
@@ -72,14 +72,26 @@ fn ending_by(cause: CaptureCause) -> Ending
 }
 
 // Writes the comment on a fault, with which the text ends.
-fn answer_fault<W: Sink>(fault: CaptureFault, writer: &mut W) -> Ending
+fn answer_fault<W: Sink>(fault: CaptureFault, writer: &mut W) -> Halt<CaptureFault>
     requires { W.failed writer.old ≡ false }
-    ensures writes { FaultWrites fault result (W.contents writer.old) (W.contents writer.new) }
-    ensures fails { W.failed writer.new ≡ is_write_fault result }
+    ensures writes { (before : ℕ) → ImportHalts before (Err fault) result (W.contents writer.old) (W.contents writer.new) }
+    ensures fails { W.failed writer.new ≡ is_failed_write result }
 {
     match put_all(writer, fault_comment(fault).as_slice()) {
-        Ok(()) => ending_by(fault.cause),
-        Err(_) => Ending::WriteFault,
+        Ok(()) => Halt::Fault(fault),
+        Err(_) => Halt::WriteFault,
+    }
+}
+
+// How a run ends that stops so, and by which fault.
+fn ending_at_halt(halt: Halt<CaptureFault>) -> (Ending, Option<CaptureFault>)
+    ensures ending { result.0 ≡ ending_of_halt halt }
+    ensures fault { result.1 ≡ fault_by_halt halt }
+{
+    match halt {
+        Halt::Fault(fault) => (ending_by(fault.cause), Some(fault)),
+        Halt::WriteFault => (Ending::WriteFault, None),
+        Halt::Memory => (Ending::Memory, None),
     }
 }
 
@@ -91,27 +103,27 @@ fn answer_record<R: Source, W: Sink>(
     frame: &mut [u8; LONGEST_FRAME],
     lines: &mut FrameLines,
     writer: &mut W,
-) -> Next
+) -> Next<CaptureFault>
     requires few { before ≤ 999999 }
     requires works { W.failed writer.old ≡ false }
     ensures step { (answer : Result (Option CaptureRecord) fault.CaptureFault)
         × ReadsRecord form before [] (R.left reader.old) (R.ending reader.old) answer (R.left reader.new) (R.ending reader.new)
         × ImportWrites before answer result (W.contents writer.old) (W.contents writer.new) }
-    ensures read_fault { result ≡ Next.Stop Ending.ReadFault → R.ending reader.new ≡ InputEnd.Failed }
-    ensures fails { W.failed writer.new ≡ stops_by is_write_fault result }
+    ensures read_fault { (why : fault.CaptureFault) → result ≡ Next.Stop (Halt.Fault why) → ending_of_capture why.cause ≡ Ending.ReadFault → R.ending reader.new ≡ InputEnd.Failed }
+    ensures fails { W.failed writer.new ≡ stops_by is_failed_write result }
 {
     match read_record(reader, form, before, frame) {
         Ok(None) => Next::Ended,
         Ok(Some(Captured::Frame { moment, size })) => {
             match lines.write_frame(writer, moment, &frame[..size]) {
                 Ok(()) => Next::Wrote(false),
-                Err(_) => Next::Stop(Ending::WriteFault),
+                Err(_) => Next::Stop(Halt::WriteFault),
             }
         }
         Ok(Some(Captured::LeftOut { size })) => {
             match put_all(writer, left_out_comment(before + 1, size as u64).as_slice()) {
                 Ok(()) => Next::Wrote(true),
-                Err(_) => Next::Stop(Ending::WriteFault),
+                Err(_) => Next::Stop(Halt::WriteFault),
             }
         }
         Err(fault) => Next::Stop(answer_fault(fault, writer)),
@@ -119,20 +131,20 @@ fn answer_record<R: Source, W: Sink>(
 }
 
 // Writes the first line, then each record of the capture in its turn.
-fn import_all<R: Source, W: Sink>(reader: &mut R, writer: &mut W) -> Ending
+fn import_all<R: Source, W: Sink>(reader: &mut R, writer: &mut W) -> (Ending, Option<CaptureFault>)
     requires { W.failed writer.old ≡ false }
     ensures text { (given : List ℕ) × GivesOctets (R.left reader.old) (R.left reader.new) given
-        × Imports (R.ending reader.old) result (R.ending reader.new) given (W.contents writer.old) (W.contents writer.new) }
-    ensures read_fault { result ≡ Ending.ReadFault → R.ending reader.new ≡ InputEnd.Failed }
-    ensures fault { W.failed writer.new ≡ is_write_fault result }
+        × ImportsTo (R.ending reader.old) result.0 (R.ending reader.new) given (W.contents writer.old) (W.contents writer.new) result.1 }
+    ensures read_fault { result.0 ≡ Ending.ReadFault → R.ending reader.new ≡ InputEnd.Failed }
+    ensures fault { W.failed writer.new ≡ is_write_fault result.0 }
 {
     match put_all(writer, b"V2\n") {
         Ok(()) => {}
-        Err(_) => return Ending::WriteFault,
+        Err(_) => return (Ending::WriteFault, None),
     }
     let form = match read_header(reader) {
         Ok(form) => form,
-        Err(fault) => return answer_fault(fault, writer),
+        Err(fault) => return ending_at_halt(answer_fault(fault, writer)),
     };
     let mut frame = [0u8; LONGEST_FRAME];
     let mut lines = FrameLines::new();
@@ -144,8 +156,8 @@ fn import_all<R: Source, W: Sink>(reader: &mut R, writer: &mut W) -> Ending
                 found |= is_left_out;
                 count += 1;
             }
-            Next::Ended => return ending_where(found),
-            Next::Stop(ending) => return ending,
+            Next::Ended => return (ending_where(found), None),
+            Next::Stop(halt) => return ending_at_halt(halt),
         }
     }
 }
@@ -153,14 +165,15 @@ fn import_all<R: Source, W: Sink>(reader: &mut R, writer: &mut W) -> Ending
 /// Writes a capture as a list of version 2: each record as the line of its frame, or as a comment where its size is
 /// not that of a frame in a list; and where the capture has a fault, a comment with it at last.
 ///
-/// The writer has not failed. The text is that of the octets that the reader gave: whole at
-/// `Done`, `Findings`, `InputFault` and `ReadFault`, a prefix of it at `WriteFault`. `Findings` is answered where a record
-/// was left out. The line of a record is written before the next one is read, and nothing is read behind a fault's record.
-/// One record is held at a time, on the stack: no memory is taken of the allocator, and `Memory` is never answered.
+/// Ends with `Findings` where a record was left out, and else with `Done`, unless the capture has a fault.
+///
+/// The writer has not failed. The whole text is written at `Done`, `Findings`, `InputFault` and `ReadFault`, and a prefix of
+/// it at `WriteFault`: docs/PROOFS.md says it in full, under "What a run leaves written". One record is held at a time, on
+/// the stack: no memory is taken of the allocator, and `Memory` is never answered.
 #[inline(never)]
 pub fn import<A: Allocator + Copy, R: Source, W: Sink>(
-    _alloc: A,
-    mut reader: R,
+    alloc: A,
+    reader: R,
     writer: &mut W,
 ) -> (Ending, R)
     requires { W.failed writer.old ≡ false }
@@ -169,6 +182,27 @@ pub fn import<A: Allocator + Copy, R: Source, W: Sink>(
     ensures read_fault { result.0 ≡ Ending.ReadFault → R.ending result.1 ≡ InputEnd.Failed }
     ensures fault { W.failed writer.new ≡ is_write_fault result.0 }
 {
-    let ending = import_all(&mut reader, writer);
-    (ending, reader)
+    let stopped = import_to_stop(alloc, reader, writer);
+    (stopped.ending, stopped.reader)
+}
+
+/// As `import`, and hands out the fault by which it ended.
+#[inline(never)]
+pub fn import_to_stop<A: Allocator + Copy, R: Source, W: Sink>(
+    _alloc: A,
+    mut reader: R,
+    writer: &mut W,
+) -> Stopped<R, CaptureFault>
+    requires { W.failed writer.old ≡ false }
+    ensures text { (given : List ℕ) × GivesOctets (R.left reader) (R.left result.reader) given
+        × ImportsTo (R.ending reader) result.ending (R.ending result.reader) given (W.contents writer.old) (W.contents writer.new) result.fault }
+    ensures read_fault { result.ending ≡ Ending.ReadFault → R.ending result.reader ≡ InputEnd.Failed }
+    ensures fault { W.failed writer.new ≡ is_write_fault result.ending }
+{
+    let (ending, fault) = import_all(&mut reader, writer);
+    Stopped {
+        ending,
+        fault,
+        reader,
+    }
 }

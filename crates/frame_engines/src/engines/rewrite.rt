@@ -12,16 +12,17 @@ ghost use Rattle.list_core.specs.EventLine.{event_rules};
 ghost use Rattle.list_core.specs.EventText.{kind_text, mode_text};
 ghost use Rattle.list_core.specs.declared.event_lines.EventLines.TheVariants.{First};
 ghost use Rattle.engine_core.specs.Ending.{is_write_fault};
-ghost use Rattle.engine_core.specs.Run.{Writes};
+ghost use Rattle.list_core.specs.ItemReader.{item_state};
+ghost use Rattle.engine_core.specs.Run.{Writes, WritesTo};
 ghost use Rattle.text_core.specs.Pieces.{AppendsText};
 ghost use Rattle.frame_engines.specs.RewriteText.{form_or, is_kept, rewritten, rewrite_text};
 ghost use Rattle.frame_engines.specs.WrittenForm.{written_form};
 
 use arrayvec::ArrayVec;
-use engine_core::{Ending, Engine, run};
+use engine_core::{Ending, Engine, Stopped, run_to_stop};
 use frame_core::{
-    Event, EventKind, EventLines, FrameView, ItemFault, LineError, ListCause, Sink, Source,
-    encode_view, fault_of_list, see_frame,
+    Event, EventKind, EventLines, FrameView, ItemFault, ItemReader, LineError, ListCause, Sink,
+    Source, encode_view, fault_of_list, see_frame,
 };
 use std::alloc::{AllocError, Allocator};
 use text_core::event::put_frame_event;
@@ -175,10 +176,9 @@ impl<A: Allocator> Engine<A> for RewriteText {
 /// Ends with `Findings` where a frame kept its own octets for one of these two reasons, and else
 /// with `Done`, unless the list has a fault.
 ///
-/// The reader is Open and the writer has not failed. The text is that of the octets that the reader
-/// gave: whole at `Done`, `Findings`, `InputFault` and `ReadFault`, a prefix of it at `WriteFault`,
-/// and the line `V2` with the lines of the earlier events at `Memory`, which is for an event or a fault's line,
-/// never for the list's end.
+/// The reader is Open and the writer has not failed. The whole text is written at `Done`, `Findings`,
+/// `InputFault` and `ReadFault`, a prefix of it at `WriteFault`, and its first lines at `Memory`:
+/// docs/PROOFS.md says it in full, under "What a run leaves written".
 #[inline(never)]
 pub fn rewrite<A: Allocator + Copy, R: Source, W: Sink>(
     alloc: A,
@@ -192,7 +192,24 @@ pub fn rewrite<A: Allocator + Copy, R: Source, W: Sink>(
     ensures read_fault { result.0 ≡ Ending.ReadFault → R.ending result.1 ≡ InputEnd.Failed }
     ensures fault { W.failed writer.new ≡ is_write_fault result.0 }
 {
-    run(
+    rewrite_to_stop(alloc, reader, writer).into_source()
+}
+
+/// As `rewrite`, and hands out the fault by which it ended, and the reader of the events.
+#[inline(never)]
+pub fn rewrite_to_stop<A: Allocator + Copy, R: Source, W: Sink>(
+    alloc: A,
+    reader: R,
+    writer: &mut W,
+) -> Stopped<ItemReader<R, EventLines>, ItemFault<ListCause>>
+    requires open { R.ending reader ≡ InputEnd.Open }
+    requires works { W.failed writer.old ≡ false }
+    ensures text { (given : List ℕ) × GivesOctets (R.left reader) (item_state R.left R.ending result.reader).left given
+        × WritesTo event_rules First (rewrite_text {A = A}) result.ending (item_state R.left R.ending result.reader).ending given (W.contents writer.old) (W.contents writer.new) result.fault }
+    ensures read_fault { result.ending ≡ Ending.ReadFault → (item_state R.left R.ending result.reader).ending ≡ InputEnd.Failed }
+    ensures fault { W.failed writer.new ≡ is_write_fault result.ending }
+{
+    run_to_stop(
         alloc,
         EventLines::First,
         RewriteText,

@@ -7,15 +7,16 @@ ghost use Rattle.list_core.specs.declared.event_lines.EventLines.TheVariants.{Fi
 ghost use Rattle.list_core.specs.declared.device.InputEnd.{InputEnd};
 ghost use Rattle.list_core.specs.Device.{GivesOctets};
 ghost use Rattle.engine_core.specs.Ending.{is_write_fault};
-ghost use Rattle.engine_core.specs.Run.{Writes};
+ghost use Rattle.list_core.specs.ItemReader.{item_state};
+ghost use Rattle.engine_core.specs.Run.{Writes, WritesTo};
 ghost use Rattle.text_core.specs.Pieces.{AppendsText};
 ghost use Rattle.frame_engines.specs.ShowText.{kind_line, octets_line, show_text};
 
 use crate::texts::frame::put_frame;
-use engine_core::{Ending, Engine, run};
+use engine_core::{Ending, Engine, Stopped, run_to_stop};
 use frame_core::{
-    Event, EventKind, EventLines, ItemFault, LineError, ListCause, Sink, Source, fault_of_list,
-    view_frame,
+    Event, EventKind, EventLines, ItemFault, ItemReader, LineError, ListCause, Sink, Source,
+    fault_of_list, view_frame,
 };
 use std::alloc::{AllocError, Allocator};
 use text_core::line::{put_clock_line, put_fault_line, put_list_fault_line, put_mode_word};
@@ -109,9 +110,10 @@ impl<A: Allocator> Engine<A> for ShowText {
 /// Writes one line for each event of a list: the clock moment, the mode, the frame, or the frame's
 /// fault; and where the list has a fault, a last line with it. Moments are in microseconds.
 ///
-/// The reader is Open and the writer has not failed. The text is that of the octets that the reader
-/// gave: whole at `Done`, `InputFault` and `ReadFault`, a prefix of it at `WriteFault`, and whole
-/// lines of the earlier events at `Memory`, which is for an event or a fault's line, never for the list's end.
+/// The reader is Open and the writer has not failed. The whole text is written at `Done`, `InputFault`
+/// and `ReadFault`, a prefix of it at `WriteFault`, and its first lines at `Memory`: docs/PROOFS.md says
+/// it in full, under "What a run leaves written".
+///
 /// One line of the list is held at a time, and one event beside the one whose memory is used again.
 #[inline(never)]
 pub fn show<A: Allocator + Copy, R: Source, W: Sink>(
@@ -126,5 +128,22 @@ pub fn show<A: Allocator + Copy, R: Source, W: Sink>(
     ensures read_fault { result.0 ≡ Ending.ReadFault → R.ending result.1 ≡ InputEnd.Failed }
     ensures fault { W.failed writer.new ≡ is_write_fault result.0 }
 {
-    run(alloc, EventLines::First, ShowText, b"", reader, writer)
+    show_to_stop(alloc, reader, writer).into_source()
+}
+
+/// As `show`, and hands out the fault by which it ended, and the reader of the events.
+#[inline(never)]
+pub fn show_to_stop<A: Allocator + Copy, R: Source, W: Sink>(
+    alloc: A,
+    reader: R,
+    writer: &mut W,
+) -> Stopped<ItemReader<R, EventLines>, ItemFault<ListCause>>
+    requires open { R.ending reader ≡ InputEnd.Open }
+    requires works { W.failed writer.old ≡ false }
+    ensures text { (given : List ℕ) × GivesOctets (R.left reader) (item_state R.left R.ending result.reader).left given
+        × WritesTo event_rules First (show_text {A = A}) result.ending (item_state R.left R.ending result.reader).ending given (W.contents writer.old) (W.contents writer.new) result.fault }
+    ensures read_fault { result.ending ≡ Ending.ReadFault → (item_state R.left R.ending result.reader).ending ≡ InputEnd.Failed }
+    ensures fault { W.failed writer.new ≡ is_write_fault result.ending }
+{
+    run_to_stop(alloc, EventLines::First, ShowText, b"", reader, writer)
 }

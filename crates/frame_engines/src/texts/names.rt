@@ -15,5 +15,9 @@ pub fn capture_cause_name(cause: CaptureCause) -> &'static [u8]
         CaptureCause::RecordLength => b"RecordLength",
         CaptureCause::TooManyRecords => b"TooManyRecords",
         CaptureCause::ReadFailed => b"ReadFailed",
+        CaptureCause::BlockForm => b"BlockForm",
+        CaptureCause::BlockLength => b"BlockLength",
+        CaptureCause::Interface => b"Interface",
+        CaptureCause::PacketTime => b"PacketTime",
     }
 }

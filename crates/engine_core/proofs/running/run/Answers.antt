@@ -1,51 +1,6 @@
-use Rattle.std.proofs.Common.{rules, refl, [], ◌++◌, ◌∷◌, ◌∙◌}
-use Rattle.engine_core.proofs.EngineLemmas.{go_on, ran_none, ended, stopped, not_begun}
-use Rattle.engine_core.proofs.ReadFaults.{only_failed}
 use Rattle.engine_core.proofs.running.run.Goals as goal
 
-pub returns-in-Err-clause-text : goal.returns-in-Err-clause-text
-returns-in-Err-clause-text g c = not_begun _ _ _ _ _ _ _ c.requires.open (rw (← c.requires.first) c.in-Err.ensures.written.1)
-
-pub answers-init : goal.answers-init
-answers-init g c = record {
-  works = search rules;
-  same = refl;
-  so_far = ([], c.requires.fresh, ran_none _ _ _ _ (c.new-items.ensures.ending ∙ c.requires.open));
-}
-
-pub answers-preserved : goal.answers-preserved
-answers-preserved g c = record {
-  works = search rules;
-  same = c.in-Wrote.ensures.same ∙ c.answers.invariant.same;
-  so_far =
-      let p = c.answers.invariant.so_far in
-      let s = c.in-Wrote.ensures.step in
-      let w = rw c.answers.invariant.same at (s.2 p.0 p.1) in
-      let q = rw w.answered at s.1 in
-      (p.0 ++ w.item ∷ [], w.stands_after, go_on _ _ _ _ _ p.0 _ _ _ _ p.2 w.item q w.text _ w.has_text w.written);
-}
-
-pub returns-in-Ended-clause-text : goal.returns-in-Ended-clause-text
-returns-in-Ended-clause-text g c =
-    let p = c.answers.invariant.so_far in
-    let s = c.in-Ended.ensures.step in
-    let w = s.2 p.0 p.1 in
-    let q = rw w.0 at s.1 in
-    let r = ended _ _ _ _ _ p.0 _ _ _ _ _ c.new-items.ensures.taken c.new-items.ensures.held (rw c.requires.first at c.in-Ok.ensures.written) p.2 q w.1 in
-    rw (c.into_reader.ensures.left, c.into_reader.ensures.ending, c.ending_where.ensures) (rw (c.new-items.ensures.left, c.new-items.ensures.settled) at r)
-
-pub returns-in-Stop-clause-text : goal.returns-in-Stop-clause-text
-returns-in-Stop-clause-text g c =
-    let p = c.answers.invariant.so_far in
-    let s = c.in-Stop.ensures.step in
-    let w = rw c.answers.invariant.same at (s.2 p.0 p.1) in
-    let r = stopped _ _ _ _ _ p.0 _ _ _ _ _ c.new-items.ensures.taken c.new-items.ensures.held (rw c.requires.first at c.in-Ok.ensures.written) p.2 s.0 s.1 _ w in
-    rw (c.into_reader-in-Stop.ensures.left, c.into_reader-in-Stop.ensures.ending) (rw (c.new-items.ensures.left, c.new-items.ensures.settled) at r)
-
-pub returns-in-Stop-clause-read_fault : goal.returns-in-Stop-clause-read_fault
-returns-in-Stop-clause-read_fault g c = λ e.
-    let p = c.answers.invariant.so_far in
-    let s = c.in-Stop.ensures.step in
-    let w = rw c.answers.invariant.same at (s.2 p.0 p.1) in
-    let r = stopped _ _ _ _ _ p.0 _ _ _ _ _ c.new-items.ensures.taken c.new-items.ensures.held (rw c.requires.first at c.in-Ok.ensures.written) p.2 s.0 s.1 _ w in
-    c.into_reader-in-Stop.ensures.ending ∙ only_failed _ _ _ _ _ _ _ _ r.2 e
+pub returns-clause-text : goal.returns-clause-text
+returns-clause-text g c =
+    let r = c.run_to_stop.ensures.text in
+    rw (c.into_source.ensures.left, c.into_source.ensures.source, c.into_source.ensures.ending) (r.0, r.1, r.2.0)

@@ -1,6 +1,6 @@
-use Rattle.exchange_engines.specs.computed.PublishStep.{publish_text}
-use Rattle.exchange_engines.proofs.PublishLemmas.{publish_is}
 use Rattle.exchange_engines.proofs.engines.publish.publish.Goals as goal
 
 pub returns-clause-text : goal.returns-clause-text
-returns-clause-text g c = let r = c.run.ensures.text in (r.0, r.1, record { text = publish_text; is_text = publish_is; run = r.2 })
+returns-clause-text g c =
+    let r = c.publish_to_stop.ensures.text in
+    rw (c.into_source.ensures.left, c.into_source.ensures.source, c.into_source.ensures.ending) (r.0, r.1, r.2.0)

@@ -1,7 +1,7 @@
 use Rattle.std.proofs.Common.{◌≡◌, ◌-◌, List, ℕ, false}
 use Rattle.list_core.specs.ItemReader.{item_state}
 use Rattle.engine_core.proofs.EngineLemmas.{Ran}
-use Rattle.engine_core.proofs.running.run.Given as goal
+use Rattle.engine_core.proofs.running.run_on.Given as goal
 
 abbrev pub invariant-answers : goal.invariant-answers
 invariant-answers g l = record {

@@ -1,0 +1,68 @@
+use Rattle.std.proofs.Common.{◌++◌, ℕ, List, [], ap, subst, ◌∙◌, refl, inl, inr}
+use Rattle.std.specs.Prelude.{option_map}
+use Rattle.list_core.specs.EventLine.{event_rules}
+use Rattle.list_core.specs.ItemReader.{item_state}
+use Rattle.list_core.specs.declared.event_lines.EventLines.TheVariants.{First}
+use Rattle.list_core.proofs.Devices.{Consumes-none, Gives-from_Consumes}
+use Rattle.block_core.specs.declared.block.Block.{Block}
+use Rattle.subscribe_core.specs.State.{State}
+use Rattle.engine_core.specs.Run.{LeavesRefused, WritesTo}
+use Rattle.exchange_engines.specs.declared.engines.replay.ReplayFault.TheVariants as of
+use Rattle.exchange_engines.specs.ReplayText.{twice_line}
+use Rattle.exchange_engines.specs.computed.ReplayStep.{replay_text}
+use Rattle.exchange_engines.proofs.ReplayLemmas.{replay_is}
+use Rattle.exchange_engines.proofs.engines.replay.replay_to_stop.Goals as goal
+
+pub returns-in-Ok-clause-text : goal.returns-in-Ok-clause-text
+returns-in-Ok-clause-text g c =
+    let r = c.run_to_stop.ensures.text in
+    let stopped = c.run_to_stop.result in
+    let same = ap (λ (s : State g.row.A.Denot). s.blocks) c.in-Ok.ensures.fresh in
+    let w = subst (λ (bs : List (Block g.row.A.Denot)). WritesTo event_rules First (replay_text bs) stopped.ending (item_state g.R.Source.left g.R.Source.ending stopped.reader).ending r.0 (g.W.Sink.contents c.args.writer.now) (g.W.Sink.contents c.run_to_stop.new.writer) stopped.fault) same r.2 in
+    rw (c.replayed.ensures.ending, c.replayed.ensures.fault, c.replayed.ensures.reader) (
+      r.0,
+      r.1,
+      (
+        inr (inr (record {
+          are_apart = c.in-Ok.ensures.apart;
+          runs = record { text = replay_text c.args.blocks.items; is_text = replay_is c.args.blocks.items; run = w.0 };
+        })),
+        ap (option_map of.List) w.1,
+      ),
+    )
+
+pub returns-in-Ok-put_position-clause-text : goal.returns-in-Ok-put_position-clause-text
+returns-in-Ok-put_position-clause-text g c =
+    let twice = rw c.in-Err-SameBlockTwice.field-0-is at c.in-Err-SameBlockTwice.ensures.fault in
+    let line = c.as_slice.ensures.value ∙ c.in-Ok-put_position.ensures ∙ ap (λ (l : List ℕ). l ++ twice_line c.in-Err-SameBlockTwice.position) c.new-line.ensures.items in
+    rw (c.unread.ensures.ending, c.unread.ensures.fault, c.unread.ensures.left, c.unread.ensures.source) (
+      [],
+      rw c.refuse-ending.ensures.reader (Gives-from_Consumes _ _ [] (Consumes-none (g.R.Source.left c.args.reader))),
+      (
+        inl (record {
+          position = c.in-Err-SameBlockTwice.position;
+          is_twice = twice;
+          untouched = (rw c.refuse-ending.ensures.reader c.requires.open, refl);
+          written = inl (subst (λ (l : List ℕ). LeavesRefused l c.refuse-ending.result.0 (g.W.Sink.contents c.args.writer.now) (g.W.Sink.contents c.refuse-ending.new.writer)) line c.refuse-ending.ensures.text);
+        }),
+        c.fault_of_twice.ensures,
+      ),
+    )
+
+pub returns-in-Err-SameBlockTwice-clause-text : goal.returns-in-Err-SameBlockTwice-clause-text
+returns-in-Err-SameBlockTwice-clause-text g c =
+    let twice = rw c.in-Err-SameBlockTwice.field-0-is at c.in-Err-SameBlockTwice.ensures.fault in
+    rw (c.unread-in-Err.ensures.ending, c.unread-in-Err.ensures.fault, c.unread-in-Err.ensures.left, c.unread-in-Err.ensures.source) (
+      [],
+      Gives-from_Consumes _ _ [] (Consumes-none (g.R.Source.left c.args.reader)),
+      (inl (record { position = c.in-Err-SameBlockTwice.position; is_twice = twice; untouched = (c.requires.open, refl); written = inr (refl, refl) }), refl),
+    )
+
+pub returns-clause-text : goal.returns-clause-text
+returns-clause-text g c =
+    let some = rw c.in-Err-Memory.field-0-is at c.in-Err-Memory.ensures.fault in
+    rw (c.unread-in-Err-Memory.ensures.ending, c.unread-in-Err-Memory.ensures.fault, c.unread-in-Err-Memory.ensures.left, c.unread-in-Err-Memory.ensures.source) (
+      [],
+      Gives-from_Consumes _ _ [] (Consumes-none (g.R.Source.left c.args.reader)),
+      (inr (inl (record { wants_memory = refl; are_apart = some.0; are_some = some.1; untouched = (c.requires.open, refl); none_written = refl })), refl),
+    )
