@@ -88,6 +88,24 @@ APDUS = {b"\x88\xb8": ("IECGoosePdu", fields(GOOSE, {0xAB: members("member ")}))
          b"\x88\xba": ("savPdu", fields(SAMPLED, {0xA2: asdus}))}
 
 
-def contents(frame, name):
-    """The contents of the first field of this name, or None."""
-    return next((frame[it.start:it.end] for it in parts(frame) if (it.name, it.what) == (name, "contents")), None)
+def bounds(frame, at):
+    """Where the contents of the element that begins here begin and end."""
+    first = frame[at + 1] if at + 1 < len(frame) else 0
+    following = first & 0x7F if first > 0x80 else 0
+    start = at + 2 + following
+    size = int.from_bytes(frame[at + 2:start], "big") if following else first
+    return start, min(len(frame), start + size)
+
+
+def values(frame):
+    """The contents of the fields of a valid GOOSE frame, by their names: nothing of a frame of another protocol."""
+    at = 16 if frame[12:14] == b"\x81\x00" else 12
+    if frame[at:at + 2] != b"\x88\xb8":
+        return {}
+    at, end = bounds(frame, at + 10)
+    found = {}
+    while at < end:
+        start, stop = bounds(frame, at)
+        found.setdefault(GOOSE.get(frame[at]), frame[start:stop])
+        at = stop
+    return found

@@ -152,11 +152,11 @@ def record(line):
     return {"text": line}
 
 
-def records(lines, times):
-    """The records of lines, with the time of each line's event where it is known, and in the order of COLUMNS."""
+def records(lines, times=None):
+    """The records of lines, in the order of COLUMNS, with the time of each line's event where the list's Times are given."""
     for line in lines:
         found = record(line[:-1] if line.endswith("\n") else line)
-        moment = found.get("microseconds", times.get(found.get("line")))
+        moment = times.of(found) if times else found.get("microseconds")
         if moment is not None:
             found.update(microseconds=moment, time=date(moment))
         yield {name: found[name] for name in COLUMNS if name in found}

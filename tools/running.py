@@ -1,7 +1,8 @@
-"""How the tools run: what they say of themselves, which program they ask, and how they end.
+"""How the tools run: what they say of themselves, which program they ask, what they are given, and how they end.
 
 A tool ends with status 0 where it did what it was asked for, 1 where it found or left out something, 2 where its
-arguments are wrong, 3 where its input has an error, and 127 where it needs goose and there is none.
+arguments are wrong, 3 where its input has an error, 4 where reading or writing failed, and 127 where it needs goose and
+there is none.
 """
 import argparse
 import os
@@ -11,6 +12,8 @@ import subprocess
 import sys
 
 FIND = pathlib.Path(__file__).resolve().parent / "find_goose"
+# The octets that are read at once.
+PIECE = 1 << 16
 
 
 class Ended(Exception):
@@ -27,7 +30,8 @@ def arguments(text):
 
 
 def say(text):
-    print(f"{pathlib.Path(sys.argv[0]).name}: {text}", file=sys.stderr, flush=True)
+    if sys.stderr:
+        print(f"{pathlib.Path(sys.argv[0]).name}: {text}", file=sys.stderr, flush=True)
 
 
 def goose():
@@ -39,28 +43,76 @@ def goose():
     return shlex.split(found.stdout.decode())
 
 
-def asked(words, given):
-    """What goose writes for an open file. Its messages go where those of the tool go."""
-    ran = subprocess.run([*goose(), *words], stdin=given, stdout=subprocess.PIPE)
+def answers(words, path):
+    """The lines that goose writes for a file, as they come. Its messages go where those of the tool go. A caller that wants no
+    more lines closes this, and so ends goose."""
+    with open(path, "rb") as given, subprocess.Popen([*goose(), *words], stdin=given, stdout=subprocess.PIPE) as ran:
+        try:
+            for line in ran.stdout:
+                yield line.decode("latin-1").rstrip("\n")
+        except GeneratorExit:
+            ran.terminate()
+            raise
     if ran.returncode not in (0, 1, 3):
         raise Ended(f"goose {words[0]} ended with status {ran.returncode}", ran.returncode)
-    return ran.stdout.decode("latin-1")
+
+
+def standard_input():
+    """Standard input, which somebody can have closed."""
+    if not sys.stdin:
+        raise Ended("standard input is closed", 4)
+    return sys.stdin
+
+
+def lines_given():
+    """The lines of standard input, each octet a character. Before each wait for more, what was written is handed on."""
+    return lines_of(standard_input().buffer.raw)
+
+
+def lines_of(octets):
+    rest, piece = b"", b"first"
+    while piece:
+        sys.stdout.flush()
+        piece = octets.read(PIECE)
+        *whole, rest = (rest + piece).split(b"\n")
+        yield from (line.decode("latin-1") for line in whole)
+    if rest:
+        yield rest.decode("latin-1")
+
+
+def reason(why):
+    """Why the system could not read or write, and of which file, where it says so."""
+    return ": ".join(str(it) for it in (why.filename, why.strerror or why) if it)
+
+
+def leave(status):
+    """Ends the tool although standard output takes no more."""
+    os.dup2(os.open(os.devnull, os.O_WRONLY), sys.stdout.fileno())
+    sys.exit(status)
+
+
+def ended(main):
+    """Runs a tool, and answers its status."""
+    try:
+        if not sys.stdout:
+            raise Ended("standard output is closed", 4)
+        return main()
+    except Ended as why:
+        say(why)
+        return why.status
+    except KeyboardInterrupt:
+        return 130
 
 
 def end(main):
     """Runs a tool and ends with its status. A reader that goes away ends it without a word."""
     try:
-        status = main()
-        sys.stdout.flush()
-    except Ended as why:
-        say(why)
-        status = why.status
+        status = ended(main)
+        if sys.stdout:
+            sys.stdout.flush()
+    except BrokenPipeError:
+        leave(141)
     except OSError as why:
-        if isinstance(why, BrokenPipeError):
-            os.dup2(os.open(os.devnull, os.O_WRONLY), sys.stdout.fileno())
-            sys.exit(141)
-        say(why)
-        status = 4
-    except KeyboardInterrupt:
-        status = 130
+        say(reason(why))
+        leave(4)
     sys.exit(status)

@@ -68,11 +68,28 @@ def classic_pcap(frames):
     return header + b"".join(struct.pack("<IIII", at, 0, len(it), len(it)) + it for at, it in enumerate(frames))
 
 
-def why_told(command, wrote, complained, status):
+# The entries of a replay that a block has, and the most blocks of which it is said one by one that no frame came.
+OF_BLOCKS = {b"act", b"refreshed", b"repeated", b"old", b"refused", b"expired", b"switched"}
+MOST_UNHEARD = 16
+
+
+def never_seen(blocks, wrote):
+    """What a replay of these BLOCKs that wrote this says of those of which no frame came."""
+    entries = [line.split(b" ") for line in wrote.splitlines()]
+    heard = {int(entry[2]) for entry in entries if len(entry) > 2 and entry[1] in OF_BLOCKS}
+    told = [f"goose replay: block {at} was never seen: no frame has the APPID and the gocbRef of {block}"
+            + ("" if "$" in block else ". Is it in single quotes? Otherwise a shell takes words like $GO out of it")
+            for at, block in enumerate(it for it in blocks if it != "--") if at not in heard]
+    more = [f"goose replay: {len(told) - MOST_UNHEARD} more were never seen"] if len(told) > MOST_UNHEARD else []
+    return "".join(f"{line}\n" for line in told[:MOST_UNHEARD] + more).encode()
+
+
+def why_told(command, wrote, complained, status, blocks=()):
     """What is wrong with the messages of a run that meets no failing device: at status 3 they begin with the command and the
-    name in the last line of its text, and else there is none."""
+    name in the last line of its text; else a replay tells of which of its blocks no frame came, and there is nothing else."""
     if status != 3:
-        return [f"standard error is not empty: {complained!r}"] if complained else []
+        wanted = never_seen(blocks, wrote)
+        return [f"standard error is {complained!r}, and not {wanted!r}"] if complained != wanted else []
     number, _, name = wrote.splitlines()[-1].lstrip(b"# ").split(b" ")[:3]
     wanted = b"goose %s: line %s: %s: " % (command.encode(), number, name)
     return [] if complained.startswith(wanted) else [f"standard error begins not with {wanted!r}: {complained!r}"]

@@ -639,7 +639,7 @@ HELP = {
     "show": "Shows each event on one line: every field of a frame, or its first error",
     "check": "Writes a line for each error of a frame, and for each note on a valid one",
     "rewrite": "Writes the list again, each valid frame in its canonical encoding",
-    "blocks": "Lists the control blocks and streams of a list, and each that is configured anew",
+    "blocks": "Lists the control blocks and streams of a list, and each whose datSet, goID, confRev or size changes",
     "replay": "Shows what a device that subscribes to control blocks does with each frame",
     "publish": "Reads a script and writes the list of frames that a publisher sends",
     "watch": "Shows each sample of one stream, and whether its count is the next one",

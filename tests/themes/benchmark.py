@@ -1,13 +1,17 @@
 """The benchmark runs, and tells a program that writes the same from one that does not."""
+import os
 import pathlib
 import re
 import shlex
+import shutil
 import subprocess
 import tempfile
 
 from helpers.asked_tools import TOP
 from helpers.harness import SECONDS
 
+# Seconds of two checkouts, and their ratio.
+TIMES = r" \| \d+\.\d{3} \| \d+\.\d{3} \| \d+\.\d\d"
 ROW = re.compile(r"(?m)^\| (small|station|dense|samples|faulty) \|.* \| (yes|no) \| \S+ \|$")
 
 
@@ -42,36 +46,60 @@ class Growth:
         return why + ([] if rows == ["lines", "members", "control", "octets"] else [f"other rows: {ran.stdout}"])
 
 
+# A valgrind that says another number of instructions for other words.
+COUNTS = """#!/usr/bin/env bash
+echo "==7== Collected : $((1000 * $5 + $6))" >&2
+exec "${@:3}"
+"""
+
+
 class ByTurns:
-    """Two checkouts have a row for each workload, and are told apart where they print different text or fail."""
+    """Two checkouts have a row for each workload, and are told apart where they print different text or fail. valgrind runs a
+    workload with one list of a tenth of the lines."""
 
     name = "two checkouts by turns"
 
     def why_wrong(self, _program):
         with tempfile.TemporaryDirectory() as folder:
             old, new, other, failing = (self.checkout(pathlib.Path(folder, name), script) for name, script in (
-                ("old", 'echo "$@" $(basename $PWD)'), ("new", "sleep 0.01; echo $1 $2 bench"), ("other", "echo $1 2 bench"), ("failing", "exit 1")))
+                ("old", 'echo "$@" $(basename $PWD)'), ("new", 'sleep 0.01; echo "$@" bench'), ("other", "echo $1 9 200 3 bench"), ("failing", "exit 1")))
             ran = self.run(old, new, "3")
-            rows = re.findall(r"(?m)^\| (\w+) \| \d+\.\d{3} \| \d+\.\d{3} \| \d+\.\d\d \|$", ran.stdout)
+            rows = re.findall(rf"(?m)^\| (\w+){TIMES * 2} \|$", ran.stdout)
             why = [] if ran.returncode == 0 and rows == ["one", "two"] else [f"status {ran.returncode}: {ran.stdout}{ran.stderr}"]
             for wrong, at in ((other, "two: "), (failing, "one: ")):
                 ran = self.run(old, wrong, "3")
                 why += [] if ran.returncode == 1 and ran.stderr.startswith(at) else [f"{wrong.name}: {ran.stderr}"]
             ran = self.run(old, new, "three")
-            return why + ([] if ran.returncode == 2 else [f"status {ran.returncode} of a seed that is no number"])
+            why += [] if ran.returncode == 2 else [f"status {ran.returncode} of a seed that is no number"]
+            return [*why, *self.why_count_wrong(pathlib.Path(folder), old, new)]
+
+    def why_count_wrong(self, folder, old, new):
+        valgrind = folder / "bin" / "valgrind"
+        valgrind.parent.mkdir()
+        for name in ("python3", "bash", "env"):
+            (valgrind.parent / name).symlink_to(shutil.which(name))
+        for script, wanted, said in ((None, [], "there is no valgrind"), (COUNTS, [("one", "1020"), ("two", "1003")], "")):
+            if script:
+                valgrind.write_text(script)
+                valgrind.chmod(0o755)
+            ran = self.run(old, new, "3", "--instructions", env={**os.environ, "PATH": str(valgrind.parent)})
+            rows = re.findall(rf"(?m)^\| (\w+){TIMES * 2} \| (\d+) \| \2 \| 1\.000 \|$", ran.stdout)
+            if ran.returncode or rows != wanted or said not in ran.stderr:
+                yield f"instructions: {ran.stdout}{ran.stderr}"
 
     def checkout(self, folder, script):
         """A checkout whose workloads run this script."""
         (folder / "bench").mkdir(parents=True)
-        (folder / "bench" / "workloads.txt").write_text("one job a 2\ntwo job b SEED\n")
+        (folder / "bench" / "workloads.txt").write_text("one job a 9 200 SEED\ntwo job b 5 SEED\n")
         program = folder / "crates" / "job" / "out" / "job"
         program.parent.mkdir(parents=True)
         program.write_text(f"#!/usr/bin/env bash\n{script}\n")
         program.chmod(0o755)
         return folder
 
-    def run(self, *words):
-        return subprocess.run([TOP / "bench" / "run", *words], stdin=subprocess.DEVNULL, capture_output=True, timeout=SECONDS, text=True)
+    def run(self, *words, **how):
+        return subprocess.run([TOP / "bench" / "run", *words], stdin=subprocess.DEVNULL, capture_output=True, timeout=SECONDS, text=True,
+                              **how)
 
 
 def cases():

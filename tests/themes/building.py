@@ -436,6 +436,16 @@ def tried(tree):
     yield "a build", False, (tree.top / "out").exists()
 
 
+def try_helps(tree):
+    """`tools/try --help` says what it does, and runs nothing; the words after `--` are the program's."""
+    wrote, said, status = tree.run(tree.top / "tools" / "try", "--help")
+    yield "the help", ("Runs the program with the words given before anything is proved", "", 0), (wrote.partition(":")[0], said, status)
+    yield "the runs", [], tree.ran()
+    tree.run(tree.top / "tools" / "try", "--", "--help")
+    tree.run(tree.top / "tools" / "try", "show", "--help")
+    yield "the runs after words of the program", ["goose try -- --help ", "goose try -- show --help "], tree.ran()
+
+
 def not_tried(tree):
     """Where `rt try` fails, what it says is handed on, and nothing is written."""
     wanted = ("", f"{UNPROVED}error: a name\nrun=none proved=no\ngoose was not run to its end: rt try ended with status 2\n", 125)
@@ -502,5 +512,6 @@ def cases():
     yield Builds("crates that stand on each other", circle)
     yield Builds("what is handed on", handed_on)
     yield Builds("the unproved program", tried, early=TRIES)
+    yield Builds("the help of tools/try", try_helps, early=TRIES)
     yield Builds("an unproved program that is refused", not_tried, early=REFUSES)
     yield Builds("an unproved program that writes too much", too_much, early=FLOODS)

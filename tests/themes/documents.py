@@ -283,6 +283,24 @@ def wireshark_fields():
     return {line.split("\t")[2] for line in told.splitlines() if line.startswith("F\t")}
 
 
+class Kit:
+    """README.md and docs/PROOFS.md name the kit by the sum of its logic, which machines with another version of the kit can have too.
+    `rt version` says that sum."""
+
+    name = "the kit of README.md and docs/PROOFS.md"
+
+    def why_wrong(self, _program):
+        texts = {path.name: path.read_text() for path in (TOP / "README.md", PROOFS)}
+        sums = {name: re.findall(r"logic is `([0-9a-f]{16})`", text) for name, text in texts.items()}
+        why = [f"{name} names a version of the kit" for name, text in texts.items() if re.search(r"rattle-kit-\d", text)]
+        why += [] if sums["README.md"] == sums["PROOFS.md"] and len(sums["README.md"]) == 1 else [f"other sums: {sums}"]
+        rt = shutil.which("rt") or shutil.which("/opt/rattle/bin/rt")
+        if not why and not rt:
+            raise Skipped("there is no rt")
+        told = subprocess.run([rt, "version"], stdout=subprocess.PIPE).stdout.decode() if rt else ""
+        return why + [f"rt version says {told!r}" for it in sums["README.md"] if rt and f"logic {it}\n" not in told]
+
+
 class Commands:
     """docs/FORMATS.md has each command, and what its help says."""
 
@@ -299,7 +317,7 @@ def part(text, heading):
 
 
 def cases():
-    yield from (Commands(), Glossary(), Generated(), Whole(), Short(), Plain(), Guided(), Carried())
+    yield from (Kit(), Commands(), Glossary(), Generated(), Whole(), Short(), Plain(), Guided(), Carried())
     folders = [TOP, TOP / "docs", TOP / "docs" / "tables", TOP / "examples", TOP / "tests", TOP / "bench",
                *(TOP / "crates").glob("*")]
     for folder in folders:

@@ -50,6 +50,24 @@ class Shown:
         return [f"{self.command}\n{why}"] if why else []
 
 
+class Left:
+    """What the commands of a document make in a checkout is no change of it."""
+
+    def __init__(self, document, place):
+        self.name, self.place = f"{document}: what its commands leave is in .gitignore", place
+
+    def why_wrong(self, program):
+        if not shutil.which("git") or subprocess.run(["git", "-C", TOP, "rev-parse"], stdin=subprocess.DEVNULL, capture_output=True).returncode:
+            raise Skipped("this is no checkout of git")
+        self.place.run(program, len(self.place.silent), ":")
+        folder = pathlib.Path(self.place.folder.name)
+        # The folder is HOME too, in which other programs keep hidden files of theirs.
+        left = [str(it.relative_to(folder)) for it in folder.rglob("*") if it.is_file() and not it.is_symlink()
+                and it.parent.name != "bin" and not it.relative_to(folder).parts[0].startswith(".")]
+        ignored = subprocess.run(["git", "-C", TOP, "check-ignore", "--no-index", "--stdin"], input="\n".join(left), capture_output=True, text=True)
+        return [f"git sees {it}" for it in sorted(set(left) - set(ignored.stdout.splitlines()))]
+
+
 def laid_out(folder, program):
     """Lays out what commands of documents ask for: the folders that they name, and goose beside them and on PATH."""
     for name in ("examples", "tools", "docs"):
@@ -82,6 +100,7 @@ def shown_in(document):
             command, output = (number, line[2:]), []
         elif is_console:
             output.append(line + "\n")
+    yield Left(document, place)
 
 
 def cases():

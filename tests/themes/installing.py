@@ -12,8 +12,7 @@ import tempfile
 from helpers.asked_tools import TOOLS, TOP
 from helpers.harness import SECONDS, Skipped
 from oracles import reference
-
-EXAMPLES = re.findall(r"(?m)^\.Dl (goose .*)$", (TOP / "docs" / "goose.1").read_text())
+from themes.manual import examples
 
 
 def ran(words, **how):
@@ -37,7 +36,7 @@ def installed_wrong(prefix):
     """What is not as it should be under a prefix: the manual page's examples, a tool, the completion of commands, the links of
     documents."""
     documents, path = prefix / "share" / "doc" / "goose", f"{prefix}/bin:/usr/bin:/bin"
-    for command in EXAMPLES:
+    for command in examples():
         example = ran(["bash", "-c", command], cwd=documents, env={**os.environ, "PATH": path})
         if example.returncode > 1 or example.stderr or not example.stdout:
             yield f"{command}: {example!r}"
@@ -52,6 +51,9 @@ def installed_wrong(prefix):
         if set(completed.stdout.decode().split()) != wanted:
             yield f"completion of {words}: {completed!r}"
     told = (documents / "PROVED").read_text()
+    kit = ran([shutil.which("rt") or "/opt/rattle/bin/rt", "version"]).stdout.decode() if shutil.which("rt") else ""
+    if kit not in told:
+        yield f"PROVED does not say {kit!r}"
     digest = hashlib.sha256((prefix / "bin" / "goose").read_bytes()).hexdigest()
     for name in ("commit", "toolchain", "gate", "built", "program"):
         if not re.search(rf"(?m)^{name} +\S", told):
@@ -220,7 +222,33 @@ class Packed:
             yield f"removal left {left}: {removed!r}"
 
 
+class Unchanged:
+    name = "what the tutorial makes in a checkout is no change in PROVED, and a source is one"
+
+    def why_wrong(self, program):
+        if not shutil.which("git"):
+            raise Skipped("there is no git")
+        with tempfile.TemporaryDirectory() as folder:
+            return list(self.why_commit_wrong(program, pathlib.Path(folder)))
+
+    @staticmethod
+    def why_commit_wrong(program, top):
+        (top / "tools").mkdir()
+        shutil.copy(TOOLS / "what_was_proved", top / "tools")
+        shutil.copy(TOP / ".gitignore", top)
+        for words in (["init", "-q"], ["add", "."], ["-c", "user.name=a", "-c", "user.email=a@b", "commit", "-q", "-m", "first"]):
+            ran(["git", "-C", top, *words])
+        for files, is_changed in ((["bays.list", "bays.pcap", "bays.blocks", "bays.replay", "bays.svg"], False), (["crates.txt"], True)):
+            for name in files:
+                (top / name).write_text("")
+            told = ran([top / "tools" / "what_was_proved", shutil.which(program[0])])
+            commit = re.search(rb"(?m)^commit +[0-9a-f]{40}(, with changes that are in no commit)?$", told.stdout)
+            if not commit or bool(commit[1]) != is_changed:
+                yield f"{files}: {told!r}"
+
+
 def cases():
+    yield Unchanged()
     yield Installed()
     yield Completed()
     yield Kept()

@@ -106,7 +106,7 @@ class GoesAway:
             run.stdin.write(self.second)
             status, complained = run.wait(timeout=SECONDS), run.stderr.read()
         why = [] if came else ["nothing came"]
-        return why + ([] if (status, complained) == (4, b"read or write fault\n") else [f"ended so: {status}, {complained!r}"])
+        return why + ([] if (status, complained) == (4, b"read or write fault: cannot write: Broken pipe\n") else [f"ended so: {status}, {complained!r}"])
 
 
 class FullAtOnce:
@@ -123,7 +123,7 @@ class FullAtOnce:
             with contextlib.suppress(BrokenPipeError):
                 run.stdin.write(self.piece)
             status, complained = run.wait(timeout=SECONDS), run.stderr.read()
-        return [] if (status, complained) == (4, b"read or write fault\n") else [f"ended so: {status}, {complained!r}"]
+        return [] if (status, complained) == (4, b"read or write fault: cannot write: No space left on device\n") else [f"ended so: {status}, {complained!r}"]
 
 
 def reads_so_far():

@@ -1,6 +1,7 @@
 """What standard error says of an input that ends a run, against the tables of docs/FORMATS.md: each cause of lists, scripts and
 captures, what to do about what the input shows, which field of a control block is wrong, and what is awaited on a
 terminal. The tables say what the sources say, and what the errors of the crates display."""
+import contextlib
 import os
 import pathlib
 import re
@@ -10,7 +11,7 @@ import tty
 
 from helpers.capture_parts import header, record
 from helpers.frames import WORKED, put
-from helpers.harness import SECONDS, Case, clipped, listed, run
+from helpers.harness import SECONDS, Case, Pieces, clipped, cut, descriptor, listed, run
 from themes.devices import CHANGE, SCRIPT, WORDS, words
 
 TOP = pathlib.Path(__file__).resolve().parent.parent.parent
@@ -24,14 +25,19 @@ ERRORS = {
 }
 # What callers of the crates are told, where the program has words of its own.
 OWN = {"BlockForm": "a block is APPID,gocbRef,datSet,goID,confRev,entries, as 0001,IED1LD/LLN0$GO$gcb,IED1LD/LLN0$ds,,1,2"}
+# What is found in captures in pcapng alone, which no command reads.
+OF_PCAPNG = {"BlockForm", "BlockLength", "Interface", "PacketTime"}
 # No text ends with status 3 by these: statuses 4 and 5 have texts of their own.
-UNTOLD = {"ReadFailed", "Memory"}
+UNTOLD = {("list", "ReadFailed"), ("script", "ReadFailed"), ("capture", "ReadFailed"), ("blocks", "Memory"),
+          *(("capture", name) for name in OF_PCAPNG)}
 
 
 def tables():
     """The rows of both tables, each by its first cell."""
     part = FORMATS.split("\n## Messages\n")[1]
-    return [dict(re.findall(r"(?m)^\| (.*?) \| (.*) \|$", table)) for table in re.split(r"\n\| \w+.* \| Says \|\n\|-.*\n", part)[1:]]
+    part = part.replace("\\|", "/pipe/")
+    found = [dict(re.findall(r"(?m)^\| (.*?) \| (.*) \|$", table)) for table in re.split(r"\n\| \w+.* \| Says \|\n\|-.*\n", part)[1:]]
+    return [{cell: text.replace("/pipe/", "|") for cell, text in rows.items()} for rows in found]
 
 
 SAYS, ADVICE = tables()
@@ -54,25 +60,23 @@ class Displayed:
     def why_wrong(self, _program):
         why = [] if self.shown else ["no sentence was found"]
         for name, text in self.shown.items():
-            if name not in UNTOLD:
+            if (self.sort, name) not in UNTOLD:
                 wanted = re.sub("NAME at offset OFFSET|(?<=block )B\\b", "{0}", said(name, self.sort) or "")
                 why += [] if text == wanted else [f"{name} is displayed as {text!r}, and the table has {wanted!r}"]
         return why
 
 
 class Tabled:
-    """The program has the sentences of the tables and no others."""
+    """The advice of the program is that of the table and no other, and its other sentences are those of the errors."""
 
-    name = "the sentences of the program are those of docs/FORMATS.md"
+    name = "the advice of the program is that of docs/FORMATS.md"
 
     def why_wrong(self, _program):
         stop, told = (SOURCES / "stop.rt").read_text(), (SOURCES / "advising.rt").read_text()
-        sentences = re.findall(r'"(\w+)" => (?:Some\(|\{\s*Some\()\s*"(.*?)",?\s*\)', stop)
-        wanted = {(name.split(",")[0], text.replace("NAME at offset OFFSET", "")) for name, text in SAYS.items()}
-        got = {(name, text) for name, text in sentences if name not in UNTOLD} | {("SameBlockTwice", SAYS["SameBlockTwice"])}
-        advised = {text.replace("\\\\", "\\") for text in re.findall(r'(?s)const \w+: &str =\s*"(.*?)";', told)}
-        return ([f"not alike: {sorted(wanted ^ got)}"] if wanted != got else []) + (
-            [f"not alike: {sorted(advised ^ set(ADVICE.values()))}"] if advised != set(ADVICE.values()) else [])
+        advised = {text.replace("\\\\", "\\") for text in re.findall(r'(?s)Advice::\w+ =>\s*(?:\{\s*)?"(.*?)"', told)}
+        own = [text for text in SAYS.values() if text in stop]
+        return ([f"not alike: {sorted(advised ^ set(ADVICE.values()))}"] if advised != set(ADVICE.values()) else []) + (
+            [f"sentences of errors stand in stop.rt: {own}"] if own else [])
 
 
 class Says(Case):
@@ -152,6 +156,134 @@ def shown_by_octets():
                           f"a capture, {order} {magic:x}")
 
 
+def compressed():
+    """Files that are compressed, under commands that read a list, a script and a capture. The system's tools would write these
+    first octets; what follows is not read."""
+    for how, head in (("gzip", "1f8b0800"), ("xz", "fd377a585a00"), ("zstd", "28b52ffd"), ("bzip2", "425a6839")):
+        octets = bytes.fromhex(head) + b"\t\r \n"
+        yield of_list("show", 1, "LineForm", octets, f"is compressed by {how}", f"a list in {how}")
+        yield of_list("publish", 1, "ScriptForm", octets, f"is compressed by {how}", f"a script in {how}")
+        yield Says(f"import: a capture in {how}", ["import"], octets + b"\0" * 24, "# 0 capture CaptureHeader",
+                   f"header: CaptureHeader: {SAYS['CaptureHeader']}", f"is compressed by {how}")
+    yield of_list("show", 1, "LineForm", b"\x1f\t\n", "has a tab, in a list", "a first octet of gzip alone")
+
+
+# How much a reader of lines holds, and how much a read of the system asks for.
+HELD, BLOCK = 8192, 65536
+
+
+def advice_on(line, is_list=True):
+    """Which advice a line without its LF gets whose form is wrong, as FORMATS says it; of a long one its front is looked at."""
+    shown = line[:4097].removesuffix(b"\r")
+    if b"\r" in shown:
+        return "has a CR inside the line"
+    if len(line) > 4096:
+        return None
+    for is_so, advice in ((is_list and b"\t" in shown, "has a tab, in a list"), (shown.endswith(b" "), "has a space at the end of the line"),
+                          (shown == b"V2", "has a line `V2` that is not the first"),
+                          (is_list and shown.startswith(b"control,"), "is a script, and the command is not `publish`"),
+                          (not is_list and shown[:2] in (b"F ", b"C ", b"M "), "is a list, and the command is `publish`")):
+        if is_so:
+            return advice
+    return FORM if is_list else OTHER
+
+
+class Fed(Pieces):
+    """Pieces, of which the last ones may come when the program has ended."""
+
+    def feed(self, pipe):
+        with contextlib.suppress(BrokenPipeError):
+            super().feed(pipe)
+
+
+class At:
+    """An input whose first error is in a line that begins behind so many octets, from a file and in pieces through a pipe: what
+    is said is what FORMATS says of that line."""
+
+    def __init__(self, line, start, more=b"", command="show", pieces=0):
+        self.line, self.start, self.more, self.command, self.pieces = line, start, more, command, pieces
+        end, place = f" in pieces of {pieces}" if pieces else "", f" with a CR at {line.find(13)}" if 13 in line else ""
+        self.name = f"{command}: {clipped(line[:20])!r} of {len(line)} octets{place} behind {start}, before {len(more)}{end}"
+
+    def before(self):
+        """Comments of 64 octets, an empty line after another to fill them up."""
+        return (b"#" * 63 + b"\n") * (self.start // 64) + b"\n" * (self.start % 64)
+
+    def told(self, program, octets):
+        if not self.pieces:
+            return run(program, words(self.command), octets)
+        return Fed(self.name, words(self.command), cut(octets, self.pieces), b"", waits=self.pieces < 64).run(program)
+
+    def why_wrong(self, program):
+        before = self.before()
+        wrote, complained, status = self.told(program, before + self.line + self.more)
+        is_list, number = self.command != "publish", before.count(b"\n") + 1
+        sort, cause = ("list", "LineForm") if is_list else ("script", "ScriptForm")
+        name = "LineTooLong" if len(self.line) > 4096 else cause
+        wanted = f"goose {self.command}: line {number}: {name}: {said(name, sort)}\n"
+        advice = advice_on(self.line, is_list)
+        wanted += f"{ADVICE[advice]}\n" if advice else ""
+        last = f"{'' if is_list else '# '}{number} {sort} {name}\n".encode()
+        why = [] if (status, wrote[-len(last):]) == (3, last) else [f"status {status}, wrote at last {clipped(wrote[-80:])!r}"]
+        return why + ([] if complained == wanted.encode() else [f"said {clipped(complained)!r}, and not {wanted!r}"])
+
+
+def places():
+    """An error at each place of a read: at its first octet and at its last, in a line that two reads give, in the first line, in
+    a later read; and in lines as long as may be and longer."""
+    lines = (b"C\t0", b"X", b"X\r", b"X ", b"X Y\rZ", b"X\t\r", b"control,")
+    for line in lines:
+        yield At(line, 0)
+        yield At(line, 0, b"\n" + FRAME)
+        for block in (HELD, BLOCK, 2 * BLOCK):
+            for start in {block, block - 1, block + 1, block - len(line) // 2, block - len(line), block - len(line) - 1}:
+                yield At(line, start, b"\n" + FRAME * 3)
+    for line in (b"C 0", b"V2", b"poll", b"step,1", b"X\t"):
+        for start in (0, HELD - 1, BLOCK - 1, BLOCK):
+            if start or line != b"V2":
+                yield At(line, start, b"\n", "publish")
+    for size in (4095, 4096, 4097, 4098, HELD - 1, HELD, HELD + 1, 70000):
+        for at in sorted({0, 4094, 4095, 4096, 4097, size - 1}):
+            if at < size:
+                line = b"X" * at + b"\r" + b"X" * (size - at - 1)
+                yield At(line, 0, b"\n")
+                yield At(line, BLOCK - 5000, b"\n" + FRAME)
+        yield At(b"X" * size, BLOCK - 100)
+    for pieces in (1, 5, 63, 4096, 5000):
+        for line in (b"C\t0", b"X Y\rZ", b"X" * 4096 + b"\rX", b"X" * 4097 + b"\rX"):
+            yield At(line, 130, b"\n" + FRAME, pieces=pieces)
+    for pieces in (HELD, 10000, BLOCK):
+        yield At(b"C\t0", 2 * BLOCK - 2, b"\n" + FRAME, pieces=pieces)
+
+
+def failing():
+    """Devices that fail: which, and why."""
+    read, write = "cannot read: Is a directory", "cannot write: No space left on device"
+    for command in ("show", "publish", "import"):
+        yield Fails(f"{command} of a directory", words(command), read, stdin="/")
+        yield Fails(f"{command} to a full disk", words(command), write, stdin=FRAME, stdout="/dev/full")
+    yield Fails("help to a full disk", ["--help"], write, stdout="/dev/full")
+    yield Fails("a directory, to a full disk", ["show"], write, stdin="/", stdout="/dev/full")
+
+
+class Fails:
+    """A read or a write fails: status 4, and standard error says which device and why, in one line."""
+
+    def __init__(self, name, asked, why, stdin=b"", stdout=None):
+        self.name, self.asked, self.why, self.stdin, self.stdout = name, asked, why, stdin, stdout
+
+    def why_wrong(self, program):
+        with contextlib.ExitStack() as opened:
+            how = {"stdout": opened.enter_context(descriptor(self.stdout, os.O_WRONLY))} if self.stdout else {}
+            if isinstance(self.stdin, str):
+                how["stdin"] = opened.enter_context(descriptor(self.stdin))
+                _, complained, status = run(program, self.asked, **how)
+            else:
+                _, complained, status = run(program, self.asked, self.stdin, **how)
+        wanted = f"read or write fault: {self.why}\n".encode()
+        return [] if (complained, status) == (wanted, 4) else [f"status {status}, said {complained!r}, and not {wanted!r}"]
+
+
 def scripts():
     control, change = SCRIPT.split(b"\n")[0] + b"\n", CHANGE
     step = b"step,4,1000\n"
@@ -178,6 +310,7 @@ def scripts():
 
 def captures():
     good = header() + record(1, 2, WORKED)
+    split = "is a capture with a record after the last that is read"
     for what, number, name, stdin in (
         ("a wrong link type", 0, "CaptureHeader", header(link=101)), ("nothing at all", 0, "CaptureShort", b""),
         ("a record that is cut off", 2, "CaptureShort", good + record(1, 2, WORKED)[:-1]),
@@ -185,7 +318,8 @@ def captures():
         ("a million records", 1000000, "TooManyRecords", header() + record(1, 2, b"") * 1000000),
     ):
         place = f"record {number}" if number else "header"
-        yield Says(f"import: {what}", ["import"], stdin, f"# {number} capture {name}", f"{place}: {name}: {SAYS[name]}")
+        yield Says(f"import: {what}", ["import"], stdin, f"# {number} capture {name}", f"{place}: {name}: {SAYS[name]}",
+                   split if name == "TooManyRecords" else None)
     twice = ["replay", "0001,G,D,,1,1", "0002,G,D,,1,1", "0001,G,X,,2,2"]
     yield Says("replay: a block given twice", twice, b"", "blocks SameBlockTwice 2",
                f"SameBlockTwice: {SAYS['SameBlockTwice'].replace('block B', 'block 2')}")
@@ -197,6 +331,32 @@ class Quiet(Case):
     def why_wrong(self, program):
         _, complained, status = self.run(program)
         return [] if status in (0, 1) and not complained else [f"ended with status {status}, and said {complained!r}"]
+
+
+class NeverSeen:
+    """A replay of BLOCKs of which no frame came says which, and asks about single quotes where a text has no $. Nothing is said
+    where a frame came, if it was refused too."""
+
+    def __init__(self, name, blocks, frames, said):
+        self.name, self.blocks, self.frames, self.said = f"replay: {name}", blocks, frames, said
+
+    def why_wrong(self, program):
+        _, complained, status = run(program, ["replay", *self.blocks], listed(*self.frames))
+        wanted = "".join(f"goose replay: {line}\n" for line in self.said)
+        return [] if (complained.decode(), status) == (wanted, 0) else [f"status {status}, said {complained.decode()!r}, and not {wanted!r}"]
+
+
+def unseen():
+    own, other, torn = "0001,G,D,,1,1", "0002,BAY/LLN0$GO$g,D,,1,1", "0002,BAY/LLN0,D,,1,1"
+    of = "was never seen: no frame has the APPID and the gocbRef of"
+    quotes = ". Is it in single quotes? Otherwise a shell takes words like $GO out of it"
+    yield NeverSeen("a block of which a frame came", [own], [WORKED], [])
+    yield NeverSeen("a block of which a frame was refused", ["0001,G,D,,2,1"], [WORKED], [])
+    yield NeverSeen("a block of which no frame came", [own, other], [WORKED], [f"block 1 {of} {other}"])
+    yield NeverSeen("a block without a $, behind the mark", ["--", torn, own], [WORKED], [f"block 0 {of} {torn}{quotes}"])
+    yield NeverSeen("no frame at all", [own, other], [], [f"block 0 {of} {own}{quotes}", f"block 1 {of} {other}"])
+    many = [f"0001,L$GO${at},D,,1,1" for at in range(20)]
+    yield NeverSeen("very many blocks", many, [], [f"block {at} {of} {many[at]}" for at in range(16)] + ["4 more were never seen"])
 
 
 class Awaits:
@@ -214,7 +374,7 @@ class Awaits:
             told = os.read(started.stderr.fileno(), 400) if is_told else b""
             terminal.write(b"\4")
             wrote, status = started.stdout.read(), started.wait(timeout=SECONDS)
-        wanted = f"goose {self.command}: a {self.what} is awaited; end it with Ctrl-D\n".encode()
+        wanted = f"goose {self.command}: waiting for a {self.what} on standard input (did you forget `< FILE`?)\n".encode()
         why = [] if told == wanted else [f"told {told!r}, and not {wanted!r}"]
         return why + ([] if status in (0, 3) else [f"ended with status {status}, wrote {wrote!r}"])
 
@@ -255,7 +415,7 @@ def cases():
     yield Tabled()
     for file, (enum, sort) in ERRORS.items():
         yield Displayed(file, enum, sort)
-    yield from (*lists(), *shown_by_octets(), *scripts(), *captures(), *blocks())
+    yield from (*lists(), *shown_by_octets(), *compressed(), *places(), *failing(), *scripts(), *captures(), *blocks(), *unseen())
     frames = listed(WORKED, put(WORKED, at66=1))
     for command in ("show", "check", "rewrite", "blocks", *WORDS):
         yield Quiet(f"{command} that ends well says nothing", words(command), frames)

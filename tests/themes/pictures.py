@@ -7,8 +7,9 @@ import subprocess
 import tempfile
 from xml.etree import ElementTree
 
-from helpers.frames import WORKED, put
-from helpers.harness import SECONDS, first_difference, run, text
+from helpers.asked_tools import ask
+from helpers.frames import BOOLEAN, SAMPLED, WORKED, put, with_members
+from helpers.harness import SECONDS, first_difference, listed, run, text
 
 TOP = pathlib.Path(__file__).resolve().parent.parent.parent
 DOCS, EXAMPLES, TOOLS = TOP / "docs", TOP / "examples", TOP / "tools"
@@ -51,7 +52,89 @@ class OneOfTwo:
         lost = re.findall(r">(state .*): lost<", shown)
         ended = re.findall(r">([\d.]+)</text>\n<circle [^>]*/>\n<text [^>]*>the lifetime has ended<", shown)
         return (why + ([] if lost == ["state 1, sq 2"] else [f"lost: {lost}"])
-                + ([] if ended == ["7.002"] else [f"the lifetime ended at {ended}: {shown}"]))
+                + ([] if ended == ["2.002"] else [f"the lifetime ended at {ended}: {shown}"]))
+
+
+class Readable:
+    """Times count from the first event, no text lies over another or beyond the picture, and a text that is cut is there whole."""
+
+    name = "a picture that can be read"
+
+    def why_wrong(self, program):
+        ones = put(WORKED), put(WORKED, at49=1), put(WORKED, at49=3)
+        wide = with_members(BOOLEAN * 100, 100)
+        short = text([f"F {1700000000250 + 3600000 * at} {frame.hex()}" for at, frame in enumerate(ones)])
+        lists = {"0001,G,D,,1,1": (short, ["0.000", "3600.000", "7200.000"], "seconds from 2023-11-14T22:13:20.250000Z"),
+                 "0001,G,D,,1,100": (listed(wide, moment=5), ["0.000"], "seconds from the first event"),
+                 f"0001,{'G' * 129},{'D' * 129},,1,1": (short, ["0.000"], "seconds from 2023-11-14T22:13:20.250000Z")}
+        return [f"{block[:20]}: {why}" for block, given in lists.items() for why in self.why_list_wrong(program, block, *given)]
+
+    def why_list_wrong(self, program, block, octets, times, began):
+        with tempfile.NamedTemporaryFile() as recorded:
+            recorded.write(octets)
+            recorded.flush()
+            picture, _ = drawn(program, "draw_recording", [recorded.name, block])
+        picture = ElementTree.fromstring(picture)
+        rows, shown = {}, picture.findall("{*}text")
+        for it in shown:
+            rows.setdefault(it.get("y"), []).append((int(it.get("x")), it.text))
+        for row in rows.values():
+            ends = [x + 7.9 * len(words) for x, words in row]
+            limits = [x for x, _ in row[1:]] + [int(picture.get("width"))]
+            yield from (f"{words} ends at {end}, and {limit} is there" for (_, words), end, limit in zip(row, ends, limits) if end > limit)
+        if began not in [it.text for it in shown]:
+            yield f"no text is {began!r}"
+        got = [words for x, words in sorted(it for row in rows.values() for it in row[:1]) if re.fullmatch(r"[\d.]+", words)]
+        if not set(times) <= set(got):
+            yield f"wanted {times}, got {got}"
+        cut = [it for it in shown if it.text.endswith(" ..")]
+        if [it.find("{*}title").text.count("true") for it in cut] != [100] * (block[-4:] == ",100"):
+            yield f"texts are cut: {[it.text for it in cut]}"
+
+
+class Limited:
+    """A picture has at most 500 rows: it says so where the list goes on, and --from draws what follows, with the same times. Frames of
+    others share a row."""
+
+    name = "a picture of one block of a list that goes on"
+
+    def why_wrong(self, program):
+        frames = [put(WORKED, at46=1 + at // 100, at49=at % 100) for at in range(2000)]
+        others = [put(WORKED, at15=2)] * 3000
+        octets = text(["V2", *(f"F {1700000000000000 + at * 400} {frame.hex()}" for at, frame in enumerate([*frames[:100], *others, *frames[100:]]))])
+        with tempfile.NamedTemporaryFile() as recorded:
+            recorded.write(octets)
+            recorded.flush()
+            first = ask(program, "draw_recording", [recorded.name, "0001,G,D,,1,1"])
+            then = ask(program, "draw_recording", ["--from", "3501", recorded.name, "0001,G,D,,1,1"])
+            last = ask(program, "draw_recording", ["--from", "4602", recorded.name, "0001,G,D,,1,1"])
+            beyond = ask(program, "draw_recording", ["--from", "5002", recorded.name, "0001,G,D,,1,1"])
+        parts = [(first, 1, "3501", ["0.000", "0.040", "1.399"]), (then, 1, "4001", ["1.400", "1.599"]), (last, 0, None, ["1.840", "2.000"])]
+        why = [why for it in parts for why in self.why_part_wrong(*it)]
+        why += [] if b"102 to 3101 not-subscribed" in first[0] and first[0].count(b"not-subscribed") == 1 else ["frames of others have no row, or some"]
+        return why + ([] if beyond == (b"", b"draw_recording: the list has no event from line 5002 on\n", 3) else [f"{beyond}"])
+
+    def why_part_wrong(self, part, status, line, times):
+        picture, complained, got = part
+        said = f"draw_recording: the picture has the 500 rows that fit; the list goes on with line {line}: --from {line} draws what follows\n"
+        if (got, complained.decode()) != (status, said if line else ""):
+            yield f"status {got}: {complained!r}"
+        if line and f"The list goes on with line {line}: " not in picture.decode():
+            yield f"the picture does not say line {line}"
+        shown = re.findall(r'<text x="80" y="\d+">([\d.]+)<', picture.decode())
+        if len(picture) > 200000 or not set(times) <= set(shown) or (shown[0], shown[-1]) != (times[0], times[-1]):
+            yield f"{len(picture)} octets, from {shown[:1]} to {shown[-1:]}, wanted {times}"
+
+
+class Unseen:
+    """A BLOCK of which no frame came is drawn as such, and told."""
+
+    name = "a picture of a BLOCK that is never seen"
+
+    def why_wrong(self, program):
+        got = ask(program, "draw_recording", [EXAMPLES / "two_bays.list", "3001,BAY1PROT/LLN0,BAY1PROT/LLN0,BAY1_Trip,1,2"])
+        is_well = got[2] == 1 and b"was never seen" in got[1] and b"single quotes" in got[1]
+        return [] if is_well else [f"{got[1:]}"]
 
 
 class Undrawn:
@@ -121,6 +204,20 @@ class Small:
         return why + ([] if 0 < len(picture) < 200000 else [f"{len(picture)} octets"])
 
 
+class Faulty:
+    """What a replay says of frames that are of another list, without one of GOOSE in that line, is refused."""
+
+    name = "a picture of a list of other frames"
+
+    def why_wrong(self, program):
+        with tempfile.NamedTemporaryFile() as recorded:
+            recorded.write(b"C 0\n" + listed(SAMPLED))
+            recorded.flush()
+            entries = [f"{line} act 0 st=1 sq=0 t=0000000000000000 {{true}}\n".encode() for line in (1, 2)]
+            got = [ask(program, "draw_replay", [recorded.name], it) for it in entries]
+        return [] if {it[1:] for it in got} == {(b"draw_replay: this is not what goose replay writes for that list\n", 3)} else [f"{got}"]
+
+
 class Strange:
     """What is no replay of a list is refused."""
 
@@ -135,10 +232,14 @@ class Strange:
 def cases():
     yield OneBlock()
     yield OneOfTwo()
+    yield Readable()
+    yield Limited()
+    yield Unseen()
     yield Undrawn(f"F 0 {WORKED.hex()}\nx\n".encode(), "the list ends with an error: line 2: LineForm")
     yield Undrawn(b"", "the list has no event")
     yield Undrawn(b"V2\n# nothing\n", "the list has no event")
     yield TwoBlocks()
     yield Marked()
     yield Small()
+    yield Faulty()
     yield Strange()

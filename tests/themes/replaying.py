@@ -9,7 +9,7 @@ import subprocess
 import tempfile
 
 from helpers.frames import BOOLEAN, ENVELOPE, SAMPLED, element, with_fields
-from helpers.harness import SECONDS, Case, first_difference, run, text, why_told
+from helpers.harness import SECONDS, Case, first_difference, never_seen, run, text, why_told
 from oracles import by_definition, subscriber
 
 SEED = 61850
@@ -48,7 +48,7 @@ class Replays:
         wrote, complained, status = run(program, ["replay", *self.words], self.octets)
         difference = first_difference(text(lines), wrote)
         why = [difference] if difference else []
-        why += why_told("replay", wrote, complained, status)
+        why += why_told("replay", wrote, complained, status, self.words)
         return why + ([f"ended with status {status}, and not {wanted_status}"] if status != wanted_status else [])
 
 
@@ -79,7 +79,7 @@ class ManyLists:
             octets = b"".join(lines)
             wanted, _ = subscriber.replay(octets, words[:count])
             wrote, complained, status = run(program, ["replay", *words[:count]], octets)
-            if (wrote, complained, status) != (text(wanted), b"", 0):
+            if (wrote, complained, status) != (text(wanted), never_seen(words[:count], wrote), 0):
                 return [f"list {at} of {count} blocks: {octets!r}", first_difference(text(wanted), wrote) or f"status {status}"]
         return []
 
@@ -110,7 +110,7 @@ class ByDefinition:
         slow_lines, slow_status = subscriber.replay(octets, words)
         wrote, complained, status = run(program, ["replay", *words], octets)
         given = {"the program": (wrote, status), "the slow subscriber": (text(slow_lines), slow_status)}
-        return why_told("replay", wrote, complained, status) + [
+        return why_told("replay", wrote, complained, status, words) + [
             f"{who}: {first_difference(text(lines), wrote) or f'status {status}'}"
             for who, (wrote, status) in given.items() if (wrote, status) != (text(lines), wanted_status)]
 

@@ -91,7 +91,9 @@ def configured():
     foreign = '<x:GSEControl xmlns:x="urn:other" name="g" datSet="d" confRev="1" appID="X"/>'
     yield Configured("elements of another namespace", scl(control=foreign + CONTROL), [BLOCK])
     yield Configured("this IED", scl(), [BLOCK], words=["--ied", "I"])
-    yield Configured("another IED", scl(), words=["--ied", "J"])
+    yield Configured("another IED", scl(), words=["--ied", "J"], status=1, stderr=[b"scl_blocks: there is no IED J in ", b": there are I\n"])
+    silent = scl().replace("</IED>", '</IED><IED name="J"/>')
+    yield Configured("an IED that sends nothing", silent, words=["--ied", "J"])
     for name, how, why in (
             ("no address", {"address": ""}, b"no GSE address with an APPID"),
             ("an address of another block", {"address": ADDRESS.format(1).replace('"g"', '"h"')}, b"no GSE address with an APPID"),
@@ -126,8 +128,9 @@ ONE, OTHER = "0001,G,D,,1,1", "0001,G,D,ID,2,1"
 class Compared:
     """Configured BLOCKs, those of a list, and the lines of the comparison."""
 
-    def __init__(self, name, configured, found, lines, status):
+    def __init__(self, name, configured, found, lines, status, said=b""):
         self.name, self.configured, self.found, self.lines, self.status = f"compare_blocks: {name}", configured, found, lines, status
+        self.said = said
 
     def why_wrong(self, program):
         with tempfile.NamedTemporaryFile() as file:
@@ -136,7 +139,7 @@ class Compared:
             wrote, complained, status = ask(program, "compare_blocks", [file.name], text(self.found))
         difference = first_difference(text(self.lines), wrote)
         why = [difference] if difference else []
-        return why + ([f"ended with status {status}: {complained!r}"] if status != self.status else [])
+        return why + ([f"ended with status {status}: {complained!r}"] if status != self.status or self.said not in complained else [])
 
 
 def compared():
@@ -151,6 +154,21 @@ def compared():
     yield Compared("any goID", [ONE], ["2 block 0001,G,D,ID,1,1"], [f"agrees {ONE}"], 0)
     yield Compared("a block that changes", [ONE], [f"2 block {ONE}", "3 stream id=\"S\" rev=1", f"4 block-changed {OTHER}", f"5 block-changed {ONE}"],
                    [f"agrees {ONE}", f"differs {ONE}: the capture has confRev 2"], 1)
+    yield Compared("all forms of a block", [f"2 block {ONE}", f"4 block-changed {OTHER}"], [f"2 block {OTHER}", f"3 block-changed {ONE}"],
+                   [f"agrees {ONE}", f"agrees {OTHER}"], 0)
+    yield Compared("one form of two", [f"2 block {ONE}", f"4 block-changed {OTHER}"], [f"2 block {ONE}"],
+                   [f"agrees {ONE}", f"differs {OTHER}: the capture has goID absent, confRev 1"], 1)
+    streams = [f"{number} stream id=\"{name}\" rev=1" for number, name in enumerate("ABC", 2)]
+    yield Compared("streams that vanished", [f"1 block {ONE}", *streams], [f"1 block {ONE}", streams[0].replace("rev=1", "rev=2"), '9 stream id="D" rev=1'],
+                   [f"agrees {ONE}", 'differs stream id="A" rev=1: the capture has confRev 2', 'missing stream id="B" rev=1',
+                    'missing stream id="C" rev=1', 'extra stream id="D" rev=1'], 1)
+    yield Compared("streams beside a configuration", [ONE], [f"1 block {ONE}", *streams], [f"agrees {ONE}"], 0)
+    long = '2 block appid=0001 ref="G," set="D" id=- rev=1 entries=1'
+    yield Compared("a block that no BLOCK can hold", [long], [long], [f"agrees {long[8:]}"], 0)
+    yield Compared("blocks of a list with an error", [f"2 block {ONE}", "3 list LineForm"], [], [], 3)
+    for line in (ONE, f"block {ONE}", "2 goose 010ccd010001", ""):
+        yield Compared(f"another line: {line}", [ONE], [line], [], 2, b"line 1 of standard input is none that goose blocks writes")
+    yield Compared("another line after others", [ONE], [f"2 block {ONE}", ONE], [], 2, b"line 2 of standard input")
     yield Compared("a list with an error", [ONE], [f"2 block {ONE}", "3 list LineForm"], [], 3)
     yield Compared("a BLOCK that is none", ["0001,G"], [], [], 3)
 
@@ -240,6 +258,22 @@ class Dropped:
         return []
 
 
+class Unseen:
+    """A BLOCK of which no frame came is never seen. If it has no $, a shell may have taken its names."""
+
+    name = "what_was_lost: a BLOCK that is never seen"
+
+    def why_wrong(self, program):
+        blocks = ["0001,G,D,,1,1", "0001,X/LLN0,X/LLN0,,1,1", "0002,X/LLN0$GO$G,X/LLN0$D,,1,1"]
+        (seen, *others), status, complained = table(program, text([state(0, 1, 0)]), blocks)
+        wanted = [{**dict.fromkeys(COLUMNS, "-"), "block": str(at), "gocbRef": f"{block.split(',')[1]}, never seen"}
+                  for at, block in enumerate(blocks) if at]
+        why = "goose replay: block {} was never seen: no frame has the APPID and the gocbRef of {}"
+        told = [why.format(1, blocks[1]) + ". Is it in single quotes? Otherwise a shell takes words like $GO out of it", why.format(2, blocks[2])]
+        is_well = (seen["acts"], others, status, complained.decode().splitlines()) == ("1", wanted, 1, told)
+        return [] if is_well else [f"status {status}, {others}: {complained!r}"]
+
+
 def state(at, st, sq, t=0, quality=0x0A):
     """The line of a frame: its time in milliseconds, stNum, sqNum, and the seconds and the quality of t."""
     changed = {f"at{36 + place}": octet for place, octet in enumerate(t.to_bytes(4, "big"))}
@@ -259,7 +293,15 @@ def lost():
     late = [state(0, 3, 0), state(5000, 6, 0), state(5100, 5, 0), state(5200, 4, 0)]
     yield Lost("all states after an expiry that come late", text(late), block, expired=1, old=2, states_lost=0, frames_lost=0)
     yield Lost("a restart", text([state(0, 3, 9), state(5000, 1, 1, 4)]), block, expired=1, states_lost=0, frames_lost=0, restarts=1)
-    yield Lost("a link that was down", text([state(0, 3, 9), state(5000, 3, 14)]), block, expired=1, states_lost=0, frames_lost=0, restarts=0)
+    yield Lost("a link that was down", text([state(0, 3, 9), state(5000, 3, 14)]), block, expired=1, states_lost=0, frames_lost="-", restarts=0)
+    yield Lost("a link that was down, and frames that come late", text([state(0, 3, 9), state(5000, 3, 11), state(5100, 3, 10)]), block, expired=1,
+               frames_lost=0)
+    yield Lost("frames of a state lost across an expiry", text([state(0, 3, 0), state(1, 3, 2), state(5000, 4, 2)]), block, expired=1,
+               states_lost=0, frames_lost="-")
+    yield Lost("an expiry without a loss", text([state(0, 3, 0), state(1, 3, 2), state(5000, 3, 3), state(9000, 4, 0)]), block, expired=2,
+               states_lost=0, frames_lost=1)
+    yield Lost("a restart with a higher sqNum", text([state(0, 3, 1), state(5000, 1, 7, 4)]), block, expired=1, frames_lost=0, restarts=1)
+    yield Unseen()
     yield Lost("delays", text([state(1, 1, 0), state(100, 2, 0), state(1002, 3, 0, 1), state(1100, 4, 1, 1)]), block, delay="100", frames_lost=1)
     yield Lost("an earlier state that comes late", text([state(0, 5, 0), state(100, 3, 0), state(200, 3, 4)]), block, status=0, old=2,
                states_lost=0, frames_lost=0)

@@ -5,17 +5,24 @@ What JSON has of a line is written as a line again, by the formats of docs/FORMA
 import csv
 import io
 import json
+import os
 import random
+import select
 import shutil
 import subprocess
 import tempfile
+import time
 
 from helpers import by_chance
-from helpers.asked_tools import EXAMPLES, Asked, ask
-from helpers.harness import SECONDS, Skipped, clipped, listed, run, text
+from helpers.asked_tools import EXAMPLES, TOOLS, Asked, ask
+from helpers.frames import WORKED, WORKED_LINE, put
+from helpers.harness import SECONDS, Skipped, classic_pcap, clipped, listed, run, text
 from themes import replaying
 
 SEED, COUNT = 8259, 400
+COLUMNS = ("line", "microseconds", "time", "kind", "block", "reason", "offset", "error", "mode", "destination", "source", "tag",
+           "appid", "reserved1", "reserved2", "gocbRef", "timeAllowedtoLive", "datSet", "goID", "t", "tTime", "stNum", "sqNum",
+           "simulation", "confRev", "ndsCom", "members", "asdus", "trailer", "asdu", "smpCnt", "missing", "svID", "text")
 REPLAYED = ["0001,G,D,,1,1", "0002,G,D,,1,1", "3001,BAY1PROT/LLN0$GO$gcbTrip,BAY1PROT/LLN0$dsTrip,BAY1_Trip,1,2"]
 COMMANDS = (["show"], ["check"], ["replay", *REPLAYED], ["replay", REPLAYED[0], REPLAYED[0]], ["watch", "--period", "4000", "--id", "MU01"])
 
@@ -180,7 +187,87 @@ class Dated:
                 yield f"{version}: wanted {wanted}, got {got}"
 
 
+class Live:
+    """Each row is handed on before the tool waits for the next line, although nothing asks Python to. The list can be written
+    beside it, and later than what goose says of it."""
+
+    def __init__(self, tool, head, rows, is_late=False):
+        self.name, self.tool, self.head, self.rows = f"{tool} in a live pipe{', and a list that comes late' * is_late}", tool, head, rows
+        self.is_late = is_late
+
+    def why_wrong(self, _program):
+        environment = {name: value for name, value in os.environ.items() if name != "PYTHONUNBUFFERED"}
+        with tempfile.NamedTemporaryFile() as recorded:
+            recorded.write(b"V2\n" if self.is_late else b"V2\nC 1\nC 2\n")
+            recorded.flush()
+            with subprocess.Popen([TOOLS / self.tool, recorded.name], stdin=subprocess.PIPE, stdout=subprocess.PIPE, bufsize=0,
+                                  env=environment) as started:
+                why = list(self.why_rows_wrong(started, recorded))
+                started.stdin.close()
+                status = started.wait(timeout=SECONDS)
+        return why + ([] if status == 0 else [f"status {status}"])
+
+    def why_rows_wrong(self, started, recorded):
+        for number, row in enumerate(self.rows, 1):
+            started.stdin.write(f"{number + 1} clock {number}\n".encode())
+            if self.is_late:
+                time.sleep(0.2)
+                recorded.write(f"C {number}\n".encode())
+                recorded.flush()
+            got, wanted = b"", self.head + row if number == 1 else row
+            while len(got) < len(wanted) and select.select([started.stdout], [], [], SECONDS / 4)[0]:
+                got += os.read(started.stdout.fileno(), 4096)
+            if got != wanted:
+                yield f"row {number}: wanted {wanted}, got {got}"
+                return
+
+
+def live():
+    head = ",".join(COLUMNS).encode() + b"\n"
+    rows = [f"{number + 1},{number},1970-01-01T00:00:00.00000{number}Z,clock".encode() + b"," * (len(COLUMNS) - 4) + b"\n" for number in (1, 2)]
+    objects = [f'{{"line":{number + 1},"microseconds":{number},"time":"1970-01-01T00:00:00.00000{number}Z","kind":"clock"}}\n'.encode()
+               for number in (1, 2)]
+    for is_late in (False, True):
+        yield Live("to_csv", head, rows, is_late)
+        yield Live("to_json", b"", objects, is_late)
+
+
+class Another:
+    """A LIST that is a capture, or another list than goose has read, is refused."""
+
+    def __init__(self, name, written, octets, why):
+        self.name, self.written, self.octets, self.why = f"a LIST that is {name}", written, octets, why
+
+    def why_wrong(self, program):
+        with tempfile.NamedTemporaryFile() as recorded:
+            recorded.write(self.octets)
+            recorded.flush()
+            told = {tool: ask(program, tool, [recorded.name], self.written) for tool in ("to_csv", "to_json")}
+        return [f"{tool}: {got}" for tool, got in told.items()
+                if got[2] != 3 or self.why not in got[1] or got[1].count(b"\n") != 1 or got[0].count(b"\n") > 1]
+
+
+def another():
+    frame = listed(WORKED)
+    shown = b"1 " + WORKED_LINE.encode() + b"\n"
+    acted = b"1 act 0 st=1 sq=0 t=0000000000000000 {true}\n"
+    other = b"is another list than goose has read: its line 1 gives no such line"
+    yield Another("a capture", acted, classic_pcap([WORKED]), b"is a capture: give the list that goose import makes of it")
+    yield Another("a capture of pcapng", acted, (EXAMPLES / "two_frames.pcapng").read_bytes(), b"is a capture")
+    yield Another("empty", acted, b"", other)
+    yield Another("shorter", acted.replace(b"1 act", b"3 act"), frame * 2, b"its line 3 gives")
+    yield Another("one of clock times", acted, b"C 0\n", other)
+    yield Another("one without that clock time", b"1 clock 1000\n", b"C 2\n", other)
+    yield Another("one without that mode", b"1 mode 1000 on\n", b"C 1\n", other)
+    yield Another("one of other addresses", shown, listed(put(WORKED, at5=2)), other)
+    yield Another("one of another t", acted, listed(put(WORKED, at36=9, at43=9)), other)
+    yield Another("one without that error", b"1 list LineForm\n", frame, other)
+    yield Another("one with another error", b"1 list LineForm\n", b"C x\n", other)
+
+
 def cases():
+    yield from live()
+    yield from another()
     chance = random.Random(SEED)
     yield Whole("frames of GOOSE by chance", listed(*[by_chance.goose(chance) for _ in range(COUNT)]))
     yield Whole("frames of Sampled Values by chance", listed(*[by_chance.sampled(chance) for _ in range(COUNT)]))

@@ -2,6 +2,7 @@
 import os
 import pathlib
 import re
+import shlex
 import shutil
 import subprocess
 import tempfile
@@ -100,7 +101,37 @@ class Closed:
         return [] if (closed.stdout, closed.stderr) == wanted else [repr(closed)]
 
 
+class Shut:
+    """A tool whose standard input or output is closed, or whose output takes no more, says so and ends with status 4."""
+
+    def __init__(self, tool, *words):
+        self.tool, self.words, self.name = tool, words, f"{tool} with a standard input or output that is closed"
+
+    def why_wrong(self, program):
+        return list(self.why_redirected_wrong({**os.environ, "GOOSE": shlex.join(program)}))
+
+    def why_redirected_wrong(self, environment):
+        for redirection, why in (("<&-", b"standard input is closed"), (">&-", b"standard output is closed"),
+                                 (">/dev/full", b"No space left on device")):
+            shut = ran(["bash", "-c", f'exec "$@" {redirection}', "bash", TOOLS / self.tool, *self.words], cwd=TOOLS.parent, env=environment)
+            if shut.returncode != 4 or shut.stderr != f"{self.tool}: ".encode() + why + b"\n":
+                yield f"{redirection}: {shut!r}"
+
+
+class Unheard:
+    """A tool whose standard error is closed too says nothing, and ends with its status."""
+
+    name = "to_json with closed standard input and error"
+
+    def why_wrong(self, _program):
+        shut = ran(["bash", "-c", 'exec "$@" <&- 2>&-', "bash", TOOLS / "to_json"])
+        return [] if (shut.returncode, shut.stdout) == (4, b"") else [f"{shut!r}"]
+
+
 def cases():
+    for words in (["to_csv"], ["list_to_pcap"], ["hex_to_list"]):
+        yield Shut(*words)
+    yield Unheard()
     for tool in TOLD:
         yield Helps(tool)
     yield Finds()

@@ -1,4 +1,5 @@
 """What a watch makes of lists: worked ones, and lists made by chance of which the slow watch says what comes."""
+import collections
 import random
 
 from helpers.frames import SAMPLED, SAMPLED_ENVELOPE, WORKED, element, framed, put
@@ -70,6 +71,20 @@ def worked():
                b"1 0 1 first\n2 0 1 same\n3 list LineForm\n", 3)
 
 
+class Outage:
+    """A stream of 4,000 samples a second that misses so many after sample 100: its counts alone tell the program this."""
+
+    def __init__(self, missing, told, status):
+        self.name, self.missing, self.told, self.status = f"an outage of {missing} samples", missing, told, status
+
+    def why_wrong(self, program):
+        octets = counted(*[at % 4000 for at in range(12000) if not 100 < at <= 100 + self.missing])
+        wrote, _, status = run(program, ["watch", "--period", "4000", *S], octets)
+        kinds = collections.Counter(line.split(b" ", 3)[3].decode() for line in wrote.splitlines())
+        told = {kind: count for kind, count in kinds.items() if kind not in ("first", "next")}
+        return [] if (told, status) == (self.told, self.status) else [f"wrote {told}, and ended with status {status}"]
+
+
 def some_list(chance, period, count):
     """A list of two streams, whose counters mostly go on, with faulty frames, GOOSE, clocks and modes."""
     counts, lines = {b"S": chance.randrange(period), b"T": 0}, [chance.choice([b"", b"V2\n", b"# x\n"])]
@@ -91,6 +106,11 @@ def some_list(chance, period, count):
 
 def cases():
     yield from worked()
+    # The table of docs/RECIPES.md.
+    yield Outage(1600, {"skipped 1600": 1}, 1)
+    yield Outage(2400, {"late": 1599, "same": 1}, 1)
+    yield Outage(4000, {}, 0)
+    yield Outage(5000, {"skipped 1000": 1}, 1)
     chance = random.Random(SEED)
     for at in range(60):
         period = chance.choice([2, 3, 4, 5, 80, 4000, 4800, 65535, 65536])

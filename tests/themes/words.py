@@ -2,7 +2,9 @@
 import pathlib
 import re
 import shlex
+import shutil
 import subprocess
+import tempfile
 
 from helpers.frames import WORKED
 from helpers.harness import SECONDS, Case, clipped, listed
@@ -63,8 +65,8 @@ class Helps(Case):
 
 
 class Begins(Case):
-    """Help begins with an example that runs as it stands, that of the program where goose alone is at hand, and says what the
-    command's own words are, the exit statuses and where to read more."""
+    """Help begins with an example that runs as it stands, that of the program where a capture FILE.pcap is at hand, and says what
+    the command's own words are, the exit statuses and where to read more."""
 
     def __init__(self, words):
         super().__init__(f"the example of {' '.join(words)}", words)
@@ -73,13 +75,15 @@ class Begins(Case):
         wrote, _, status = self.run(program)
         why = [] if status == 0 else [f"ended with status {status}"]
         is_whole = len(self.words) == 1
-        form = r"echo '.*' \| goose \w+" if is_whole else rf"goose {self.words[0]}(?: .*)? < examples/[\w.]+"
+        form = r"goose import < FILE\.pcap \| goose \w+" if is_whole else rf"goose {self.words[0]}(?: .*)? < examples/[\w.]+"
         found = re.match(rf"Example: ({form})\n", wrote.decode("ascii"))
         if not found:
             return [*why, f"help begins with no example: {clipped(wrote)}"]
-        command = re.sub(r"\bgoose\b", lambda _: shlex.join(program), found[1], count=1)
-        ran = subprocess.run(["bash", "-c", command], cwd="/" if is_whole else TOP, stdin=subprocess.DEVNULL,
-                             stdout=subprocess.PIPE, stderr=subprocess.PIPE, timeout=SECONDS)
+        command = re.sub(r"\bgoose (?=\w)", lambda _: f"{shlex.join(program)} ", found[1])
+        with tempfile.TemporaryDirectory() as folder:
+            shutil.copy(TOP / "examples" / "two_frames.pcap", pathlib.Path(folder, "FILE.pcap"))
+            ran = subprocess.run(["bash", "-c", command], cwd=folder if is_whole else TOP, stdin=subprocess.DEVNULL,
+                                 stdout=subprocess.PIPE, stderr=subprocess.PIPE, timeout=SECONDS)
         why += [] if ran.returncode in (0, 1) and ran.stdout and not ran.stderr else [f"the example ends so: {ran}"]
         parts = [b"Exit status: 0 ", *STATUSES, b"\nMore: man goose\n"]
         parts += [UNITS.get(self.words[0], b"Times in the input are microseconds where its first line is V2, else milliseconds")]
