@@ -1,5 +1,6 @@
 -- A capture as packets, each with its number, and how they stop.
 use Rattle.std.specs.Prelude.{ℕ, ◌==◌, List, [], ◌∷◌, map, Option, Some, None, if◌then◌else◌}
+use Rattle.list_core.specs.Items as listed
 use Rattle.list_core.specs.Lines.{Stop, finished, faulty}
 use Rattle.list_core.specs.declared.event.Event.{Event}
 use Rattle.list_core.specs.declared.event.EventKind.{EventKind}
@@ -14,13 +15,12 @@ pub record Packet : Type 0 where
   pub octets : List ℕ
 
 -- things with their numbers, up to the first fault of a capture, and how they stop
-pub record Numbered (X : Type 0) : Type 0 where
-  pub items : List (ℕ × X)
-  pub stop : Stop CaptureFault
+abbrev pub Numbered : Type 0 → Type 0
+Numbered X = listed.Numbered X CaptureFault
 
 -- nothing before this stop
 abbrev pub stopped : {X : Type 0} → Stop CaptureFault → Numbered X
-stopped s = record { items = []; stop = s }
+stopped s = listed.stops s
 
 -- how a capture stops at its end, or by its first fault
 abbrev pub stop_of : Option CaptureFault → Stop CaptureFault
@@ -29,7 +29,7 @@ stop_of (Some f) = faulty f
 
 -- one thing with its number before the others
 abbrev pub put_numbered : {X : Type 0} → ℕ × X → Numbered X → Numbered X
-put_numbered e l = record { items = e ∷ l.items; stop = l.stop }
+put_numbered e l = listed.put_item e l
 
 -- what happened where such octets were captured on such a link: a frame, if the link is Ethernet, type 1, and there are any; else only time has passed
 abbrev pub kind_of : {A : Type 0} → ℕ → List ℕ → EventKind A

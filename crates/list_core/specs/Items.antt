@@ -18,21 +18,25 @@ pub record Rules (S X C : Type 0) : Type 0 where
   -- what is missing where the input ends
   pub lacks : S → Option C
 
--- numbered items up to the first bad line, and how they stop
-pub record Listing (X C : Type 0) : Type 0 where
+-- numbered items up to the first fault of an input, and how they stop
+pub record Numbered (X F : Type 0) : Type 0 where
   pub items : List (ℕ × X)
-  pub stop : Stop (ItemFault C)
+  pub stop : Stop F
+
+-- those of a list, up to its first bad line
+abbrev pub Listing : Type 0 → Type 0 → Type 0
+Listing X C = Numbered X (ItemFault C)
 
 -- a numbered item before the others
-abbrev pub put_item : {X C : Type 0} → ℕ × X → Listing X C → Listing X C
+abbrev pub put_item : {X F : Type 0} → ℕ × X → Numbered X F → Numbered X F
 put_item e l = record { items = e ∷ l.items; stop = l.stop }
 
 -- numbered items before the others
-abbrev pub put_items : {X C : Type 0} → List (ℕ × X) → Listing X C → Listing X C
+abbrev pub put_items : {X F : Type 0} → List (ℕ × X) → Numbered X F → Numbered X F
 put_items es l = record { items = es ++ l.items; stop = l.stop }
 
 -- no item before this stop
-abbrev pub stops : {X C : Type 0} → Stop (ItemFault C) → Listing X C
+abbrev pub stops : {X F : Type 0} → Stop F → Numbered X F
 stops s = record { items = []; stop = s }
 
 -- the end of the input after n lines, where this is missing

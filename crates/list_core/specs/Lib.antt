@@ -8,6 +8,7 @@ pub mod EventText
 pub mod WriteAnswer
 pub mod Items
 pub mod ItemReader
+pub mod ReadItems
 pub mod ListReader
 pub mod Decimal
 pub mod computed

@@ -26,6 +26,7 @@ mod list_fault;
 mod list_line;
 mod list_reader;
 mod list_writer;
+mod read_items;
 mod std_io;
 mod whole_write;
 
@@ -42,5 +43,6 @@ pub use crate::list_fault::{ListCause, ListFault};
 pub use crate::list_line::moment_in;
 pub use crate::list_reader::{ListError, ListReader, fault_of_list};
 pub use crate::list_writer::{FrameLines, write_event, write_frame};
+pub use crate::read_items::{InputFault, ReadError, ReadItems};
 pub use crate::std_io::{FromRead, ToWrite};
 pub use crate::whole_write::{WriteFault, put_all};
