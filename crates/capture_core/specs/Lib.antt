@@ -9,5 +9,6 @@ pub mod Interfaces
 pub mod Blocks
 pub mod Captured
 pub mod SpelledBlocks
+pub mod PacketReader
 pub mod computed
 pub mod Laws

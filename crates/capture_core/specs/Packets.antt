@@ -1,11 +1,13 @@
 -- A capture as packets, each with its number, and how they stop.
-use Rattle.std.specs.Prelude.{ℕ, ◌==◌, List, [], ◌∷◌, map, Option, Some, None, if◌then◌else◌}
+use Rattle.std.specs.Prelude.{ℕ, Bool, true, false, ◌==◌, List, [], ◌∷◌, map, Option, Some, None, if◌then◌else◌}
 use Rattle.list_core.specs.Items as listed
 use Rattle.list_core.specs.Lines.{Stop, finished, faulty}
 use Rattle.list_core.specs.declared.event.Event.{Event}
 use Rattle.list_core.specs.declared.event.EventKind.{EventKind}
 use Rattle.list_core.specs.declared.event.EventKind.TheVariants.{Frame, Clock}
 use Rattle.capture_core.specs.Capture.{Capture, CaptureRecord}
+use Rattle.capture_core.specs.declared.capture_fault.CaptureCause.{CaptureCause}
+use Rattle.capture_core.specs.declared.capture_fault.CaptureCause.TheVariants as cause
 use Rattle.capture_core.specs.declared.capture_fault.CaptureFault.{CaptureFault}
 
 -- a packet: the moment at which it was captured, in microseconds since 1970, the type of its link, and the captured octets
@@ -26,6 +28,22 @@ stopped s = listed.stops s
 abbrev pub stop_of : Option CaptureFault → Stop CaptureFault
 stop_of None = finished
 stop_of (Some f) = faulty f
+
+-- whether a capture stops by this cause since its source failed
+abbrev pub is_by_source : CaptureCause → Bool
+is_by_source cause.ReadFailed = true
+is_by_source cause.CaptureHeader = false
+is_by_source cause.CaptureShort = false
+is_by_source cause.RecordLength = false
+is_by_source cause.TooManyRecords = false
+is_by_source cause.BlockForm = false
+is_by_source cause.BlockLength = false
+is_by_source cause.Interface = false
+is_by_source cause.PacketTime = false
+
+-- whether a capture gives no further packet since its source failed
+abbrev pub is_failed_read : CaptureFault → Bool
+is_failed_read f = is_by_source f.cause
 
 -- one thing with its number before the others
 abbrev pub put_numbered : {X : Type 0} → ℕ × X → Numbered X → Numbered X

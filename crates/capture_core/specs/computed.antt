@@ -3,4 +3,5 @@
 pub mod Filling
 pub mod Sections
 pub mod OneRead
+pub mod Steps
 pub mod PrivateCalls

@@ -1,5 +1,6 @@
 //! Captures over memory, in any pieces, cut at each octet, and where reading fails.
 
 mod headers;
+mod packets;
 mod records;
 mod sentences;

@@ -1,0 +1,100 @@
+-- What one thing that was read says of a capture.
+use Rattle.std.proofs.Common.{◌≡◌, ◌⊎◌, ℕ, ◌+◌, ◌-◌, ◌<◌, ◌≤◌, zero, suc, Bool, true, false, ltb, eqb, inl, inr, List, [], ◌∷◌, ◌++◌, length, take, drop, Option, Some, None, Result, Ok, Err, ap, sym, ◌∙◌, refl, subst, arith, append_assoc}
+use Rattle.std.specs.Io.KnownBytes.{Consumes}
+use Rattle.std.proofs.Math.Seq.{drop-append_seam}
+use Rattle.list_core.specs.declared.device.InputEnd.{InputEnd}
+use Rattle.list_core.specs.declared.device.InputEnd.TheVariants.{Open}
+use Rattle.list_core.specs.declared.event.Event.{Event}
+use Rattle.list_core.specs.Device.{GivesOctets, OnlyOpen}
+use Rattle.list_core.specs.Lines.{Stop, CanFollow, finished, unfinished, faulty}
+use Rattle.list_core.proofs.Devices.{Gives-from_Consumes}
+use Rattle.capture_core.specs.Packets.{Numbered, Packet, event_of, events_of, put_numbered, stopped}
+use Rattle.capture_core.specs.Asked.{OnlyWhile}
+use Rattle.capture_core.specs.PacketReader.{AnswersPacket, PacketState, Stage, over, events_behind, packets_behind, packets_from}
+use Rattle.capture_core.specs.computed.OneRead.{Front, GivesFront, ReadsFront, StandsSo, Told}
+use Rattle.capture_core.specs.computed.Steps.{PassesOver}
+use Rattle.capture_core.specs.declared.capture_fault.CaptureFault.{CaptureFault}
+
+-- what stands at the front, and what others say behind it
+unfoldable pub spread : {X : Type 0} → Front X → (X → ℕ → Numbered Packet) → Numbered Packet
+spread (Err stop) others = stopped stop
+spread (Ok x) others = others x.0 x.1
+
+gave : {X : Type 0} (told : Told X) (a b : Option (List ℕ)) (xs : List ℕ) → GivesFront told a b xs → GivesOctets a b xs
+gave (Ok x) a b xs p = Gives-from_Consumes a b xs p
+gave (Err why) a b xs p = p
+
+module _ {X : Type 0} (F : InputEnd → List ℕ → Front X) (others : X → InputEnd → List ℕ → Numbered Packet) (old : PacketState)
+    (is : (y : InputEnd) (octets : List ℕ) → packets_from old.stage old.answered old.most y octets ≡ spread (F y octets) (λ x size. others x y (drop size octets))) where
+  -- a front that leaves all open
+  open_packets : (front : List ℕ) → F Open front ≡ Err unfinished → packets_behind old Open front ≡ stopped unfinished
+  unfolding spread
+  open_packets front e = is Open front ∙ ap (λ (f : Front X). spread f (λ x size. others x Open (drop size front))) e
+
+  asked_so : {A : Type 0} (told : Told X) (left : Option (List ℕ)) (w : InputEnd) (r : ReadsFront F [] old.left old.ending told left w) → OnlyWhile (λ front. events_behind {A = A} old Open front ≡ stopped unfinished) r.given old.ending w
+  asked_so told left w r front rest e c = ap events_of (open_packets front (r.asked front rest e c))
+
+  -- a stop
+  stop_told : {A : Type 0} (given more : List ℕ) (y : InputEnd) (stop : Stop CaptureFault) → F y (given ++ more) ≡ Err stop → events_behind {A = A} old y (given ++ more) ≡ stopped stop
+  unfolding spread
+  stop_told given more y stop e = ap events_of (is y (given ++ more) ∙ ap (λ (f : Front X). spread f (λ x size. others x y (drop size (given ++ more)))) e)
+
+  -- a thing, and the others behind it
+  thing_told : (given more : List ℕ) (y : InputEnd) (x : X) → F y (given ++ more) ≡ Ok (x, length given) → packets_from old.stage old.answered old.most y (given ++ more) ≡ others x y more
+  unfolding spread
+  thing_told given more y x e =
+      is y (given ++ more) ∙ ap (λ (f : Front X). spread f (λ x size. others x y (drop size (given ++ more)))) e
+      ∙ ap (others x y) (drop-append_seam given more)
+
+  module _ (new : PacketState) where
+    -- the capture has ended
+    pub step_ends : {A : Type 0} → ReadsFront F [] old.left old.ending (Err (Some finished)) new.left new.ending → new.stage ≡ over finished → AnswersPacket {A = A} old (Ok None) new
+    step_ends r s = record {
+      given = r.given;
+      took = r.took;
+      only_open = r.only_open;
+      asked = asked_so (Err (Some finished)) new.left new.ending r;
+      reads = λ more y c. let e = stop_told r.given more y finished (r.stands more y c) in (e, rw s (sym e));
+    }
+
+    -- the capture has a fault
+    pub step_fails : {A : Type 0} (f : CaptureFault) → ReadsFront F [] old.left old.ending (Err (Some (faulty f))) new.left new.ending → new.stage ≡ over (faulty f) → AnswersPacket {A = A} old (Err (Some f)) new
+    step_fails f r s = record {
+      given = r.given;
+      took = r.took;
+      only_open = r.only_open;
+      asked = asked_so (Err (Some (faulty f))) new.left new.ending r;
+      reads = λ more y c. let e = stop_told r.given more y (faulty f) (r.stands more y c) in (e, rw s (sym e));
+    }
+
+    -- memory was wanted
+    pub step_wants : {A : Type 0} (told : Told X) → ReadsFront F [] old.left old.ending told new.left new.ending → new.stage ≡ over unfinished → AnswersPacket {A = A} old (Err None) new
+    step_wants told r s = record {
+      given = r.given;
+      took = gave told old.left new.left r.given r.took;
+      only_open = r.only_open;
+      asked = asked_so told new.left new.ending r;
+      reads = λ more y c. rw s refl;
+    }
+
+    -- a packet was read
+    pub step_gives : {A : Type 0} (x : X) (n : ℕ) (p : Packet) → ReadsFront F [] old.left old.ending (Ok x) new.left new.ending →
+        ((y : InputEnd) (more : List ℕ) → others x y more ≡ put_numbered (n, p) (packets_from new.stage new.answered new.most y more)) → AnswersPacket {A = A} old (Ok (Some (n, event_of p))) new
+    step_gives x n p r s = record {
+      given = r.given;
+      took = r.took;
+      only_open = r.only_open;
+      asked = asked_so (Ok x) new.left new.ending r;
+      reads = λ more y c. ap events_of (thing_told r.given more y x (r.stands more y c) ∙ s y more);
+    }
+
+    -- what was read is no packet
+    pub step_passes : (x : X) → ReadsFront F [] old.left old.ending (Ok x) new.left new.ending →
+        ((y : InputEnd) (more : List ℕ) → others x y more ≡ packets_from new.stage new.answered new.most y more) → PassesOver old new
+    step_passes x r s = record {
+      given = r.given;
+      took = r.took;
+      only_open = r.only_open;
+      asked = λ front rest e c. open_packets front (r.asked front rest e c);
+      reads = λ more y c. thing_told r.given more y x (r.stands more y c) ∙ s y more;
+    }

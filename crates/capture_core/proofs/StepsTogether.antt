@@ -1,0 +1,102 @@
+-- Several steps of a reader of packets, and then an answer.
+use Rattle.std.proofs.Common.{◌≡◌, ◌≢◌, ◌⊎◌, ℕ, inl, inr, List, [], ◌∷◌, ◌++◌, Option, Some, None, Result, Ok, Err, ap, sym, ◌∙◌, refl, subst, append_assoc}
+use Rattle.std.proofs.lemmas.List.{append-nil}
+use Rattle.std.specs.Io.KnownBytes.{Consumes}
+use Rattle.list_core.specs.declared.device.InputEnd.{InputEnd}
+use Rattle.list_core.specs.declared.device.InputEnd.TheVariants.{Open, End, Failed}
+use Rattle.list_core.specs.declared.event.Event.{Event}
+use Rattle.list_core.specs.Device.{OnlyOpen}
+use Rattle.list_core.specs.Lines.{CanFollow, unfinished}
+use Rattle.list_core.proofs.Devices.{Consumes-append, Consumes-none, Gives-append}
+use Rattle.list_core.proofs.Readers.{CanFollow-given, OnlyOpen-append, OnlyOpen-none}
+use Rattle.capture_core.specs.Packets.{Numbered, Packet, events_of, stopped}
+use Rattle.capture_core.specs.Asked.{OnlyWhile}
+use Rattle.capture_core.specs.PacketReader.{AnswersPacket, GivesPacket, PacketAnswer, PacketState, TellsPacket, events_behind, packets_behind}
+use Rattle.capture_core.specs.computed.Steps.{PassesOver}
+use Rattle.capture_core.proofs.Fronts.{asked_none, front_cases}
+
+pub gives_after : {A : Type 0} (answer : PacketAnswer A) (a b c : Option (List ℕ)) (xs ys : List ℕ) → Consumes a b xs → GivesPacket answer b c ys → GivesPacket answer a c (xs ++ ys)
+gives_after (Ok (Some e)) a b c xs ys p q = Consumes-append a b c xs ys p q
+gives_after (Ok None) a b c xs ys p q = Gives-append a b c xs ys p q
+gives_after (Err f) a b c xs ys p q = Gives-append a b c xs ys p q
+
+tells_from : {A : Type 0} (answer : PacketAnswer A) (a b c : Numbered (Event A)) → a ≡ b → TellsPacket answer b c → TellsPacket answer a c
+tells_from answer a b c e t = rw e t
+
+-- nothing was given behind what was given
+end_behind : (front rest : List ℕ) → [] ≡ front ++ rest → (front ≡ []) × (rest ≡ [])
+end_behind [] rest e = (refl, sym e)
+end_behind (x ∷ front) rest e = absurd (cc)
+
+-- what was asked for, where nothing follows the first part
+asked_closed : (P : List ℕ → Type 0) (part others front rest more : List ℕ) (x y w : InputEnd) → (y ≡ Open → ⊥) → OnlyOpen y others w → OnlyWhile P part x y → front ≡ part ++ more → others ≡ more ++ rest → (rest ≢ []) ⊎ (w ≢ x) → P front
+asked_closed P part others front rest more x y w shut (inl o) f p q c = absurd (shut o)
+asked_closed P part others front rest more x y w shut (inr o) f p q c =
+    let none = end_behind more rest (sym o.0 ∙ q) in
+    let all : front ≡ part = p ∙ ap (λ l. part ++ l) none.0 ∙ append-nil part in
+    elim c [
+      | inl n ↦ absurd (n none.1)
+      | inr n ↦ subst P (sym all) (f part [] (sym (append-nil part)) (inr (λ e. n (o.1 ∙ e))))
+    ]
+
+-- an open source was open before it gave octets
+was_open : (x : InputEnd) (part : List ℕ) → OnlyOpen x part Open → x ≡ Open
+was_open x part (inl o) = o
+was_open x part (inr o) = sym o.1
+
+end_no_open : End ≡ Open → ⊥
+end_no_open e = cc
+
+failed_no_open : Failed ≡ Open → ⊥
+failed_no_open e = cc
+
+asked_behind : (P Q : List ℕ → Type 0) (part others front rest more : List ℕ) (x y w : InputEnd) → OnlyOpen x part y → OnlyOpen y others w → OnlyWhile P part x y → OnlyWhile Q others y w →
+    ((f : List ℕ) → CanFollow y f Open → Q f → P (part ++ f)) → front ≡ part ++ more → others ≡ more ++ rest → (rest ≢ []) ⊎ (w ≢ x) → P front
+asked_behind P Q part others front rest more x Open w o u f g k p q c =
+    subst P (sym p) (k more tt (g more rest q (elim c [
+      | inl n ↦ inl n
+      | inr n ↦ inr (λ e. n (e ∙ sym (was_open x part o)))
+    ])))
+asked_behind P Q part others front rest more x End w o u f g k p q c = asked_closed P part others front rest more x End w end_no_open u f p q c
+asked_behind P Q part others front rest more x Failed w o u f g k p q c = asked_closed P part others front rest more x Failed w failed_no_open u f p q c
+
+-- what was asked for twice
+pub asked_after : (P Q : List ℕ → Type 0) (part others : List ℕ) (x y w : InputEnd) → OnlyOpen x part y → OnlyOpen y others w → OnlyWhile P part x y → OnlyWhile Q others y w →
+    ((f : List ℕ) → CanFollow y f Open → Q f → P (part ++ f)) → OnlyWhile P (part ++ others) x w
+asked_after P Q part others x y w o u f g k front rest e c =
+    elim (front_cases part others front rest e) [
+      | inl h ↦ f front h.0 h.1 (inl h.2)
+      | inr h ↦ asked_behind P Q part others front rest h.0 x y w o u f g k h.1 h.2 c
+    ]
+
+-- no step
+pub passes_none : (s : PacketState) → PassesOver s s
+passes_none s = record {
+  given = [];
+  took = Consumes-none s.left;
+  only_open = OnlyOpen-none s.ending;
+  asked = asked_none _ s.ending;
+  reads = λ more y c. refl;
+}
+
+-- one step behind others
+pub passes_passes : (a b c : PacketState) → PassesOver a b → PassesOver b c → PassesOver a c
+passes_passes a b c p q = record {
+  given = p.given ++ q.given;
+  took = Consumes-append a.left b.left c.left p.given q.given p.took q.took;
+  only_open = OnlyOpen-append a.ending b.ending c.ending p.given q.given p.only_open q.only_open;
+  asked = asked_after _ _ p.given q.given a.ending b.ending c.ending p.only_open q.only_open p.asked q.asked (λ f h e. p.reads f Open h ∙ e);
+  reads = λ more y f. ap (packets_behind a y) (append_assoc p.given q.given more) ∙ p.reads (q.given ++ more) y (CanFollow-given b.ending c.ending q.given more y q.only_open f) ∙ q.reads more y f;
+}
+
+-- an answer behind steps
+pub passes_answers : {A : Type 0} (a b c : PacketState) (answer : PacketAnswer A) → PassesOver a b → AnswersPacket b answer c → AnswersPacket a answer c
+passes_answers a b c answer p q = record {
+  given = p.given ++ q.given;
+  took = gives_after answer a.left b.left c.left p.given q.given p.took q.took;
+  only_open = OnlyOpen-append a.ending b.ending c.ending p.given q.given p.only_open q.only_open;
+  asked = asked_after _ _ p.given q.given a.ending b.ending c.ending p.only_open q.only_open (λ front rest e c. ap events_of (p.asked front rest e c)) q.asked (λ f h e. ap events_of (p.reads f Open h) ∙ e);
+  reads = λ more y f. tells_from answer _ _ _
+      (ap events_of (ap (packets_behind a y) (append_assoc p.given q.given more) ∙ p.reads (q.given ++ more) y (CanFollow-given b.ending c.ending q.given more y q.only_open f)))
+      (q.reads more y f);
+}

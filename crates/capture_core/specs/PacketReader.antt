@@ -1,0 +1,131 @@
+-- What the answers of a reader of packets say of its capture.
+use Rattle.std.specs.Prelude.{◌≡◌, ◌≢◌, ◌⊎◌, ℕ, ◌+◌, List, [], ◌++◌, Option, Some, None, Result, Ok, Err}
+use Rattle.std.specs.Io.KnownBytes.{Consumes}
+use Rattle.list_core.specs.declared.device.InputEnd.{InputEnd}
+use Rattle.list_core.specs.declared.device.InputEnd.TheVariants.{Open}
+use Rattle.list_core.specs.declared.event.Event.{Event}
+use Rattle.list_core.specs.Device.{GivesOctets, OnlyOpen}
+use Rattle.list_core.specs.Lines.{Stop, WhateverComes, unfinished, finished, faulty}
+use Rattle.capture_core.specs.Capture.{records_of}
+use Rattle.capture_core.specs.Packets.{Packet, Numbered, stopped, put_numbered, events_of, packets_of_records, stop_of}
+use Rattle.capture_core.specs.Blocks.{Settled, packets_of_blocks}
+use Rattle.capture_core.specs.Asked.{OnlyWhile}
+use Rattle.capture_core.specs.Captured.{captured_packets}
+use Rattle.capture_core.specs.declared.form.CaptureForm.{CaptureForm}
+use Rattle.capture_core.specs.declared.capture_fault.CaptureFault.{CaptureFault}
+use Rattle.capture_core.specs.declared.packet_error.PacketError.{PacketError}
+use Rattle.capture_core.specs.declared.packet_error.PacketError.TheVariants as error
+use Rattle.capture_core.specs.declared.packet_reader.PacketReader.{PacketReader}
+use Rattle.capture_core.specs.declared.packet_reader.Progress.{Progress}
+use Rattle.capture_core.specs.declared.packet_reader.Progress.TheVariants as progress
+use Rattle.capture_core.specs.declared.interface.Interface.{Interface}
+
+-- ---- the state of a reader
+
+-- what of a capture was read: nothing; the header of the classic form, and some records; some blocks, which settled this; or all, and how it stopped
+pub data Stage : Type 0 where
+  at_start : Stage
+  in_records : CaptureForm → Stage
+  in_blocks : Settled → Stage
+  over : Stop CaptureFault → Stage
+
+-- a capture that is being read: what the source has left and how it ends, how many packets were answered, how many records or blocks may still come, and what was read
+pub record PacketState : Type 0 where
+  pub left : Option (List ℕ)
+  pub ending : InputEnd
+  pub answered : ℕ
+  pub most : ℕ
+  pub stage : Stage
+
+-- the packets of these octets, behind n packets and what was read, where so many records or blocks may come
+abbrev pub packets_from : Stage → ℕ → ℕ → InputEnd → List ℕ → Numbered Packet
+packets_from at_start n most z octets = captured_packets z octets
+packets_from (in_records form) n most z octets = packets_of_records (records_of form z n most octets)
+packets_from (in_blocks s) n most z octets = packets_of_blocks z s n most octets
+packets_from (over stop) n most z octets = stopped stop
+
+-- the packets of a capture from this state on, where the source still gives these octets
+abbrev pub packets_behind : PacketState → InputEnd → List ℕ → Numbered Packet
+packets_behind s z octets = packets_from s.stage s.answered s.most z octets
+
+-- the events of a capture from this state on
+abbrev pub events_behind : {A : Type 0} → PacketState → InputEnd → List ℕ → Numbered (Event A)
+events_behind s z octets = events_of (packets_behind s z octets)
+
+-- how many headers, records or blocks may still come
+abbrev pub things_in : Stage → ℕ → ℕ
+things_in at_start most = 999999999999999999
+things_in (in_records form) most = most
+things_in (in_blocks s) most = most
+things_in (over stop) most = most
+
+-- how many headers, records or blocks may still come in this state
+abbrev pub things_left : PacketState → ℕ
+things_left s = things_in s.stage s.most
+
+-- what the progress of a reader stands for, with the interfaces of the section and the moment of the last packet
+abbrev pub stage_of : Progress → List Interface → ℕ → Stage
+stage_of progress.Nothing is m = at_start
+stage_of (progress.Records form) is m = in_records form
+stage_of (progress.Blocks order) is m = in_blocks (record { order = order; interfaces = is; moment = m })
+stage_of (progress.Over fault) is m = over (stop_of fault)
+stage_of progress.GivenUp is m = over unfinished
+
+-- what a reader of packets stands for
+abbrev pub packet_state : {R A : Type 0} → (R → Option (List ℕ)) → (R → InputEnd) → PacketReader R A → PacketState
+packet_state left ending r = record { left = left r.reader; ending = ending r.reader; answered = r.answered; most = r.most; stage = stage_of r.progress r.interfaces.items r.moment }
+
+-- the number of the packet last answered or refused, by what was read
+abbrev pub number_by : Progress → ℕ → ℕ
+number_by progress.Nothing n = 0
+number_by (progress.Records form) n = n
+number_by (progress.Blocks order) n = n
+number_by (progress.Over None) n = n
+number_by (progress.Over (Some f)) n = f.number
+number_by progress.GivenUp n = n
+
+-- the number of the packet last answered or refused, 0 before the first
+abbrev pub packet_number : {R A : Type 0} → PacketReader R A → ℕ
+packet_number r = number_by r.progress r.answered
+
+-- ---- its answers
+
+-- an answer of a reader of packets: an event with the number of its packet, the end, a fault, or want of memory
+abbrev pub PacketAnswer : Type 0 → Type 0
+PacketAnswer A = Result (Option (ℕ × Event A)) (Option CaptureFault)
+
+-- an answer, its event with the number of its packet
+abbrev pub answer_of : {A : Type 0} → ℕ → Result (Option (Event A)) PacketError → PacketAnswer A
+answer_of n (Ok None) = Ok None
+answer_of n (Ok (Some e)) = Ok (Some (n, e))
+answer_of n (Err (error.Fault f)) = Err (Some f)
+answer_of n (Err (error.Memory m)) = Err None
+
+-- what an answer says of the capture before it and the capture after it: an event is taken off, the end and a fault stay, and after want of memory nothing more is told
+abbrev pub TellsPacket : {A : Type 0} → PacketAnswer A → Numbered (Event A) → Numbered (Event A) → Type 0
+TellsPacket (Ok (Some e)) whole rest = whole ≡ put_numbered e rest
+TellsPacket (Ok None) whole rest = (whole ≡ stopped finished) × (rest ≡ whole)
+TellsPacket (Err (Some f)) whole rest = (whole ≡ stopped (faulty f)) × (rest ≡ whole)
+TellsPacket (Err None) whole rest = rest ≡ stopped unfinished
+
+-- the octets that a source gave for an answer; only after an event does it tell what is left, if it told it before
+abbrev pub GivesPacket : {A : Type 0} → PacketAnswer A → Option (List ℕ) → Option (List ℕ) → List ℕ → Type 0
+GivesPacket (Ok (Some e)) old new given = Consumes old new given
+GivesPacket (Ok None) old new given = GivesOctets old new given
+GivesPacket (Err f) old new given = GivesOctets old new given
+
+-- the number of the packet last answered or refused, after an answer
+abbrev pub packet_number_told : {A : Type 0} → PacketAnswer A → ℕ → ℕ
+packet_number_told (Ok None) n = n
+packet_number_told (Ok (Some e)) n = e.0
+packet_number_told (Err (Some f)) n = f.number
+packet_number_told (Err None) n = n
+
+-- An answer takes its packet off the front of the capture. The end and a fault stay; want of memory ends it. Octets are asked for only while those before them tell neither a packet nor how the capture stops.
+pub record AnswersPacket {A : Type 0} (old : PacketState) (answer : PacketAnswer A) (new : PacketState) : Type 0 where
+  pub given : List ℕ
+  pub took : GivesPacket answer old.left new.left given
+  pub only_open : OnlyOpen old.ending given new.ending
+  pub asked : OnlyWhile (λ front. events_behind {A = A} old Open front ≡ stopped unfinished) given old.ending new.ending
+  -- whatever still comes, the answer is what the capture tells first
+  pub reads : WhateverComes new.ending (λ z more. TellsPacket answer (events_behind old z (given ++ more)) (events_behind new z more))

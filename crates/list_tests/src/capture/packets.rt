@@ -1,0 +1,277 @@
+//! The packets of a capture, in both forms.
+
+use capture_core::{CaptureCause, CaptureFault, PacketError, PacketReader};
+use frame_core::{Event, EventKind, Source};
+use refusing_alloc::RefusingAlloc;
+use std::alloc::{AllocError, Allocator, Global};
+use std::process::Abort;
+use test_devices::{NEVER, source_of};
+
+/// A packet: its number, its moment, and the octets of its frame, none where only time has passed.
+type Told<'a> = (u64, u64, &'a [u8]);
+
+const CLASSIC: &[u8] =
+    b"\xd4\xc3\xb2\xa1\x02\x00\x04\x00\x00\x00\x00\x00\x00\x00\x00\x00\xff\xff\x00\x00\x01\x00\x00\x00";
+
+/// 1 second and 2 microseconds, three octets of nine; and no octets.
+const RECORDS: &[u8] =
+    b"\x01\x00\x00\x00\x02\x00\x00\x00\x03\x00\x00\x00\x09\x00\x00\x00\xaa\xbb\xcc\x01\x00\x00\x00\x03\x00\x00\x00\x00\x00\x00\x00\x09\x00\x00\x00";
+
+const SECTION: &[u8] =
+    b"\x0a\x0d\x0d\x0a\x1c\x00\x00\x00\x4d\x3c\x2b\x1a\x01\x00\x00\x00\xff\xff\xff\xff\xff\xff\xff\xff\x1c\x00\x00\x00";
+
+const BIG_SECTION: &[u8] =
+    b"\x0a\x0d\x0d\x0a\x00\x00\x00\x1c\x1a\x2b\x3c\x4d\x00\x01\x00\x00\x00\x00\x00\x00\x00\x00\x00\x00\x00\x00\x00\x1c";
+
+/// An interface of Ethernet in nanoseconds (code 9), an hour ahead (code 14).
+const NANOSECONDS: &[u8] =
+    b"\x01\x00\x00\x00\x28\x00\x00\x00\x01\x00\x00\x00\x00\x00\x00\x00\x09\x00\x01\x00\x09\x00\x00\x00\x0e\x00\x08\x00\x10\x0e\x00\x00\x00\x00\x00\x00\x28\x00\x00\x00";
+
+/// The same of another link, in microseconds, most significant octet first.
+const BIG_OTHER_LINK: &[u8] =
+    b"\x00\x00\x00\x01\x00\x00\x00\x14\x00\x71\x00\x00\x00\x00\x00\x02\x00\x00\x00\x14";
+
+/// 5,999 ticks on the first interface: three octets and their padding.
+const PACKET: &[u8] =
+    b"\x06\x00\x00\x00\x24\x00\x00\x00\x00\x00\x00\x00\x00\x00\x00\x00\x6f\x17\x00\x00\x03\x00\x00\x00\x09\x00\x00\x00\xaa\xbb\xcc\x00\x24\x00\x00\x00";
+
+/// A simple packet of two octets, most significant octet first.
+const BIG_SIMPLE: &[u8] =
+    b"\x00\x00\x00\x03\x00\x00\x00\x14\x00\x00\x00\x02\x01\x02\x00\x00\x00\x00\x00\x14";
+
+/// A block of another type.
+const OTHER: &[u8] = b"\x09\x00\x00\x00\x10\x00\x00\x00\x01\x02\x03\x04\x10\x00\x00\x00";
+
+/// What the packet is where it is the first or the second, and one whose time alone is told.
+const FIRST: Told<'static> = (1, 3_600_000_005, b"\xaa\xbb\xcc");
+
+const SECOND: Told<'static> = (2, 3_600_000_005, b"\xaa\xbb\xcc");
+
+const THIRD: Told<'static> = (3, 3_600_000_005, b"");
+
+/// The fault of this cause in this packet.
+fn refused(number: u64, cause: CaptureCause) -> Option<CaptureFault> {
+    Some(CaptureFault { number, cause })
+}
+
+/// Whether an event is this one.
+fn is_event<A: Allocator>(event: &Event<A>, moment: u64, octets: &[u8]) -> bool {
+    event.moment == moment
+        && match &event.kind {
+            EventKind::Frame(frame) => frame.as_slice() == octets && !octets.is_empty(),
+            EventKind::Clock => octets.is_empty(),
+            EventKind::Mode(_) => false,
+        }
+}
+
+/// Whether the next answer is that the capture has stopped so.
+fn stops<R: Source, A: Allocator + Copy>(
+    alloc: A,
+    reader: &mut PacketReader<R, A>,
+    stop: Option<CaptureFault>,
+) -> bool {
+    match (reader.next(alloc, &mut None), stop) {
+        (Ok(None), None) => true,
+        (Err(PacketError::Fault(fault)), Some(expected)) => {
+            fault == expected && reader.number() == fault.number
+        }
+        _ => false,
+    }
+}
+
+/// Whether a source gives these packets, and then stops so, twice. None where memory is refused.
+fn tells<R: Source + Drop, A: Allocator + Copy>(
+    alloc: A,
+    source: R,
+    packets: &[Told<'_>],
+    stop: Option<CaptureFault>,
+) -> Option<bool> {
+    let mut reader = PacketReader::new(alloc, source);
+    let mut spare = None;
+    for (number, moment, octets) in packets {
+        match reader.next(alloc, &mut spare) {
+            Ok(Some(event)) => {
+                if !is_event(&event, *moment, octets) || reader.number() != *number {
+                    return Some(false);
+                }
+                spare = Some(event);
+            }
+            Err(PacketError::Memory(_)) => return None,
+            _ => return Some(false),
+        }
+    }
+    Some(stops(alloc, &mut reader, stop) && stops(alloc, &mut reader, stop))
+}
+
+/// Octets one behind another.
+fn joined(alloc: Global, parts: &[&[u8]]) -> Result<Vec<u8, Global>, AllocError> {
+    let mut octets = Vec::new(alloc);
+    for part in parts {
+        octets.extend_from_slice(part)?;
+    }
+    Ok(octets)
+}
+
+/// Whether the capture of these parts gives these packets and stops so, in pieces of any size.
+fn says(
+    alloc: Global,
+    parts: &[&[u8]],
+    packets: &[Told<'_>],
+    stop: Option<CaptureFault>,
+) -> Result<bool, AllocError> {
+    let octets = joined(alloc, parts)?;
+    let mut all = true;
+    for at_most in 1..=40usize {
+        all &= tells(
+            alloc,
+            source_of(octets.as_slice(), at_most, NEVER),
+            packets,
+            stop,
+        ) == Some(true);
+    }
+    Ok(all)
+}
+
+#[test]
+fn captures_of_both_forms(rt: HostRuntime) {
+    let parts: [(&str, &[&[u8]], &[Told<'_>], Option<CaptureFault>); 13] = [
+        (
+            "records",
+            &[CLASSIC, RECORDS],
+            &[(1, 1_000_002, b"\xaa\xbb\xcc"), (2, 1_000_003, b"")],
+            None,
+        ),
+        ("no record", &[CLASSIC], &[], None),
+        ("nothing", &[], &[], refused(0, CaptureCause::CaptureShort)),
+        (
+            "a cut record",
+            &[CLASSIC, b"\x00"],
+            &[],
+            refused(1, CaptureCause::CaptureShort),
+        ),
+        (
+            "another file",
+            &[b"\x1f\x8b\x08\x00"],
+            &[],
+            refused(0, CaptureCause::CaptureHeader),
+        ),
+        (
+            "packets",
+            &[SECTION, NANOSECONDS, PACKET, OTHER, PACKET],
+            &[FIRST, SECOND],
+            None,
+        ),
+        (
+            "two sections of two orders",
+            &[
+                SECTION,
+                NANOSECONDS,
+                PACKET,
+                PACKET,
+                BIG_SECTION,
+                BIG_OTHER_LINK,
+                BIG_SIMPLE,
+            ],
+            &[FIRST, SECOND, THIRD],
+            None,
+        ),
+        (
+            "no section",
+            &[PACKET],
+            &[],
+            refused(0, CaptureCause::CaptureHeader),
+        ),
+        (
+            "no interface",
+            &[SECTION, PACKET],
+            &[],
+            refused(1, CaptureCause::Interface),
+        ),
+        (
+            "a later section has none",
+            &[SECTION, NANOSECONDS, PACKET, SECTION, PACKET],
+            &[FIRST],
+            refused(2, CaptureCause::Interface),
+        ),
+        (
+            "a cut block",
+            &[SECTION, NANOSECONDS, PACKET, b"\x09\x00"],
+            &[FIRST],
+            refused(2, CaptureCause::CaptureShort),
+        ),
+        (
+            "another length behind the body",
+            &[
+                SECTION,
+                NANOSECONDS,
+                b"\x06\x00\x00\x00\x24\x00\x00\x00\x00\x00\x00\x00\x00\x00\x00\x00\x6f\x17\x00\x00\x03\x00\x00\x00\x09\x00\x00\x00\xaa\xbb\xcc\x00\x23\x00\x00\x00",
+            ],
+            &[],
+            refused(1, CaptureCause::BlockLength),
+        ),
+        (
+            "a length over the limit",
+            &[SECTION, b"\x09\x00\x00\x00\x04\x00\x00\x01"],
+            &[],
+            refused(1, CaptureCause::BlockLength),
+        ),
+    ];
+    for (name, parts, packets, stop) in &parts {
+        assert!(rt;
+            says(rt.alloc(), parts, packets, *stop) == Ok(true),
+            "{name}"
+        );
+    }
+}
+
+/// How many growths it takes to give these packets, where each is refused in turn. None where others are given, or where
+/// memory is out behind them.
+fn growths(memory: Global, octets: &[u8], packets: &[Told<'_>]) -> Option<usize> {
+    for first_refused in 0..100usize {
+        let alloc = RefusingAlloc::new(memory, first_refused);
+        let told = tells(&alloc, source_of(octets, 7, NEVER), packets, None);
+        if told.is_some() == alloc.has_refused() || told == Some(false) || alloc.blocks_out() != 0 {
+            return None;
+        }
+        if !alloc.has_refused() {
+            return Some(first_refused);
+        }
+    }
+    None
+}
+
+#[test]
+fn packets_where_each_growth_is_refused(rt: HostRuntime) -> Result<(), AllocError> {
+    let octets = joined(rt.alloc(), &[SECTION, NANOSECONDS, PACKET, OTHER, PACKET])?;
+    // the interfaces, and the first frame: the second takes its memory
+    assert!(rt; growths(rt.alloc(), octets.as_slice(), &[FIRST, SECOND]) == Some(2));
+    Ok(())
+}
+
+#[test]
+fn reads_that_fail(rt: HostRuntime) -> Result<(), AllocError> {
+    let octets = joined(rt.alloc(), &[SECTION, NANOSECONDS, PACKET])?;
+    // one octet a read: the first block, the interface and the packet, and what follows it
+    for (fails_at, number, packets) in [
+        (0u64, 0u64, 0usize),
+        (27, 0, 0),
+        (28, 1, 0),
+        (67, 1, 0),
+        (68, 1, 0),
+        (103, 1, 0),
+        (104, 2, 1),
+    ] {
+        let packets = if packets == 0 {
+            [].as_slice()
+        } else {
+            [FIRST].as_slice()
+        };
+        let source = source_of(octets.as_slice(), 1, fails_at);
+        let failed = refused(number, CaptureCause::ReadFailed);
+        assert!(rt;
+            tells(rt.alloc(), source, packets, failed) == Some(true),
+            "at {fails_at}"
+        );
+    }
+    Ok(())
+}
