@@ -24,6 +24,7 @@ mod packet_block;
 mod packet_error;
 mod packet_reader;
 mod packet_record;
+mod read_packets;
 mod record;
 mod start;
 
