@@ -18,3 +18,4 @@ pub mod WorkedPackets
 pub mod ReaderSteps
 pub mod LastRead
 pub mod BlocksSettled
+pub mod PacketsTaken
