@@ -19,3 +19,8 @@ pub mod ReaderSteps
 pub mod LastRead
 pub mod BlocksSettled
 pub mod PacketsTaken
+pub mod BlocksSpelled
+pub mod InterfacesSpelled
+pub mod PacketsSpelled
+pub mod SectionsSpelled
+pub mod SpelledPackets

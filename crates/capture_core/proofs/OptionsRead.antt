@@ -16,13 +16,13 @@ and_then_same None f g h = refl
 and_then_same (Some i) f g h = h i
 
 -- what is said where the first option, if there is one, is followed by others that say this
-first_then : OctetOrder → List ℕ → Interface → Option Interface → Option Interface
+unfoldable pub first_then : OctetOrder → List ℕ → Interface → Option Interface → Option Interface
 first_then order o i r =
     if nat_lt (length o) 4 then Some i else
     (if number_at order 2 o 0 == 0 then Some i else
     (if nat_lt (length o) (option_size order o) then None else r))
 
-options_step : (order : OctetOrder) (k : ℕ) (o : List ℕ) (i : Interface) →
+pub options_step : (order : OctetOrder) (k : ℕ) (o : List ℕ) (i : Interface) →
     with_options order (suc k) o i ≡ first_then order o i (and_then (with_first order o i) (λ j. with_options order k (drop (option_size order o) o) j))
 unfolding with_options first_then
 options_step order k o i = refl

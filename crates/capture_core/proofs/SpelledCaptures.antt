@@ -18,17 +18,17 @@ use Rattle.capture_core.proofs.Records.{none_of, one_whole}
 
 -- ---- how a capture stops
 
-not_cut : (z : InputEnd) (n : ℕ) → cut z n ≡ finished → ⊥
+pub not_cut : (z : InputEnd) (n : ℕ) → cut z n ≡ finished → ⊥
 not_cut End n e = cc
 not_cut Failed n e = cc
 not_cut Open n e = cc
 
-only_end : (z : InputEnd) (n : ℕ) → ended z n ≡ finished → z ≡ End
+pub only_end : (z : InputEnd) (n : ℕ) → ended z n ≡ finished → z ≡ End
 only_end End n e = refl
 only_end Failed n e = cc
 only_end Open n e = cc
 
-no_fault : (n : ℕ) (why : CaptureCause) → fault_in n why ≡ finished → ⊥
+pub no_fault : (n : ℕ) (why : CaptureCause) → fault_in n why ≡ finished → ⊥
 no_fault n why e = cc
 
 -- where three refusals are passed over, none of their tests holds
@@ -51,7 +51,7 @@ module _ (form : CaptureForm) where
 
   -- ---- what is spelled is read
 
-  spelled_reads : (n most : ℕ) (rs : List CaptureRecord) (o : List ℕ) → length rs ≤ most → SpellsRecords form rs o → records_of form End n most o ≡ record { records = numbered n rs; stop = finished }
+  pub spelled_reads : (n most : ℕ) (rs : List CaptureRecord) (o : List ℕ) → length rs ≤ most → SpellsRecords form rs o → records_of form End n most o ≡ record { records = numbered n rs; stop = finished }
   spelled_reads n most [] o h s = ap (records_of form End n most) s ∙ none_of form End n most
   spelled_reads n zero (r ∷ rs) o h s = absurd (omega arith)
   spelled_reads n (suc most) (r ∷ rs) o h (front, rest, e, (head, whole, moment, size, short, is), s) =
@@ -78,10 +78,10 @@ module _ (form : CaptureForm) where
       let c : ltb (length rest) (captured_size form head) ≡ false = p.2 in
       (grind (arith, nat_tests), grind (arith, nat_tests), grind (arith, nat_tests), p.3)
 
-  Read : InputEnd → ℕ → ℕ → List ℕ → Type 0
+  unfoldable pub Read : InputEnd → ℕ → ℕ → List ℕ → Type 0
   Read z n most o = (z ≡ End) × ((rs : List CaptureRecord) × SpellsRecords form rs o × (length rs ≤ most) × (records_of form z n most o ≡ record { records = numbered n rs; stop = finished }))
 
-  read_spelled : (z : InputEnd) (n most : ℕ) (o : List ℕ) → (records_of form z n most o).stop ≡ finished → Read z n most o
+  pub read_spelled : (z : InputEnd) (n most : ℕ) (o : List ℕ) → (records_of form z n most o).stop ≡ finished → Read z n most o
   unfolding records_of Read
   read_spelled z n zero [] s = let e = only_end z (n + 1) s in (e, ([], refl, omega arith, ap (λ w. no_records (ended w (n + 1))) e))
   read_spelled z n zero (x ∷ xs) s = cc

@@ -14,9 +14,13 @@ abbrev pub SpellsRecords : CaptureForm → List CaptureRecord → List ℕ → T
 SpellsRecords form [] o = o ≡ []
 SpellsRecords form (r ∷ rs) o = (front : List ℕ) × (rest : List ℕ) × (o ≡ front ++ rest) × SpellsRecord form r front × SpellsRecords form rs rest
 
--- a header of 24 octets that is read, and then records in its form, 999,999 at most
+-- a header of 24 octets that is read, and then records in its form, so many at most
+abbrev pub SpellsClassic : ℕ → List CaptureRecord → List ℕ → Type 0
+SpellsClassic most rs o = (form : CaptureForm) × (header : List ℕ) × (rest : List ℕ) × (o ≡ header ++ rest) × (length header ≡ 24) × (header_of header ≡ Some form) × (length rs ≤ most) × SpellsRecords form rs rest
+
+-- the same, 999,999 records at most
 abbrev pub SpellsCapture : List CaptureRecord → List ℕ → Type 0
-SpellsCapture rs o = (form : CaptureForm) × (header : List ℕ) × (rest : List ℕ) × (o ≡ header ++ rest) × (length header ≡ 24) × (header_of header ≡ Some form) × (length rs ≤ 999999) × SpellsRecords form rs rest
+SpellsCapture rs o = SpellsClassic 999999 rs o
 
 -- records with their numbers, behind n others
 abbrev pub numbered : ℕ → List CaptureRecord → List (ℕ × CaptureRecord)
