@@ -4,7 +4,7 @@ use Rattle.std.specs.Prelude.{◌||◌, ⊤, slice_get}
 use Rattle.std.proofs.lemmas.List.{append_assoc, append-nil}
 use Rattle.list_core.specs.declared.line_rules.ItemFault.{ItemFault}
 use Rattle.list_core.specs.Lines.{Stop}
-use Rattle.engine_core.specs.EngineText.{Text, ItemText, AreItemTexts, has_finding, joined_texts}
+use Rattle.engine_core.specs.EngineText.{Text, TextTo, ItemText, AreItemTexts, has_finding, joined_texts}
 use Rattle.engine_core.specs.computed.WholeText.{Account, told_after, put_step}
 
 -- what is told, behind these texts
@@ -22,7 +22,7 @@ or_false false = refl
 same_told : {C : Type 0} (x y : List ℕ) (f g : Bool) (s : Stop (ItemFault C)) → x ≡ y → f ≡ g → ◌≡◌ {A = Account C} (record { text = x; found = f; stop = s }) (record { text = y; found = g; stop = s })
 same_told x y f g s e h = rw (e, h) refl
 
-module _ {X C : Type 0} (t : Text X C) where
+module _ {X C F : Type 0} (t : TextTo X C F) where
   -- what is written of items that follow others
   abbrev pub AreNext : List (ℕ × X) → List (ℕ × X) → List ItemText → Type 0
   AreNext before [] [] = ⊤
@@ -59,7 +59,7 @@ module _ {X C : Type 0} (t : Text X C) where
   pub are_texts : (es : List (ℕ × X)) (ws : List ItemText) → AreNext [] es ws → AreItemTexts t es ws
   are_texts es ws are = record { one_each = sizes [] es ws are; each = each_next [] es ws are }
 
-  are_next : (before es : List (ℕ × X)) (ws : List ItemText) → length ws ≡ length es →
+  pub are_next : (before es : List (ℕ × X)) (ws : List ItemText) → length ws ≡ length es →
       ((i : ℕ) (e : ℕ × X) (w : ItemText) → slice_get es i ≡ Some e → slice_get ws i ≡ Some w → t.of_item (before ++ take i es) e ≡ Ok (w.text, w.is_finding)) → AreNext before es ws
   are_next before [] [] same each = tt
   are_next before (x ∷ es) (v ∷ ws) same each = (
@@ -70,7 +70,8 @@ module _ {X C : Type 0} (t : Text X C) where
   are_next before [] (v ∷ ws) same each = absurd (omega (arith, same))
   are_next before (x ∷ es) [] same each = absurd (omega (arith, same))
 
-  told_next : (before es : List (ℕ × X)) (ws : List ItemText) (rest : List (ℕ × X)) (stop : Stop (ItemFault C)) → AreNext before es ws →
+module _ {X C : Type 0} (t : Text X C) where
+  told_next : (before es : List (ℕ × X)) (ws : List ItemText) (rest : List (ℕ × X)) (stop : Stop (ItemFault C)) → AreNext t before es ws →
       told_after t before (es ++ rest) stop ≡ behind ws (told_after t (before ++ es) rest stop)
   unfolding told_after
   told_next before [] [] rest stop are = ap (λ l. told_after t l rest stop) (sym (append-nil before))
@@ -86,4 +87,4 @@ module _ {X C : Type 0} (t : Text X C) where
   -- what is told of a list is the texts of items in front of it, and then what is told of the rest
   pub told_behind : (es : List (ℕ × X)) (ws : List ItemText) (rest : List (ℕ × X)) (stop : Stop (ItemFault C)) → AreItemTexts t es ws →
       told_after t [] (es ++ rest) stop ≡ behind ws (told_after t es rest stop)
-  told_behind es ws rest stop are = told_next [] es ws rest stop (are_next [] es ws are.one_each are.each)
+  told_behind es ws rest stop are = told_next [] es ws rest stop (are_next t [] es ws are.one_each are.each)

@@ -1,5 +1,6 @@
 pub mod Wanted
 pub mod ItemTexts
-pub mod EngineLemmas
+pub mod ListRuns
+pub mod ReaderRuns
 pub mod ReadFaults
 pub mod WholeTexts

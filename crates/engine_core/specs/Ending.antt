@@ -1,5 +1,5 @@
 -- How a run ends: by which fault, and with which exit status.
-use Rattle.std.specs.Prelude.{ℕ, Bool, true, false}
+use Rattle.std.specs.Prelude.{ℕ, Bool, true, false, if◌then◌else◌}
 use Rattle.list_core.specs.declared.list_fault.ListCause.{ListCause}
 use Rattle.list_core.specs.declared.list_fault.ListCause.TheVariants.{LineTooLong, LineForm, Moment, Hex, ListTooLong, ReadFailed}
 use Rattle.list_core.specs.declared.line_rules.ItemFault.{ItemFault}
@@ -29,6 +29,10 @@ ending_of ListTooLong = InputFault
 abbrev pub ending_at : {C : Type 0} → ItemFault C → Ending
 ending_at (fault.Lines f) = ending_of f.cause
 ending_at (fault.Line n why) = InputFault
+
+-- a fault is the reader's where its source failed, and else the input's
+abbrev pub ending_by_fault : {F : Type 0} → (F → Bool) → F → Ending
+ending_by_fault failed fault = if failed fault then ReadFault else InputFault
 
 -- whether a run ended because its writer failed
 abbrev pub is_write_fault : Ending → Bool

@@ -5,16 +5,20 @@ use Rattle.list_core.specs.declared.line_rules.ItemFault.{ItemFault}
 use Rattle.list_core.specs.declared.line_rules.ItemFault.TheVariants as fault
 use Rattle.list_core.specs.Lines.{Stop, finished, unfinished, faulty}
 
--- What an engine writes of a list of items, which come with the numbers of their lines: something first, then for each
--- item, and something last on a fault. X are the items, C is why one is refused. What is written for an item is fixed
--- by it and by the items before it.
-pub record Text (X C : Type 0) : Type 0 where
+-- What an engine writes of items, which come with their numbers: something first, then for each item, and something
+-- last on a fault. X are the items, C is why one is refused, F is a fault. What is written for an item is fixed by it and
+-- by the items before it.
+pub record TextTo (X C F : Type 0) : Type 0 where
   -- before anything is read
   pub first : List ℕ
   -- after these items, for this one: its text, and whether it is a finding; or why it is refused
   pub of_item : List (ℕ × X) → ℕ × X → Result (List ℕ × Bool) C
   -- last, on a fault
-  pub last : ItemFault C → List ℕ
+  pub last : F → List ℕ
+
+-- what an engine writes of a list of items
+abbrev pub Text : Type 0 → Type 0 → Type 0
+Text X C = TextTo X C (ItemFault C)
 
 -- what is written of one item: its text, and whether the item is a finding
 pub record ItemText : Type 0 where
@@ -22,7 +26,7 @@ pub record ItemText : Type 0 where
   pub is_finding : Bool
 
 -- What is written of each of these items, after those before it. None of them is refused.
-pub record AreItemTexts {X C : Type 0} (t : Text X C) (items : List (ℕ × X)) (texts : List ItemText) : Type 0 where
+pub record AreItemTexts {X C F : Type 0} (t : TextTo X C F) (items : List (ℕ × X)) (texts : List ItemText) : Type 0 where
   pub one_each : length texts ≡ length items
   pub each : (i : ℕ) (e : ℕ × X) (w : ItemText) → slice_get items i ≡ Some e → slice_get texts i ≡ Some w → t.of_item (take i items) e ≡ Ok (w.text, w.is_finding)
 
@@ -40,10 +44,14 @@ last_text t finished = []
 last_text t unfinished = []
 last_text t (faulty f) = t.last f
 
--- the text that a step writes: that of its item, or the last one where it is refused
+-- the text that a step writes: that of its item, or the last one where it is refused, which is this fault then
+abbrev pub step_text_to : {X C F : Type 0} → (ℕ → C → F) → TextTo X C F → ℕ → Result (List ℕ × Bool) C → List ℕ
+step_text_to refused t n (Ok s) = s.0
+step_text_to refused t n (Err why) = t.last (refused n why)
+
+-- the same of a list, where a refused item is a fault of its line
 abbrev pub step_text : {X C : Type 0} → Text X C → ℕ → Result (List ℕ × Bool) C → List ℕ
-step_text t n (Ok s) = s.0
-step_text t n (Err why) = t.last (fault.Line n why)
+step_text t n s = step_text_to fault.Line t n s
 
 -- what is written next, after these items: the text of the first of those that follow, or the last one
 abbrev pub next_text : {X C : Type 0} → Text X C → List (ℕ × X) → List (ℕ × X) → Stop (ItemFault C) → List ℕ

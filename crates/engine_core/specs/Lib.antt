@@ -1,5 +1,6 @@
 pub mod Ending
 pub mod EngineText
 pub mod Run
+pub mod RunOver
 pub mod computed
 pub mod Laws

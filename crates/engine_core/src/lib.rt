@@ -1,4 +1,4 @@
-//! What an engine of the program `goose` is: a text over the items of a list, written by one run.
+//! What an engine of the program `goose` is: a text over the items of an input, written by one run.
 #![tactic(auto)]
 
 mod ending;
@@ -7,5 +7,5 @@ mod running;
 mod stopped;
 
 pub use crate::ending::{Ending, status};
-pub use crate::running::{Engine, Next, ending_where, refuse, run, run_to_stop};
+pub use crate::running::{Engine, Next, ending_where, refuse, run, run_over, run_to_stop};
 pub use crate::stopped::{Halt, Stopped};

@@ -1,31 +1,31 @@
-//! The run of an engine over a list: a line is asked for once the text of the line before stands
-//! written.
-ghost use Rattle.std.specs.Prelude.{◌≡◌, ◌++◌, ℕ, List, [], Some, None, Ok, false, IsOk, OnErr, OnOk, length, take, if◌then◌else◌};
+//! The run of an engine over a reader of items: an item is asked for once the text of the item before
+//! stands written.
+ghost use Rattle.std.specs.Prelude.{◌≡◌, ◌<◌, ◌++◌, ℕ, Bool, List, [], Some, None, Ok, false, IsOk, OnErr, OnOk, length, take, if◌then◌else◌};
 ghost use Rattle.list_core.specs.declared.device.InputEnd.{InputEnd};
 ghost use Rattle.list_core.specs.Device.{GivesOctets};
-ghost use Rattle.list_core.specs.ItemReader.{Answer, AnswersItem, item_state};
-ghost use Rattle.engine_core.specs.Ending.{ending_at, ending_of, is_write_fault};
-ghost use Rattle.engine_core.specs.EngineText.{Text};
+ghost use Rattle.list_core.specs.ItemReader.{item_state};
+ghost use Rattle.list_core.specs.ReadItems.{AnswerOf};
+ghost use Rattle.engine_core.specs.Ending.{ending_by_fault, is_write_fault};
+ghost use Rattle.engine_core.specs.EngineText.{TextTo};
 ghost use Rattle.engine_core.specs.Run.{LeavesRefused, Writes, WritesTo};
+ghost use Rattle.engine_core.specs.RunOver.{RunsOver};
 ghost use Rattle.engine_core.specs.computed.EngineStep.{StepWrites, Stops, Takes, ending_by_halt, fault_by_halt, is_failed_write, stops_by};
 
 use crate::ending::Ending;
 use crate::stopped::{Halt, Stopped};
 use list_core::{
-    ItemError, ItemFault, ItemReader, LineError, LineRules, ListCause, Sink, Source, put_all,
+    InputFault, ItemFault, ItemReader, LineError, LineRules, ReadError, ReadItems, Sink, Source,
+    put_all,
 };
 use std::alloc::{AllocError, Allocator};
 
-/// What an engine writes for an item, and last on a fault. A value stands after some items.
-pub trait Engine<A: Allocator> {
-    /// What a line gives.
+/// What an engine writes for an item, and last on a fault of its input. A value stands after some items.
+pub trait Engine<A: Allocator, F: InputFault> {
+    /// What the input gives.
     type Item: Drop;
 
-    /// Why a line or an item is refused.
-    type Cause: Drop;
-
     /// The text, as a function of items and of those before them.
-    ghost text: { Self → Text Self.Item Self.Cause };
+    ghost text: { Self → TextTo Self.Item F.Refusal F };
 
     /// The engine was handed these items.
     ghost stands: { Self → List (ℕ × Self.Item) → Type 0 };
@@ -39,18 +39,14 @@ pub trait Engine<A: Allocator> {
         number: u64,
         item: Self::Item,
         spare: &mut Option<Self::Item>,
-    ) -> Result<bool, LineError<Self::Cause>>
+    ) -> Result<bool, LineError<F::Refusal>>
         ensures same { text self.new ≡ text self.old }
         ensures step { (before : List (ℕ × Self.Item)) → stands self.old before →
-            Takes (text self.old) (stands self.new) before (number, item) result line.old.items line.new.items }
+            Takes F.refused (text self.old) (stands self.new) before (number, item) result line.old.items line.new.items }
         ensures kept { OnErr result (take (length line.old.items) line.new.items ≡ line.old.items) };
 
     /// Appends the last text on a fault. Where memory is refused, the line's earlier text remains.
-    fn put_last(
-        &self,
-        line: &mut Vec<u8, A>,
-        fault: &ItemFault<Self::Cause>,
-    ) -> Result<(), AllocError>
+    fn put_last(&self, line: &mut Vec<u8, A>, fault: &F) -> Result<(), AllocError>
         ensures text { OnOk result (line.new.items ≡ line.old.items ++ (text self.now).last fault.now) }
         ensures kept { OnErr result (take (length line.old.items) line.new.items ≡ line.old.items) }
         ensures quiet { (text self.now).last fault.now ≡ [] → IsOk result };
@@ -61,39 +57,30 @@ pub trait Engine<A: Allocator> {
 pub enum Next<F> {
     /// An item's text was written; the item is a finding or not.
     Wrote(bool),
-    /// The list has ended.
+    /// The input has ended.
     Ended,
     /// The run ends here.
     Stop(Halt<F>),
 }
 
-// The ending at a fault of the lines.
-fn ending_by(cause: ListCause) -> Ending
-    ensures { result ≡ ending_of cause }
-{
-    match cause {
-        ListCause::ReadFailed => Ending::ReadFault,
-        _ => Ending::InputFault,
-    }
-}
-
 // The ending at a fault.
-fn ending_for<C>(fault: &ItemFault<C>) -> Ending
-    ensures { result ≡ ending_at fault.now }
+fn ending_for<F: InputFault>(fault: &F) -> Ending
+    ensures { result ≡ ending_by_fault F.failed fault.now }
 {
-    match fault {
-        ItemFault::Lines(fault) => ending_by(fault.cause),
-        ItemFault::Line(_, _) => Ending::InputFault,
+    if fault.is_failed_read() {
+        Ending::ReadFault
+    } else {
+        Ending::InputFault
     }
 }
 
 // Writes the last text on a fault, with which the run ends.
-fn answer_fault<A: Allocator, E: Engine<A>, W: Sink>(
+fn answer_fault<A: Allocator, F: InputFault + Drop, E: Engine<A, F>, W: Sink>(
     engine: &E,
     line: &mut Vec<u8, A>,
-    fault: ItemFault<E::Cause>,
+    fault: F,
     writer: &mut W,
-) -> Halt<ItemFault<E::Cause>>
+) -> Halt<F>
     requires { W.failed writer.old ≡ false }
     ensures stops { Stops ((E.text engine.now).last fault ≡ [] → ⊥) ((E.text engine.now).last fault) (Some fault) result (W.contents writer.old) (W.contents writer.new) }
     ensures fails { W.failed writer.new ≡ is_failed_write result }
@@ -109,18 +96,18 @@ fn answer_fault<A: Allocator, E: Engine<A>, W: Sink>(
 }
 
 // Writes the text of an item, or the last text where it is refused.
-fn answer_item<A: Allocator, E: Engine<A>, W: Sink>(
+fn answer_item<A: Allocator, F: InputFault + Drop, E: Engine<A, F>, W: Sink>(
     engine: &mut E,
     line: &mut Vec<u8, A>,
     number: u64,
     item: E::Item,
     spare: &mut Option<E::Item>,
     writer: &mut W,
-) -> Next<ItemFault<E::Cause>>
+) -> Next<F>
     requires { W.failed writer.old ≡ false }
     ensures same { E.text engine.new ≡ E.text engine.old }
     ensures step { (before : List (ℕ × E.Item)) → E.stands engine.old before →
-        StepWrites (E.text engine.old) (E.stands engine.new) before (Ok (Some (number, item))) result (W.contents writer.old) (W.contents writer.new) }
+        StepWrites F.refused (E.text engine.old) (E.stands engine.new) before (Ok (Some (number, item))) result (W.contents writer.old) (W.contents writer.new) }
     ensures fails { W.failed writer.new ≡ stops_by is_failed_write result }
 {
     line.clear();
@@ -130,39 +117,40 @@ fn answer_item<A: Allocator, E: Engine<A>, W: Sink>(
             Err(_) => Next::Stop(Halt::WriteFault),
         },
         Err(LineError::Cause(cause)) => {
-            Next::Stop(answer_fault(engine, line, ItemFault::Line(number, cause), writer))
+            Next::Stop(answer_fault(engine, line, F::of_refused(number, cause), writer))
         }
         Err(LineError::Memory(_)) => Next::Stop(Halt::Memory),
     }
 }
 
-// Takes the next item of the list and writes its text, or the last text on a fault.
+// Takes the next item of the input and writes its text, or the last text on a fault.
 fn answer_next<
     A: Allocator + Copy,
-    G: LineRules<A>,
-    E: Engine<A, Item = G::Item, Cause = G::Cause>,
-    R: Source,
+    F: InputFault + Drop,
+    I: ReadItems<A, Fault = F>,
+    E: Engine<A, F, Item = I::Item>,
     W: Sink,
 >(
     alloc: A,
     engine: &mut E,
     line: &mut Vec<u8, A>,
-    items: &mut ItemReader<R, G>,
-    spare: &mut Option<G::Item>,
+    items: &mut I,
+    spare: &mut Option<I::Item>,
     writer: &mut W,
-) -> Next<ItemFault<E::Cause>>
+) -> Next<F>
     requires { W.failed writer.old ≡ false }
     ensures same { E.text engine.new ≡ E.text engine.old }
-    ensures step { (answer : Answer G.Item G.Cause) × AnswersItem G.rules (item_state R.left R.ending items.old) answer (item_state R.left R.ending items.new)
-        × ((before : List (ℕ × G.Item)) → E.stands engine.old before →
-        StepWrites (E.text engine.old) (E.stands engine.new) before answer result (W.contents writer.old) (W.contents writer.new)) }
+    ensures step { (answer : AnswerOf I.Item F) × I.answers items.old answer items.new
+        × ((before : List (ℕ × I.Item)) → E.stands engine.old before →
+        StepWrites F.refused (E.text engine.old) (E.stands engine.new) before answer result (W.contents writer.old) (W.contents writer.new)) }
+    ensures fewer { (found : Bool) → result ≡ Next.Wrote found → I.most items.new < I.most items.old }
     ensures fails { W.failed writer.new ≡ stops_by is_failed_write result }
 {
-    match items.next(alloc, spare) {
+    match items.read_item(alloc, spare) {
         Ok(None) => Next::Ended,
-        Ok(Some(item)) => answer_item(engine, line, items.line_number(), item, spare, writer),
-        Err(ItemError::Fault(fault)) => Next::Stop(answer_fault(engine, line, fault, writer)),
-        Err(ItemError::Memory(_)) => Next::Stop(Halt::Memory),
+        Ok(Some(item)) => answer_item(engine, line, items.item_number(), item, spare, writer),
+        Err(ReadError::Fault(fault)) => Next::Stop(answer_fault(engine, line, fault, writer)),
+        Err(ReadError::Memory(_)) => Next::Stop(Halt::Memory),
     }
 }
 
@@ -178,8 +166,8 @@ pub fn ending_where(found: bool) -> Ending
 }
 
 // How a run ends that stops early, and the fault by which it does.
-fn stopped<C>(halt: Halt<ItemFault<C>>) -> (Ending, Option<ItemFault<C>>)
-    ensures ending { result.0 ≡ ending_by_halt halt }
+fn stopped<F: InputFault>(halt: Halt<F>) -> (Ending, Option<F>)
+    ensures ending { result.0 ≡ ending_by_halt F.failed halt }
     ensures fault { result.1 ≡ fault_by_halt halt }
 {
     match halt {
@@ -189,30 +177,19 @@ fn stopped<C>(halt: Halt<ItemFault<C>>) -> (Ending, Option<ItemFault<C>>)
     }
 }
 
-// Writes the first text, then the text of each item, and the last text where the list has a fault or an item is refused; and
-// answers how that ended. The reader of the items is lent: it holds 8,192 octets, so each move of it needs as much of the stack.
+// Writes the first text, then the text of each item, and the last text where the input has a fault or an item is refused; and
+// answers how that ended. The reader of the items is lent: that of a list holds 8,192 octets, so each move of it needs as much of the stack.
 fn run_on<
     A: Allocator + Copy,
-    G: LineRules<A>,
-    E: Engine<A, Item = G::Item, Cause = G::Cause>,
-    R: Source,
+    F: InputFault + Drop,
+    I: ReadItems<A, Fault = F>,
+    E: Engine<A, F, Item = I::Item>,
     W: Sink,
->(
-    alloc: A,
-    engine: &mut E,
-    first: &[u8],
-    items: &mut ItemReader<R, G>,
-    writer: &mut W,
-) -> (Ending, Option<ItemFault<G::Cause>>)
-    requires open { (item_state R.left R.ending items.old).ending ≡ InputEnd.Open }
-    requires taken { (item_state R.left R.ending items.old).taken ≡ 0 }
-    requires held { (item_state R.left R.ending items.old).held ≡ [] }
+>(alloc: A, engine: &mut E, first: &[u8], items: &mut I, writer: &mut W) -> (Ending, Option<F>)
     requires works { W.failed writer.old ≡ false }
     requires first { first.now ≡ (E.text engine.old).first }
     requires fresh { E.stands engine.old [] }
-    ensures text { (given : List ℕ) × GivesOctets (item_state R.left R.ending items.old).left (item_state R.left R.ending items.new).left given
-        × WritesTo G.rules (item_state R.left R.ending items.old).settled (E.text engine.old) result.0 (item_state R.left R.ending items.new).ending given (W.contents writer.old) (W.contents writer.new) result.1 }
-    ensures read_fault { result.0 ≡ Ending.ReadFault → (item_state R.left R.ending items.new).ending ≡ InputEnd.Failed }
+    ensures text { RunsOver I.answers F.refused F.failed (E.text engine.old) items.old result.0 result.1 items.new (W.contents writer.old) (W.contents writer.new) }
     ensures fault { W.failed writer.new ≡ is_write_fault result.0 }
 {
     match put_all(writer, first) {
@@ -231,12 +208,35 @@ fn run_on<
     }
 }
 
+/// Writes the first text, then the text of each item of a reader in its turn, and the last text where
+/// the input has a fault or an item is refused. Hands out how that ended, the fault by which it did, and the reader.
+pub fn run_over<
+    A: Allocator + Copy,
+    F: InputFault + Drop,
+    I: ReadItems<A, Fault = F>,
+    E: Engine<A, F, Item = I::Item> + Drop,
+    W: Sink,
+>(alloc: A, mut engine: E, first: &[u8], mut items: I, writer: &mut W) -> Stopped<I, F>
+    requires works { W.failed writer.old ≡ false }
+    requires first { first.now ≡ (E.text engine).first }
+    requires fresh { E.stands engine [] }
+    ensures text { RunsOver I.answers F.refused F.failed (E.text engine) items result.ending result.fault result.reader (W.contents writer.old) (W.contents writer.new) }
+    ensures fault { W.failed writer.new ≡ is_write_fault result.ending }
+{
+    let (ending, fault) = run_on(alloc, &mut engine, first, &mut items, writer);
+    Stopped {
+        ending,
+        fault,
+        reader: items,
+    }
+}
+
 /// Writes the first text, then the text of each item of a list in its turn, and the last text where
 /// the list has a fault or an item is refused. Hands out how that ended, the fault by which it did, and the reader of the items.
 pub fn run_to_stop<
     A: Allocator + Copy,
     G: LineRules<A> + Drop,
-    E: Engine<A, Item = G::Item, Cause = G::Cause> + Drop,
+    E: Engine<A, ItemFault<G::Cause>, Item = G::Item> + Drop,
     R: Source,
     W: Sink,
 >(
@@ -270,7 +270,7 @@ pub fn run_to_stop<
 pub fn run<
     A: Allocator + Copy,
     G: LineRules<A> + Drop,
-    E: Engine<A, Item = G::Item, Cause = G::Cause> + Drop,
+    E: Engine<A, ItemFault<G::Cause>, Item = G::Item> + Drop,
     R: Source,
     W: Sink,
 >(alloc: A, rules: G, engine: E, first: &[u8], reader: R, writer: &mut W) -> (Ending, R)

@@ -2,67 +2,65 @@
 use Rattle.std.specs.Prelude.{◌≡◌, ◌⊎◌, ℕ, Bool, List, [], ◌∷◌, ◌++◌, Option, Some, None, Result, Ok, Err, true, false}
 use Rattle.std.specs.Io.KnownBytes.{Appends}
 use Rattle.list_core.specs.Device.{AppendsPrefix}
-use Rattle.list_core.specs.declared.line_rules.ItemFault.{ItemFault}
-use Rattle.list_core.specs.declared.line_rules.ItemFault.TheVariants as fault
 use Rattle.list_core.specs.declared.line_rules.LineError.{LineError}
 use Rattle.list_core.specs.declared.line_rules.LineError.TheVariants as line
-use Rattle.list_core.specs.ItemReader.{Answer}
+use Rattle.list_core.specs.ReadItems.{AnswerOf}
 use Rattle.engine_core.specs.declared.ending.Ending.{Ending}
 use Rattle.engine_core.specs.declared.ending.Ending.TheVariants.{WriteFault, Memory}
 use Rattle.engine_core.specs.declared.running.Next.{Next}
 use Rattle.engine_core.specs.declared.running.Next.TheVariants as next
 use Rattle.engine_core.specs.declared.stopped.Halt.{Halt}
 use Rattle.engine_core.specs.declared.stopped.Halt.TheVariants as halt
-use Rattle.engine_core.specs.Ending.{ending_at}
-use Rattle.engine_core.specs.EngineText.{Text, step_text}
+use Rattle.engine_core.specs.Ending.{ending_by_fault}
+use Rattle.engine_core.specs.EngineText.{TextTo, step_text_to}
 
 -- an engine took an item after others: its text was appended to a line, and the engine stands after this item too
-pub record ItemTaken {X C : Type 0} (t : Text X C) (stands : List (ℕ × X) → Type 0) (before : List (ℕ × X)) (e : ℕ × X) (found : Bool) (old new : List ℕ) : Type 0 where
+pub record ItemTaken {X C F : Type 0} (t : TextTo X C F) (stands : List (ℕ × X) → Type 0) (before : List (ℕ × X)) (e : ℕ × X) (found : Bool) (old new : List ℕ) : Type 0 where
   pub text : List ℕ
   pub has_text : t.of_item before e ≡ Ok (text, found)
   pub appended : new ≡ old ++ text
   pub stands_after : stands (before ++ e ∷ [])
 
 -- what an engine answers for an item after others: it was taken; or refused; or memory was wanted, where there is something to write
-abbrev pub Takes : {X C : Type 0} → Text X C → (List (ℕ × X) → Type 0) → List (ℕ × X) → ℕ × X → Result Bool (LineError C) → List ℕ → List ℕ → Type 0
-Takes t stands before e (Ok found) old new = ItemTaken t stands before e found old new
-Takes t stands before e (Err (line.Cause why)) old new = t.of_item before e ≡ Err why
-Takes t stands before e (Err (line.Memory m)) old new = step_text t e.0 (t.of_item before e) ≡ [] → ⊥
+abbrev pub Takes : {X C F : Type 0} → (ℕ → C → F) → TextTo X C F → (List (ℕ × X) → Type 0) → List (ℕ × X) → ℕ × X → Result Bool (LineError C) → List ℕ → List ℕ → Type 0
+Takes refused t stands before e (Ok found) old new = ItemTaken t stands before e found old new
+Takes refused t stands before e (Err (line.Cause why)) old new = t.of_item before e ≡ Err why
+Takes refused t stands before e (Err (line.Memory m)) old new = step_text_to refused t e.0 (t.of_item before e) ≡ [] → ⊥
 
 -- the fault by which a step ends the text
-abbrev pub step_fault : {C : Type 0} → ℕ → Result (List ℕ × Bool) C → Option (ItemFault C)
-step_fault n (Ok s) = None
-step_fault n (Err why) = Some (fault.Line n why)
+abbrev pub step_fault : {C F : Type 0} → (ℕ → C → F) → ℕ → Result (List ℕ × Bool) C → Option F
+step_fault refused n (Ok s) = None
+step_fault refused n (Err why) = Some (refused n why)
 
 -- the text that an answer asks for, after these items
-abbrev pub due : {X C : Type 0} → Text X C → List (ℕ × X) → Answer X C → List ℕ
-due t before (Ok (Some e)) = step_text t e.0 (t.of_item before e)
-due t before (Ok None) = []
-due t before (Err (Some f)) = t.last f
-due t before (Err None) = []
+abbrev pub due : {X C F : Type 0} → (ℕ → C → F) → TextTo X C F → List (ℕ × X) → AnswerOf X F → List ℕ
+due refused t before (Ok (Some e)) = step_text_to refused t e.0 (t.of_item before e)
+due refused t before (Ok None) = []
+due refused t before (Err (Some f)) = t.last f
+due refused t before (Err None) = []
 
 -- the fault by which an answer ends the text
-abbrev pub closes : {X C : Type 0} → Text X C → List (ℕ × X) → Answer X C → Option (ItemFault C)
-closes t before (Ok (Some e)) = step_fault e.0 (t.of_item before e)
-closes t before (Ok None) = None
-closes t before (Err (Some f)) = Some f
-closes t before (Err None) = None
+abbrev pub closes : {X C F : Type 0} → (ℕ → C → F) → TextTo X C F → List (ℕ × X) → AnswerOf X F → Option F
+closes refused t before (Ok (Some e)) = step_fault refused e.0 (t.of_item before e)
+closes refused t before (Ok None) = None
+closes refused t before (Err (Some f)) = Some f
+closes refused t before (Err None) = None
 
 -- memory is wanted by the answer itself, or for the text that it asks for
-abbrev pub WantsFor : {X C : Type 0} → Text X C → List (ℕ × X) → Answer X C → Type 0
-WantsFor t before answer = (answer ≡ Err None) ⊎ (due t before answer ≡ [] → ⊥)
+abbrev pub WantsFor : {X C F : Type 0} → (ℕ → C → F) → TextTo X C F → List (ℕ × X) → AnswerOf X F → Type 0
+WantsFor refused t before answer = (answer ≡ Err None) ⊎ (due refused t before answer ≡ [] → ⊥)
 
 -- The run stops: memory was wanted and nothing was written; the writer failed at a prefix of the text; or the text was written, and ends by the fault that is handed out.
-abbrev pub Stops : {C : Type 0} → Type 0 → List ℕ → Option (ItemFault C) → Halt (ItemFault C) → Option (List ℕ) → Option (List ℕ) → Type 0
+abbrev pub Stops : {F : Type 0} → Type 0 → List ℕ → Option F → Halt F → Option (List ℕ) → Option (List ℕ) → Type 0
 Stops wants text closing (halt.Fault why) old new = (closing ≡ Some why) × Appends old new text
 Stops wants text closing halt.WriteFault old new = AppendsPrefix old new text
 Stops wants text closing halt.Memory old new = wants × (new ≡ old)
 
 -- the ending of a run that stops
-abbrev pub ending_by_halt : {C : Type 0} → Halt (ItemFault C) → Ending
-ending_by_halt (halt.Fault why) = ending_at why
-ending_by_halt halt.WriteFault = WriteFault
-ending_by_halt halt.Memory = Memory
+abbrev pub ending_by_halt : {F : Type 0} → (F → Bool) → Halt F → Ending
+ending_by_halt failed (halt.Fault why) = ending_by_fault failed why
+ending_by_halt failed halt.WriteFault = WriteFault
+ending_by_halt failed halt.Memory = Memory
 
 -- the fault that it hands out
 abbrev pub fault_by_halt : {F : Type 0} → Halt F → Option F
@@ -71,7 +69,7 @@ fault_by_halt halt.WriteFault = None
 fault_by_halt halt.Memory = None
 
 -- an item was answered, and its text was written; the engine stands after this item too
-pub record ItemWritten {X C : Type 0} (t : Text X C) (stands : List (ℕ × X) → Type 0) (before : List (ℕ × X)) (answer : Answer X C) (found : Bool) (old new : Option (List ℕ)) : Type 0 where
+pub record ItemWritten {X C F : Type 0} (t : TextTo X C F) (stands : List (ℕ × X) → Type 0) (before : List (ℕ × X)) (answer : AnswerOf X F) (found : Bool) (old new : Option (List ℕ)) : Type 0 where
   pub item : ℕ × X
   pub text : List ℕ
   pub answered : answer ≡ Ok (Some item)
@@ -80,10 +78,10 @@ pub record ItemWritten {X C : Type 0} (t : Text X C) (stands : List (ℕ × X) �
   pub stands_after : stands (before ++ item ∷ [])
 
 -- what is written after an answer, and how the run goes on: an item was written, the list has ended, or the run stops
-abbrev pub StepWrites : {X C : Type 0} → Text X C → (List (ℕ × X) → Type 0) → List (ℕ × X) → Answer X C → Next (ItemFault C) → Option (List ℕ) → Option (List ℕ) → Type 0
-StepWrites t stands before answer (next.Wrote found) old new = ItemWritten t stands before answer found old new
-StepWrites t stands before answer next.Ended old new = (answer ≡ Ok None) × (new ≡ old)
-StepWrites t stands before answer (next.Stop halt) old new = Stops (WantsFor t before answer) (due t before answer) (closes t before answer) halt old new
+abbrev pub StepWrites : {X C F : Type 0} → (ℕ → C → F) → TextTo X C F → (List (ℕ × X) → Type 0) → List (ℕ × X) → AnswerOf X F → Next F → Option (List ℕ) → Option (List ℕ) → Type 0
+StepWrites refused t stands before answer (next.Wrote found) old new = ItemWritten t stands before answer found old new
+StepWrites refused t stands before answer next.Ended old new = (answer ≡ Ok None) × (new ≡ old)
+StepWrites refused t stands before answer (next.Stop halt) old new = Stops (WantsFor refused t before answer) (due refused t before answer) (closes refused t before answer) halt old new
 
 -- whether a run stops because its writer failed
 abbrev pub is_failed_write : {F : Type 0} → Halt F → Bool

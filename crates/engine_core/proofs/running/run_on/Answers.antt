@@ -1,18 +1,17 @@
 use Rattle.std.proofs.Common.{rules, refl, [], ◌++◌, ◌∷◌, ◌∙◌}
-use Rattle.engine_core.proofs.EngineLemmas.{go_on, ran_none, ended, stopped, not_begun}
-use Rattle.engine_core.proofs.ReadFaults.{only_failed}
+use Rattle.engine_core.proofs.ReaderRuns.{go_on, ran_none, ended, stopped, not_begun}
 use Rattle.engine_core.proofs.running.run_on.Goals as goal
 
 pub returns-in-Err-clause-text : goal.returns-in-Err-clause-text
 returns-in-Err-clause-text g c =
     rw (c.stopped.ensures.ending, c.stopped.ensures.fault)
-    (not_begun _ _ _ _ _ _ _ _ (c.requires.open) refl (rw (← c.requires.first) c.in-Err.ensures.written.1))
+    (not_begun _ _ _ _ _ _ _ (rw (← c.requires.first) c.in-Err.ensures.written.1))
 
 pub answers-init : goal.answers-init
 answers-init g c = record {
   works = search rules;
   same = refl;
-  so_far = ([], c.requires.fresh, ran_none _ _ _ _ (c.requires.open));
+  so_far = ([], c.requires.fresh, ran_none _ _ _ _);
 }
 
 pub answers-preserved : goal.answers-preserved
@@ -33,7 +32,7 @@ returns-in-Ended-clause-text g c =
     let s = c.in-Ended.ensures.step in
     let w = s.2 p.0 p.1 in
     let q = rw w.0 at s.1 in
-    let r = ended _ _ _ _ _ p.0 _ _ _ _ _ c.requires.taken c.requires.held (rw c.requires.first at c.in-Ok.ensures.written) p.2 q w.1 in
+    let r = ended _ _ _ _ _ _ _ p.0 _ _ _ _ _ (rw c.requires.first at c.in-Ok.ensures.written) p.2 q w.1 in
     rw c.ending_where.ensures r
 
 pub returns-in-Stop-clause-text : goal.returns-in-Stop-clause-text
@@ -41,13 +40,5 @@ returns-in-Stop-clause-text g c =
     let p = c.answers.invariant.so_far in
     let s = c.in-Stop.ensures.step in
     let w = rw c.answers.invariant.same at (s.2 p.0 p.1) in
-    let r = stopped _ _ _ _ _ p.0 _ _ _ _ _ c.requires.taken c.requires.held (rw c.requires.first at c.in-Ok.ensures.written) p.2 s.0 s.1 _ w in
+    let r = stopped _ _ _ _ _ _ _ p.0 _ _ _ _ _ (rw c.requires.first at c.in-Ok.ensures.written) p.2 s.0 s.1 _ w in
     rw (c.stopped-in-Stop.ensures.ending, c.stopped-in-Stop.ensures.fault) r
-
-pub returns-in-Stop-clause-read_fault : goal.returns-in-Stop-clause-read_fault
-returns-in-Stop-clause-read_fault g c = λ e.
-    let p = c.answers.invariant.so_far in
-    let s = c.in-Stop.ensures.step in
-    let w = rw c.answers.invariant.same at (s.2 p.0 p.1) in
-    let r = stopped _ _ _ _ _ p.0 _ _ _ _ _ c.requires.taken c.requires.held (rw c.requires.first at c.in-Ok.ensures.written) p.2 s.0 s.1 _ w in
-    only_failed _ _ _ _ _ _ _ _ r.2.0 (rw c.stopped-in-Stop.ensures.ending at e)

@@ -1,9 +1,7 @@
--- What several answers of a reader of items make an engine write.
-use Rattle.std.proofs.Common.{Option, Some, None, Ok, Err, Result, ◌≡◌, ◌⊎◌, ℕ, Bool, true, false, List, [], ◌∷◌, ◌++◌, inl, inr, ap, ap₂, sym, ◌∙◌, refl, subst, arith}
-use Rattle.std.specs.Prelude.{◌||◌, if◌then◌else◌}
-use Rattle.std.proofs.lemmas.List.{append-nil}
-use Rattle.std.proofs.lemmas.Grind.{flat_map-append}
-use Rattle.std.proofs.lemmas.List.Folds.{list_any-append}
+-- What a run over the reader of a list writes of the list.
+use Rattle.std.proofs.Common.{Option, Some, None, Ok, Err, Result, ◌≡◌, ◌⊎◌, ℕ, Bool, true, false, List, [], ◌∷◌, ◌++◌, inl, inr, ap, sym, ◌∙◌, refl, subst, arith}
+use Rattle.std.specs.Prelude.{if◌then◌else◌}
+use Rattle.std.proofs.lemmas.List.{append-nil, append_assoc}
 use Rattle.std.specs.Io.KnownBytes.{Appends}
 use Rattle.list_core.specs.declared.device.InputEnd.{InputEnd}
 use Rattle.list_core.specs.declared.device.InputEnd.TheVariants.{Open}
@@ -15,68 +13,60 @@ use Rattle.list_core.specs.Device.{AppendsPrefix, GivesOctets}
 use Rattle.list_core.specs.Items.{Rules, Listing, listing}
 use Rattle.list_core.specs.ItemReader.{ReaderState, Answer, AnswersItem, CountsTo, OnlyKept, Tells, lines_before}
 use Rattle.list_core.specs.computed.PrivateCalls.{TakesItems}
+use Rattle.list_core.specs.ReadItems.{AnswerOf, Gave, is_failed_read, is_of_source}
 use Rattle.list_core.specs.Reader.{IsWanting}
-use Rattle.list_core.proofs.Devices.{Appends-append, Appends-none, AppendsPrefix-more, Consumes-none, Gives-from_Consumes}
+use Rattle.list_core.proofs.Devices.{AppendsPrefix-more, Consumes-none, Gives-from_Consumes}
 use Rattle.list_core.proofs.Readers.{CanFollow-none, off_after, starts_after}
 use Rattle.list_core.proofs.ItemReaders.{TakesItems-push, TakesItems-none, gives_both, list_whole}
 use Rattle.engine_core.specs.declared.ending.Ending.{Ending}
-use Rattle.engine_core.specs.declared.ending.Ending.TheVariants.{Done, Findings, WriteFault, Memory}
-use Rattle.engine_core.specs.Ending.{ending_of, ending_at}
-use Rattle.engine_core.specs.EngineText.{Text, ItemText, has_finding, joined_texts, next_text, step_text}
+use Rattle.engine_core.specs.declared.ending.Ending.TheVariants.{Done, Findings, InputFault, ReadFault, WriteFault, Memory}
+use Rattle.engine_core.specs.Ending.{ending_of, ending_at, ending_by_fault}
+use Rattle.engine_core.specs.EngineText.{Text, ItemText, AreItemTexts, has_finding, joined_texts, next_text, step_text}
 use Rattle.engine_core.specs.declared.stopped.Halt.{Halt}
 use Rattle.engine_core.specs.declared.stopped.Halt.TheVariants as halt
 use Rattle.engine_core.specs.Run.{AtLine, EndsAt, EndsByFault, EndsWell, WritesTo, fault_at, said_onward}
+use Rattle.engine_core.specs.RunOver.{RunsOver}
 use Rattle.engine_core.specs.computed.EngineStep.{Stops, WantsFor, due, closes, ending_by_halt, fault_by_halt, step_fault}
-use Rattle.engine_core.proofs.ItemTexts.{AreNext, are_texts, next_push, or_false}
 use Rattle.engine_core.proofs.Wanted.{wanted_behind, wanted_rest}
 
--- what a run has done before a call: it took these items, none of which was refused, and wrote their texts
-pub record Ran {S X C : Type 0} (r : Rules S X C) (t : Text X C) (a b : ReaderState S) (es : List (ℕ × X)) (old mid : Option (List ℕ)) (found : Bool) : Type 0 where
+-- a reader of a list took these items; where its source has ended or failed, it was read so far for one line alone
+record Took {S X C : Type 0} (r : Rules S X C) (a b : ReaderState S) (es : List (ℕ × X)) : Type 0 where
   pub took : TakesItems r a es b
   pub wanted : (b.ending ≡ Open) ⊎ IsWanting b.held
-  pub texts : List ItemText
-  pub are_next : AreNext t [] es texts
-  pub wrote : Appends old mid (joined_texts texts)
-  pub finds : has_finding texts ≡ found
 
--- an item more
-pub go_on : {S X C : Type 0} (r : Rules S X C) (t : Text X C) (a b c : ReaderState S) (es : List (ℕ × X)) (old mid new : Option (List ℕ)) (found : Bool) → Ran r t a b es old mid found →
-    (e : ℕ × X) (q : AnswersItem r b (Ok (Some e)) c) (text : List ℕ) (is_finding : Bool) → t.of_item es e ≡ Ok (text, is_finding) → Appends mid new text →
-    Ran r t a c (es ++ e ∷ []) old new (found || is_finding)
-go_on r t a b c es old mid new found p e q text is_finding s w =
-    let last : ItemText = record { text = text; is_finding = is_finding } in
-    record {
-      took = TakesItems-push r a b c es e p.took q;
-      wanted = wanted_behind c.ending q.rest q.lines.takes_off.0 c.held q.lines.takes_off.1 (wanted_rest b c q.given q.skipped q.rest p.wanted q.source.only_open q.source.asked q.lines.off);
-      texts = p.texts ++ last ∷ [];
-      are_next = next_push t [] es p.texts e last p.are_next s;
-      wrote = subst (λ l. Appends old new l) (ap (λ l. joined_texts p.texts ++ l) (sym (append-nil text)) ∙ sym (flat_map-append (λ (x : ItemText). x.text) p.texts (last ∷ []))) (Appends-append old mid new _ _ p.wrote w);
-      finds = list_any-append (λ (x : ItemText). x.is_finding) p.texts (last ∷ []) ∙ ap₂ (λ f g. f || g) p.finds (or_false is_finding);
-    }
+module _ {I S X C : Type 0} (r : Rules S X C) (state : I → ReaderState S) where
+  -- how a reader of a list answers
+  abbrev Answers : I → AnswerOf X (ItemFault C) → I → Type 0
+  Answers x answer y = AnswersItem r (state x) answer (state y)
 
--- nothing was taken yet
-pub ran_none : {S X C : Type 0} (r : Rules S X C) (t : Text X C) (a : ReaderState S) (old : Option (List ℕ)) → a.ending ≡ Open → Ran r t a a [] old old false
-ran_none r t a old is = record {
-  took = TakesItems-none r a;
-  wanted = inl is;
-  texts = [];
-  are_next = tt;
-  wrote = Appends-none old;
-  finds = refl;
-}
+  took_push : (a b c : ReaderState S) (es : List (ℕ × X)) (e : ℕ × X) → Took r a b es → AnswersItem r b (Ok (Some e)) c → Took r a c (es ++ e ∷ [])
+  took_push a b c es e p q = record {
+    took = TakesItems-push r a b c es e p.took q;
+    wanted = wanted_behind c.ending q.rest q.lines.takes_off.0 c.held q.lines.takes_off.1 (wanted_rest b c q.given q.skipped q.rest p.wanted q.source.only_open q.source.asked q.lines.off);
+  }
+
+  -- behind those, the items that it gives one after another
+  took_on : (a : ReaderState S) (x y : I) (es fs : List (ℕ × X)) → Took r a (state x) es → Gave Answers x fs y → Took r a (state y) (es ++ fs)
+  unfolding Gave
+  took_on a x y es [] p g = subst (λ z. Took r a (state z) (es ++ [])) g (subst (Took r a (state x)) (sym (append-nil es)) p)
+  took_on a x y es (e ∷ fs) p g =
+      subst (Took r a (state y)) (append_assoc es (e ∷ []) fs) (took_on a g.0 y (es ++ e ∷ []) fs (took_push a (state x) (state g.0) es e p g.1) g.2)
+
+  took_all : (x y : I) (es : List (ℕ × X)) → (state x).ending ≡ Open → Gave Answers x es y → Took r (state x) (state y) es
+  took_all x y es is g = took_on (state x) x y [] es (record { took = TakesItems-none r (state x); wanted = inl is }) g
 
 module _ {X C : Type 0} (t : Text X C) (es : List (ℕ × X)) where
   -- an answer asks for what is to be written next, or for nothing
-  due_next : (answer : Answer X C) (onward rest : Listing X C) → Tells answer onward rest → (next_text t es onward.items onward.stop ≡ due t es answer) ⊎ (due t es answer ≡ [])
+  due_next : (answer : Answer X C) (onward rest : Listing X C) → Tells answer onward rest → (next_text t es onward.items onward.stop ≡ due fault.Line t es answer) ⊎ (due fault.Line t es answer ≡ [])
   due_next (Ok (Some e)) onward rest h = inl (ap (λ (l : Listing X C). next_text t es l.items l.stop) h)
   due_next (Ok None) onward rest h = inr refl
   due_next (Err (Some f)) onward rest h = inl (ap (λ (l : Listing X C). next_text t es l.items l.stop) h.0)
   due_next (Err None) onward rest h = inr refl
 
-  due_none : (answer : Answer X C) (onward rest : Listing X C) → Tells answer onward rest → next_text t es onward.items onward.stop ≡ [] → due t es answer ≡ []
+  due_none : (answer : Answer X C) (onward rest : Listing X C) → Tells answer onward rest → next_text t es onward.items onward.stop ≡ [] → due fault.Line t es answer ≡ []
   due_none answer onward rest h none = elim (due_next answer onward rest h) [ inl same ↦ sym same ∙ none | inr none_due ↦ none_due ]
 
-  due_front : (answer : Answer X C) (onward rest : Listing X C) → Tells answer onward rest → (old new : Option (List ℕ)) → AppendsPrefix old new (due t es answer) →
+  due_front : (answer : Answer X C) (onward rest : Listing X C) → Tells answer onward rest → (old new : Option (List ℕ)) → AppendsPrefix old new (due fault.Line t es answer) →
       AppendsPrefix old new (next_text t es onward.items onward.stop)
   due_front answer onward rest h old new w =
       elim (due_next answer onward rest h) [
@@ -85,13 +75,13 @@ module _ {X C : Type 0} (t : Text X C) (es : List (ℕ × X)) where
       ]
 
   -- an item that is refused
-  step_refused : (n : ℕ) (s : Result (List ℕ × Bool) C) (f : ItemFault C) → step_fault n s ≡ Some f → (why : C) × (s ≡ Err why) × (f ≡ fault.Line n why)
+  step_refused : (n : ℕ) (s : Result (List ℕ × Bool) C) (f : ItemFault C) → step_fault fault.Line n s ≡ Some f → (why : C) × (s ≡ Err why) × (f ≡ fault.Line n why)
   step_refused n (Ok s) f h = cc
   step_refused n (Err why) f h = (why, refl, cc)
 
   -- an answer by which the text ends, in its line
-  ends_by : (ending : Ending) (answer : Answer X C) (onward rest : Listing X C) (taken n : ℕ) → Tells answer onward rest → CountsTo answer taken n → (f : ItemFault C) → closes t es answer ≡ Some f →
-      ending_at f ≡ ending → (old new : Option (List ℕ)) → Appends old new (due t es answer) → (ends : EndsByFault t ending es (lines_before answer n) onward old new) × (ends.why ≡ f)
+  ends_by : (ending : Ending) (answer : Answer X C) (onward rest : Listing X C) (taken n : ℕ) → Tells answer onward rest → CountsTo answer taken n → (f : ItemFault C) → closes fault.Line t es answer ≡ Some f →
+      ending_at f ≡ ending → (old new : Option (List ℕ)) → Appends old new (due fault.Line t es answer) → (ends : EndsByFault t ending es (lines_before answer n) onward old new) × (ends.why ≡ f)
   ends_by ending (Ok (Some e)) onward rest taken n h counted f x is old new w =
       let s = step_refused e.0 (t.of_item es e) f x in (
         record {
@@ -156,9 +146,22 @@ module _ {S X C : Type 0} {r : Rules S X C} {s : S} {z : InputEnd} {read : List 
   of_end true w = refl
   of_end false w = refl
 
+-- a fault is the reader's where its source failed
+same_cause : (why : ListCause) → (if is_of_source why then ReadFault else InputFault) ≡ ending_of why
+same_cause ReadFailed = refl
+same_cause LineTooLong = refl
+same_cause LineForm = refl
+same_cause Moment = refl
+same_cause Hex = refl
+same_cause ListTooLong = refl
+
+same_ending : {C : Type 0} (f : ItemFault C) → ending_by_fault is_failed_read f ≡ ending_at f
+same_ending (fault.Lines f) = same_cause f.cause
+same_ending (fault.Line k why) = refl
+
 -- a run that began with no line and no octet held
-module _ {S X C : Type 0} (r : Rules S X C) (t : Text X C) (a b c : ReaderState S) (es : List (ℕ × X)) (old start mid new : Option (List ℕ)) (found : Bool)
-    (no_line : a.taken ≡ 0) (no_octet : a.held ≡ []) (first : Appends old start t.first) (p : Ran r t a b es start mid found) where
+module _ {S X C : Type 0} (r : Rules S X C) (t : Text X C) (a b c : ReaderState S) (es : List (ℕ × X)) (texts : List ItemText) (old mid new : Option (List ℕ))
+    (no_line : a.taken ≡ 0) (no_octet : a.held ≡ []) (are : AreItemTexts t es texts) (written : Appends old mid (t.first ++ joined_texts texts)) (p : Took r a b es) where
   abbrev Leaves : Ending → Option (ItemFault C) → Type 0
   Leaves ending fault = (given : List ℕ) × GivesOctets a.left c.left given × WritesTo r a.settled t ending c.ending given old new fault
 
@@ -189,7 +192,7 @@ module _ {S X C : Type 0} (r : Rules S X C) (t : Text X C) (a b c : ReaderState 
     unfolding line
     tells = subst (λ l. Tells answer l (listing r c.settled c.ending c.taken (c.held ++ []))) onward_same (q.reads [] c.ending (CanFollow-none c.ending))
 
-    leaves : (ending : Ending) (fault : Option (ItemFault C)) (ends : EndsAt t ending c.ending p.texts line mid new) → fault ≡ fault_at t ending c.ending p.texts line mid new ends → Leaves ending fault
+    leaves : (ending : Ending) (fault : Option (ItemFault C)) (ends : EndsAt t ending c.ending texts line mid new) → fault ≡ fault_at t ending c.ending texts line mid new ends → Leaves ending fault
     unfolding octets
     leaves ending fault ends by = (
       octets,
@@ -197,10 +200,10 @@ module _ {S X C : Type 0} (r : Rules S X C) (t : Text X C) (a b c : ReaderState 
       (
         inr (record {
           items = es;
-          texts = p.texts;
-          are_texts = are_texts t es p.texts p.are_next;
+          texts = texts;
+          are_texts = are;
           held = mid;
-          written = Appends-append old start mid t.first (joined_texts p.texts) first p.wrote;
+          written = written;
           line = line;
           ends = ends;
         }),
@@ -209,11 +212,11 @@ module _ {S X C : Type 0} (r : Rules S X C) (t : Text X C) (a b c : ReaderState 
     )
 
     -- the run stopped
-    pub stopped : (h : Halt (ItemFault C)) → Stops (WantsFor t es answer) (due t es answer) (closes t es answer) h mid new → Leaves (ending_by_halt h) (fault_by_halt h)
+    stopped : (h : Halt (ItemFault C)) → Stops (WantsFor fault.Line t es answer) (due fault.Line t es answer) (closes fault.Line t es answer) h mid new → Leaves (ending_by_halt is_failed_read h) (fault_by_halt h)
     unfolding line
     stopped (halt.Fault why) x =
         let ends = ends_by t es (ending_at why) answer _ _ b.taken c.taken tells q.lines.counted why x.0 refl mid new x.1 in
-        leaves (ending_at why) (Some why) (by_fault t p.texts line mid new why ends.0) (ap Some (sym ends.1) ∙ sym (of_fault t p.texts line mid new why ends.0))
+        rw (same_ending why) (leaves (ending_at why) (Some why) (by_fault t texts line mid new why ends.0) (ap Some (sym ends.1) ∙ sym (of_fault t texts line mid new why ends.0)))
     stopped halt.WriteFault x = leaves WriteFault None (due_front t es answer _ _ tells mid new x) refl
     stopped halt.Memory x = leaves Memory None (record {
       wanted = elim x.0 [
@@ -224,13 +227,26 @@ module _ {S X C : Type 0} (r : Rules S X C) (t : Text X C) (a b c : ReaderState 
     }) refl
 
   -- the list has ended
-  pub ended : (q : AnswersItem r b (Ok None) c) → new ≡ mid → Leaves (if found then Findings else Done) None
-  ended q x =
-      let ends : EndsWell found p.texts (said_onward c.ending (line (Ok None) q)) mid new = record { list_ends = (tells (Ok None) q).0; finds = p.finds; no_more = x } in
-      leaves (Ok None) q _ None (by_end t p.texts (line (Ok None) q) mid new found ends) (sym (of_end t p.texts (line (Ok None) q) mid new found ends))
+  ended : (found : Bool) → has_finding texts ≡ found → (q : AnswersItem r b (Ok None) c) → new ≡ mid → Leaves (if found then Findings else Done) None
+  ended found finds q x =
+      let ends : EndsWell found texts (said_onward c.ending (line (Ok None) q)) mid new = record { list_ends = (tells (Ok None) q).0; finds = finds; no_more = x } in
+      leaves (Ok None) q _ None (by_end t texts (line (Ok None) q) mid new found ends) (sym (of_end t texts (line (Ok None) q) mid new found ends))
 
 -- the first text was not written whole, and the reader is untouched
-pub not_begun : {S X C : Type 0} (r : Rules S X C) (s : S) (t : Text X C) (z : InputEnd) (left new_left old new : Option (List ℕ)) → z ≡ Open → new_left ≡ left → AppendsPrefix old new t.first →
-    (given : List ℕ) × GivesOctets left new_left given × WritesTo r s t WriteFault z given old new None
-not_begun r s t z left new_left old new is same w =
-    ([], rw same (Gives-from_Consumes left left [] (Consumes-none left)), (inl (record { write_fault = refl; untouched = (is, refl); written = w }), refl))
+not_begun : {S X C : Type 0} (r : Rules S X C) (s : S) (t : Text X C) (z : InputEnd) (left old new : Option (List ℕ)) → z ≡ Open → AppendsPrefix old new t.first →
+    (given : List ℕ) × GivesOctets left left given × WritesTo r s t WriteFault z given old new None
+not_begun r s t z left old new is w =
+    ([], Gives-from_Consumes left left [] (Consumes-none left), (inl (record { write_fault = refl; untouched = (is, refl); written = w }), refl))
+
+-- a run over the reader of a list, which holds no octet at first, writes of the list that it reads
+pub list_run : {I S X C : Type 0} (r : Rules S X C) (state : I → ReaderState S) (t : Text X C) (x y : I) (ending : Ending) (by : Option (ItemFault C)) (old new : Option (List ℕ)) →
+    (state x).ending ≡ Open → (state x).taken ≡ 0 → (state x).held ≡ [] → RunsOver (Answers r state) fault.Line is_failed_read t x ending by y old new →
+    (given : List ℕ) × GivesOctets (state x).left (state y).left given × WritesTo r (state x).settled t ending (state y).ending given old new by
+list_run r state t x y ending by old new is no_line no_octet (inl w) =
+    rw (w.write_fault, w.by_none, w.untouched) (not_begun r _ t _ _ old new is w.written)
+list_run r state t x y ending by old new is no_line no_octet (inr run) =
+    let took = took_all r state x run.before run.items is run.gave in
+    elim run.ends [
+      | inl e ↦ rw (e.has_ending, e.by_none) (ended r t (state x) (state run.before) (state y) run.items run.texts old run.held new no_line no_octet run.are_texts run.written took _ refl (subst (λ o. AnswersItem r (state run.before) o (state y)) e.ended run.answered) e.no_more)
+      | inr e ↦ rw (e.has_ending, e.by) (stopped r t (state x) (state run.before) (state y) run.items run.texts old run.held new no_line no_octet run.are_texts run.written took run.answer run.answered e.halt e.stops)
+    ]
