@@ -1,27 +1,26 @@
 -- Words none of which names an option are answered alike where options are offered and where they are not.
-use Rattle.std.proofs.Common.{◌≡◌, ◌&&◌, ◌||◌, ◌∙◌, ℕ, Bool, true, false, true≢false, not, List, [], ◌∷◌, ◌++◌, drop, Option, Some, None, is_some, option_map, option_and_then, unwrap_or, refl, sym, ap, ap₂, subst}
+use Rattle.std.proofs.Common.{◌≡◌, ◌||◌, ◌∙◌, ℕ, Bool, true, false, true≢false, not, List, [], ◌∷◌, ◌++◌, drop, Option, Some, None, is_some, option_map, option_and_then, refl, sym, ap, ap₂, subst}
 use Rattle.std.specs.Prelude.{Ok, codes, find, fold, if◌then◌else◌, slice_get}
 use Rattle.std.specs.List.{list_any}
 use Rattle.std.specs.Option.{option_map_or}
 use Rattle.std.specs.Str.{bytes_eq}
 use Rattle.clap.specs.Facts.{explicit_source}
-use Rattle.clap.specs.Words.{Kinds, Row, Rule, Shape, Text, all_of, first_of, one_of}
+use Rattle.clap.specs.Words.{Kinds, Row, Rule, Shape, Text, all_of}
 use Rattle.clap.specs.Kinds.{check_kinds, or_else}
-use Rattle.clap.specs.Faults.{check_fault, default_fault, defaults_fault, entered_fault, level_fault, settle_fault, walk_fault}
+use Rattle.clap.specs.Faults.{check_fault, default_fault, defaults_fault, entered_fault, level_fault, settle_fault}
 use Rattle.clap.specs.Simple.{entered, label_of, rows_at}
-use Rattle.clap.specs.Takes.{is_given}
-use Rattle.clap.specs.Walk.{Held, Names, Step, Walk, after_step, answers_to, arg_by_id, arg_by_index, arg_by_long, arg_by_short, finished, has_long, has_row, has_short, next, nothing_held, row_text, rows_after, settled, stop_after, subcommand, to_positional, trailing, used, value, walk, walk_from, walked, walked_from, with_default, word_met}
+use Rattle.clap.specs.Walk.{Held, Step, Walk, after_step, answers_to, arg_by_id, arg_by_index, arg_by_long, arg_by_short, has_row, next, nothing_held, row_text, rows_after, settled, stop_after, subcommand, to_positional, trailing, value, walk, walk_from, walked, walked_from, with_default, word_met}
 use Rattle.clap.specs.declared.parser.matches.ValueSource.TheVariants.{CommandLine}
 use Rattle.words_core.specs.declared.option_words.Options.{Options}
 use Rattle.words_core.specs.CommandLine.{Asked, Meaning, check, import, list_blocks, name_of, number_said, publish, replay_of, rewrite, show, task_asked, watch, watch_asked}
-use Rattle.words_core.specs.RequestLine.{AnsweredAlike, Switch, Wish, capture, is_set, names_option, no_options, options_in, request_asked, skip_other, switch_name, with_these}
+use Rattle.words_core.specs.RequestLine.{AnsweredAlike, Switch, capture, is_set, names_option, no_options, options_in, request_asked, skip_other, switch_name, with_these}
 use Rattle.words_core.proofs.AskingWords.{line, names, top}
 use Rattle.words_core.proofs.KeptRows.{no_default}
 use Rattle.words_core.proofs.LoneFlags.{help_flag}
 use Rattle.words_core.proofs.OptionRows.{more_other, row_at, set_other, switch_flag}
 use Rattle.words_core.proofs.PlainWords.{plain_defaults, plain_leaf}
 use Rattle.words_core.proofs.ReplayWords.{block_apart, block_argument, block_default, replay_set, replays}
-use Rattle.words_core.proofs.SameWalks.{IsOther, NoSwitchRow, OtherHeld, OtherRule, Turns, is_switch_name, settled_same, settle_fault_same, settled_held, walk_alike}
+use Rattle.words_core.proofs.SameWalks.{IsOther, NoSwitchRow, OtherHeld, OtherRule, settled_same, settle_fault_same, settled_held, walk_alike}
 use Rattle.words_core.proofs.WatchRows.{id_option, period_option, watches}
 use Rattle.words_core.proofs.WatchWords.{watch_default, watch_set}
 

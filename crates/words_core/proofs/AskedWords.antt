@@ -1,8 +1,8 @@
 -- Words that ask for a task are taken, and that task is theirs, with the options that stand there.
-use Rattle.std.proofs.Common.{◌≡◌, ◌&&◌, ◌∙◌, ◌+◌, ◌≤◌, ◌==◌, ◌⊎◌, ℕ, zero, suc, Bool, true, false, true≢false, List, [], ◌∷◌, ◌++◌, length, Option, Some, None, Ok, is_some, option_map, option_and_then, inl, inr, refl, sym, ap, ap₂, subst, arith, length-append}
-use Rattle.std.specs.Prelude.{codes, filter, fold, if◌then◌else◌}
+use Rattle.std.proofs.Common.{◌≡◌, ◌&&◌, ◌∙◌, ◌+◌, ◌≤◌, ℕ, zero, Bool, true, false, true≢false, List, [], ◌∷◌, ◌++◌, length, Option, Some, None, Ok, is_some, option_and_then, inl, inr, refl, sym, ap, ap₂, subst, arith}
+use Rattle.std.specs.Prelude.{codes, if◌then◌else◌}
 use Rattle.std.specs.Global.{Global}
-use Rattle.std.specs.List.{list_all, list_any}
+use Rattle.std.specs.List.{list_all}
 use Rattle.std.specs.Str.{bytes_eq}
 use Rattle.std.proofs.lemmas.List.{append-nil}
 use Rattle.clap.specs.Lexer.{usize_max}
@@ -13,9 +13,9 @@ use Rattle.clap.specs.Walk.{idle, nothing_held, rows_after, subcommand_met}
 use Rattle.clap.proofs.OnLiterals.{clap_on_literals}
 use Rattle.block_core.specs.declared.block.Block.{Block}
 use Rattle.words_core.specs.declared.option_words.Options.{Options}
-use Rattle.words_core.specs.CommandLine.{Asked, Asks, AsksReplay, AsksWatch, check, import, is_flag, list_blocks, name_of, publish, replay, rewrite, show, task_asked, watch}
-use Rattle.words_core.specs.RequestLine.{AsksByNameWith, AsksReplayWith, AsksWatchWith, AsksWith, Switch, capture, is_on, is_option, no_options, options_in, request_asked, skip_other, switch_word, takes_options, times}
-use Rattle.words_core.specs.computed.OfferedLine.{line_of, task_by, wish_by}
+use Rattle.words_core.specs.CommandLine.{Asked, Asks, AsksReplay, AsksWatch, check, import, list_blocks, name_of, publish, replay, rewrite, show, task_asked, watch}
+use Rattle.words_core.specs.RequestLine.{AsksByNameWith, AsksReplayWith, AsksWatchWith, AsksWith, Switch, capture, is_on, is_option, no_options, request_asked, skip_other, switch_word, takes_options, times}
+use Rattle.words_core.specs.computed.OfferedLine.{line_of, task_by}
 use Rattle.words_core.proofs.AskingWords.{line, names, stops}
 use Rattle.words_core.proofs.NamedWords.{IsTaken, at_most, on_or_off, taken_behind, wished}
 use Rattle.words_core.proofs.OptionRows.{AtMostOnce, once_if, times_of, use_all, words_of}

@@ -1,5 +1,5 @@
 -- What the words of one command may be that have no fault, where it has flags for help and the version, and perhaps the options.
-use Rattle.std.proofs.Common.{◌≡◌, ◌&&◌, ℕ, suc, Bool, true, false, not, List, [], ◌∷◌, length, Option, Some, None, is_some, cond, refl, sym, subst}
+use Rattle.std.proofs.Common.{◌≡◌, ◌&&◌, ℕ, suc, Bool, true, false, not, List, [], ◌∷◌, length, Option, Some, None, is_some, cond, refl}
 use Rattle.std.specs.Prelude.{drop, encode_utf8, find, slice_get}
 use Rattle.std.specs.Option.{option_map_or}
 use Rattle.std.specs.List.{list_any}

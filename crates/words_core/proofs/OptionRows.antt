@@ -1,18 +1,17 @@
 -- The rows of the options, beside the rows of other arguments.
-use Rattle.std.proofs.Common.{◌≡◌, ◌∙◌, ◌+◌, ◌≤◌, ◌==◌, ℕ, zero, suc, Bool, true, false, true≢false, List, [], ◌∷◌, ◌++◌, Option, Some, None, is_some, option_map, option_and_then, unwrap_or, refl, sym, ap, ap₂, subst, arith, length, map}
-use Rattle.std.specs.Prelude.{codes, filter, find, fold, if◌then◌else◌}
+use Rattle.std.proofs.Common.{◌≡◌, ◌∙◌, ◌+◌, ◌≤◌, ℕ, zero, suc, Bool, true, false, true≢false, List, [], ◌∷◌, ◌++◌, Option, Some, None, is_some, option_and_then, unwrap_or, refl, sym, ap, subst, arith, map}
+use Rattle.std.specs.Prelude.{codes, find, fold, if◌then◌else◌}
 use Rattle.std.specs.Str.{bytes_eq}
 use Rattle.std.specs.Option.{option_map_or}
 use Rattle.std.proofs.lemmas.Slice.Eq.{bytes_eq-Decides}
 use Rattle.clap.specs.Words.{Row, Rule, Text, all_of}
 use Rattle.clap.specs.Simple.{filled, with_index}
 use Rattle.clap.specs.Takes.{is_given}
-use Rattle.clap.specs.Walk.{at_row, default_rows, has_row, reading_by, row_text, stronger, used, with_default, with_values, without}
+use Rattle.clap.specs.Walk.{has_row, reading_by, row_text, stronger, used, with_default, with_values, without}
 use Rattle.clap.specs.declared.builder.value_parser.Reading.{Reading}
 use Rattle.clap.specs.declared.parser.matches.ValueSource.{ValueSource}
 use Rattle.clap.specs.declared.parser.matches.ValueSource.TheVariants.{CommandLine, DefaultValue}
-use Rattle.words_core.specs.declared.option_words.Options.{Options}
-use Rattle.words_core.specs.RequestLine.{Switch, capture, is_on, is_set, option_named, options_in, skip_other, switch_name, switch_word, times}
+use Rattle.words_core.specs.RequestLine.{Switch, capture, is_set, option_named, skip_other, switch_name, switch_word, times}
 
 abbrev pub once_if : Bool → ℕ
 once_if b = if b then 1 else 0

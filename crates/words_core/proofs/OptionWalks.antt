@@ -1,13 +1,13 @@
 -- Words lead a walk from one state to another: those of the options, and the mark at the end.
-use Rattle.std.proofs.Common.{◌≡◌, ◌&&◌, ◌∙◌, ℕ, Bool, true, false, List, [], ◌∷◌, ◌++◌, Option, Some, None, refl, sym, ap, subst}
+use Rattle.std.proofs.Common.{◌≡◌, ◌&&◌, ◌∙◌, ℕ, Bool, true, false, List, [], ◌∷◌, ◌++◌, Option, None, refl, sym, ap, subst}
 use Rattle.std.specs.Prelude.{fold}
 use Rattle.std.specs.List.{list_all}
 use Rattle.std.proofs.lemmas.List.Sums.{fold-append}
-use Rattle.clap.specs.Words.{Row, Rule, Shape, Text}
+use Rattle.clap.specs.Words.{Row, Shape, Text}
 use Rattle.clap.specs.Takes.{default_passes, is_valid, level_passes, settle_passes, turn_passes, walk_passes}
 use Rattle.clap.specs.Walk.{Held, Waiting, Walk, finished, has_row, idle, nothing_held, option, positional, rows_after, settled_rows, walk, walk_from, walked, with_default}
 use Rattle.clap.proofs.WalkLemmas.{both}
-use Rattle.words_core.specs.CommandLine.{Asked, plain, replay_shape, watch_shape}
+use Rattle.words_core.specs.CommandLine.{Asked, plain}
 use Rattle.words_core.specs.RequestLine.{Switch, capture, skip_other, switch_name, switch_word}
 use Rattle.words_core.specs.computed.OfferedLine.{offered}
 use Rattle.words_core.proofs.KeptRows.{leaf}

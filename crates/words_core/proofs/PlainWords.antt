@@ -1,22 +1,22 @@
 -- What stands behind the name of a subcommand without words of its own: options, none of them twice, and then nothing or the mark.
-use Rattle.std.proofs.Common.{◌≡◌, ◌&&◌, ◌||◌, ◌+◌, ◌∙◌, ◌≤◌, ◌==◌, ◌⊎◌, ℕ, suc, Bool, true, false, true≢false, not, List, [], ◌∷◌, ◌++◌, Option, Some, None, is_some, inl, inr, refl, sym, ap, subst, arith, cond, length, map, take_all, eqb-true}
-use Rattle.std.specs.Prelude.{codes, find, fold, option_and_then, if◌then◌else◌}
+use Rattle.std.proofs.Common.{◌≡◌, ◌&&◌, ◌||◌, ◌∙◌, ◌==◌, ◌⊎◌, ℕ, Bool, true, false, true≢false, not, List, [], ◌∷◌, ◌++◌, Option, Some, None, is_some, inl, inr, refl, sym, ap, subst, arith, cond, length, map, take_all, eqb-true}
+use Rattle.std.specs.Prelude.{codes, fold, if◌then◌else◌}
 use Rattle.std.specs.List.{before_first, list_any, position_or_len}
 use Rattle.std.specs.Str.{bytes_eq}
 use Rattle.std.proofs.lemmas.Slice.Eq.{bytes_eq-Decides}
 use Rattle.std.proofs.lemmas.List.{append-nil}
-use Rattle.clap.specs.Lexer.{has_byte, long_of, long_of_rest, name_and_value, strip_byte}
-use Rattle.clap.specs.Words.{Kinds, Row, Rule, Shape, Text}
+use Rattle.clap.specs.Lexer.{has_byte, long_of, long_of_rest, name_and_value}
+use Rattle.clap.specs.Words.{Row, Rule, Shape, Text}
 use Rattle.clap.specs.Faults.{turn_fault, walk_fault}
-use Rattle.clap.specs.Walk.{Walk, arg_by_index, has_long, has_row, has_short, idle, rows_after, subcommand_met, walk_from, walked, with_default}
+use Rattle.clap.specs.Walk.{Walk, arg_by_index, has_row, has_short, idle, rows_after, walked, with_default}
 use Rattle.clap.specs.declared.error.kind.ErrorKind.TheVariants as kind
 use Rattle.words_core.specs.CommandLine.{Asked, plain}
 use Rattle.words_core.specs.RequestLine.{Switch, capture, is_set, skip_other, switch_name, switch_word, switches}
 use Rattle.words_core.specs.computed.OfferedLine.{offered}
 use Rattle.words_core.proofs.KeptRows.{leaf, no_default}
-use Rattle.words_core.proofs.OptionRows.{AtMostOnce, also_new, once_if, Counted, counted_all, counted_more, default_set, not_given, one_more, rest_new, set_where_given, switch_flag, times_of, use_all, use_switch, with_times, words_of}
+use Rattle.words_core.proofs.OptionRows.{AtMostOnce, also_new, once_if, Counted, counted_all, counted_more, default_set, not_given, one_more, set_where_given, switch_flag, times_of, use_all, use_switch, with_times, words_of}
 use Rattle.words_core.proofs.OptionWalks.{Ends, between, dashes, ends, ends_by_mark, options_lead, plain_takes, rows_end}
-use Rattle.words_core.proofs.LoneFlags.{AreFlags, help_flag, is_long_of, names_one, nothing_behind, turn_fails, turn_none, version_flag}
+use Rattle.words_core.proofs.LoneFlags.{AreFlags, help_flag, is_long_of, names_one, nothing_behind, turn_fails, turn_none}
 
 -- ---- the word of an option by its name
 

@@ -24,7 +24,7 @@ use Rattle.words_core.specs.declared.words.WordsError.{WordsError}
 use Rattle.words_core.specs.declared.words.WordsError.TheVariants as refused
 use Rattle.words_core.proofs.KeptRows.{first_none, leaf, level_checked, then_none, wanted}
 use Rattle.words_core.proofs.WatchRows.{watch_says}
-use Rattle.words_core.specs.CommandLine.{AnswersBadBlock, AnswersTask, Asked, AsksByName, HasPeriod, IsBlockError, IsNoMistake, MayRefuse, Meaning, blocks_in, check, command_line, faults, first_bad_block, import, is_plain, list_blocks, name_of, plain, publish, replay, replay_of, replay_shape, rewrite, asked_by, show, task_asked, task_of_words, watch, watch_shape}
+use Rattle.words_core.specs.CommandLine.{AnswersBadBlock, AnswersTask, Asked, AsksByName, HasPeriod, IsBlockError, IsNoMistake, MayRefuse, Meaning, blocks_in, check, command_line, first_bad_block, import, is_plain, list_blocks, name_of, plain, publish, replay, replay_of, replay_shape, rewrite, asked_by, show, task_asked, task_of_words, watch, watch_shape}
 use Rattle.words_core.specs.RequestLine.{AnswersRequest, AsksWith, MayRefuseRequest, RefusesBlock, Wish, options_in, request_asked, with_these}
 use Rattle.words_core.specs.computed.PrivateCalls.{MayAnswer}
 use Rattle.words_core.specs.computed.OfferedLine.{MayGrant, MayRefuseBy, faults_by, line_of, offered, task_by, wish_by}

@@ -1,5 +1,5 @@
 -- The command line with options: the task and the options of its words, and why words may be refused.
-use Rattle.std.specs.Prelude.{◌≡◌, ◌⊎◌, ℕ, true, false, not, Bool, List, [], ◌∷◌, ◌++◌, map, fold, filter, length, drop, Option, Some, None, Result, Ok, Err, MatchResult, option_and_then, option_map, codes, if◌then◌else◌}
+use Rattle.std.specs.Prelude.{◌≡◌, ◌⊎◌, ℕ, true, false, not, Bool, List, [], ◌∷◌, ◌++◌, map, fold, filter, length, drop, Option, Some, Result, Ok, Err, MatchResult, option_and_then, option_map, codes, if◌then◌else◌}
 use Rattle.std.specs.Global.{Global}
 use Rattle.std.specs.List.{list_all, list_any}
 use Rattle.std.specs.Option.{option_map_or}

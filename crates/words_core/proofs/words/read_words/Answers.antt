@@ -1,12 +1,10 @@
-use Rattle.std.proofs.Common.{◌≡◌, ◌∙◌, ◌≤◌, Some, true, false, sym, ap, rules, length, arith}
+use Rattle.std.proofs.Common.{◌∙◌, ◌≤◌, false, sym, rules, length, arith}
 use Rattle.std.specs.Borrow.{Bor}
 use Rattle.std.proofs.lemmas.List.{length-map}
-use Rattle.std.specs.Prelude.{Err, Ok, option_map}
 use Rattle.clap.specs.Lexer.{usize_max}
 use Rattle.clap.specs.Words.{Text}
 use Rattle.clap.specs.Walk.{texts}
 use Rattle.words_core.specs.CommandLine.{asked_by}
-use Rattle.words_core.specs.computed.OfferedLine.{task_by}
 use Rattle.words_core.proofs.WordLemmas.{asked_period, block_alone, memory_alone, one_task, one_block, refused_words, task_wished}
 use Rattle.words_core.proofs.AskingWords.{words_ask}
 use Rattle.words_core.proofs.AskedWords.{asked}

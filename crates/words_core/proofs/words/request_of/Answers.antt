@@ -1,4 +1,4 @@
-use Rattle.std.proofs.Common.{◌≡◌, Some, None, option_map, subst}
+use Rattle.std.proofs.Common.{Some, None, option_map, subst}
 use Rattle.clap.specs.Words.{found_of, rows_of}
 use Rattle.words_core.specs.declared.option_words.Options.{Options}
 use Rattle.words_core.specs.CommandLine.{task_asked}

@@ -1,7 +1,7 @@
-use Rattle.std.proofs.Common.{◌≡◌, ◌∙◌, false, ap, codes}
+use Rattle.std.proofs.Common.{◌∙◌, ap}
 use Rattle.std.proofs.lemmas.Result.{IfOk-weaker}
 use Rattle.clap.specs.Words.{App, with_subcommand}
-use Rattle.words_core.specs.CommandLine.{check, list_blocks, plain, rewrite, show}
+use Rattle.words_core.specs.CommandLine.{check, list_blocks, plain, rewrite}
 use Rattle.words_core.specs.computed.OfferedLine.{offered}
 use Rattle.words_core.proofs.words.with_readers.Goals as goal
 
