@@ -88,7 +88,7 @@ abbrev Named : List Subcommand → Type 0
 Named [] = Unit {0}
 Named (c ∷ cs) = HasName c × Named cs
 
-abbrev asked_or : Asked → Option Meaning → Asked
+abbrev pub asked_or : Asked → Option Meaning → Asked
 asked_or d None = d
 asked_or d (Some (Ok t)) = t
 asked_or d (Some (Err i)) = d

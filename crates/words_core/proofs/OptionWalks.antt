@@ -1,5 +1,5 @@
 -- Words lead a walk from one state to another: those of the options, and the mark at the end.
-use Rattle.std.proofs.Common.{◌≡◌, ◌&&◌, ◌∙◌, ℕ, Bool, true, false, List, [], ◌∷◌, ◌++◌, Option, None, refl, sym, ap, subst}
+use Rattle.std.proofs.Common.{◌≡◌, ◌&&◌, ◌||◌, ◌∙◌, ℕ, Bool, true, false, true≢false, List, [], ◌∷◌, ◌++◌, Option, None, refl, sym, ap, subst}
 use Rattle.std.specs.Prelude.{fold}
 use Rattle.std.specs.List.{list_all}
 use Rattle.std.proofs.lemmas.List.Sums.{fold-append}
@@ -15,6 +15,10 @@ use Rattle.words_core.proofs.OptionRows.{AtMostOnce, Counted, counted_more, firs
 
 pub both_true : (a b : Bool) → a ≡ true → b ≡ true → (a && b) ≡ true
 both_true a b e f = rw (e, f) refl
+
+pub both_false : (a b : Bool) → (a || b) ≡ false → (a ≡ false) × (b ≡ false)
+both_false false b e = (refl, e)
+both_false true b e = absurd (true≢false e)
 
 -- the mark behind which no option follows
 abbrev pub dashes : Text

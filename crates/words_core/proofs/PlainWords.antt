@@ -234,10 +234,15 @@ plain_rows t os mark end new =
       | inr e ↦ subst (λ (m : List Text). Ends (plain_leaf true t) (use_all os) (words_of os ++ m)) (sym e) (ends_by_mark (plain_leaf true t) (use_all os) (words_of os) l)
     ]
 
+-- the defaults of the options and of help leave what those of the options leave
+pub options_leave : {X : Type 0} (of : List Row → X) → ((o : Switch) (rows : List Row) → of (with_default rows (switch_flag o)) ≡ of rows)
+    → (rows : List Row) → of (fold with_default rows (switch_flag capture ∷ switch_flag skip_other ∷ help_flag ∷ [])) ≡ of rows
+options_leave of past rows =
+    ap of (no_default help_flag (with_default (with_default rows (switch_flag capture)) (switch_flag skip_other)) refl)
+    ∙ past skip_other (with_default rows (switch_flag capture)) ∙ past capture rows
+
 pub plain_defaults : (t : Asked) (o : Switch) (rows : List Row) → is_set (switch_name o) (fold with_default rows (plain_leaf true t).rules) ≡ is_set (switch_name o) rows
-plain_defaults t o rows =
-    ap (is_set (switch_name o)) (no_default help_flag (with_default (with_default rows (switch_flag capture)) (switch_flag skip_other)) refl)
-    ∙ default_set o skip_other (with_default rows (switch_flag capture)) ∙ default_set o capture rows
+plain_defaults t o rows = options_leave (is_set (switch_name o)) (default_set o) rows
 
 -- each option is set where its word stands
 pub plain_set : (t : Asked) (os : List Switch) (mark : List Text) → IsEnd mark → AtMostOnce (λ o. 0) os → (o : Switch)

@@ -25,8 +25,8 @@ use Rattle.words_core.proofs.NamedWords.{IsTaken, at_most, taken_behind, wished}
 use Rattle.words_core.proofs.BlockWords.{all_said}
 use Rattle.words_core.proofs.LoneFlags.{help_flag}
 use Rattle.words_core.proofs.OptionRows.{Counted, counted_more, counted_past, default_other, default_set, more_given, more_other, more_own, none_given, once_if, one_if, one_more, recounted, row_at, set_other, set_where_given, switch_flag, times_first, times_own, use_switch}
-use Rattle.words_core.proofs.OptionWalks.{Pending, TakesOptions, between, both_true, settled_to, settles, state}
-use Rattle.words_core.proofs.PlainWords.{none_yet}
+use Rattle.words_core.proofs.OptionWalks.{Pending, TakesOptions, between, both_false, both_true, settled_to, settles, state}
+use Rattle.words_core.proofs.PlainWords.{none_yet, options_leave}
 
 -- the subcommand `replay` as it is built
 abbrev pub replays : Bool → Shape
@@ -216,10 +216,6 @@ record Before (rows : List Row) (texts : Texts) (n : Switch → ℕ) (arguments 
 abbrev Later : Bool → List Text → Type 0
 Later offers arguments = (rows : List Row) (texts : Texts) (n : Switch → ℕ) → (offers ≡ false → list_any is_option arguments ≡ false) → Before rows texts n arguments → Replays offers rows texts n arguments
 
-both_false : (a b : Bool) → (a || b) ≡ false → (a ≡ false) × (b ≡ false)
-both_false false b e = (refl, e)
-both_false true b e = absurd (true≢false e)
-
 -- a text more
 words_past : (word : Text) (arguments : List Text) (n : Switch → ℕ) (o : Switch) → is_option word ≡ false → with_words n (word ∷ arguments) o ≡ with_words n arguments o
 words_past word arguments n o e = let other = no_option word e o in rw other refl
@@ -329,19 +325,23 @@ all_arguments offers (word ∷ arguments) rows texts n offered_so b = go offers 
 
 -- ---- such words are taken
 
+-- the defaults at the end leave the texts, and whether an option is set
+replay_leaves : {X : Type 0} (of : List Row → X) → ((o : Switch) (rows : List Row) → of (with_default rows (switch_flag o)) ≡ of rows)
+    → (offers : Bool) (rows : List Row) → of (fold with_default rows (replays offers).rules) ≡ of rows
+replay_leaves of past false rows = ap of (no_defaults (replays false).rules rows (refl, (refl, tt)))
+replay_leaves of past true rows =
+    ap (λ (l : List Row). of (fold with_default l (switch_flag capture ∷ switch_flag skip_other ∷ help_flag ∷ []))) (no_default block_argument rows refl)
+    ∙ options_leave of past rows
+
 pub block_default : (offers : Bool) (rows : List Row) → row_at (codes "BLOCK") (fold with_default rows (replays offers).rules) ≡ row_at (codes "BLOCK") rows
-block_default false rows = ap (row_at (codes "BLOCK")) (no_defaults (replays false).rules rows (refl, (refl, tt)))
-block_default true rows =
-    ap (λ (l : List Row). row_at (codes "BLOCK") (fold with_default l (switch_flag capture ∷ switch_flag skip_other ∷ help_flag ∷ []))) (no_default block_argument rows refl)
-    ∙ ap (row_at (codes "BLOCK")) (no_default help_flag (with_default (with_default rows (switch_flag capture)) (switch_flag skip_other)) refl)
-    ∙ default_other skip_other (codes "BLOCK") refl (with_default rows (switch_flag capture)) ∙ default_other capture (codes "BLOCK") refl rows
+block_default offers = replay_leaves (row_at (codes "BLOCK")) (λ o. default_other o (codes "BLOCK") (apart o)) offers
+  where
+    apart : (o : Switch) → bytes_eq (switch_name o) (codes "BLOCK") ≡ false
+    apart capture = refl
+    apart skip_other = refl
 
 pub replay_set : (offers : Bool) (o : Switch) (rows : List Row) → is_set (switch_name o) (fold with_default rows (replays offers).rules) ≡ is_set (switch_name o) rows
-replay_set false o rows = ap (is_set (switch_name o)) (no_defaults (replays false).rules rows (refl, (refl, tt)))
-replay_set true o rows =
-    ap (λ (l : List Row). is_set (switch_name o) (fold with_default l (switch_flag capture ∷ switch_flag skip_other ∷ help_flag ∷ []))) (no_default block_argument rows refl)
-    ∙ ap (is_set (switch_name o)) (no_default help_flag (with_default (with_default rows (switch_flag capture)) (switch_flag skip_other)) refl)
-    ∙ default_set o skip_other (with_default rows (switch_flag capture)) ∙ default_set o capture rows
+replay_set offers o = replay_leaves (is_set (switch_name o)) (default_set o) offers
 
 replay_defaults_pass : (offers : Bool) → list_all default_passes (replays offers).rules ≡ true
 replay_defaults_pass true = refl

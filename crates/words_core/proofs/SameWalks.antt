@@ -1,5 +1,5 @@
 -- Words none of which names an option are walked alike where options are offered and where they are not.
-use Rattle.std.proofs.Common.{◌≡◌, ◌&&◌, ◌||◌, ◌∙◌, ℕ, zero, suc, Bool, true, false, true≢false, List, [], ◌∷◌, length, drop, Option, Some, None, is_some, unwrap_or, refl, sym, ap, ap₂, subst}
+use Rattle.std.proofs.Common.{◌≡◌, ◌&&◌, ◌∙◌, ℕ, zero, suc, Bool, true, false, List, [], ◌∷◌, length, drop, Option, Some, None, is_some, unwrap_or, refl, sym, ap, ap₂, subst}
 use Rattle.std.specs.Prelude.{encode_utf8, find, fold, nat_lt, slice_get, if◌then◌else◌}
 use Rattle.std.specs.List.{list_any}
 use Rattle.std.specs.Option.{option_map_or}
@@ -11,6 +11,7 @@ use Rattle.clap.specs.Faults.{bundle_step_fault, flag_word_fault, flags_fault, l
 use Rattle.clap.specs.Walk.{Held, Outcome, Step, Waiting, Walk, after_flag, after_step, arg_by_id, arg_by_index, arg_by_long, arg_by_short, attached_value, bundle, bundle_met, bundle_step, done, idle, is_multiple, is_pending, long_met, long_or_other, most_values, next, option, option_met, option_word, pending_count, plain, plain_word, positional, pushed, reacted, refused, settled, settled_rows, short_met, short_or_plain, subcommand, subcommand_met, subcommand_or_other, takes_several, takes_values, to_positional, trailing, used, used_by_id, value, waits, walked, walked_from, word_met}
 use Rattle.words_core.specs.RequestLine.{Switch, names_option, switch_name, switches}
 use Rattle.words_core.proofs.OptionRows.{row_at}
+use Rattle.words_core.proofs.OptionWalks.{both_false}
 
 -- the name is that of an option
 abbrev pub is_switch_name : Text → Bool
@@ -327,10 +328,6 @@ module _ (s : Shape) (c : List Rule) (long : (name : Text) → IsOther name → 
   names_other : (x : Option (Text × Option Text)) → option_map_or (λ p. is_switch_name p.0) x false ≡ false → NamesOther x
   names_other None e = tt
   names_other (Some p) e = e
-
-  both_false : (a b : Bool) → (a || b) ≡ false → (a ≡ false) × (b ≡ false)
-  both_false false b e = (refl, e)
-  both_false true b e = absurd (true≢false e)
 
   -- the whole walk
   pub walk_alike : (words : List Text) (w : Walk) → NameNone words → OtherWalk w → Turns (fold (walked c []) w words) (fold (walked d []) w words) (walk_fault t [] w words) (walk_fault s [] w words)

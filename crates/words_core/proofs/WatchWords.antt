@@ -22,12 +22,12 @@ use Rattle.words_core.specs.declared.option_words.Options.{Options}
 use Rattle.words_core.specs.CommandLine.{AsksWatch, SayBoth, SaysOption, is_flag, number_said, watch, watch_asked}
 use Rattle.words_core.specs.RequestLine.{Switch, capture, is_on, is_set, request_asked, skip_other, switch_name, switch_word}
 use Rattle.words_core.proofs.AskingWords.{line, stops}
-use Rattle.words_core.proofs.KeptRows.{no_default, no_defaults}
+use Rattle.words_core.proofs.KeptRows.{no_defaults}
 use Rattle.words_core.proofs.LoneFlags.{help_flag}
 use Rattle.words_core.proofs.NamedWords.{IsTaken, at_most, taken_behind, wished}
 use Rattle.words_core.proofs.OptionRows.{AtMostOnce, Counted, all_past, counted_all, counted_past, default_other, default_set, has_at, once_if, row_at, set_other, set_own, set_where_given, switch_flag, use_all, use_switch, with_times, words_of}
 use Rattle.words_core.proofs.OptionWalks.{Ends, Leads, Pending, TakesOptions, between, chain, ends, level_ends, options_lead, rows_end, settled_to, settles, state}
-use Rattle.words_core.proofs.PlainWords.{none_yet}
+use Rattle.words_core.proofs.PlainWords.{none_yet, options_leave}
 use Rattle.words_core.proofs.WatchRows.{fits_back, id_option, period_option, watches}
 
 -- ---- one option and its value
@@ -276,21 +276,18 @@ module _ (offers : Bool) (a b : Rule) (name other : Text) (v u : Text) (x : Argu
       (chain (watches offers) (λ rows. used b (u ∷ []) rows) (use_all after) second (words_of after) lead_3.to_rows lead_3.to_pending lead_4 lead_5))))
 
 -- the defaults at the end leave the rows of the two, and whether an option is set
+watch_leaves : {X : Type 0} (of : List Row → X) → ((o : Switch) (rows : List Row) → of (with_default rows (switch_flag o)) ≡ of rows)
+    → (offers : Bool) (rows : List Row) → of (fold with_default rows (watches offers).rules) ≡ of rows
+watch_leaves of past false rows = ap of (no_defaults (watches false).rules rows (refl, (refl, (refl, tt))))
+watch_leaves of past true rows =
+    ap (λ (l : List Row). of (fold with_default l (switch_flag capture ∷ switch_flag skip_other ∷ help_flag ∷ []))) (no_defaults (period_option ∷ id_option ∷ []) rows (refl, (refl, tt)))
+    ∙ options_leave of past rows
+
 pub watch_default : (offers : Bool) (id : Text) → ((o : Switch) → bytes_eq (switch_name o) id ≡ false) → (rows : List Row) → row_at id (fold with_default rows (watches offers).rules) ≡ row_at id rows
-watch_default false id apart rows = ap (row_at id) (no_defaults (watches false).rules rows (refl, (refl, (refl, tt))))
-watch_default true id apart rows =
-    let own = no_defaults (period_option ∷ id_option ∷ []) rows (refl, (refl, tt)) in
-    ap (λ (l : List Row). row_at id (fold with_default l (switch_flag capture ∷ switch_flag skip_other ∷ help_flag ∷ []))) own
-    ∙ ap (row_at id) (no_default help_flag (with_default (with_default rows (switch_flag capture)) (switch_flag skip_other)) refl)
-    ∙ default_other skip_other id (apart skip_other) (with_default rows (switch_flag capture)) ∙ default_other capture id (apart capture) rows
+watch_default offers id apart = watch_leaves (row_at id) (λ o. default_other o id (apart o)) offers
 
 pub watch_set : (offers : Bool) (o : Switch) (rows : List Row) → is_set (switch_name o) (fold with_default rows (watches offers).rules) ≡ is_set (switch_name o) rows
-watch_set false o rows = ap (is_set (switch_name o)) (no_defaults (watches false).rules rows (refl, (refl, (refl, tt))))
-watch_set true o rows =
-    let own = no_defaults (period_option ∷ id_option ∷ []) rows (refl, (refl, tt)) in
-    ap (λ (l : List Row). is_set (switch_name o) (fold with_default l (switch_flag capture ∷ switch_flag skip_other ∷ help_flag ∷ []))) own
-    ∙ ap (is_set (switch_name o)) (no_default help_flag (with_default (with_default rows (switch_flag capture)) (switch_flag skip_other)) refl)
-    ∙ default_set o skip_other (with_default rows (switch_flag capture)) ∙ default_set o capture rows
+watch_set offers o = watch_leaves (is_set (switch_name o)) (default_set o) offers
 
 -- ---- the period
 

@@ -22,6 +22,7 @@ use Rattle.words_core.specs.declared.words.Request.{Request}
 use Rattle.words_core.specs.declared.words.Task.{Task}
 use Rattle.words_core.specs.declared.words.WordsError.{WordsError}
 use Rattle.words_core.specs.declared.words.WordsError.TheVariants as refused
+use Rattle.words_core.proofs.AskingWords.{asked_or}
 use Rattle.words_core.proofs.KeptRows.{first_none, leaf, level_checked, then_none, wanted}
 use Rattle.words_core.proofs.WatchRows.{watch_says}
 use Rattle.words_core.specs.CommandLine.{AnswersBadBlock, AnswersTask, Asked, AsksByName, HasPeriod, IsBlockError, IsNoMistake, MayRefuse, Meaning, blocks_in, check, command_line, first_bad_block, import, is_plain, list_blocks, name_of, plain, publish, replay, replay_of, replay_shape, rewrite, asked_by, show, task_asked, task_of_words, watch, watch_shape}
@@ -64,10 +65,6 @@ place_or d _ = d
 abbrev block_or : ℕ → Option Meaning → ℕ
 block_or d (Some (Err i)) = i
 block_or d _ = d
-
-abbrev asked_or : Asked → Option Meaning → Asked
-asked_or d (Some (Ok t)) = t
-asked_or d _ = d
 
 abbrev options_or : Options → Option Wish → Options
 options_or d (Some (Ok wish)) = wish.1
