@@ -1,7 +1,6 @@
 -- What a run over a reader of packets leaves of the capture that it reads, where something is made of each event.
-use Rattle.std.proofs.Common.{Option, Some, None, Ok, Err, Result, ◌≡◌, ◌⊎◌, ℕ, List, [], ◌∷◌, ◌++◌, inl, inr, ap, ap₂, sym, ◌∙◌, refl, subst, map}
-use Rattle.std.proofs.lemmas.List.{append-nil, map-append}
-use Rattle.list_core.specs.declared.device.InputEnd.{InputEnd}
+use Rattle.std.proofs.Common.{Option, Some, None, Ok, Err, ◌≡◌, ℕ, List, [], ◌∷◌, inl, inr, ap, ap₂, sym, ◌∙◌, refl, subst, map}
+use Rattle.std.proofs.lemmas.List.{append-nil}
 use Rattle.list_core.specs.declared.device.InputEnd.TheVariants.{Open}
 use Rattle.list_core.specs.declared.event.Event.{Event}
 use Rattle.list_core.specs.Device.{GivesOctets}
@@ -13,41 +12,26 @@ use Rattle.capture_core.specs.declared.capture_fault.CaptureFault.{CaptureFault}
 use Rattle.capture_core.specs.Packets.{is_failed_read}
 use Rattle.capture_core.specs.Captured.{captured_events}
 use Rattle.capture_core.specs.PacketReader.{AnswersPacket, GivesPacket, PacketAnswer, PacketState, TellsPacket, at_start, events_behind}
-use Rattle.capture_core.proofs.PacketsTaken.{RanPackets, TookPackets, behind_start, taken_more, taken_none, taken_then}
+use Rattle.capture_core.proofs.PacketsTaken.{TookPackets, behind_start, taken_more, taken_none, taken_then}
 use Rattle.engine_core.specs.declared.ending.Ending.{Ending}
 use Rattle.engine_core.specs.RunOver.{RunsOver}
-use Rattle.engine_core.specs.CaptureRun.{CaptureText, CaptureWrites, fault_of, with_each}
+use Rattle.engine_core.specs.CaptureRun.{CaptureText, CaptureWrites, fault_of}
+use Rattle.engine_core.specs.MadeRun.{with_each}
 use Rattle.engine_core.proofs.InputRuns.{TellsOnward, input_run}
-
--- an answer about packets with something made of its event
-abbrev pub made : {A : Type 0} → (Event A → Event A) → PacketAnswer A → PacketAnswer A
-made make (Ok (Some e)) = Ok (Some (e.0, make e.1))
-made make (Ok None) = Ok None
-made make (Err f) = Err f
-
-module _ {A : Type 0} (make : Event A → Event A) where
-  -- an answer that has an event was made of one
-  made_some : (raw : PacketAnswer A) (e : ℕ × Event A) → Ok (Some e) ≡ made make raw → (r : ℕ × Event A) × (raw ≡ Ok (Some r)) × (e ≡ (r.0, make r.1))
-  made_some (Ok (Some r)) e h = (r, refl, cc)
-  made_some (Ok None) e h = cc
-  made_some (Err f) e h = cc
-
-  -- what an answer says of the capture, it says of what is made of its events
-  made_tells : (raw : PacketAnswer A) (onward rest : Numbered (Event A) CaptureFault) → TellsPacket raw onward rest → TellsOnward (made make raw) (with_each make onward)
-  made_tells (Ok (Some e)) onward rest h = (with_each make rest, ap (with_each make) h)
-  made_tells (Ok None) onward rest h = ap (with_each make) h.0
-  made_tells (Err (Some f)) onward rest h = ap (with_each make) h.0
-  made_tells (Err None) onward rest h = tt
-
-  -- what is made of items before others
-  each_put : (items : List (ℕ × Event A)) (l : Numbered (Event A) CaptureFault) → with_each make (put_items items l) ≡ put_items (map (λ e. (e.0, make e.1)) items) (with_each make l)
-  each_put items l = ap (λ es. record { items = es; stop = l.stop }) (map-append (λ (e : ℕ × Event A). (e.0, make e.1)) items l.items)
+use Rattle.engine_core.proofs.MadeAnswers.{each_put, made, made_some, made_tells}
 
 -- the octets of an answer were given
 gives_packet : {A : Type 0} (answer : PacketAnswer A) (old new : Option (List ℕ)) (given : List ℕ) → GivesPacket answer old new given → GivesOctets old new given
 gives_packet (Ok (Some e)) old new given g = Gives-from_Consumes old new given g
 gives_packet (Ok None) old new given g = g
 gives_packet (Err f) old new given g = g
+
+-- what an answer tells first of a capture
+first_told : {A : Type 0} (answer : PacketAnswer A) (onward rest : Numbered (Event A) CaptureFault) → TellsPacket answer onward rest → TellsOnward answer onward
+first_told (Ok (Some e)) onward rest h = (rest, h)
+first_told (Ok None) onward rest h = h.0
+first_told (Err (Some f)) onward rest h = h.0
+first_told (Err None) onward rest h = tt
 
 -- a reader whose answers are those of a reader of packets, with something made of each event
 module _ {I A : Type 0} (make : Event A → Event A) (state : I → PacketState) (answers : I → AnswerOf (Event A) CaptureFault → I → Type 0)
@@ -73,11 +57,10 @@ module _ {I A : Type 0} (make : Event A → Event A) (state : I → PacketState)
       let q = through run.before end run.answer run.answered in
       let ran = taken_then (state start) (state run.before) (state end) p.0 q.0 p.2 q.1 in
       let reads = ran.reads [] (state end).ending (CanFollow-none (state end).ending) in
-      let whole : captured_events {A = A} (state end).ending ran.given ≡ put_items p.0 reads.0 = sym (behind_start (state start) (state end).ending ran.given fresh) ∙ ap (events_behind (state start) (state end).ending) (sym (append-nil ran.given)) ∙ reads.1 in
-      (
+      let whole : captured_events {A = A} (state end).ending ran.given ≡ put_items p.0 reads.0 = sym (behind_start (state start) (state end).ending ran.given fresh) ∙ ap (events_behind (state start) (state end).ending) (sym (append-nil ran.given)) ∙ reads.1 in (
         ran.given,
         gives_packet q.0 _ _ ran.given ran.took,
         inr (input_run answers fault_of is_failed_read t start end ending fault old new run _ (with_each make reads.0)
             (ap (with_each make) whole ∙ each_put make p.0 reads.0 ∙ ap (λ es. put_items es (with_each make reads.0)) (sym p.1))
-            (subst (λ o. TellsOnward o (with_each make reads.0)) (sym q.2) (made_tells make q.0 reads.0 _ reads.2))),
+            (subst (λ o. TellsOnward o (with_each make reads.0)) (sym q.2) (made_tells make q.0 reads.0 (first_told q.0 reads.0 _ reads.2)))),
       )

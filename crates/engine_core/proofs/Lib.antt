@@ -2,6 +2,8 @@ pub mod Wanted
 pub mod ItemTexts
 pub mod ListRuns
 pub mod InputRuns
+pub mod MadeAnswers
+pub mod MadeRuns
 pub mod CaptureRuns
 pub mod ReaderRuns
 pub mod ReadFaults

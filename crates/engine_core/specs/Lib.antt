@@ -3,6 +3,7 @@ pub mod EngineText
 pub mod Run
 pub mod RunOver
 pub mod InputRun
+pub mod MadeRun
 pub mod CaptureRun
 pub mod computed
 pub mod Laws
