@@ -1,5 +1,5 @@
 -- Blocks that are read part by part.
-use Rattle.std.proofs.Common.{◌≡◌, ℕ, ◌+◌, ◌-◌, ◌<◌, ◌≤◌, zero, suc, Bool, true, false, ltb, eqb, inl, inr, List, [], ◌∷◌, ◌++◌, length, take, drop, Option, Some, None, Result, Ok, Err, ap, sym, ◌∙◌, refl, arith, append_assoc}
+use Rattle.std.proofs.Common.{◌≡◌, ℕ, ◌+◌, ◌-◌, ◌<◌, ◌≤◌, Bool, true, false, ltb, eqb, List, [], ◌∷◌, ◌++◌, length, take, drop, Some, None, Result, Ok, Err, ap, sym, ◌∙◌, refl, arith, append_assoc}
 use Rattle.std.specs.Prelude.{◌==◌, if◌then◌else◌}
 use Rattle.std.proofs.lemmas.List.{length-append, drop_at, take_at, length-take-le, take-append-drop, take-append-le}
 use Rattle.std.proofs.lemmas.Bool.Decides.{nat_tests}
@@ -7,10 +7,8 @@ use Rattle.list_core.specs.declared.device.InputEnd.{InputEnd}
 use Rattle.list_core.specs.declared.device.InputEnd.TheVariants.{Open}
 use Rattle.list_core.specs.Lines.{unfinished}
 use Rattle.capture_core.specs.Numbers.{number_at}
-use Rattle.capture_core.specs.Capture.{cut, ended, fault_in}
-use Rattle.capture_core.specs.Packets.{Packet, event_of}
-use Rattle.capture_core.specs.Interfaces.{padded}
-use Rattle.capture_core.specs.Blocks.{Block, BlockRead, Settled, begins, describes, passes, block_in, block_with, body_said, captured_behind, captures, first_block, head_size, is_bad_length, next_block, packet_head, packet_in, section_header, section_in, section_order, section_said}
+use Rattle.capture_core.specs.Capture.{cut, fault_in}
+use Rattle.capture_core.specs.Blocks.{Block, Settled, begins, describes, passes, block_in, block_with, body_said, captures, first_block, is_bad_length, next_block, section_header, section_in, section_order, section_said}
 use Rattle.capture_core.specs.computed.OneRead.{IsBlockTold, IsNextBlock, Told, order_of_magic, version_rest}
 use Rattle.capture_core.specs.declared.packet_error.PacketError.{PacketError}
 use Rattle.capture_core.specs.declared.packet_error.PacketError.TheVariants as error

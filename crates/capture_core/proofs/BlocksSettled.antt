@@ -1,13 +1,12 @@
 -- What a reader of packets settles by a block that was read.
-use Rattle.std.proofs.Common.{◌≡◌, ℕ, ◌+◌, ◌<◌, suc, inl, inr, List, [], ◌∷◌, ◌++◌, Option, Some, None, Result, Ok, Err, ap, sym, ◌∙◌, refl, arith}
+use Rattle.std.proofs.Common.{◌≡◌, ℕ, ◌+◌, suc, inl, inr, List, [], Option, Result, Ok, Err, ap, ◌∙◌, refl, arith}
 use Rattle.list_core.specs.declared.device.InputEnd.{InputEnd}
 use Rattle.list_core.specs.declared.event.Event.{Event}
 use Rattle.capture_core.specs.Blocks.{Block, Settled, begins, captures, describes, next_block, passes}
-use Rattle.capture_core.specs.Packets.{Packet}
 use Rattle.capture_core.specs.PacketReader.{PacketState, in_blocks, packet_number, packet_state}
 use Rattle.capture_core.specs.computed.OneRead.{ReadsFront}
 use Rattle.capture_core.specs.computed.Sections.{IsSaidAs}
-use Rattle.capture_core.specs.computed.Steps.{IsWantOfMemory, Settles, Steps}
+use Rattle.capture_core.specs.computed.Steps.{Settles, Steps}
 use Rattle.capture_core.specs.declared.body.Said.{Said}
 use Rattle.capture_core.specs.declared.body.Said.TheVariants as said
 use Rattle.capture_core.specs.declared.capture_fault.CaptureCause.{CaptureCause}

@@ -1,20 +1,18 @@
 -- Octets that are a block or a section header, and what is read of them.
-use Rattle.std.proofs.Common.{◌≡◌, ℕ, ◌+◌, ◌-◌, ◌<◌, ◌≤◌, zero, suc, Bool, true, false, ltb, eqb, inl, inr, List, [], ◌∷◌, ◌++◌, length, take, drop, Option, Some, None, Result, Ok, Err, ap, sym, ◌∙◌, refl, arith, append_assoc}
-use Rattle.std.specs.Prelude.{◌%◌, ◌==◌, if◌then◌else◌}
-use Rattle.std.proofs.lemmas.List.{length-append, length-take-le, length-drop, take-append-drop, drop-drop}
+use Rattle.std.proofs.Common.{◌≡◌, ℕ, ◌+◌, ◌-◌, ◌≤◌, Bool, true, false, ltb, eqb, List, ◌++◌, length, take, drop, Option, Some, None, Result, Ok, Err, ap, sym, ◌∙◌, refl, arith, append_assoc}
+use Rattle.std.specs.Prelude.{◌%◌, if◌then◌else◌}
+use Rattle.std.proofs.lemmas.List.{length-append, length-take-le, length-drop, take-append-drop}
 use Rattle.std.proofs.Math.Seq.{take-add}
 use Rattle.std.proofs.lemmas.Bool.Decides.{nat_tests}
 use Rattle.list_core.specs.declared.device.InputEnd.{InputEnd}
-use Rattle.list_core.specs.Lines.{Stop}
 use Rattle.capture_core.specs.Numbers.{number_at}
 use Rattle.capture_core.specs.Capture.{cut, fault_in}
-use Rattle.capture_core.specs.Blocks.{Block, BlockRead, begins, block_in, block_with, is_bad_length, section_header, section_in, section_order, section_said}
+use Rattle.capture_core.specs.Blocks.{Block, begins, block_in, block_with, is_bad_length, section_header, section_in, section_order, section_said}
 use Rattle.capture_core.specs.SpelledBlocks.{IsBlock, IsSectionHeader}
 use Rattle.capture_core.specs.declared.form.OctetOrder.{OctetOrder}
 use Rattle.capture_core.specs.declared.form.OctetOrder.TheVariants.{BigEndian, LittleEndian}
 use Rattle.capture_core.specs.declared.capture_fault.CaptureCause.{CaptureCause}
 use Rattle.capture_core.specs.declared.capture_fault.CaptureCause.TheVariants as cause
-use Rattle.capture_core.specs.declared.capture_fault.CaptureFault.{CaptureFault}
 use Rattle.capture_core.proofs.BlocksRead.{block_whole, rest_good}
 use Rattle.capture_core.proofs.NumberPlaces.{number_behind, number_front}
 

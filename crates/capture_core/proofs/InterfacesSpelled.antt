@@ -1,18 +1,17 @@
 -- Octets that describe an interface, and what is read of them.
-use Rattle.std.proofs.Common.{◌≡◌, ◌⊎◌, ℕ, ◌+◌, ◌-◌, ◌*◌, ◌/◌, ◌<◌, ◌≤◌, zero, suc, Bool, true, false, ltb, eqb, inl, inr, List, [], ◌∷◌, ◌++◌, length, take, drop, get_or, Option, Some, None, ap, sym, ◌∙◌, refl, arith, append_assoc}
-use Rattle.std.specs.Prelude.{◌==◌, nat_lt, if◌then◌else◌}
+use Rattle.std.proofs.Common.{◌≡◌, ◌⊎◌, ℕ, ◌-◌, ◌≤◌, zero, suc, Bool, true, false, ltb, eqb, inl, inr, List, [], ◌∷◌, ◌++◌, length, take, drop, get_or, Option, Some, None, ap, sym, ◌∙◌, refl, arith, append_assoc}
+use Rattle.std.specs.Prelude.{◌==◌, if◌then◌else◌}
 use Rattle.std.specs.List.{All}
-use Rattle.std.proofs.lemmas.List.{length-append, length-drop, length-take-le, take-append-drop, take-take, take_at, drop-drop}
+use Rattle.std.proofs.lemmas.List.{length-drop, length-take-le, take-append-drop, take-take, take_at}
 use Rattle.std.proofs.Math.Seq.{take-add}
 use Rattle.std.proofs.lemmas.List.Elements.{All-cons, All-head, All-nil, All-tail}
 use Rattle.std.proofs.lemmas.Bool.Decides.{eqb_tells, nat_tests}
 use Rattle.capture_core.specs.Numbers.{number_at}
-use Rattle.capture_core.specs.Interfaces.{and_then, interface_in, option_size, options_in, padded, plain_interface, with_first, with_offset, with_option, with_options, with_resolution}
+use Rattle.capture_core.specs.Interfaces.{and_then, interface_in, option_size, options_in, padded, plain_interface, with_first, with_option, with_options}
 use Rattle.capture_core.specs.SpelledBlocks.{AreOptions, HasItsLength, IsInterface, IsOption, last_value, offset_told, resolution_told}
 use Rattle.capture_core.specs.declared.form.OctetOrder.{OctetOrder}
 use Rattle.capture_core.specs.declared.interface.Interface.{Interface}
-use Rattle.capture_core.proofs.NumberPlaces.{number_front}
-use Rattle.capture_core.proofs.OptionsRead.{ended_options, few_options, first_then, interface_read, option_taken, options_step}
+use Rattle.capture_core.proofs.OptionsRead.{ended_options, few_options, first_then, interface_read, option_taken}
 use Rattle.capture_core.proofs.BlocksSpelled.{number_taken}
 
 -- ---- what an option says

@@ -1,13 +1,12 @@
 -- What is told where no record or block may come any more, and after a capture has stopped.
-use Rattle.std.proofs.Common.{◌≡◌, ◌≢◌, ℕ, ◌+◌, ◌<◌, zero, List, [], ◌∷◌, ◌++◌, length, take, Option, Some, None, Result, Ok, Err, ap, sym, ◌∙◌, refl, suc, arith}
-use Rattle.std.specs.Io.KnownBytes.{Consumes}
+use Rattle.std.proofs.Common.{◌≡◌, ◌≢◌, ℕ, ◌+◌, ◌<◌, zero, List, [], ◌∷◌, ◌++◌, length, Option, Some, None, Ok, Err, ap, sym, ◌∙◌, refl, suc, arith}
 use Rattle.list_core.specs.declared.device.InputEnd.{InputEnd}
 use Rattle.list_core.specs.declared.device.InputEnd.TheVariants.{Open}
 use Rattle.list_core.specs.Device.{GivesOctets, OnlyOpen}
 use Rattle.list_core.specs.Lines.{Stop, finished, unfinished, faulty}
 use Rattle.list_core.proofs.Readers.{OnlyOpen-none}
 use Rattle.capture_core.specs.Capture.{ended, fault_in, records_of}
-use Rattle.capture_core.specs.Packets.{Numbered, Packet, stopped}
+use Rattle.capture_core.specs.Packets.{stopped}
 use Rattle.capture_core.specs.Blocks.{packets_of_blocks}
 use Rattle.capture_core.specs.PacketReader.{AnswersPacket, GivesPacket, PacketAnswer, PacketState, TellsPacket, events_behind, number_by, over, packets_from, stage_of}
 use Rattle.capture_core.specs.computed.Filling.{Fills}

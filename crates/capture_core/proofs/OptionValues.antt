@@ -1,9 +1,9 @@
 -- The values of the options of an interface that are looked at.
-use Rattle.std.proofs.Common.{◌≡◌, ℕ, ◌≤◌, Bool, true, false, eqb, List, [], ◌∷◌, length, take, get_or, Option, Some, None, refl, arith}
+use Rattle.std.proofs.Common.{◌≡◌, ℕ, ◌≤◌, true, false, eqb, List, [], ◌∷◌, length, take, get_or, Some, None, refl, arith}
 use Rattle.std.proofs.lemmas.List.{length-take-le, take_all}
 use Rattle.std.proofs.lemmas.Bool.Decides.{nat_tests}
 use Rattle.capture_core.specs.Numbers.{number_at}
-use Rattle.capture_core.specs.Interfaces.{with_option, with_offset, with_resolution}
+use Rattle.capture_core.specs.Interfaces.{with_option}
 use Rattle.capture_core.specs.declared.form.OctetOrder.{OctetOrder}
 use Rattle.capture_core.specs.declared.interface.Interface.{Interface}
 

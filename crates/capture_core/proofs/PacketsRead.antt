@@ -1,19 +1,18 @@
 -- Packets that are read part by part, in blocks and as records, and their events.
-use Rattle.std.proofs.Common.{◌≡◌, ◌⊎◌, ℕ, ◌+◌, ◌-◌, ◌<◌, ◌≤◌, Bool, true, false, ltb, eqb, inl, inr, List, [], ◌∷◌, ◌++◌, length, take, drop, Option, Some, None, Result, Ok, Err, ap, sym, ◌∙◌, refl, subst, arith, append_assoc}
+use Rattle.std.proofs.Common.{◌≡◌, ◌⊎◌, ℕ, ◌+◌, ◌<◌, ◌≤◌, true, false, ltb, eqb, inl, inr, List, [], ◌∷◌, ◌++◌, length, take, drop, Option, Some, None, Result, Ok, Err, ap, sym, ◌∙◌, refl, arith, append_assoc}
 use Rattle.std.specs.Prelude.{◌*◌, ◌^◌, slice_get, nat_lt, if◌then◌else◌}
 use Rattle.std.proofs.lemmas.List.{length-append, drop_at, take_at}
 use Rattle.std.proofs.lemmas.Bool.Decides.{nat_tests}
 use Rattle.list_core.specs.declared.device.InputEnd.{InputEnd}
 use Rattle.list_core.specs.declared.device.InputEnd.TheVariants.{Open}
-use Rattle.list_core.specs.declared.event.EventKind.{EventKind}
 use Rattle.list_core.specs.declared.event.EventKind.TheVariants.{Frame, Clock}
 use Rattle.list_core.specs.Lines.{unfinished}
 use Rattle.capture_core.specs.Numbers.{number_at}
-use Rattle.capture_core.specs.Capture.{captured_size, cut, ended, fault_in, moment_in_head}
+use Rattle.capture_core.specs.Capture.{captured_size, cut, fault_in, moment_in_head}
 use Rattle.capture_core.specs.Packets.{Packet, kind_of}
 use Rattle.capture_core.specs.Interfaces.{moment_after, padded}
-use Rattle.capture_core.specs.Blocks.{Block, Settled, captured_behind, captured_length, captures, head_at, head_on, head_size, interface_number, packet_head, packet_in, packet_moment, ticks_in, within_snapshot}
-use Rattle.capture_core.specs.computed.OneRead.{Front, IsNextEvent, IsRecordEvent, Told, next_record, record_front}
+use Rattle.capture_core.specs.Blocks.{Settled, captured_behind, captured_length, captures, head_at, head_on, head_size, interface_number, packet_head, packet_in, packet_moment, ticks_in, within_snapshot}
+use Rattle.capture_core.specs.computed.OneRead.{IsNextEvent, IsRecordEvent, Told, next_record, record_front}
 use Rattle.capture_core.specs.declared.packet_error.PacketError.{PacketError}
 use Rattle.capture_core.specs.declared.packet_error.PacketError.TheVariants as error
 use Rattle.capture_core.specs.declared.form.CaptureForm.{CaptureForm}

@@ -1,12 +1,12 @@
 -- Octets that say a packet, and what is read of them.
-use Rattle.std.proofs.Common.{◌≡◌, ◌⊎◌, ℕ, ◌+◌, ◌-◌, ◌<◌, ◌≤◌, Bool, true, false, ltb, eqb, inl, inr, List, [], ◌∷◌, ◌++◌, length, take, drop, Option, Some, None, Result, Ok, Err, ap, sym, ◌∙◌, refl, arith, append_assoc}
-use Rattle.std.specs.Prelude.{◌*◌, ◌/◌, ◌^◌, slice_get, if◌then◌else◌}
+use Rattle.std.proofs.Common.{◌≡◌, ℕ, ◌+◌, ◌-◌, ◌<◌, ◌≤◌, Bool, true, false, ltb, List, ◌++◌, length, take, drop, Option, Some, None, Result, Ok, Err, ap, sym, ◌∙◌, refl, arith, append_assoc}
+use Rattle.std.specs.Prelude.{◌*◌, ◌^◌, slice_get, if◌then◌else◌}
 use Rattle.std.proofs.lemmas.List.{length-append, length-drop, length-take-le, take-append-drop, take-take, take_at, drop_at}
 use Rattle.std.proofs.lemmas.Bool.Decides.{nat_tests}
 use Rattle.capture_core.specs.Numbers.{number_at}
 use Rattle.capture_core.specs.Packets.{Packet}
-use Rattle.capture_core.specs.Interfaces.{microseconds_forth, moment_after, padded, seconds_back, seconds_forth, units_of}
-use Rattle.capture_core.specs.Blocks.{Block, Settled, captured_behind, captured_length, captures, head_at, head_on, head_size, interface_number, packet_head, packet_in, packet_moment, ticks_in, within_snapshot}
+use Rattle.capture_core.specs.Interfaces.{microseconds_forth, moment_after, padded, seconds_back}
+use Rattle.capture_core.specs.Blocks.{Block, Settled, captured_behind, captured_length, captures, head_at, head_on, head_size, interface_number, packet_head, packet_in, packet_moment, ticks_in}
 use Rattle.capture_core.specs.SpelledBlocks.{HoldsCaptured, IsPacketTime, IsSimplePacket, IsTimedPacket}
 use Rattle.capture_core.specs.declared.interface.Interface.{Interface}
 use Rattle.capture_core.specs.declared.packet_block.PacketBlock.{PacketBlock}

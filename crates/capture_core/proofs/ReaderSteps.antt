@@ -1,7 +1,7 @@
 -- The steps of a reader of packets, by what was read.
-use Rattle.std.proofs.Common.{◌≡◌, ℕ, ◌+◌, suc, List, [], drop, Option, Some, None, Result, Ok, Err, ap, sym, ◌∙◌, refl, arith}
+use Rattle.std.proofs.Common.{◌≡◌, ℕ, ◌+◌, suc, List, [], drop, Some, None, Ok, Err, ap, ◌∙◌, refl}
 use Rattle.list_core.specs.declared.device.InputEnd.{InputEnd}
-use Rattle.list_core.specs.Lines.{Stop, finished, unfinished, faulty}
+use Rattle.list_core.specs.Lines.{finished, unfinished, faulty}
 use Rattle.capture_core.specs.Capture.{records_of}
 use Rattle.capture_core.specs.Packets.{Numbered, Packet, event_of, packets_of_records, put_numbered}
 use Rattle.capture_core.specs.Blocks.{Block, Settled, begins, captures, count_after, describes, next_block, packets_of_blocks, passes, put_block, settled_after}
@@ -11,7 +11,6 @@ use Rattle.capture_core.specs.computed.Steps.{PassesOver}
 use Rattle.capture_core.specs.declared.form.CaptureForm.{CaptureForm}
 use Rattle.capture_core.specs.declared.form.OctetOrder.{OctetOrder}
 use Rattle.capture_core.specs.declared.interface.Interface.{Interface}
-use Rattle.capture_core.specs.declared.start.Start.{Start}
 use Rattle.capture_core.specs.declared.start.Start.TheVariants as start
 use Rattle.capture_core.specs.declared.capture_fault.CaptureFault.{CaptureFault}
 use Rattle.capture_core.proofs.StagesRead.{after_start, blocks_are, records_are, start_is}

@@ -1,21 +1,19 @@
 -- Octets that are sections of blocks, and what is read of them.
-use Rattle.std.proofs.Common.{◌≡◌, ◌⊎◌, ℕ, ◌+◌, ◌-◌, ◌<◌, ◌≤◌, zero, suc, Bool, true, false, ltb, eqb, inl, inr, List, [], ◌∷◌, ◌++◌, length, take, drop, Option, Some, None, Result, Ok, Err, ap, sym, ◌∙◌, refl, subst, arith, append_assoc}
+use Rattle.std.proofs.Common.{◌≡◌, ℕ, ◌+◌, ◌-◌, ◌<◌, ◌≤◌, zero, suc, Bool, true, false, ltb, eqb, inl, inr, List, [], ◌∷◌, ◌++◌, length, take, drop, Option, Some, None, Result, Ok, Err, ap, sym, ◌∙◌, refl, subst, arith}
 use Rattle.std.specs.Prelude.{if◌then◌else◌}
-use Rattle.std.proofs.lemmas.List.{length-append, length-drop, length-take-le, take-append-drop, drop_at}
-use Rattle.std.proofs.lemmas.Bool.Decides.{eqb_tells, nat_tests}
+use Rattle.std.proofs.lemmas.List.{length-append, length-take-le, take-append-drop, drop_at}
+use Rattle.std.proofs.lemmas.Bool.Decides.{nat_tests}
 use Rattle.list_core.specs.declared.device.InputEnd.{InputEnd}
-use Rattle.list_core.specs.declared.device.InputEnd.TheVariants.{Open, End, Failed}
+use Rattle.list_core.specs.declared.device.InputEnd.TheVariants.{End}
 use Rattle.list_core.specs.Lines.{Stop, finished}
 use Rattle.capture_core.specs.Numbers.{number_at}
-use Rattle.capture_core.specs.Capture.{cut, ended, fault_in}
+use Rattle.capture_core.specs.Capture.{cut, ended}
 use Rattle.capture_core.specs.Packets.{Numbered, Packet, stopped}
 use Rattle.capture_core.specs.Interfaces.{interface_in}
-use Rattle.capture_core.specs.Blocks.{Block, BlockRead, Settled, before_others, begins, block_in, block_with, body_said, captures, count_after, describes, first_block, interface_said, is_bad_length, next_block, packet_block_of, packets_of_blocks, passes, put_block, said_by_kind, section_header, section_in, section_order, section_said, settled_after}
+use Rattle.capture_core.specs.Blocks.{Block, BlockRead, Settled, before_others, begins, block_in, block_with, body_said, captures, count_after, describes, first_block, interface_said, is_bad_length, next_block, packets_of_blocks, passes, put_block, section_header, section_in, section_order, section_said, settled_after}
 use Rattle.capture_core.specs.SpelledBlocks.{IsBlock, IsInterface, IsOtherType, IsPacket, IsSectionHeader, SpellsBlock, SpellsBlocks, packets_said, type_of}
 use Rattle.capture_core.specs.declared.interface.Interface.{Interface}
 use Rattle.capture_core.specs.declared.form.OctetOrder.{OctetOrder}
-use Rattle.capture_core.specs.declared.packet_block.PacketBlock.{PacketBlock}
-use Rattle.capture_core.specs.declared.packet_block.PacketBlock.TheVariants.{Enhanced, Obsolete, Simple}
 use Rattle.capture_core.specs.declared.capture_fault.CaptureCause.{CaptureCause}
 use Rattle.capture_core.specs.declared.capture_fault.CaptureCause.TheVariants as cause
 use Rattle.capture_core.specs.declared.capture_fault.CaptureFault.{CaptureFault}

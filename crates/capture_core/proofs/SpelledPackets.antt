@@ -1,5 +1,5 @@
 -- Octets that are a capture of packets, in either form, and captures that end without a fault.
-use Rattle.std.proofs.Common.{◌≡◌, ◌⊎◌, ℕ, ◌+◌, ◌*◌, ◌<◌, ◌≤◌, zero, suc, Bool, true, false, ltb, eqb, inl, inr, List, [], ◌∷◌, ◌++◌, length, take, drop, Option, Some, None, Result, Ok, Err, ap, sym, ◌∙◌, refl, subst, arith}
+use Rattle.std.proofs.Common.{◌≡◌, ℕ, ◌+◌, ◌*◌, ◌<◌, ◌≤◌, Bool, true, false, ltb, eqb, inl, inr, List, [], ◌∷◌, ◌++◌, length, take, drop, Option, Some, None, Ok, Err, ap, sym, ◌∙◌, refl, subst, arith}
 use Rattle.std.specs.Prelude.{if◌then◌else◌}
 use Rattle.std.proofs.lemmas.List.{length-append, length-take-le, take-append-drop, take-append-le, take_at, drop_at}
 use Rattle.std.proofs.lemmas.Bool.Decides.{nat_tests}
@@ -8,12 +8,12 @@ use Rattle.list_core.specs.declared.device.InputEnd.TheVariants.{End}
 use Rattle.list_core.specs.Lines.{Stop, finished}
 use Rattle.capture_core.specs.Numbers.{number_at}
 use Rattle.capture_core.specs.Header.{form_of, header_of, read_in}
-use Rattle.capture_core.specs.Capture.{Capture, CaptureRecord, cut, fault_in, records_of}
+use Rattle.capture_core.specs.Capture.{CaptureRecord, cut, fault_in}
 use Rattle.capture_core.specs.Packets.{Numbered, Packet, packets_of_records, stopped}
 use Rattle.capture_core.specs.Blocks.{Block, BlockRead, begins, packets_of_blocks, section_header, settled_after}
-use Rattle.capture_core.specs.Captured.{captured_packets, classic_packets, packets_behind_header, packets_behind_section, packets_by_magic, section_packets, unsettled}
-use Rattle.capture_core.specs.Spelling.{SpellsClassic, SpellsRecords, numbered, whole_capture}
-use Rattle.capture_core.specs.SpelledBlocks.{IsSectionHeader, SpellsBlocks, SpellsSections, packets_said}
+use Rattle.capture_core.specs.Captured.{captured_packets, packets_behind_header, packets_behind_section, packets_by_magic, section_packets, unsettled}
+use Rattle.capture_core.specs.Spelling.{SpellsRecords, whole_capture}
+use Rattle.capture_core.specs.SpelledBlocks.{IsSectionHeader, SpellsBlocks, packets_said}
 use Rattle.capture_core.specs.Laws.{ReadPacketsAreSpelled, SpelledPacketsAreRead, SpellsPackets}
 use Rattle.capture_core.specs.declared.form.CaptureForm.{CaptureForm}
 use Rattle.capture_core.specs.declared.form.OctetOrder.{OctetOrder}

@@ -1,5 +1,5 @@
 -- What stands at the front of a capture, of its records and of its blocks, and the others behind it.
-use Rattle.std.proofs.Common.{◌≡◌, ℕ, ◌+◌, ◌-◌, ◌<◌, ◌≤◌, zero, suc, Bool, true, false, ltb, leb, inl, inr, List, [], ◌∷◌, ◌++◌, length, take, drop, Option, Some, None, Result, Ok, Err, ap, sym, ◌∙◌, refl, arith}
+use Rattle.std.proofs.Common.{◌≡◌, ℕ, ◌+◌, ◌-◌, ◌<◌, ◌≤◌, suc, Bool, true, false, ltb, inl, inr, List, [], ◌∷◌, ◌++◌, length, take, drop, Option, Some, None, Ok, Err, ap, sym, ◌∙◌, refl, arith}
 use Rattle.std.specs.Prelude.{if◌then◌else◌, ◌==◌, ⊤}
 use Rattle.std.proofs.lemmas.List.{length-take, length-take-le, take-append-drop, drop-drop}
 use Rattle.std.proofs.lemmas.Bool.Decides.{leb_tells, nat_tests}
@@ -7,11 +7,11 @@ use Rattle.list_core.specs.declared.device.InputEnd.{InputEnd}
 use Rattle.list_core.specs.Lines.{Stop}
 use Rattle.capture_core.specs.Numbers.{number_at}
 use Rattle.capture_core.specs.Header.{form_of, header_of}
-use Rattle.capture_core.specs.Capture.{Capture, CaptureRecord, captured_size, cut, ended, fault_in, moment_in_head, no_records, put_record, read_one, records_of}
+use Rattle.capture_core.specs.Capture.{Capture, CaptureRecord, captured_size, cut, fault_in, moment_in_head, no_records, put_record, read_one, records_of}
 use Rattle.capture_core.specs.Packets.{Numbered, Packet, packets_of_records, put_numbered, stopped}
-use Rattle.capture_core.specs.Blocks.{Block, BlockRead, Settled, before_others, begins, block_in, block_with, captures, count_after, describes, is_bad_length, next_block, packets_of_blocks, passes, put_block, section_header, section_in, section_order, section_said, settled_after}
-use Rattle.capture_core.specs.Captured.{captured_packets, classic_packets, packets_behind_header, packets_behind_section, packets_by_magic, section_packets}
-use Rattle.capture_core.specs.computed.OneRead.{Front, capture_front, classic_form, classic_front, next_record, record_front, start_by_magic, start_of_block}
+use Rattle.capture_core.specs.Blocks.{Block, BlockRead, Settled, before_others, begins, block_with, captures, count_after, describes, is_bad_length, next_block, packets_of_blocks, passes, put_block, section_header, section_in, section_order, settled_after}
+use Rattle.capture_core.specs.Captured.{captured_packets, packets_behind_header, packets_behind_section, packets_by_magic}
+use Rattle.capture_core.specs.computed.OneRead.{Front, capture_front, classic_form, next_record, record_front, start_by_magic, start_of_block}
 use Rattle.capture_core.specs.declared.form.CaptureForm.{CaptureForm}
 use Rattle.capture_core.specs.declared.form.OctetOrder.{OctetOrder}
 use Rattle.capture_core.specs.declared.start.Start.{Start}

@@ -1,5 +1,5 @@
 -- The start of a capture that is read part by part.
-use Rattle.std.proofs.Common.{◌≡◌, ℕ, ◌+◌, ◌<◌, ◌≤◌, Bool, true, false, ltb, eqb, List, [], ◌∷◌, ◌++◌, length, take, drop, Option, Some, None, Result, Ok, Err, ap, sym, ◌∙◌, refl, arith, append_assoc}
+use Rattle.std.proofs.Common.{◌≡◌, ℕ, ◌<◌, true, false, ltb, eqb, List, [], ◌++◌, length, drop, Option, Some, None, Ok, Err, ap, sym, ◌∙◌, refl, arith, append_assoc}
 use Rattle.std.specs.Prelude.{is_some}
 use borrow.Rule.Slice.PartMut.{put_mid, post_of}
 use Rattle.std.proofs.lemmas.List.{append-nil, drop_all, drop_at, length-append, take_at}

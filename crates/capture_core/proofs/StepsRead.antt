@@ -1,17 +1,15 @@
 -- What one thing that was read says of a capture.
-use Rattle.std.proofs.Common.{◌≡◌, ◌⊎◌, ℕ, ◌+◌, ◌-◌, ◌<◌, ◌≤◌, zero, suc, Bool, true, false, ltb, eqb, inl, inr, List, [], ◌∷◌, ◌++◌, length, take, drop, Option, Some, None, Result, Ok, Err, ap, sym, ◌∙◌, refl, subst, arith, append_assoc}
-use Rattle.std.specs.Io.KnownBytes.{Consumes}
+use Rattle.std.proofs.Common.{◌≡◌, ℕ, List, [], ◌++◌, length, drop, Option, Some, None, Ok, Err, ap, sym, ◌∙◌, refl}
 use Rattle.std.proofs.Math.Seq.{drop-append_seam}
 use Rattle.list_core.specs.declared.device.InputEnd.{InputEnd}
 use Rattle.list_core.specs.declared.device.InputEnd.TheVariants.{Open}
-use Rattle.list_core.specs.declared.event.Event.{Event}
-use Rattle.list_core.specs.Device.{GivesOctets, OnlyOpen}
-use Rattle.list_core.specs.Lines.{Stop, CanFollow, finished, unfinished, faulty}
+use Rattle.list_core.specs.Device.{GivesOctets}
+use Rattle.list_core.specs.Lines.{Stop, finished, unfinished, faulty}
 use Rattle.list_core.proofs.Devices.{Gives-from_Consumes}
 use Rattle.capture_core.specs.Packets.{Numbered, Packet, event_of, events_of, put_numbered, stopped}
 use Rattle.capture_core.specs.Asked.{OnlyWhile}
-use Rattle.capture_core.specs.PacketReader.{AnswersPacket, PacketState, Stage, over, events_behind, packets_behind, packets_from}
-use Rattle.capture_core.specs.computed.OneRead.{Front, GivesFront, ReadsFront, StandsSo, Told}
+use Rattle.capture_core.specs.PacketReader.{AnswersPacket, PacketState, over, events_behind, packets_behind, packets_from}
+use Rattle.capture_core.specs.computed.OneRead.{Front, GivesFront, ReadsFront, Told}
 use Rattle.capture_core.specs.computed.Steps.{PassesOver}
 use Rattle.capture_core.specs.declared.capture_fault.CaptureFault.{CaptureFault}
 

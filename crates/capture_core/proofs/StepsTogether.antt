@@ -1,17 +1,17 @@
 -- Several steps of a reader of packets, and then an answer.
-use Rattle.std.proofs.Common.{◌≡◌, ◌≢◌, ◌⊎◌, ℕ, inl, inr, List, [], ◌∷◌, ◌++◌, Option, Some, None, Result, Ok, Err, ap, sym, ◌∙◌, refl, subst, append_assoc}
+use Rattle.std.proofs.Common.{◌≡◌, ◌≢◌, ◌⊎◌, ℕ, inl, inr, List, [], ◌∷◌, ◌++◌, Option, Some, None, Ok, Err, ap, sym, ◌∙◌, refl, subst, append_assoc}
 use Rattle.std.proofs.lemmas.List.{append-nil}
 use Rattle.std.specs.Io.KnownBytes.{Consumes}
 use Rattle.list_core.specs.declared.device.InputEnd.{InputEnd}
 use Rattle.list_core.specs.declared.device.InputEnd.TheVariants.{Open, End, Failed}
 use Rattle.list_core.specs.declared.event.Event.{Event}
 use Rattle.list_core.specs.Device.{OnlyOpen}
-use Rattle.list_core.specs.Lines.{CanFollow, unfinished}
+use Rattle.list_core.specs.Lines.{CanFollow}
 use Rattle.list_core.proofs.Devices.{Consumes-append, Consumes-none, Gives-append}
 use Rattle.list_core.proofs.Readers.{CanFollow-given, OnlyOpen-append, OnlyOpen-none}
-use Rattle.capture_core.specs.Packets.{Numbered, Packet, events_of, stopped}
+use Rattle.capture_core.specs.Packets.{Numbered, events_of}
 use Rattle.capture_core.specs.Asked.{OnlyWhile}
-use Rattle.capture_core.specs.PacketReader.{AnswersPacket, GivesPacket, PacketAnswer, PacketState, TellsPacket, events_behind, packets_behind}
+use Rattle.capture_core.specs.PacketReader.{AnswersPacket, GivesPacket, PacketAnswer, PacketState, TellsPacket, packets_behind}
 use Rattle.capture_core.specs.computed.Steps.{PassesOver}
 use Rattle.capture_core.proofs.Fronts.{asked_none, front_cases}
 

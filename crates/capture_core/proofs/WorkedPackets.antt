@@ -5,7 +5,7 @@ use Rattle.list_core.specs.Lines.{finished, unfinished}
 use Rattle.capture_core.specs.declared.capture_fault.CaptureCause.TheVariants as cause
 use Rattle.capture_core.specs.Numbers.{number_at}
 use Rattle.capture_core.specs.Capture.{fault_in, records_of}
-use Rattle.capture_core.specs.Packets.{Packet, Numbered, stopped}
+use Rattle.capture_core.specs.Packets.{Packet, stopped}
 use Rattle.capture_core.specs.Interfaces.{moment_after, plain_interface, with_options}
 use Rattle.capture_core.specs.Blocks.{packets_of_blocks}
 use Rattle.capture_core.specs.Captured.{captured_packets}

@@ -3,7 +3,7 @@ use Rattle.std.specs.Prelude.{◌≡◌, ◌⊎◌, ◌≤◌, ◌<◌, ◌+◌,
 use Rattle.std.specs.List.{All}
 use Rattle.list_core.specs.Lines.{finished}
 use Rattle.capture_core.specs.Numbers.{number_at}
-use Rattle.capture_core.specs.Packets.{Packet, Numbered, put_numbered, stopped}
+use Rattle.capture_core.specs.Packets.{Packet, Numbered, stopped}
 use Rattle.capture_core.specs.Interfaces.{padded, seconds_back, seconds_forth, units_of}
 use Rattle.capture_core.specs.Blocks.{Block, Settled, begins, captures, describes, passes, put_block, section_order, settled_after, count_after, ticks_in, within_snapshot}
 use Rattle.capture_core.specs.Captured.{unsettled}

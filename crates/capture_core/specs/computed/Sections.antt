@@ -1,15 +1,13 @@
 -- What private calls promise of sections and their blocks.
-use Rattle.std.specs.Prelude.{◌≡◌, ◌≢◌, ◌⊎◌, ◌≤◌, ◌<◌, ℕ, ◌+◌, ◌-◌, ◌==◌, List, [], ◌++◌, length, take, Option, Some, None, Result, Ok, Err, if◌then◌else◌}
+use Rattle.std.specs.Prelude.{◌≡◌, ◌≤◌, ℕ, ◌+◌, ◌-◌, ◌==◌, List, ◌++◌, length, take, Option, Result, Ok, Err, if◌then◌else◌}
 use Rattle.std.specs.Io.KnownBytes.{Consumes}
 use Rattle.list_core.specs.declared.device.InputEnd.{InputEnd}
-use Rattle.list_core.specs.declared.device.InputEnd.TheVariants.{Open}
 use Rattle.list_core.specs.declared.event.Event.{Event}
-use Rattle.list_core.specs.Device.{GivesOctets, OnlyOpen}
-use Rattle.list_core.specs.Lines.{Stop, WhateverComes, unfinished, finished, faulty}
+use Rattle.list_core.specs.Device.{OnlyOpen}
 use Rattle.capture_core.specs.Numbers.{number_at}
 use Rattle.capture_core.specs.Packets.{Packet, event_of}
 use Rattle.capture_core.specs.Interfaces.{options_in}
-use Rattle.capture_core.specs.Blocks.{Settled, Block, begins, describes, captures, passes, BlockRead}
+use Rattle.capture_core.specs.Blocks.{Settled, Block, begins, describes, captures, passes}
 use Rattle.capture_core.specs.computed.Filling.{IsShort}
 use Rattle.capture_core.specs.declared.form.OctetOrder.{OctetOrder}
 use Rattle.capture_core.specs.declared.interface.Interface.{Interface}

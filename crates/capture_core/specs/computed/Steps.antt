@@ -1,7 +1,6 @@
 -- What one step of a reader of packets promises: a header, a record or a block was read.
-use Rattle.std.specs.Prelude.{◌≡◌, ◌⊎◌, ◌<◌, ℕ, ◌+◌, List, [], ◌∷◌, ◌++◌, Option, Some, None, Result, Ok, Err, IfOk, IfSome}
+use Rattle.std.specs.Prelude.{◌≡◌, ◌⊎◌, ◌<◌, ℕ, ◌+◌, List, [], ◌∷◌, ◌++◌, Option, Some, Result, Ok, Err, IfOk, IfSome}
 use Rattle.std.specs.Io.KnownBytes.{Consumes}
-use Rattle.list_core.specs.declared.device.InputEnd.{InputEnd}
 use Rattle.list_core.specs.declared.device.InputEnd.TheVariants.{Open}
 use Rattle.list_core.specs.declared.event.Event.{Event}
 use Rattle.list_core.specs.Device.{OnlyOpen}
@@ -9,7 +8,6 @@ use Rattle.list_core.specs.Lines.{WhateverComes, unfinished}
 use Rattle.capture_core.specs.Packets.{stopped}
 use Rattle.capture_core.specs.Asked.{OnlyWhile}
 use Rattle.capture_core.specs.PacketReader.{AnswersPacket, PacketState, answer_of, packets_behind, packet_number_told, things_left}
-use Rattle.capture_core.specs.computed.Sections.{IsSaidAs}
 use Rattle.capture_core.specs.declared.body.Said.{Said}
 use Rattle.capture_core.specs.declared.body.Said.TheVariants as said
 use Rattle.capture_core.specs.declared.packet_error.PacketError.{PacketError}

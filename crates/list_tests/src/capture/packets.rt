@@ -248,30 +248,207 @@ fn packets_where_each_growth_is_refused(rt: HostRuntime) -> Result<(), AllocErro
     Ok(())
 }
 
+/// A capture and where its header or first section ends, and each record or block behind: there it is whole.
+struct Ends<'a> {
+    octets: &'a [u8],
+    first: usize,
+    wholes: &'a [usize],
+    packets: &'a [Told<'a>],
+    /// Where these packets end.
+    packets_end: &'a [usize],
+}
+
+/// Whether it says what its first octets say, where the capture is cut behind these or a read fails there.
+fn stops_behind(alloc: Global, ends: &Ends<'_>, size: usize, cause: CaptureCause) -> bool {
+    let mut count = 0usize;
+    for end in ends.packets_end {
+        if *end <= size && count < ends.packets.len() {
+            count += 1;
+        }
+    }
+    let number = if size < ends.first {
+        0
+    } else {
+        count as u64 + 1
+    };
+    let packets = ends.packets.get(..count).unwrap_or(&[]);
+    if cause == CaptureCause::ReadFailed {
+        let source = source_of(ends.octets, 1, size as u64);
+        return tells(alloc, source, packets, refused(number, cause)) == Some(true);
+    }
+    let is_whole = size == ends.first || ends.wholes.contains(&size);
+    let stop = if is_whole {
+        None
+    } else {
+        refused(number, cause)
+    };
+    let part = ends.octets.get(..size).unwrap_or(ends.octets);
+    tells(alloc, source_of(part, 4096, NEVER), packets, stop) == Some(true)
+}
+
 #[test]
-fn reads_that_fail(rt: HostRuntime) -> Result<(), AllocError> {
-    let octets = joined(rt.alloc(), &[SECTION, NANOSECONDS, PACKET])?;
-    // one octet a read: the first block, the interface and the packet, and what follows it
-    for (fails_at, number, packets) in [
-        (0u64, 0u64, 0usize),
-        (27, 0, 0),
-        (28, 1, 0),
-        (67, 1, 0),
-        (68, 1, 0),
-        (103, 1, 0),
-        (104, 2, 1),
+fn captures_that_are_cut_or_fail(rt: HostRuntime) -> Result<(), AllocError> {
+    let blocks = joined(rt.alloc(), &[SECTION, NANOSECONDS, PACKET, OTHER, PACKET])?;
+    let records = joined(rt.alloc(), &[CLASSIC, RECORDS])?;
+    let told: [Told<'_>; 2] = [(1, 1_000_002, b"\xaa\xbb\xcc"), (2, 1_000_003, b"")];
+    for ends in [
+        Ends {
+            octets: blocks.as_slice(),
+            first: 28,
+            wholes: &[68, 104, 120, 156],
+            packets: &[FIRST, SECOND],
+            packets_end: &[104, 156],
+        },
+        Ends {
+            octets: records.as_slice(),
+            first: 24,
+            wholes: &[43, 59],
+            packets: &told,
+            packets_end: &[43, 59],
+        },
     ] {
-        let packets = if packets == 0 {
-            [].as_slice()
-        } else {
-            [FIRST].as_slice()
-        };
-        let source = source_of(octets.as_slice(), 1, fails_at);
-        let failed = refused(number, CaptureCause::ReadFailed);
-        assert!(rt;
-            tells(rt.alloc(), source, packets, failed) == Some(true),
-            "at {fails_at}"
-        );
+        for size in 0..=ends.octets.len() {
+            let is_cut = stops_behind(rt.alloc(), &ends, size, CaptureCause::CaptureShort);
+            assert!(rt; is_cut, "cut behind {size}");
+            let has_failed = stops_behind(rt.alloc(), &ends, size, CaptureCause::ReadFailed);
+            assert!(rt; has_failed, "a read fails behind {size}");
+        }
     }
     Ok(())
+}
+
+/// An interface of Ethernet in microseconds, a second back, and one whose packets have two octets at most.
+const BEFORE: &[u8] =
+    b"\x01\x00\x00\x00\x20\x00\x00\x00\x01\x00\x00\x00\x00\x00\x00\x00\x0e\x00\x08\x00\xff\xff\xff\xff\xff\xff\xff\xff\x20\x00\x00\x00";
+
+const SNAPPED: &[u8] =
+    b"\x01\x00\x00\x00\x14\x00\x00\x00\x01\x00\x00\x00\x02\x00\x00\x00\x14\x00\x00\x00";
+
+#[test]
+fn blocks_of_each_kind(rt: HostRuntime) {
+    let parts: [(&str, &[&[u8]], &[Told<'_>], Option<CaptureFault>); 14] = [
+        (
+            "an obsolete packet",
+            &[
+                SECTION,
+                NANOSECONDS,
+                b"\x02\x00\x00\x00\x24\x00\x00\x00\x00\x00\xff\xff\x00\x00\x00\x00\x6f\x17\x00\x00\x03\x00\x00\x00\x09\x00\x00\x00\xaa\xbb\xcc\x00\x24\x00\x00\x00",
+            ],
+            &[FIRST],
+            None,
+        ),
+        (
+            "a simple packet of three octets, of which two were kept",
+            &[
+                SECTION,
+                SNAPPED,
+                b"\x03\x00\x00\x00\x14\x00\x00\x00\x03\x00\x00\x00\x01\x02\x03\x00\x14\x00\x00\x00",
+            ],
+            &[(1, 0, b"\x01\x02")],
+            None,
+        ),
+        (
+            "a time before 1970",
+            &[SECTION, BEFORE, PACKET],
+            &[],
+            refused(1, CaptureCause::PacketTime),
+        ),
+        (
+            "a body that is no interface",
+            &[
+                SECTION,
+                b"\x01\x00\x00\x00\x10\x00\x00\x00\x01\x00\x00\x00\x10\x00\x00\x00",
+            ],
+            &[],
+            refused(1, CaptureCause::BlockForm),
+        ),
+        (
+            "an option past the end",
+            &[
+                SECTION,
+                b"\x01\x00\x00\x00\x18\x00\x00\x00\x01\x00\x00\x00\x00\x00\x00\x00\x02\x00\x08\x00\x18\x00\x00\x00",
+            ],
+            &[],
+            refused(1, CaptureCause::BlockForm),
+        ),
+        (
+            "a resolution of two octets",
+            &[
+                SECTION,
+                b"\x01\x00\x00\x00\x1c\x00\x00\x00\x01\x00\x00\x00\x00\x00\x00\x00\x09\x00\x02\x00\x06\x06\x00\x00\x1c\x00\x00\x00",
+            ],
+            &[],
+            refused(1, CaptureCause::BlockForm),
+        ),
+        (
+            "no octets where one was captured",
+            &[
+                SECTION,
+                SNAPPED,
+                b"\x06\x00\x00\x00\x20\x00\x00\x00\x00\x00\x00\x00\x00\x00\x00\x00\x00\x00\x00\x00\x01\x00\x00\x00\x01\x00\x00\x00\x20\x00\x00\x00",
+            ],
+            &[],
+            refused(1, CaptureCause::BlockForm),
+        ),
+        (
+            "262,145 octets in a packet",
+            &[
+                SECTION,
+                SNAPPED,
+                b"\x06\x00\x00\x00\x20\x00\x00\x00\x00\x00\x00\x00\x00\x00\x00\x00\x00\x00\x00\x00\x01\x00\x04\x00\x01\x00\x04\x00\x20\x00\x00\x00",
+            ],
+            &[],
+            refused(1, CaptureCause::RecordLength),
+        ),
+        (
+            "262,145 octets in a record",
+            &[
+                CLASSIC,
+                b"\x01\x00\x00\x00\x02\x00\x00\x00\x01\x00\x04\x00\x09\x00\x00\x00",
+            ],
+            &[],
+            refused(1, CaptureCause::RecordLength),
+        ),
+        (
+            "a block of 8 octets",
+            &[SECTION, b"\x09\x00\x00\x00\x08\x00\x00\x00"],
+            &[],
+            refused(1, CaptureCause::BlockLength),
+        ),
+        (
+            "a block of 14 octets",
+            &[SECTION, b"\x09\x00\x00\x00\x0e\x00\x00\x00"],
+            &[],
+            refused(1, CaptureCause::BlockLength),
+        ),
+        (
+            "a section header of 24 octets",
+            &[b"\x0a\x0d\x0d\x0a\x18\x00\x00\x00\x4d\x3c\x2b\x1a"],
+            &[],
+            refused(0, CaptureCause::BlockLength),
+        ),
+        (
+            "a first section of version 2",
+            &[
+                b"\x0a\x0d\x0d\x0a\x1c\x00\x00\x00\x4d\x3c\x2b\x1a\x02\x00\x00\x00\xff\xff\xff\xff\xff\xff\xff\xff\x1c\x00\x00\x00",
+            ],
+            &[],
+            refused(0, CaptureCause::CaptureHeader),
+        ),
+        (
+            "a later section of version 2",
+            &[
+                SECTION,
+                b"\x0a\x0d\x0d\x0a\x1c\x00\x00\x00\x4d\x3c\x2b\x1a\x02\x00\x00\x00\xff\xff\xff\xff\xff\xff\xff\xff\x1c\x00\x00\x00",
+            ],
+            &[],
+            refused(1, CaptureCause::BlockForm),
+        ),
+    ];
+    for (name, parts, packets, stop) in &parts {
+        assert!(rt;
+            says(rt.alloc(), parts, packets, *stop) == Ok(true),
+            "{name}"
+        );
+    }
 }

@@ -1,4 +1,4 @@
-use Rattle.std.proofs.Common.{◌≡◌, ◌-◌, ◌∙◌, length, ap, sym, arith}
+use Rattle.std.proofs.Common.{◌-◌, ◌∙◌, ap, sym, arith}
 use Rattle.capture_core.specs.Numbers.{number_at}
 use Rattle.capture_core.specs.Interfaces.{options_in, plain_interface}
 use Rattle.capture_core.proofs.OptionsRead.{interface_read}

@@ -1,8 +1,8 @@
-use Rattle.std.proofs.Common.{◌≡◌, ◌++◌, ◌∙◌, length, ap, sym, refl, arith, append_assoc}
-use Rattle.std.proofs.lemmas.List.{append-nil, length-append}
+use Rattle.std.proofs.Common.{◌++◌, ◌∙◌, ap, sym, arith, append_assoc}
+use Rattle.std.proofs.lemmas.List.{length-append}
 use Rattle.std.proofs.lemmas.Result.{err_from_is_err_and}
-use Rattle.list_core.proofs.Devices.{Consumes-append, Consumes-none}
-use Rattle.list_core.proofs.Readers.{OnlyOpen-append, OnlyOpen-none}
+use Rattle.list_core.proofs.Devices.{Consumes-append}
+use Rattle.list_core.proofs.Readers.{OnlyOpen-append}
 use Rattle.capture_core.specs.Interfaces.{options_in}
 use Rattle.capture_core.proofs.Parts.{short_behind}
 use Rattle.capture_core.proofs.options.read_options.Goals as goal

@@ -1,4 +1,4 @@
-use Rattle.std.proofs.Common.{◌≡◌, ℕ, ◌≤◌, ◌<◌, ◌++◌, ◌∙◌, List, length, Ok, Err, ap, sym, refl, arith}
+use Rattle.std.proofs.Common.{ℕ, ◌≤◌, ◌<◌, ◌∙◌, Ok, Err, ap, sym, refl, arith}
 use Rattle.list_core.specs.declared.device.InputEnd.TheVariants.{Open}
 use Rattle.list_core.specs.declared.device.InputEnd.{InputEnd}
 use Rattle.capture_core.specs.Capture.{captured_size, cut, moment_in_head}

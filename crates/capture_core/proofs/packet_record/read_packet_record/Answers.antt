@@ -1,4 +1,4 @@
-use Rattle.std.proofs.Common.{◌≡◌, ℕ, ◌<◌, ◌++◌, ◌∙◌, List, [], length, take, Ok, Err, ap, sym, refl, arith}
+use Rattle.std.proofs.Common.{◌≡◌, ◌∙◌, [], length, take, ap, sym, refl, arith}
 use Rattle.std.proofs.lemmas.List.{length-take-le}
 use Rattle.list_core.specs.declared.device.InputEnd.{InputEnd}
 use Rattle.capture_core.specs.Capture.{cut}

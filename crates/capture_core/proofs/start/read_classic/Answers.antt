@@ -1,4 +1,4 @@
-use Rattle.std.proofs.Common.{◌≡◌, ℕ, ◌++◌, ◌∙◌, length, Some, None, Ok, Err, ap, sym, arith}
+use Rattle.std.proofs.Common.{◌≡◌, ℕ, ◌++◌, ◌∙◌, length, Ok, Err, ap, sym, arith}
 use Rattle.std.proofs.lemmas.List.{length-append}
 use Rattle.list_core.specs.declared.device.InputEnd.TheVariants.{Open}
 use Rattle.capture_core.specs.Header.{header_of}

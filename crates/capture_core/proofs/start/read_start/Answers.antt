@@ -1,4 +1,4 @@
-use Rattle.std.proofs.Common.{◌≡◌, ℕ, ◌∙◌, [], length, Ok, Err, ap, sym, arith}
+use Rattle.std.proofs.Common.{◌≡◌, ◌∙◌, [], length, Err, ap, sym, arith}
 use Rattle.std.specs.Prelude.{is_some}
 use Rattle.list_core.specs.declared.device.InputEnd.TheVariants.{Open}
 use Rattle.capture_core.proofs.StartsRead.{section_fails, section_starts, start_blocks, start_other, start_short, start_some}

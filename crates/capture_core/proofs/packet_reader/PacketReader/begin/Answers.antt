@@ -1,6 +1,5 @@
-use Rattle.std.proofs.Common.{◌≡◌, ap, refl, sym, arith}
-use Rattle.list_core.specs.declared.event.Event.{Event}
-use Rattle.capture_core.specs.PacketReader.{packet_state, stage_of}
+use Rattle.std.proofs.Common.{ap, refl, arith}
+use Rattle.capture_core.specs.PacketReader.{stage_of}
 use Rattle.capture_core.specs.declared.packet_reader.Progress.{Progress}
 use Rattle.capture_core.proofs.ReaderSteps.{starts_badly, starts_blocks, starts_records}
 use Rattle.capture_core.proofs.packet_reader.PacketReader.begin.Goals as goal

@@ -1,9 +1,8 @@
-use Rattle.std.proofs.Common.{◌≡◌, ℕ, ◌+◌, ◌∙◌, List, [], Option, Some, None, Err, ap, sym, refl}
+use Rattle.std.proofs.Common.{◌+◌, ◌∙◌, [], Some, Err, ap, sym, refl}
 use Rattle.list_core.specs.declared.device.InputEnd.{InputEnd}
 use Rattle.capture_core.specs.Capture.{ended}
 use Rattle.capture_core.specs.Packets.{stop_of}
 use Rattle.capture_core.specs.computed.OneRead.{ReadsFront}
-use Rattle.capture_core.specs.declared.capture_fault.CaptureFault.{CaptureFault}
 use Rattle.capture_core.proofs.LastRead.{last_ends, last_fails, last_front, last_short, last_whole, number_reading}
 use Rattle.capture_core.proofs.packet_reader.PacketReader.read_last.Goals as goal
 use Rattle.capture_core.proofs.packet_reader.PacketReader.read_last.Goals.{in-Whole, in-Short}
