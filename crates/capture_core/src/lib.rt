@@ -1,5 +1,6 @@
-//! Captures in the classic form of libpcap: a header of 24 octets, then records of captured frames, read one record at a
-//! time from a source of octets.
+//! Captures, read from a source of octets. `PacketReader` reads a capture of any length packet by packet, in the classic form
+//! of libpcap, a header of 24 octets and then records, or in pcapng, sections of blocks. `read_header` and `read_record` read
+//! the classic form one record at a time.
 //!
 //! ```text
 //! header  magic number 4, version 2 + 2, ignored 8, snapshot length 4 (not looked at), link type 4

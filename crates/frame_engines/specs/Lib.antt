@@ -5,4 +5,5 @@ pub mod WrittenForm
 pub mod CheckText
 pub mod ImportText
 pub mod FrameText
+pub mod Laws
 pub mod computed

@@ -2,6 +2,7 @@
 #![tactic(auto, using(text_core::proofs::Fronts::front_before))]
 
 mod engines;
+pub mod laws;
 pub mod texts;
 
 pub use crate::engines::check::{check, check_to_stop};

@@ -249,6 +249,7 @@ fn packets_where_each_growth_is_refused(rt: HostRuntime) -> Result<(), AllocErro
 }
 
 /// A capture and where its header or first section ends, and each record or block behind: there it is whole.
+#[derive(Clone, Copy)]
 struct Ends<'a> {
     octets: &'a [u8],
     first: usize,
