@@ -17,7 +17,7 @@ FORMATS = TOP / "docs" / "FORMATS.md"
 NAMES = {
     "Of a frame": ("text_core", "Names", "name_of_cause"),
     "Of a list": ("text_core", "Names", "name_of_list_cause"),
-    "Of a capture": ("frame_engines", "CaptureNames", "name_of_capture_cause"),
+    "Of a capture": ("text_core", "CaptureNames", "name_of_capture_cause"),
     "Of a script": ("exchange_engines", "ExchangeNames", "name_of_script_cause"),
     "Why a frame of a block is refused": ("exchange_engines", "ExchangeNames", "name_of_reason"),
 }

@@ -17,7 +17,7 @@ use Rattle.capture_core.specs.declared.capture_fault.CaptureFault.{CaptureFault}
 use Rattle.engine_core.specs.Run.{IsUntouched}
 use Rattle.engine_core.specs.declared.ending.Ending.{Ending}
 use Rattle.engine_core.specs.declared.ending.Ending.TheVariants.{Done, Findings, InputFault, ReadFault, WriteFault, Memory}
-use Rattle.frame_engines.specs.CaptureNames.{name_of_capture_cause}
+use Rattle.text_core.specs.LineText.{capture_line}
 
 -- whether a record is left out, since a list has frames of 1 to 2,000 octets alone
 abbrev pub is_left_out : ℕ × CaptureRecord → Bool
@@ -35,9 +35,9 @@ imported_line moment octets = event_text {A = Unit {0}} (record { moment = momen
 abbrev pub record_line : ℕ × CaptureRecord → List ℕ
 record_line r = if is_left_out r then left_out_line r.0 (length r.1.octets) else imported_line r.1.moment r.1.octets
 
--- the last line, on a fault: a comment
+-- the last line, on a fault: that of the fault as a comment
 abbrev pub capture_fault_line : CaptureFault → List ℕ
-capture_fault_line f = codes "# " ++ decimal f.number ++ codes " capture " ++ name_of_capture_cause f.cause ++ codes "\n"
+capture_fault_line f = codes "# " ++ capture_line f
 
 -- records before others
 abbrev pub put_records : List (ℕ × CaptureRecord) → Capture → Capture

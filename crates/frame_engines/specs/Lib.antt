@@ -1,4 +1,3 @@
-pub mod CaptureNames
 pub mod ShowText
 pub mod RewriteText
 pub mod WrittenForm

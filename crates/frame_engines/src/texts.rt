@@ -1,4 +1,3 @@
 //! The texts that these engines alone write.
 
 pub mod frame;
-pub mod names;

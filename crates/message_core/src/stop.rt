@@ -2,12 +2,11 @@
 
 use capture_core::CaptureFault;
 use exchange_engines::texts::names::script_cause_name;
-use frame_engines::texts::names::capture_cause_name;
 use list_core::{ItemFault, ListFault};
 use script_core::ScriptCause;
 use std::{fmt, str};
 use subscribe_core::SubscribeFault;
-use text_core::names::{cause_name, list_cause_name};
+use text_core::names::{capture_cause_name, cause_name, list_cause_name};
 
 /// Why an input, or the control blocks of a replay, ended a run.
 #[derive(Drop)]

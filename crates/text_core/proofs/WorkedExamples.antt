@@ -5,8 +5,9 @@ use Rattle.std.specs.Fmt.{digits}
 use Rattle.hex.specs.Hex.{encode_with}
 use Rattle.ber_core.specs.declared.fault.Cause.TheVariants as causes
 use Rattle.list_core.specs.declared.list_fault.ListCause.TheVariants as list
+use Rattle.capture_core.specs.declared.capture_fault.CaptureCause.TheVariants as capture
 use Rattle.mms_data.specs.Data.{boolean, bits, integer, unsigned, floating, octets, visible, binary_time, mms_text, utc, simple, array, structure, items_of}
-use Rattle.text_core.specs.LineText.{clock_line, fault_line, list_fault_line}
+use Rattle.text_core.specs.LineText.{capture_line, clock_line, fault_line, list_fault_line}
 use Rattle.text_core.specs.ValueText.{members_text, simple_text, value_text}
 
 pub record AreTexts : Type 0 where
@@ -35,7 +36,8 @@ pub record AreShortLines : Type 0 where
   pub clock : clock_line 3 1500000 ≡ codes "3 clock 1500000\n"
   pub fault : fault_line 12 (record { place = 59; cause = causes.EntryCount }) ≡ codes "12 fault 59 EntryCount\n"
   pub last : list_fault_line (record { line = 7; cause = list.LineForm }) ≡ codes "7 list LineForm\n"
+  pub last_of_capture : capture_line (record { number = 7; cause = capture.BlockForm }) ≡ codes "7 capture BlockForm\n"
 
 short_lines : AreShortLines
 unfolding digits
-short_lines = record { clock = refl; fault = refl; last = refl }
+short_lines = record { clock = refl; fault = refl; last = refl; last_of_capture = refl }

@@ -1,5 +1,6 @@
 pub mod Pieces
 pub mod Names
+pub mod CaptureNames
 pub mod ValueText
 pub mod LineText
 pub mod SampledText

@@ -3,6 +3,7 @@
 
 pub mod event;
 pub mod fields;
+mod last_line;
 pub mod line;
 pub mod names;
 pub mod owned;
@@ -10,3 +11,5 @@ pub mod pieces;
 pub mod sampled;
 pub mod short;
 pub mod value;
+
+pub use crate::last_line::LastLine;

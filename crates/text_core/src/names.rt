@@ -1,8 +1,10 @@
 //! The names of causes, as they are written.
-ghost use Rattle.std.specs.Prelude.{◌≡◌};
+ghost use Rattle.std.specs.Prelude.{◌≡◌, ◌≤◌, length};
+ghost use Rattle.text_core.specs.CaptureNames.{name_of_capture_cause};
 ghost use Rattle.text_core.specs.Names.{name_of_cause, name_of_list_cause};
 
 use ber_core::Cause;
+use capture_core::CaptureCause;
 use list_core::ListCause;
 
 /// The name of the cause for which octets of a frame are refused.
@@ -45,5 +47,23 @@ pub fn list_cause_name(cause: ListCause) -> &'static [u8]
         ListCause::Hex => b"Hex",
         ListCause::ListTooLong => b"ListTooLong",
         ListCause::ReadFailed => b"ReadFailed",
+    }
+}
+
+/// The name of the cause for which a capture is refused, of 14 octets at most.
+pub fn capture_cause_name(cause: CaptureCause) -> &'static [u8]
+    ensures name { result.now ≡ name_of_capture_cause cause }
+    ensures short { length result.now ≤ 14 }
+{
+    match cause {
+        CaptureCause::CaptureHeader => b"CaptureHeader",
+        CaptureCause::CaptureShort => b"CaptureShort",
+        CaptureCause::RecordLength => b"RecordLength",
+        CaptureCause::TooManyRecords => b"TooManyRecords",
+        CaptureCause::ReadFailed => b"ReadFailed",
+        CaptureCause::BlockForm => b"BlockForm",
+        CaptureCause::BlockLength => b"BlockLength",
+        CaptureCause::Interface => b"Interface",
+        CaptureCause::PacketTime => b"PacketTime",
     }
 }

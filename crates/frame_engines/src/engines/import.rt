@@ -10,7 +10,6 @@ ghost use Rattle.engine_core.specs.Ending.{is_write_fault};
 ghost use Rattle.frame_engines.specs.computed.ImportStep.{ImportHalts, ImportWrites, ending_of_halt};
 ghost use Rattle.frame_engines.specs.ImportText.{Imports, ImportsTo, capture_fault_line, ending_of_capture, left_out_line};
 
-use crate::texts::names::capture_cause_name;
 use arrayvec::ArrayVec;
 use capture_core::{
     CaptureCause, CaptureFault, CaptureForm, Captured, LONGEST_FRAME, read_header, read_record,
@@ -19,6 +18,7 @@ use engine_core::{Ending, Halt, Next, Stopped, ending_where};
 use frame_core::{FrameLines, Sink, Source, put_all};
 use itoa::Buffer;
 use std::alloc::Allocator;
+use text_core::names::capture_cause_name;
 
 /// The most octets of a comment.
 const LONGEST_COMMENT: usize = 80;
