@@ -11,3 +11,8 @@ pub mod WrittenSeen
 pub mod ReadingLaws
 pub mod SpelledSpellable
 pub mod StandardFacts
+pub mod Turned
+pub mod PassedCounts
+pub mod Tallies
+pub mod Skipping
+pub mod OtherCauses

@@ -7,6 +7,8 @@ pub mod Memory
 pub mod GooseFrame
 pub mod FrameFault
 pub mod OtherType
+pub mod PassedOver
+pub mod SkipOther
 pub mod Written
 pub mod Laws
 pub mod computed

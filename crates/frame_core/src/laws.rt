@@ -1,11 +1,14 @@
 //! Laws about the definitions that the contracts of this crate cite. The functions compute nothing.
 
 ghost use Rattle.frame_core.specs.Laws.{FaultIsOne, FitsIsKnown, FrameIsOne, FrameOrFault, PartsMakeTheControl, ReadingIsTrue, ReadingTells, SpelledIsSpellable, WrittenIsSpelled};
+ghost use Rattle.frame_core.specs.PassedOver.{EachIsCounted};
+ghost use Rattle.frame_core.specs.SkipOther.{LeavesWhatCame};
 
 pub use list_core::laws::{
     a_line_says_what_it_spells, stops_tell_the_ending, version_comes_first,
     written_event_reads_back,
 };
+use list_core::{Event, ReadItems};
 use std::alloc::Allocator;
 
 /// Octets are spelled for at most one frame, or have at most one first fault, and never both.
@@ -40,4 +43,16 @@ pub fn spelled_is_spellable<A: Allocator>()
 /// first, and the number of the virtual network.
 pub fn parts_make_the_control()
     ensures { PartsMakeTheControl }
+{}
+
+/// Of frames that are passed over, each is counted: for each of at most sixteen EtherTypes there stand how many frames had it and
+/// the number of the first, and for all other frames together, of which there are some only beside sixteen kinds.
+pub fn each_is_counted()
+    ensures { EachIsCounted }
+{}
+
+/// What a reader answers that passes over the frames of other protocols is what is left of the events that the reader beneath
+/// gave, one by one; and it keeps of which frames nothing else is left.
+pub fn passing_over_leaves_what_came<A: Allocator, I: ReadItems<A, Item = Event<A>>>()
+    ensures { LeavesWhatCame I.answers }
 {}

@@ -10,6 +10,8 @@ mod frame_view;
 mod goose_encoding;
 pub mod laws;
 mod other_type;
+mod passed_over;
+mod skip_other;
 mod view_encoding;
 mod viewing;
 mod vlan_tag;
@@ -20,12 +22,15 @@ pub use crate::frame::{Apdu, Frame};
 pub use crate::frame_view::{ApduView, FrameView};
 pub use crate::goose_encoding::{GooseFrame, encode_goose};
 pub use crate::other_type::other_ether_type;
+pub use crate::passed_over::{Passed, PassedKind, PassedOver};
+pub use crate::skip_other::SkipOther;
 pub use crate::view_encoding::{encode_view, written_length};
 pub use crate::viewing::{see_frame, view_frame};
 pub use crate::vlan_tag::VlanTag;
 pub use list_core::{
-    DeviceFault, Event, EventKind, EventLines, FrameLines, FromRead, InputEnd, ItemError,
-    ItemFault, ItemReader, LineError, LineReader, LineRules, ListCause, ListError, ListFault,
-    ListReader, MomentUnit, Sink, Source, ToWrite, WriteFault, cut_first, decimal_in,
-    fault_of_list, hexadecimal_digit, moment_in, put_all, write_digits, write_event, write_frame,
+    DeviceFault, Event, EventKind, EventLines, FrameLines, FromRead, InputEnd, InputFault,
+    ItemError, ItemFault, ItemReader, LineError, LineReader, LineRules, ListCause, ListError,
+    ListFault, ListReader, MomentUnit, ReadError, ReadItems, Sink, Source, ToWrite, WriteFault,
+    cut_first, decimal_in, fault_of_list, hexadecimal_digit, moment_in, put_all, write_digits,
+    write_event, write_frame,
 };

@@ -13,3 +13,4 @@ mod other_types;
 mod refused_lists;
 mod sampled_frames;
 pub mod sentences;
+mod skipping;

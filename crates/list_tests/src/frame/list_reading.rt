@@ -7,7 +7,7 @@ use std::process::Abort;
 use test_devices::{Endless, NEVER, sink_of, source_of};
 
 /// Whether the event's line is this one.
-fn is_listed_as<A: Allocator>(texts: Global, event: &Event<A>, line: &[u8]) -> bool {
+pub fn is_listed_as<A: Allocator>(texts: Global, event: &Event<A>, line: &[u8]) -> bool {
     let mut sink = sink_of(texts, 4096, NEVER);
     write_event(&mut sink, event) == Ok(())
         && sink.octets.as_slice().strip_suffix(b"\n") == Some(line)
