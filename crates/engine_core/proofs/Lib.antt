@@ -1,5 +1,6 @@
 pub mod Wanted
 pub mod ItemTexts
+pub mod EventSteps
 pub mod ListRuns
 pub mod InputRuns
 pub mod MadeAnswers

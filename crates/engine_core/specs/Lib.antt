@@ -2,6 +2,7 @@ pub mod Ending
 pub mod EngineText
 pub mod Run
 pub mod RunOver
+pub mod EventsText
 pub mod InputRun
 pub mod MadeRun
 pub mod CaptureRun

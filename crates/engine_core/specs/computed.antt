@@ -2,3 +2,4 @@
 -- ties each to the definitions beside this folder, so nobody has to believe it.
 pub mod WholeText
 pub mod EngineStep
+pub mod EventStep

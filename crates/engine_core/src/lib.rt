@@ -2,10 +2,12 @@
 #![tactic(auto)]
 
 mod ending;
+mod event_engine;
 pub mod laws;
 mod running;
 mod stopped;
 
 pub use crate::ending::{Ending, status};
+pub use crate::event_engine::{EventEngine, OfEvents};
 pub use crate::running::{Engine, Next, ending_where, refuse, run, run_over, run_to_stop};
 pub use crate::stopped::{Halt, Stopped};

@@ -1,5 +1,5 @@
 //! The last line of what is written of an input that has a fault.
-ghost use Rattle.std.specs.Prelude.{ℕ, List};
+ghost use Rattle.std.specs.Prelude.{◌≡◌, ℕ, List, [], IsOk};
 ghost use Rattle.list_core.specs.ListReader.{list_fault_of};
 ghost use Rattle.text_core.specs.LineText.{capture_line, list_fault_line};
 ghost use Rattle.text_core.specs.Pieces.{AppendsText};
@@ -16,9 +16,10 @@ pub trait LastLine {
     /// That line.
     ghost last_line: { Self → List ℕ };
 
-    /// Appends that line. Where memory is refused, the earlier text remains.
+    /// Appends that line. Where memory is refused, the earlier text remains; none is wanted for a line of no octets.
     fn put_last_line<A: Allocator>(&self, out: &mut Vec<u8, A>) -> Result<(), AllocError>
-        ensures { AppendsText result out.old.items out.new.items (last_line self.now) };
+        ensures text { AppendsText result out.old.items out.new.items (last_line self.now) }
+        ensures quiet { last_line self.now ≡ [] → IsOk result };
 }
 
 impl LastLine for ItemFault<ListCause> {
