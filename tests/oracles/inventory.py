@@ -41,14 +41,14 @@ def line(number, earlier, sighting):
     return [] if last == shown else [f"{number} {word}-changed {shown}"]
 
 
-def blocks(octets):
-    """The text of `blocks` and the exit status."""
+def blocks(octets, has_failed=False, events_of=reference.events):
+    """The text of `blocks` over the events that are read of octets, and the exit status."""
     lines, earlier = [], []
     try:
-        for number, (sort, _, held) in reference.events(octets, False):
+        for number, (sort, _, held) in events_of(octets, has_failed):
             for sighting in sightings(held) if sort == "frame" else []:
                 lines += line(number, earlier, sighting)
                 earlier.append(sighting)
     except reference.ListFault as fault:
-        return [*lines, f"{fault.line} list {fault.cause}"], fault.status()
+        return [*lines, fault.text()], fault.status()
     return lines, 0

@@ -1,4 +1,6 @@
 """A slow reader of the packets of a capture, classic or pcapng, written from docs/FORMATS.md and the pcapng draft alone."""
+from oracles import reference
+
 MOST_CAPTURED = 262_144
 LONGEST_BLOCK = 16_777_216
 MOST_INTERFACES = 65_536
@@ -13,14 +15,29 @@ class Refused(Exception):
     """The capture stops here by this cause."""
 
 
+class CaptureFault(reference.ListFault):
+    """What ends a capture: the number of its packet and its cause."""
+
+    sort = "capture"
+
+
 def number(octets, order):
     return int.from_bytes(octets, order)
+
+
+def events(octets, has_failed=False):
+    """The events of a capture with the numbers of their packets; a CaptureFault ends them where the capture has one."""
+    found, fault = packets(octets, has_failed)
+    for at, moment, held in found:
+        yield at, ("clock", moment, None) if held is None else ("frame", moment, held)
+    if fault is not None:
+        raise CaptureFault(*fault)
 
 
 def packets(octets, failed=False):
     """([(number, moment, octets or None)], None or (number, cause)): None in place of octets where only time has passed."""
     found, end = [], "ReadFailed" if failed else "CaptureShort"
-    first = True
+    first, octets = True, memoryview(octets)
     try:
         if len(octets) < 4:
             raise Refused(end)
@@ -61,7 +78,7 @@ def classic(octets, order, found, end, failed):
         seconds, fraction, captured = (number(octets[place + at:place + at + 4], order) for at in (0, 4, 8))
         if captured > MOST_CAPTURED:
             raise Refused("RecordLength")
-        held = octets[place + 16:place + 16 + captured]
+        held = bytes(octets[place + 16:place + 16 + captured])
         if len(held) < captured:
             raise Refused(end)
         found.append((len(found) + 1, seconds * 1_000_000 + fraction // unit, held or None))
@@ -165,4 +182,4 @@ def packet(kind, body, settled):
         moment = ticks * 1_000_000 // units + 1_000_000 * it["offset"]
         if not 0 <= moment <= LAST_MOMENT:
             raise Refused("PacketTime")
-    return moment, body[head:head + captured] if it["link"] == ETHERNET else b""
+    return moment, bytes(body[head:head + captured]) if it["link"] == ETHERNET else b""

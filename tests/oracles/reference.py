@@ -484,9 +484,16 @@ class ListFault(Exception):
         super().__init__(line, cause)
         self.line, self.cause = line, cause
 
+    # What is read, as the last line of a text names it.
+    sort = "list"
+
     def status(self):
         """The exit status of a run that it ends."""
         return 4 if self.cause == "ReadFailed" else 3
+
+    def text(self):
+        """The last line of the text of a run that it ends."""
+        return f"{self.line} {self.sort} {self.cause}"
 
 
 def moment_of(digits, version):
@@ -596,25 +603,25 @@ def rewritten(sort, moment, held):
     return f"F {moment} {(held if written is None else written).hex()}", written is None
 
 
-def show(octets, has_failed=False):
-    """The text of `show` and the exit status."""
+def show(octets, has_failed=False, events_of=events):
+    """The text of `show` over the events that are read of octets, and the exit status."""
     lines = []
     try:
-        for number, event in events(octets, has_failed):
+        for number, event in events_of(octets, has_failed):
             lines.append(f"{number} {shown(*event)}")
     except ListFault as fault:
-        return [*lines, f"{fault.line} list {fault.cause}"], fault.status()
+        return [*lines, fault.text()], fault.status()
     return lines, 0
 
 
-def check(octets, has_failed=False):
-    """The text of `check` and the exit status."""
+def check(octets, has_failed=False, events_of=events):
+    """The text of `check` over the events that are read of octets, and the exit status."""
     lines = []
     try:
-        for number, (sort, _, held) in events(octets, has_failed):
+        for number, (sort, _, held) in events_of(octets, has_failed):
             lines += [f"{number} {note}" for note in notes(sort, held)]
     except ListFault as fault:
-        return [*lines, f"{fault.line} list {fault.cause}"], fault.status()
+        return [*lines, fault.text()], fault.status()
     return lines, 1 if lines else 0
 
 
@@ -627,7 +634,7 @@ def rewrite(octets, has_failed=False):
             lines.append(line)
             keeps = keeps or is_kept
     except ListFault as fault:
-        return [*lines, f"# {fault.line} list {fault.cause}"], fault.status()
+        return [*lines, f"# {fault.text()}"], fault.status()
     return lines, 1 if keeps else 0
 
 

@@ -60,15 +60,15 @@ def entries_of_frame(blocks, mode, now, octets):
     return [*said, line]
 
 
-def replay(octets, words):
-    """The text of `replay` of these blocks, and the exit status."""
+def replay(octets, words, has_failed=False, events_of=reference.events):
+    """The text of `replay` of these blocks over the events that are read of octets, and the exit status."""
     blocks, lines, now, mode = [Block(word) for word in words], [], 0, False
     names = [(block.app_id, block.gocb_ref) for block in blocks]
     for place, name in enumerate(names):
         if name in names[:place]:
             return [f"blocks SameBlockTwice {place}"], 3
     try:
-        for number, (sort, moment, held) in reference.events(octets, False):
+        for number, (sort, moment, held) in events_of(octets, has_failed):
             now, said = max(now, moment), []
             for place, block in enumerate(blocks):
                 if block.best is not None and block.deadline <= now:
@@ -84,5 +84,5 @@ def replay(octets, words):
                 said += entries_of_frame(blocks, mode, now, held)
             lines += [f"{number} {line}" for line in said]
     except reference.ListFault as fault:
-        return [*lines, f"{fault.line} list {fault.cause}"], fault.status()
+        return [*lines, fault.text()], fault.status()
     return lines, 0

@@ -18,11 +18,11 @@ def answer(earlier, period, count):
     return f"skipped {way - 1}" if 2 * way < period else "late"
 
 
-def watch(octets, period, sv_id):
-    """The text of `watch` and the exit status."""
+def watch(octets, period, sv_id, has_failed=False, events_of=reference.events):
+    """The text of `watch` over the events that are read of octets, and the exit status."""
     lines, earlier, finds = [], [], False
     try:
-        for number, (sort, _, held) in reference.events(octets, False):
+        for number, (sort, _, held) in events_of(octets, has_failed):
             try:
                 it = reference.frame(held) if sort == "frame" else None
             except reference.Fault as fault:
@@ -38,5 +38,5 @@ def watch(octets, period, sv_id):
                 lines.append(f"{number} {position} {count} {earlier[-1][1]}")
                 finds = finds or earlier[-1][1] not in ("first", "next")
     except reference.ListFault as fault:
-        return [*lines, f"{fault.line} list {fault.cause}"], fault.status()
+        return [*lines, fault.text()], fault.status()
     return lines, 1 if finds else 0

@@ -1,0 +1,101 @@
+"""Runs of the five commands that read events, over captures and lists, held against the slow programs."""
+import re
+
+from helpers.harness import clipped, first_difference, never_seen, run, text
+from oracles import reading
+
+# The words of each command, for frames of the worked block and the worked stream.
+ASKED = {
+    "show": ["show"], "check": ["check"], "blocks": ["blocks"], "replay": ["replay", "0001,G,D,,1,1"],
+    "watch": ["watch", "--period", "4000", "--id", "S"],
+}
+PASSED = re.compile(r"(\d+) of (?:EtherType )?([0-9a-f]{4})(?: \([^;()]*(?:\([^()]*\))?[^;()]*\))?, from (\d+) on")
+
+
+def asking(command, *options):
+    """The words of a command with these options behind its name."""
+    return [ASKED[command][0], *options, *ASKED[command][1:]]
+
+
+def capturing(command, *options):
+    """The words of a command over a capture."""
+    return asking(command, reading.CAPTURE, *options)
+
+
+def why_passed(passed, lines):
+    """What is wrong with the sentences on frames that were passed over."""
+    if not passed.kinds:
+        return [f"said without need {lines}"] if lines else []
+    if len(lines) != 1:
+        return [f"{len(lines)} sentences say what was passed over"]
+    parts = lines[0].partition("passed over: ")[2].split("; ")
+    kinds, others = parts[:len(passed.kinds)], parts[len(passed.kinds):]
+    found = [PASSED.fullmatch(part) for part in kinds]
+    told = [(int(it[2], 16), (int(it[1]), int(it[3]))) if it else None for it in found]
+    why = [] if told == list(passed.kinds.items()) else [f"passed over {list(passed.kinds.items())}, and said {lines[0]!r}"]
+    numbers = [tuple(map(int, re.findall(r"\b\d+\b", part))) for part in others]
+    wanted = [passed.others] if passed.others else []
+    return why + ([] if [(it[0], it[-1]) if it else it for it in numbers] == wanted else [f"the rest are {wanted}: {others}"])
+
+
+def why_said(asked, lines, status, passed, complained):
+    """What is wrong with the messages of a run: the sentence on what was passed over; behind that, where the input ended the run,
+    the place and the name in the last line of its text; of a failing device, that; else which blocks were never seen."""
+    told = complained.decode("utf-8", "replace").splitlines()
+    over = [line for line in told if "passed over: " in line]
+    rest = [line for line in told if line not in over]
+    why = why_passed(passed, over) if passed and status in (0, 1) else []
+    why += [f"said {over}"] if over and not passed else []
+    if status in (3, 4):
+        number, sort, name = lines[-1].split(" ")
+        place = {"list": f"line {number}", "capture": f"packet {number}" if number != "0" else "header"}[sort]
+        begin = f"goose {asked[0]}: {place}: {name}: " if status == 3 else "read or write fault: cannot read: "
+        return why + ([] if rest and rest[0].startswith(begin) else [f"standard error begins not with {begin!r}: {rest}"])
+    plain = [word for word in reading.options_of(asked)[0] if word != "--"]
+    unseen = never_seen(plain[1:], text(lines)).decode().splitlines() if asked[0] == "replay" else []
+    return why + ([] if rest == unseen else [f"standard error is {rest}, and not {unseen}"])
+
+
+def why_differs(asked, wanted, got, passed=None):
+    """What is wrong with a run that should have written these lines and ended with this status."""
+    (lines, wanted_status), (wrote, complained, status) = wanted, got
+    difference = first_difference(text(lines), wrote)
+    why = [difference] if difference else []
+    why += [f"ended with status {status}, and not {wanted_status}: {clipped(complained)!r}"] if status != wanted_status else []
+    why += [] if why else why_said(asked, lines, status, passed, complained)
+    return [f"{' '.join(asked)}: {it}" for it in why]
+
+
+def why_wrong_of(program, asked, octets, events_of=None):
+    """What is wrong with a run over these octets."""
+    lines, status, passed = reading.answered(asked, octets, events_of=events_of)
+    return why_differs(asked, (lines, status), run(program, asked, octets), passed)
+
+
+class Read:
+    """An input of which the program writes what the slow programs write, under each of these command lines."""
+
+    def __init__(self, name, octets, *asked):
+        self.name, self.octets = name, octets
+        self.asked = asked or [capturing(command) for command in ASKED]
+
+    def why_wrong(self, program):
+        return [why for asked in self.asked for why in why_wrong_of(program, asked, self.octets)]
+
+
+class EachOf:
+    """The same of many inputs, each by its own name, under `show` and one more command in turn."""
+
+    def __init__(self, name, inputs, *options):
+        self.name, self.inputs, self.options = name, inputs, options
+
+    def why_wrong(self, program):
+        others = [command for command in ASKED if command != "show"]
+        why, count = [], 0
+        for name, octets in self.inputs():
+            for command in ("show", others[count % len(others)]):
+                why += [f"{name}: {it}" for it in why_wrong_of(program, asking(command, *self.options), octets)]
+            count += 1
+            if len(why) > 5:
+                break
+        return why if count else ["there is no input"]

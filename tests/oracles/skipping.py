@@ -1,0 +1,40 @@
+"""What --skip-other makes of events, written from docs/FORMATS.md alone: a frame whose first error is EtherType tells only that time
+has passed, and is counted by its EtherType."""
+from oracles import reference
+
+MOST_KINDS = 16
+
+
+def other_type(octets):
+    """The EtherType of a frame whose first error that is, or None."""
+    try:
+        reference.frame(octets)
+    except reference.Fault as fault:
+        if fault.cause == "EtherType":
+            return int.from_bytes(octets[fault.place:fault.place + 2], "big")
+    return None
+
+
+class Skipping:
+    """Events of which some are passed over, and how many of each EtherType, with the number of the first."""
+
+    def __init__(self, events_of):
+        self.events_of, self.kinds, self.others = events_of, {}, None
+
+    def __call__(self, octets, has_failed=False):
+        for number, (sort, moment, held) in self.events_of(octets, has_failed):
+            kind = other_type(held) if sort == "frame" else None
+            if kind is None:
+                yield number, (sort, moment, held)
+            else:
+                self.count(kind, number)
+                yield number, ("clock", moment, None)
+
+    def count(self, kind, number):
+        """One more of this kind: those of the first sixteen by themselves, and the rest together."""
+        if kind in self.kinds or len(self.kinds) < MOST_KINDS:
+            so_far, first = self.kinds.get(kind, (0, number))
+            self.kinds[kind] = so_far + 1, first
+        else:
+            so_far, first = self.others or (0, number)
+            self.others = so_far + 1, first

@@ -1,0 +1,55 @@
+"""The slow programs as one program, which reads lists and captures under the five commands that read events, and lists under
+`rewrite`: to try the tests themselves. Its messages are few."""
+import os
+import sys
+
+sys.path.insert(0, os.path.dirname(os.path.dirname(os.path.abspath(__file__))))
+from helpers.harness import never_seen, text  # noqa: E402
+from oracles import reading, reference  # noqa: E402
+
+
+def all_octets(descriptor):
+    """What is read there, and whether reading failed."""
+    octets = bytearray()
+    try:
+        while some := os.read(descriptor, 65536):
+            octets += some
+        return bytes(octets), False
+    except OSError:
+        return bytes(octets), True
+
+
+def said(asked, lines, status, passed):
+    """What standard error says, of a run whose words are right."""
+    if status == 4:
+        return ["read or write fault: cannot read: Input/output error"]
+    told = []
+    if passed and passed.kinds:
+        kinds = [f"{count} of {'' if at else 'EtherType '}{kind:04x}, from {first} on"
+                 for at, (kind, (count, first)) in enumerate(passed.kinds.items())]
+        rest = [f"{passed.others[0]} of others, from {passed.others[1]} on"] if passed.others else []
+        told.append(f"passed over: {'; '.join(kinds + rest)}")
+    if status == 3:
+        number, sort, name = lines[-1].split(" ")
+        place = f"line {number}" if sort == "list" else f"packet {number}" if number != "0" else "header"
+        told.append(f"goose {asked[0]}: {place}: {name}: that is an error")
+    if asked[0] == "replay" and status == 0:
+        blocks = [word for word in reading.options_of(asked)[0][1:] if word != "--"]
+        told += never_seen(blocks, text(lines)).decode().splitlines()
+    return told
+
+
+def main(asked):
+    plain, _, _ = reading.options_of(asked)
+    if not plain or plain[0] not in reading.COMMANDS or {"-h", "--help"} & set(plain) or (
+            plain == asked and asked[0] in reference.COMMANDS):
+        return reference.main(asked)
+    octets, has_failed = all_octets(reference.LIST_DESCRIPTOR)
+    lines, status, passed = reading.answered(asked, octets, has_failed)
+    status = status if reference.put(1, lines) else 4
+    reference.put(2, said(asked, lines, status, passed))
+    return status
+
+
+if __name__ == "__main__":
+    sys.exit(main(sys.argv[1:]))
