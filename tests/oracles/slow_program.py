@@ -5,7 +5,7 @@ import sys
 
 sys.path.insert(0, os.path.dirname(os.path.dirname(os.path.abspath(__file__))))
 from helpers.harness import never_seen, text  # noqa: E402
-from oracles import reading, reference  # noqa: E402
+from oracles import reading, reference, skipping  # noqa: E402
 
 
 def all_octets(descriptor):
@@ -25,7 +25,8 @@ def said(asked, lines, status, passed):
         return ["read or write fault: cannot read: Input/output error"]
     told = []
     if passed and passed.kinds:
-        kinds = [f"{count} of {'' if at else 'EtherType '}{kind:04x}, from {first} on"
+        name = lambda kind: f" ({skipping.NAMES[kind]})" if kind in skipping.NAMES else ""
+        kinds = [f"{count} of {'' if at else 'EtherType '}{kind:04x}{name(kind)}, from {first} on"
                  for at, (kind, (count, first)) in enumerate(passed.kinds.items())]
         rest = [f"{passed.others[0]} of others, from {passed.others[1]} on"] if passed.others else []
         told.append(f"passed over: {'; '.join(kinds + rest)}")

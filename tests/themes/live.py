@@ -112,12 +112,12 @@ class GoesAway:
 class FullAtOnce:
     """Standard output is a disk that is full, and the input stays open: that is noticed before the next read."""
 
-    def __init__(self, command, piece):
-        self.name, self.command, self.piece = f"{command}: a full disk is noticed while the input waits", command, piece
+    def __init__(self, name, asked, piece):
+        self.name, self.asked, self.piece = f"{name}: a full disk is noticed while the input waits", asked, piece
 
     def why_wrong(self, program):
         with descriptor("/dev/full", os.O_WRONLY) as stdout:
-            run = started(program, words(self.command), stdout)
+            run = started(program, self.asked, stdout)
         with run.stdin, run.stderr:
             # A command that writes before it reads has ended by then.
             with contextlib.suppress(BrokenPipeError):
@@ -138,8 +138,8 @@ def reads_so_far():
 class InBlocks:
     """A file is read in blocks of 64 KiB: so many reads more than of an empty one, and the read of its end."""
 
-    def __init__(self, command, unit, head=b""):
-        self.name, self.command = f"{command} reads a file in blocks", command
+    def __init__(self, name, asked, unit, head=b""):
+        self.name, self.asked = f"{name} reads a file in blocks", asked
         self.octets = head + unit * (16 * BLOCK // len(unit))
 
     def reads(self, program, octets):
@@ -147,7 +147,7 @@ class InBlocks:
             stdin.write(octets)
             stdin.seek(0)
             before = reads_so_far()
-            subprocess.run([*program, *words(self.command)], stdin=stdin, stdout=subprocess.DEVNULL, stderr=subprocess.DEVNULL, check=False)
+            subprocess.run([*program, *self.asked], stdin=stdin, stdout=subprocess.DEVNULL, stderr=subprocess.DEVNULL, check=False)
             return reads_so_far() - before
 
     def why_wrong(self, program):
@@ -162,8 +162,8 @@ def cases():
     for command in ["show", "check", "rewrite", "blocks", *WORDS, "publish", "import"]:
         first, second = inputs.get(command, (b"F 0 01\n", b"F 0 02\n"))
         yield GoesAway(f"{command}: a reader that goes away", words(command), first, second)
-        yield FullAtOnce(command, first)
+        yield FullAtOnce(command, words(command), first)
     for command in ("show", "check", "rewrite", "blocks", *WORDS):
-        yield InBlocks(command, FRAME)
-    yield InBlocks("publish", CHANGE, SCRIPT)
-    yield InBlocks("import", record(1, 2, WORKED), header())
+        yield InBlocks(command, words(command), FRAME)
+    yield InBlocks("publish", ["publish"], CHANGE, SCRIPT)
+    yield InBlocks("import", ["import"], record(1, 2, WORKED), header())

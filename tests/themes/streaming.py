@@ -55,10 +55,11 @@ class ComesEarly:
 
 
 class DoesNotGrow:
-    """A long input takes no more memory than a short one, and at most 8 MiB: a head, and then the same octets again and again."""
+    """A long input takes no more memory than a short one, and at most so much, in kilobytes: a head, and then the same octets again
+    and again."""
 
-    def __init__(self, name, words, unit, head=b""):
-        self.name, self.words, self.unit, self.head = f"{name} is not held", words, unit, head
+    def __init__(self, name, words, unit, head=b"", most=MOST):
+        self.name, self.words, self.unit, self.head, self.most = f"{name} is not held", words, unit, head, most
 
     def peak(self, program, count):
         """The most memory of a run over so many units, in kilobytes."""
@@ -72,7 +73,7 @@ class DoesNotGrow:
     def why_wrong(self, program):
         short, long = self.peak(program, 1000), self.peak(program, 100000)
         why = [f"{short} kB for a short list, {long} kB for a long one"] if long > short + GROWTH else []
-        return why + ([f"{long} kB, and not at most {MOST}"] if long > MOST else [])
+        return why + ([f"{long} kB, and not at most {self.most}"] if long > self.most else [])
 
 
 class WantsMemory:
@@ -81,8 +82,8 @@ class WantsMemory:
     PAGE = 4096
     AMPLE = 64 * 2**20
 
-    def __init__(self, words, octets):
-        self.name, self.words, self.octets = f"{words[0]} wants memory", words, octets
+    def __init__(self, words, octets, name=None):
+        self.name, self.words, self.octets = f"{name or words[0]} wants memory", words, octets
 
     def limited(self, program, most):
         """A run in so much memory."""
