@@ -646,14 +646,19 @@ HELP = {
     "show": "Shows each event on one line: every field of a frame, or its first error",
     "check": "Writes a line for each error of a frame, and for each note on a valid one",
     "rewrite": "Writes the list again, each valid frame in its canonical encoding",
-    "blocks": "Lists the control blocks and streams of a list, and each whose datSet, goID, confRev or size changes",
+    "blocks": "Lists control blocks and streams, and each whose datSet, goID, confRev or size changes",
     "replay": "Shows what a device that subscribes to control blocks does with each frame",
     "publish": "Reads a script and writes the list of frames that a publisher sends",
     "watch": "Shows each sample of one stream, and whether its count is the next one",
     "import": "Reads a capture (classic libpcap, as tcpdump -w writes) and writes it as a list",
 }
-# The words behind a command's name, as its help writes them.
-TAKES = {"replay": " <BLOCK>...", "watch": " --period <N> --id <TEXT>"}
+# The words behind a command's name, as its help writes them, and what help says of the options on the input.
+TAKES = {"show": " [OPTIONS]", "check": " [OPTIONS]", "blocks": " [OPTIONS]", "replay": " [OPTIONS] <BLOCK>...",
+         "watch": " [OPTIONS] --period <N> --id <TEXT>"}
+OPTIONS = {
+    "--capture": "Reads a capture (classic or pcapng) in place of a list",
+    "--skip-other": "Takes frames of other EtherTypes as a sign that time passes, and counts them",
+}
 VERSION = "goose 1.0.0"
 
 

@@ -8,7 +8,6 @@ import subprocess
 
 from helpers.harness import SECONDS, Skipped
 from oracles import reference
-from themes.messages import OF_PCAPNG
 
 TOP = pathlib.Path(__file__).resolve().parent.parent.parent
 PAGE = TOP / "docs" / "goose.1"
@@ -56,6 +55,16 @@ class Commands:
         return [] if commands == set(reference.HELP) else [f"commands {sorted(commands)}"]
 
 
+class Options:
+    name = "docs/goose.1 and docs/FORMATS.md have each option, and what its help says"
+
+    def why_wrong(self, _program):
+        page = re.findall(r"(?m)^\.It Fl -([\w-]+)$", PAGE.read_text())
+        why = [f"docs/goose.1 has no {option}" for option in reference.OPTIONS if option[2:] not in page]
+        told = dict(re.findall(r"(?m)^\| `(--[\w-]+)` \| (.*?) \|", part(FORMATS.read_text(), "## Commands")))
+        return why + ([] if told == reference.OPTIONS else [f"docs/FORMATS.md has {told}"])
+
+
 class Statuses:
     """The program can also end with 2, where its arguments are rejected, which is no ending of a run."""
 
@@ -79,7 +88,6 @@ class Named:
 
     def why_wrong(self, _program):
         wanted = set(re.findall(rf'(?m)^{self.word} .* = codes "(\w+)"', self.source.read_text()))
-        wanted -= OF_PCAPNG if self.word == "name_of_capture_cause" else set()
         told = set(re.findall(r"(?m)^\.It Li (\w+)$", PAGE.read_text().partition(f".Ss {self.heading}\n")[2].split(".El")[0]))
         listed = {name for cell in re.findall(r"(?m)^\| (\w+(?:, \w+)*) \|", FORMATS.read_text()) for name in cell.split(", ")}
         why = [f"wanted {sorted(wanted)}, got {sorted(told)}"] if told != wanted or not wanted else []
@@ -98,7 +106,7 @@ def examples():
 
 
 def cases():
-    yield from (Linted(), Commands(), Statuses())
+    yield from (Linted(), Commands(), Options(), Statuses())
     for heading, where in NAMES.items():
         yield Named(heading, *where)
     for command in examples():

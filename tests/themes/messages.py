@@ -9,7 +9,8 @@ import select
 import subprocess
 import tty
 
-from helpers.capture_parts import header, record
+from helpers.capture_parts import custom, header, interface, packet, record, section
+from helpers.captured import ASKED, capturing
 from helpers.frames import WORKED, put
 from helpers.harness import SECONDS, Case, Pieces, clipped, cut, descriptor, listed, run
 from themes.devices import CHANGE, SCRIPT, WORDS, words
@@ -25,11 +26,8 @@ ERRORS = {
 }
 # What callers of the crates are told, where the program has words of its own.
 OWN = {"BlockForm": "a block is APPID,gocbRef,datSet,goID,confRev,entries, as 0001,IED1LD/LLN0$GO$gcb,IED1LD/LLN0$ds,,1,2"}
-# What is found in captures in pcapng alone, which no command reads.
-OF_PCAPNG = {"BlockForm", "BlockLength", "Interface", "PacketTime"}
 # No text ends with status 3 by these: statuses 4 and 5 have texts of their own.
-UNTOLD = {("list", "ReadFailed"), ("script", "ReadFailed"), ("capture", "ReadFailed"), ("blocks", "Memory"),
-          *(("capture", name) for name in OF_PCAPNG)}
+UNTOLD = {("list", "ReadFailed"), ("script", "ReadFailed"), ("capture", "ReadFailed"), ("blocks", "Memory")}
 
 
 def tables():
@@ -45,7 +43,7 @@ SAYS, ADVICE = tables()
 
 def said(name, sort):
     """The sentence of a name, in a list or a script where it has two."""
-    return OWN.get(name) or SAYS.get(f"{name}, in a {sort}", SAYS.get(name))
+    return OWN.get(name) if sort == "blocks" and name in OWN else SAYS.get(f"{name}, in a {sort}", SAYS.get(name))
 
 
 class Displayed:
@@ -146,14 +144,17 @@ def shown_by_octets():
         yield of_list("publish", 1, "ScriptForm", line, "is a list, and the command is `publish`", f"a list that begins with {line[:3]!r}")
     pcapng = (TOP / "examples" / "two_frames.pcapng").read_bytes()
     yield Says("import of pcapng", ["import"], pcapng, "# 0 capture CaptureHeader",
-               f"header: CaptureHeader: {SAYS['CaptureHeader']}", "begins as a pcapng capture")
-    yield of_list("show", 2, "LineForm", pcapng, "begins as a pcapng capture", "pcapng")
-    for order in ("little", "big"):
-        for magic in (0xA1B2C3D4, 0xA1B23C4D):
-            octets = header(order, magic) + record(1, 2, WORKED, order)
-            number = octets.count(b"\n", 0, octets.find(b"\0")) + 1
-            yield of_list("check", number, "LineForm", octets, "begins as a libpcap capture, and the command is not `import`",
-                          f"a capture, {order} {magic:x}")
+               f"header: CaptureHeader: {SAYS['CaptureHeader']}", "begins as a pcapng capture, and the command does not")
+    forms = {f"classic capture, {order} {magic:x}": header(order, magic) + record(1, 2, WORKED, order)
+             for order in ("little", "big") for magic in (0xA1B2C3D4, 0xA1B23C4D)}
+    for what, octets in {"pcapng": pcapng, **forms}.items():
+        number = octets.count(b"\n", 0, octets.find(b"\0") if what != "pcapng" else 4) + 1
+        for command in ASKED:
+            yield of_list(command, number, "LineForm", octets, "begins as a capture, and the command takes `--capture`", what)
+        advice = ("begins as a pcapng capture, and the command does not" if what == "pcapng"
+                  else "begins as a libpcap capture, and the command is `rewrite` or `publish`")
+        yield of_list("rewrite", number, "LineForm", octets, advice, what)
+        yield of_list("publish", number, "ScriptForm", octets, advice, what)
 
 
 def compressed():
@@ -163,8 +164,9 @@ def compressed():
         octets = bytes.fromhex(head) + b"\t\r \n"
         yield of_list("show", 1, "LineForm", octets, f"is compressed by {how}", f"a list in {how}")
         yield of_list("publish", 1, "ScriptForm", octets, f"is compressed by {how}", f"a script in {how}")
-        yield Says(f"import: a capture in {how}", ["import"], octets + b"\0" * 24, "# 0 capture CaptureHeader",
-                   f"header: CaptureHeader: {SAYS['CaptureHeader']}", f"is compressed by {how}")
+        for asked, last in ((["import"], "# 0 capture CaptureHeader"), (capturing("replay"), "0 capture CaptureHeader")):
+            yield Says(f"{asked[0]}: a capture in {how}", asked, octets + b"\0" * 24, last,
+                       f"header: CaptureHeader: {SAYS['CaptureHeader']}", f"is compressed by {how}")
     yield of_list("show", 1, "LineForm", b"\x1f\t\n", "has a tab, in a list", "a first octet of gzip alone")
 
 
@@ -259,6 +261,8 @@ def places():
 def failing():
     """Devices that fail: which, and why."""
     read, write = "cannot read: Is a directory", "cannot write: No space left on device"
+    yield Fails("blocks --capture of a directory", capturing("blocks"), read, stdin="/")
+    yield Fails("show --capture to a full disk", capturing("show"), write, stdin=section() + interface() + packet(1, WORKED), stdout="/dev/full")
     for command in ("show", "publish", "import"):
         yield Fails(f"{command} of a directory", words(command), read, stdin="/")
         yield Fails(f"{command} to a full disk", words(command), write, stdin=FRAME, stdout="/dev/full")
@@ -312,7 +316,7 @@ def captures():
     good = header() + record(1, 2, WORKED)
     split = "is a capture with a record after the last that is read"
     for what, number, name, stdin in (
-        ("a wrong link type", 0, "CaptureHeader", header(link=101)), ("nothing at all", 0, "CaptureShort", b""),
+        ("another version", 0, "CaptureHeader", header(version=(2, 3))), ("nothing at all", 0, "CaptureShort", b""),
         ("a record that is cut off", 2, "CaptureShort", good + record(1, 2, WORKED)[:-1]),
         ("a record of 262,145 octets", 2, "RecordLength", good + record(1, 2, b"", captured=262145)),
         ("a million records", 1000000, "TooManyRecords", header() + record(1, 2, b"") * 1000000),
@@ -320,9 +324,42 @@ def captures():
         place = f"record {number}" if number else "header"
         yield Says(f"import: {what}", ["import"], stdin, f"# {number} capture {name}", f"{place}: {name}: {SAYS[name]}",
                    split if name == "TooManyRecords" else None)
+    yield from captures_as_they_are()
     twice = ["replay", "0001,G,D,,1,1", "0002,G,D,,1,1", "0001,G,X,,2,2"]
     yield Says("replay: a block given twice", twice, b"", "blocks SameBlockTwice 2",
                f"SameBlockTwice: {SAYS['SameBlockTwice'].replace('block B', 'block 2')}")
+
+
+def captures_as_they_are():
+    """The same with --capture: the place is a packet, and all names are met but TooManyRecords."""
+    start, frame = section() + interface(), packet(1, WORKED)
+    met = {
+        "CaptureHeader": (0, b"abcd"), "CaptureShort": (2, start + frame + frame[:-1]), "BlockLength": (1, start + frame[:-4] + bytes(4)),
+        "RecordLength": (3, start + frame * 2 + packet(1, b"", captured=262145)), "BlockForm": (2, start + frame + section(version=(2, 0))),
+        "Interface": (1, start + packet(1, WORKED, which=1)), "PacketTime": (1, start + custom() + packet(2**64 - 1, WORKED)),
+    }
+    for name, (number, stdin) in met.items():
+        for command in ASKED:
+            place = f"packet {number}" if number else "header"
+            yield Says(f"{command} --capture: {name}", capturing(command), stdin, f"{number} capture {name}",
+                       f"{place}: {name}: {SAYS[name]}")
+    for head in (b"V2\nF 0 010c\n", b"F 0 010c\n", b"C 12\n", b"M 1 on\n", b"# a list\n", b"#\n\nV2\n"):
+        yield Says(f"show --capture: a list that begins with {head!r}", capturing("show"), head, "0 capture CaptureHeader",
+                   f"header: CaptureHeader: {SAYS['CaptureHeader']}", "begins as a list, and `--capture` is given")
+    for link, name in ((113, "LINUX_SLL"), (276, "LINUX_SLL2"), (105, "Wi-Fi"), (127, "Wi-Fi"), (0, ""), (101, ""), (147, ""), (65535, "")):
+        for asked in (capturing("blocks"), ["import"]):
+            yield OfLink(link, name, asked)
+
+
+class OfLink(Case):
+    """A classic capture that is not of Ethernet: standard error says of which link type it is, by number and usual name."""
+
+    def __init__(self, link, usual, asked):
+        mark = "V2\n# " if asked == ["import"] else ""
+        said = [b"goose %s: header: CaptureHeader: " % asked[0].encode(), b"\nThe link type is %d" % link, usual.encode(),
+                b"and only 1 (Ethernet) is read"]
+        super().__init__(f"{asked[0]}: a capture of link type {link}", asked, header(link=link) + record(1, 2, WORKED),
+                         f"{mark}0 capture CaptureHeader\n".encode(), 3, said)
 
 
 class Quiet(Case):
@@ -362,19 +399,19 @@ def unseen():
 class Awaits:
     """A terminal as standard input: standard error says what is awaited before anything is read, and Ctrl-D ends it."""
 
-    def __init__(self, command, what):
-        self.name, self.command, self.what = f"{command} on a terminal", command, what
+    def __init__(self, asked, what):
+        self.name, self.asked, self.what = f"{' '.join(asked)} on a terminal", asked, what
 
     def why_wrong(self, program):
         near, far = os.openpty()
-        started = subprocess.Popen([*program, *words(self.command)], stdin=far, stdout=subprocess.PIPE, stderr=subprocess.PIPE)
+        started = subprocess.Popen([*program, *self.asked], stdin=far, stdout=subprocess.PIPE, stderr=subprocess.PIPE)
         os.close(far)
         with os.fdopen(near, "wb", buffering=0) as terminal, started.stdout, started.stderr:
             is_told = bool(select.select([started.stderr], [], [], SECONDS / 4)[0])
             told = os.read(started.stderr.fileno(), 400) if is_told else b""
             terminal.write(b"\4")
             wrote, status = started.stdout.read(), started.wait(timeout=SECONDS)
-        wanted = f"goose {self.command}: waiting for a {self.what} on standard input (did you forget `< FILE`?)\n".encode()
+        wanted = f"goose {self.asked[0]}: waiting for a {self.what} on standard input (did you forget `< FILE`?)\n".encode()
         why = [] if told == wanted else [f"told {told!r}, and not {wanted!r}"]
         return why + ([] if status in (0, 3) else [f"ended with status {status}, wrote {wrote!r}"])
 
@@ -419,8 +456,12 @@ def cases():
     frames = listed(WORKED, put(WORKED, at66=1))
     for command in ("show", "check", "rewrite", "blocks", *WORDS):
         yield Quiet(f"{command} that ends well says nothing", words(command), frames)
-        yield Awaits(command, "list")
+        yield Awaits(words(command), "list")
+    for command in ASKED:
+        octets = header() + record(1, 2, WORKED) + record(1, 2, put(WORKED, at66=1)) + record(3, 4, b"")
+        yield Quiet(f"{command} --capture that ends well says nothing", capturing(command), octets)
+        yield Awaits(capturing(command), "capture")
     yield Quiet("publish that ends well says nothing", ["publish"], SCRIPT + CHANGE)
     yield Quiet("import that ends well says nothing", ["import"], header() + record(1, 2, WORKED))
-    yield Awaits("publish", "script")
-    yield Awaits("import", "capture")
+    yield Awaits(["publish"], "script")
+    yield Awaits(["import"], "capture")

@@ -6,9 +6,10 @@ import shutil
 import subprocess
 import tempfile
 
+from helpers.capture_parts import header, record
 from helpers.frames import WORKED
 from helpers.harness import SECONDS, Case, clipped, listed
-from oracles.reference import ABOUT, COMMANDS, HELP, TAKES, VERSION
+from oracles.reference import ABOUT, COMMANDS, HELP, OPTIONS, TAKES, VERSION
 
 TOP = pathlib.Path(__file__).resolve().parent.parent.parent
 # What help says of the exit statuses above 1.
@@ -17,7 +18,11 @@ STATUSES = [b"2 wrong arguments", b"3 an error in the input", b"4 reading or wri
 UNITS = {
     "--help": b"Times in lists and scripts are microseconds where the first line is V2, else milliseconds",
     "import": b"Times in the output are microseconds, whatever the capture has",
+    **dict.fromkeys(("rewrite", "publish"), b"Times in the input are microseconds where its first line is V2, else milliseconds"),
 }
+OF_LISTS = b"Times in a list are microseconds where its first line is V2, else milliseconds"
+# The commands whose help begins with an example that is no capture.
+ON_LISTS = ("rewrite", "publish", "watch")
 # What help says of status 1, at each command that can end with it.
 FOUND = {
     "--help": b"1 something was found", "check": b"1 a line was written for some frame",
@@ -39,6 +44,7 @@ RIGHT = {
     b"required arguments were not provided": b"\nUsage: goose ",
     b"a value is required": b" but none was supplied\n",
     b"cannot be used multiple times": b" cannot be used multiple times\n",
+    b"unexpected value": b" found; no more were expected\n",
 }
 # What standard error says of a text that is no control block, behind its position.
 BLOCK_FORM = b"A BLOCK is APPID,gocbRef,datSet,goID,confRev,entries, for example '0001,IED1LD/LLN0$GO$gcb,IED1LD/LLN0$ds,,1,2'\n"
@@ -65,7 +71,7 @@ class Helps(Case):
 
 
 class Begins(Case):
-    """Help begins with an example that runs as it stands, that of the program where a capture FILE.pcap is at hand, and says what
+    """Help begins with an example that runs as it stands, that of the program where a capture FILE.pcapng is at hand, and says what
     the command's own words are, the exit statuses and where to read more."""
 
     def __init__(self, words):
@@ -75,18 +81,19 @@ class Begins(Case):
         wrote, _, status = self.run(program)
         why = [] if status == 0 else [f"ended with status {status}"]
         is_whole = len(self.words) == 1
-        form = r"goose import < FILE\.pcap \| goose \w+" if is_whole else rf"goose {self.words[0]}(?: .*)? < examples/[\w.]+"
+        form = r"goose \w+ --capture < FILE\.pcapng" if is_whole else rf"goose {self.words[0]}(?: .*)? < examples/[\w.]+"
         found = re.match(rf"Example: ({form})\n", wrote.decode("ascii"))
         if not found:
             return [*why, f"help begins with no example: {clipped(wrote)}"]
         command = re.sub(r"\bgoose (?=\w)", lambda _: f"{shlex.join(program)} ", found[1])
         with tempfile.TemporaryDirectory() as folder:
-            shutil.copy(TOP / "examples" / "two_frames.pcap", pathlib.Path(folder, "FILE.pcap"))
+            shutil.copy(TOP / "examples" / "two_bays.pcapng", pathlib.Path(folder, "FILE.pcapng"))
             ran = subprocess.run(["bash", "-c", command], cwd=folder if is_whole else TOP, stdin=subprocess.DEVNULL,
                                  stdout=subprocess.PIPE, stderr=subprocess.PIPE, timeout=SECONDS)
         why += [] if ran.returncode in (0, 1) and ran.stdout and not ran.stderr else [f"the example ends so: {ran}"]
         parts = [b"Exit status: 0 ", *STATUSES, b"\nMore: man goose\n"]
-        parts += [UNITS.get(self.words[0], b"Times in the input are microseconds where its first line is V2, else milliseconds")]
+        parts += [UNITS.get(self.words[0], OF_LISTS)]
+        why += [] if is_whole or self.words[0] in ON_LISTS or ".pcap" in found[1] else [f"its example is of no capture: {found[1]}"]
         parts += OWN_WORDS.get(self.words[0], [])
         if self.words[0] == "check":
             parts += [b"not-written is a note and no error: the frame is valid"]
@@ -149,7 +156,8 @@ def helps():
         yield Helps([word], [ABOUT, "Usage: goose <COMMAND>", *[f"{name} {said}" for name, said in HELP.items()],
                              "-h, --help Print help", "-V, --version Print version"])
         for name, said in HELP.items():
-            yield Helps([name, word], [said, f"Usage: goose {name}{TAKES.get(name, '')}", "-h, --help Print help"],
+            options = [f"{option} {text}" for option, text in OPTIONS.items()] if "[OPTIONS]" in TAKES.get(name, "") else []
+            yield Helps([name, word], [said, f"Usage: goose {name}{TAKES.get(name, '')}", *options, "-h, --help Print help"],
                         [ABOUT, *[other for other in HELP.values() if other != said]])
     yield Begins(["--help"])
     yield Same(["help"], ["--help"])
@@ -191,6 +199,15 @@ def refusals():
         (["watch", "--Period", "5", *name], b"'--Period'"), ([*five, "--id", b"\xff"], b"UTF-8"),
     ):
         yield Refuses(words, named)
+    for words, named in (
+        *(([name, option], f"'{option}'".encode()) for name in ("rewrite", "publish", "import") for option in OPTIONS),
+        *(([option, "show"], f"'{option}'".encode()) for option in OPTIONS), (["show", "--cap"], b"'--cap'"),
+        (["show", "--skip_other"], b"'--skip_other'"), (["check", "--", "--capture"], b"'--capture'"),
+        (["blocks", "--capture", "--capture"], b"'--capture'"), (["show", "--skip-other", "--capture", "--skip-other"], b"'--skip-other'"),
+        (["show", "--capture=FILE"], b"'--capture'"), (["check", "--capture", "FILE"], b"'FILE'"), (["replay", "--capture"], b"BLOCK"),
+        ([*five, "--id", "--capture"], b"--id <TEXT>"), (["watch", "--capture", *name], b"--period <N>"),
+    ):
+        yield Refuses(words, named)
     for period in ("0", "1", "65537", "99999"):
         yield Refuses(["watch", "--period", period, *name], f"'--period <N>': {period} is not in 2..=65536".encode())
     for period in ("-1", "-5"):
@@ -206,9 +223,16 @@ def refusals():
 
 
 def accepted():
-    """The mark `--` behind a command changes nothing, and a replay takes any count of blocks."""
+    """The mark `--` behind a command changes nothing, options stand anywhere before it, and a replay takes any count of blocks."""
     for name, wrote in (("show", b"1 fault 1 Truncated\n"), ("check", b"1 fault 1 Truncated\n"), ("rewrite", b"V2\nF 0 01\n")):
         yield Case(f"{name} --", [name, "--"], b"F 0 01\n", wrote, 0 if name == "show" else 1)
+    capture, act = header() + record(1, 2, WORKED), b"1 act 0 st=1 sq=0 t=0000000000000000 {true}\n"
+    for words in (["replay", "0001,G,D,,1,1", "--capture"], ["replay", "--capture", "--", "0001,G,D,,1,1"],
+                  ["replay", "--skip-other", "--capture", "0001,G,D,,1,1"]):
+        yield Case(" ".join(words), words, capture, act)
+    for words in (["check", "--capture", "--"], ["blocks", "--capture", "--skip-other"], ["watch", "--id", "S", "--capture", "--period=4000"],
+                  ["watch", "--capture", "--period", "4000", "--skip-other", "--id=S"], ["watch", "--period", "4000", "--id=--capture", "--capture"]):
+        yield Case(" ".join(words), words, capture, b"1 block 0001,G,D,,1,1\n" if words[0] == "blocks" else b"")
     blocks = [f"0001,G{at},D,,1,1" for at in range(299)]
     yield Case("replay of 300 blocks", ["replay", *blocks, "0001,G,D,,1,1"], listed(WORKED), b"1 act 299 st=1 sq=0 t=0000000000000000 {true}\n")
 
