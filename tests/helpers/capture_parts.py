@@ -43,6 +43,11 @@ def option(code, value, order="little", size=None):
     return twos(order, code, len(value) if size is None else size) + padded(value)
 
 
+def options(pairs, order="little"):
+    """Options, and the code that ends them."""
+    return b"".join(option(code, value, order) for code, value in pairs) + bytes(4)
+
+
 def resolution(octet, order="little"):
     """The option if_tsresol."""
     return option(9, bytes([octet]), order)

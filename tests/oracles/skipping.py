@@ -4,7 +4,7 @@ from oracles import reference
 
 MOST_KINDS = 16
 # What the usual names of some EtherTypes have.
-NAMES = {0x0806: "ARP", 0x0800: "IPv4", 0x86DD: "IPv6", 0x88F7: "PTP", 0x88CC: "LLDP", 0x8892: "PROFINET", 0x892F: "HSR", 0x88FB: "PRP",
+NAMES = {0x0027: "LLC", 0x0806: "ARP", 0x0800: "IPv4", 0x86DD: "IPv6", 0x88F7: "PTP", 0x88CC: "LLDP", 0x8892: "PROFINET", 0x892F: "HSR", 0x88FB: "PRP",
          0x88A8: "a second VLAN tag: not read"}
 
 
