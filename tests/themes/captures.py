@@ -40,11 +40,11 @@ def moments():
         yield moment, octets
 
 
-def classic(order="little", magic=MICROSECONDS):
+def classic(order="little", magic=MICROSECONDS, events=None):
     """These events as a classic capture."""
     factor = 1000 if magic == NANOSECONDS else 1
     return header(order, magic) + b"".join(
-        record(moment // 10**6, moment % 10**6 * factor + factor // 2, octets, order) for moment, octets in moments())
+        record(moment // 10**6, moment % 10**6 * factor + factor // 2, octets, order) for moment, octets in events or moments())
 
 
 def blocks(order="little"):
@@ -82,8 +82,8 @@ def worked():
         yield Read(f"a packet of {size} octets", section() + interface() + packet(5, octets) + old_packet(6, octets) + packet(7, WORKED))
     for size in (MOST_CAPTURED + 1, 2**31, 2**32 - 1):
         yield Read(f"a record that says {size} octets", header() + record(1, 2, WORKED) + record(5, 6, b"", captured=size))
-        for kind, made in (("packet", packet), ("obsolete packet", old_packet)):
-            yield Read(f"an {kind} that says {size} octets", section() + interface() + packet(1, WORKED) + made(2, WORKED, captured=size))
+        for kind, made in (("a packet", packet), ("an obsolete packet", old_packet)):
+            yield Read(f"{kind} that says {size} octets", section() + interface() + packet(1, WORKED) + made(2, WORKED, captured=size))
         yield Read(f"a simple packet that says {size} octets", section() + interface() + simple_packet(WORKED, original=size))
     yield Read("another version", header(version=(2, 3)) + record(0, 0, WORKED))
     for link in (0, 101, 105, 113, 127, 276, 0x10001, 0xFFFF0001, 0x10000):
@@ -172,15 +172,14 @@ def options():
 def packet_blocks():
     """The three kinds of packets, and what is passed over."""
     start = section() + interface()
-    for made, name in ((packet, "packet"), (old_packet, "obsolete packet")):
-        yield Read(f"an {name} of an unknown interface", start + made(1, WORKED) + made(2, WORKED, which=1))
+    for made, name, kind in ((packet, "a packet", 6), (old_packet, "an obsolete packet", 2)):
+        yield Read(f"{name} of an unknown interface", start + made(1, WORKED) + made(2, WORKED, which=1))
         for size in range(0, 24, 4):
-            kind = {"packet": 6, "obsolete packet": 2}[name]
-            yield Read(f"an {name} of {size} octets", start + packet(1, b"") + block(kind, bytes(size)))
+            yield Read(f"{name} of {size} octets", start + packet(1, b"") + block(kind, bytes(size)))
         for captured in (0, 1, 64, 66, 67, 68, 69, 72, 73):
-            yield Read(f"an {name} that says {captured} octets of 67", start + made(1, WORKED, captured=captured))
-        yield Read(f"an {name} whose octets reach out is judged before its time", start + made(2**64 - 1, WORKED, captured=69))
-        yield Read(f"an {name} whose size is judged before its octets", start + made(2**64 - 1, WORKED, captured=MOST_CAPTURED + 1))
+            yield Read(f"{name} that says {captured} octets of 67", start + made(1, WORKED, captured=captured))
+        yield Read(f"{name} whose octets reach out is judged before its time", start + made(2**64 - 1, WORKED, captured=69))
+        yield Read(f"{name} whose size is judged before its octets", start + made(2**64 - 1, WORKED, captured=MOST_CAPTURED + 1))
     yield Read("an unknown interface is judged first", start + packet(2**64 - 1, WORKED, which=1, captured=2**32 - 1))
     yield Read("the original length is not looked at", start + packet(1, WORKED, original=0) + packet(2, WORKED, original=2**32 - 1))
     yield Read("drops are not looked at", start + old_packet(1, WORKED, drops=65535) + old_packet(2, WORKED))
@@ -428,7 +427,8 @@ class BesideTools:
             for name, octets in self.given.items():
                 (place / name).write_bytes(octets)
             for tool, *words in self.steps:
-                made = subprocess.run([tools[tool], *words], cwd=place, stdin=subprocess.DEVNULL, stdout=subprocess.PIPE,
+                given = self.given["frames"] if "-" in words else b""
+                made = subprocess.run([tools[tool], *words], cwd=place, input=given, stdout=subprocess.PIPE,
                                       stderr=subprocess.STDOUT, timeout=SECONDS)
                 if made.returncode:
                     return [f"{tool}: {made.stdout!r}"]
@@ -446,7 +446,9 @@ class BesideTools:
 def beside_tools():
     first, second = classic(), classic("big", NANOSECONDS)
     dump = "".join(f"{moment // 10**6}.{moment % 10**6:06}\n000000 {octets[:1600].hex(' ')}\n" for moment, octets in moments() if octets)
-    given = {"one": first, "two": second, "three": blocks("big"), "dump": dump.encode()}
+    # Of a packet without octets dumpcap writes half a block.
+    frames = classic(events=[it for it in moments() if it[1]])
+    given = {"one": first, "two": second, "three": blocks("big"), "frames": frames, "dump": dump.encode()}
     for name, steps in (
         ("editcap writes pcapng", [["editcap", "-F", "pcapng", "one", "made"]]),
         ("editcap writes nanoseconds", [["editcap", "-F", "nsecpcap", "two", "made"]]),
@@ -457,6 +459,7 @@ def beside_tools():
         ("mergecap appends", [["mergecap", "-F", "pcapng", "-a", "-w", "made", "two", "one"]]),
         ("text2pcap writes pcapng", [["text2pcap", "-q", "-F", "pcapng", "-t", "%s.%f", "dump", "made"]]),
         ("text2pcap writes classic captures", [["text2pcap", "-q", "-F", "nsecpcap", "-t", "%s.%f", "dump", "made"]]),
+        ("dumpcap captures from a pipe", [["dumpcap", "-q", "-i", "-", "-w", "made"]]),
         ("another link type beside Ethernet", [["editcap", "-F", "pcapng", "-T", "linux-sll", "one", "sll"],
                                                ["mergecap", "-F", "pcapng", "-w", "made", "sll", "two"]]),
     ):
