@@ -122,7 +122,7 @@ def spread(pattern, *names):
 # What follows the line's number and the kind.
 KINDS = {
     "clock": spread(r"(\d+)", "microseconds"), "mode": spread(r"(\d+) (on|off)", "microseconds", "mode"),
-    "fault": spread(r"(\d+) (\w+)", "offset", "error"), "list": spread(r"(\w+)", "error"),
+    "fault": spread(r"(\d+) (\w+)", "offset", "error"), "list": spread(r"(\w+)", "error"), "capture": spread(r"(\w+)", "error"),
     "goose": goose, "sv": sampled, "not-written": spread(""), "destination": spread(""),
     "expired": spread(r"(\d+)", "block"), "switched": spread(r"(\d+)", "block"),
     "act": entry, "refreshed": entry, "repeated": entry, "old": entry,

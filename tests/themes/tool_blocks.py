@@ -169,7 +169,9 @@ def compared():
     for line in (ONE, f"block {ONE}", "2 goose 010ccd010001", ""):
         yield Compared(f"another line: {line}", [ONE], [line], [], 2, b"line 1 of standard input is none that goose blocks writes")
     yield Compared("another line after others", [ONE], [f"2 block {ONE}", ONE], [], 2, b"line 2 of standard input")
-    yield Compared("a list with an error", [ONE], [f"2 block {ONE}", "3 list LineForm"], [], 3)
+    yield Compared("a list with an error", [ONE], [f"2 block {ONE}", "3 list LineForm"], [], 3, b"the list ends with an error: line 3: LineForm")
+    yield Compared("a capture with an error", [ONE], [f"2 block {ONE}", "3 capture BlockForm"], [], 3,
+                   b"the capture ends with an error: packet 3: BlockForm")
     yield Compared("a BLOCK that is none", ["0001,G"], [], [], 3)
 
 

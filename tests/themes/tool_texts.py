@@ -15,6 +15,7 @@ import time
 
 from helpers import by_chance
 from helpers.asked_tools import EXAMPLES, TOOLS, Asked, ask
+from helpers.captured import ASKED, capturing
 from helpers.frames import WORKED, WORKED_LINE, put
 from helpers.harness import SECONDS, Skipped, classic_pcap, clipped, listed, run, text
 from themes import replaying
@@ -85,7 +86,7 @@ def entry(it):
 FORMS = {
     "goose": shown_goose, "sv": shown_sampled, "clock": lambda it: f"clock {it['microseconds']}",
     "mode": lambda it: f"mode {it['microseconds']} {it['mode']}", "fault": lambda it: f"fault {it['offset']} {it['error']}",
-    "list": lambda it: f"list {it['error']}", "act": lambda it: f"{entry(it)} t={it['t']} {members(it)}",
+    "list": lambda it: f"list {it['error']}", "capture": lambda it: f"capture {it['error']}", "act": lambda it: f"{entry(it)} t={it['t']} {members(it)}",
     "refused": lambda it: f"refused {it['block']} {it['reason']}",
     **dict.fromkeys(("refreshed", "repeated", "old"), entry),
     **dict.fromkeys(("expired", "switched"), lambda it: f"{it['kind']} {it['block']}"),
@@ -105,13 +106,14 @@ def line_of(it):
 
 
 class Whole:
-    """Under each command, each line of a list's text is one object and one row, in its order, with all that it says."""
+    """Under each command, each line of a list's text, or of a capture's, is one object and one row, in its order, with all that it
+    says."""
 
-    def __init__(self, name, octets):
-        self.name, self.octets = name, octets
+    def __init__(self, name, octets, commands=None):
+        self.name, self.octets, self.commands = name, octets, commands or COMMANDS
 
     def why_wrong(self, program):
-        return [f"{' '.join(words)}: {why}" for words in COMMANDS for why in self.why_command_wrong(program, words)]
+        return [f"{' '.join(words)}: {why}" for words in self.commands for why in self.why_command_wrong(program, words)]
 
     def why_command_wrong(self, program, words):
         wrote, _, _ = run(program, words, self.octets)
@@ -274,6 +276,8 @@ def cases():
     yield Whole("a list by chance", replaying.some_list(chance, COUNT))
     for example in sorted(EXAMPLES.glob("*.list")):
         yield Whole(f"examples/{example.name}", example.read_bytes())
+    bays = (EXAMPLES / "two_bays.pcapng").read_bytes()
+    yield Whole("a capture that is cut off", bays[:-1], [capturing(command) for command in ASKED if command != "blocks"])
     yield Queried()
     yield Dated()
     strange = b"3 acts 0 st=1\nx\n\n4 \xff\n"
