@@ -4,8 +4,13 @@ from oracles import reference
 
 MOST_KINDS = 16
 # What the usual names of some EtherTypes have.
-NAMES = {0x0027: "LLC", 0x0806: "ARP", 0x0800: "IPv4", 0x86DD: "IPv6", 0x88F7: "PTP", 0x88CC: "LLDP", 0x8892: "PROFINET", 0x892F: "HSR", 0x88FB: "PRP",
+NAMES = {0x0806: "ARP", 0x0800: "IPv4", 0x86DD: "IPv6", 0x88F7: "PTP", 0x88CC: "LLDP", 0x8892: "PROFINET", 0x892F: "HSR", 0x88FB: "PRP",
          0x88A8: "a second VLAN tag: not read"}
+
+
+def usual_name(kind):
+    """What the usual name of an EtherType has, if it has one here. Below 0600 it is no EtherType, but the length of an LLC frame."""
+    return "LLC" if kind < 0x0600 else NAMES.get(kind)
 
 
 def other_type(octets):

@@ -25,7 +25,7 @@ def said(asked, lines, status, passed):
         return ["read or write fault: cannot read: Input/output error"]
     told = []
     if passed and passed.kinds:
-        name = lambda kind: f" ({skipping.NAMES[kind]})" if kind in skipping.NAMES else ""
+        name = lambda kind: f" ({skipping.usual_name(kind)})" if skipping.usual_name(kind) else ""
         kinds = [f"{count} of {'' if at else 'EtherType '}{kind:04x}{name(kind)}, from {first} on"
                  for at, (kind, (count, first)) in enumerate(passed.kinds.items())]
         rest = [f"{passed.others[0]} of others, from {passed.others[1]} on"] if passed.others else []

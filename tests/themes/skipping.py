@@ -6,7 +6,7 @@ from helpers.capture_parts import header, interface, packet, record, section
 from helpers.captured import ASKED, EachOf, Read, asking, why_wrong_of
 from helpers.frames import SAMPLED, WORKED, put
 from helpers.harness import Case, listed, text
-from oracles.skipping import NAMES
+from oracles.skipping import NAMES, usual_name
 from themes.mutations import damaged, good_goose, good_sampled
 from themes.replaying import line, state
 from themes.watching import asdu, sampled
@@ -55,7 +55,8 @@ def worked():
     shown = text(["1 clock 0"])
     for words in (["show", "--skip-other"], ["show", "--skip-other", "--"]):
         yield Case(f"an ARP, under {words}", words, listed(ARP), shown, 0, [b"passed over: 1 of EtherType 0806 (ARP), from 1 on"])
-    for kind, name in NAMES.items():
+    for kind in (*NAMES, 0x0027, 0x05FF, 0):
+        name = usual_name(kind)
         yield Case(f"the name of EtherType {kind:04x}", ["check", "--skip-other"], b"\n" + listed(other(kind)) * 3, b"", 0,
                    [b"passed over: 3 of EtherType %04x (" % kind, name.encode(), b"), from 2 on"])
     yield Case("a second VLAN tag is not read, which is said", ["check", "--skip-other"], listed(ARP, TWICE, ARP), b"", 0,
