@@ -13,7 +13,7 @@ use thiserror::Error;
 #[derive(Clone, Copy, Debug, PartialEq, Eq, Error)]
 pub enum CaptureCause {
     /// The magic number, the version or the link type is none that is read.
-    #[error("the header is not that of a libpcap capture, version 2.4, of Ethernet")]
+    #[error("the header is not that of a libpcap capture (2.4, of Ethernet), nor with --capture of a pcapng capture (1)")]
     CaptureHeader,
     /// The input ends inside the header or inside a record.
     #[error("the capture is cut off")]

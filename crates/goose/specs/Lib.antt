@@ -1,1 +1,3 @@
 pub mod TaskText
+pub mod EventTasks
+pub mod RequestText

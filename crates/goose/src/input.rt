@@ -10,8 +10,8 @@ use std::io::{self, Error, Read, Write};
 /// How many octets a read asks for at most.
 pub const BLOCK: usize = 65536;
 
-/// How many of the first octets are kept.
-const HEAD: usize = 4;
+/// How many of the first octets are kept: as many as the header of a classic capture has.
+const HEAD: usize = 24;
 
 /// What is kept of an input for a message.
 #[derive(Drop)]
@@ -37,7 +37,7 @@ impl Seen {
         }
     }
 
-    /// The first octets of the input, four where it has as many.
+    /// The first octets of the input, 24 where it has as many.
     pub fn into_head(self) -> ArrayVec<u8, HEAD> {
         self.head.into_inner()
     }
@@ -51,9 +51,20 @@ impl Seen {
 /// A reader that hands on an output before each read: what was written is on its way before the program waits for more.
 #[derive(Drop)]
 pub struct Input<'a, R: Drop, W: Write + Drop> {
-    pub reader: R,
-    pub output: &'a Output<W>,
-    pub seen: &'a Seen,
+    reader: R,
+    output: &'a Output<W>,
+    seen: &'a Seen,
+}
+
+impl<'a, R: Drop, W: Write + Drop> Input<'a, R, W> {
+    /// A reader of this reader, that hands on this output, and keeps here what it has seen.
+    pub fn new(reader: R, output: &'a Output<W>, seen: &'a Seen) -> Input<'a, R, W> {
+        Input {
+            reader,
+            output,
+            seen,
+        }
+    }
 }
 
 impl<R: Read + Drop, W: Write + Drop> Read for Input<'_, R, W> {

@@ -3,8 +3,11 @@
 //! 1 something was found; 2 wrong arguments; 3 an error in the input; 4 a read or write fault; 5 out of memory.
 #![tactic(auto)]
 
+mod event_tasks;
 mod input;
 mod output;
+mod over_events;
+mod performed;
 mod performing;
 
 ghost use Rattle.std.specs.Prelude.{IfOk};
@@ -12,16 +15,18 @@ ghost use Rattle.words_core.specs.CommandLine.{HasPeriod, asked_by};
 
 use crate::input::{BLOCK, Input, Seen};
 use crate::output::Output;
-use crate::performing::{Performed, perform};
+use crate::performed::{Performed, Told};
+use crate::performing::perform_request;
 use clap::error::ErrorKind as WordsErrorKind;
 use engine_core::{Ending, status};
+use frame_core::PassedOver;
 use list_core::{FromRead, ToWrite};
-use message_core::{Advice, Failure, Stop, Unheard, advice_by_head, block_fault};
+use message_core::{Failure, Intake, Unheard, advice_by_head, block_fault, passed_frames};
 use std::alloc::AllocError;
 use std::io::{BufReader, ErrorKind, IsTerminal};
 use std::process::ExitCode;
 use std::{env, io};
-use words_core::{Task, WordsError, read_words};
+use words_core::{Options, Request, Task, WordsError, read_request};
 
 // What is not inlined here needs much of the stack, which is free again when a task runs.
 
@@ -97,35 +102,46 @@ fn words_of<'a>(rt: &HostRuntime, texts: &'a [String]) -> Result<Vec<&'a str>, A
     Ok(words)
 }
 
-// The task that the words ask for.
+// The request that the words make.
 #[inline(never)]
-fn task_of(rt: &HostRuntime, words: &[&str]) -> Result<Task, WordsError>
-    ensures { IfOk result (λ t. HasPeriod (asked_by t)) }
+fn request_of(rt: &HostRuntime, words: &[&str]) -> Result<Request, WordsError>
+    ensures { IfOk result (λ r. HasPeriod (asked_by r.task)) }
 {
-    read_words(rt.alloc(), words)
+    read_request(rt.alloc(), words)
+}
+
+// What a task reads by its options.
+fn intake_of(task: &Task, options: Options) -> Intake {
+    match task {
+        Task::Publish => Intake::Script,
+        Task::Import => Intake::Records,
+        Task::Rewrite => Intake::List,
+        _ if options.is_capture => Intake::Packets,
+        _ => Intake::ListOrCapture,
+    }
 }
 
 // Says on a terminal what is awaited.
 #[inline(never)]
-fn say_awaited(rt: &HostRuntime, task: &Task) {
+fn say_awaited(rt: &HostRuntime, command: &str, intake: Intake) {
     if rt.stdin().is_terminal() {
-        let awaited = match task {
-            Task::Publish => "script",
-            Task::Import => "capture",
-            _ => "list",
+        let awaited = match intake {
+            Intake::Script => "script",
+            Intake::Records | Intake::Packets => "capture",
+            Intake::List | Intake::ListOrCapture => "list",
         };
         let _ = eprintln!(rt;
-            "goose {}: waiting for a {awaited} on standard input (did you forget `< FILE`?)",
-            task.name()
+            "goose {command}: waiting for a {awaited} on standard input (did you forget `< FILE`?)"
         );
     }
 }
 
-// Says why the input ended a run, and what to do about it, where something is known of that.
+// Says why the input ended a run, and what to do about it, where its first octets or those at the fault tell.
 #[inline(never)]
-fn say_stop(rt: &HostRuntime, command: &str, stop: &Stop, advice: Option<Advice>) {
+fn say_stop(rt: &HostRuntime, command: &str, told: Told, intake: Intake, head: &[u8]) {
+    let Told { stop, advice } = told;
     let _ = eprintln!(rt; "goose {command}: {stop}");
-    if let Some(advice) = advice {
+    if let Some(advice) = advice_by_head(intake, head).or(advice) {
         let _ = eprintln!(rt; "{advice}");
     }
 }
@@ -152,15 +168,21 @@ fn flags_for(rt: &HostRuntime, task: &Task) -> Vec<bool> {
     flags
 }
 
-// The text of the block at a position. The texts stand behind the name of the command, with perhaps the mark `--` among them.
+// The text of the block at a position. The texts stand behind the name of the command, with options between them, or the mark
+// `--`, behind which all are texts.
 fn block_text<'a>(words: &[&'a str], position: usize) -> Option<&'a str> {
-    let mark = words
-        .iter()
-        .position(|word| *word == "--")
-        .unwrap_or(words.len());
-    let at = position.saturating_add(2);
-    let at = if at >= mark { at.saturating_add(1) } else { at };
-    words.get(at).copied()
+    let mut is_marked = false;
+    let mut before = 0usize;
+    for word in words.get(2..)? {
+        if !is_marked && word.starts_with("--") {
+            is_marked = *word == "--";
+        } else if before == position {
+            return Some(word);
+        } else {
+            before = before.saturating_add(1);
+        }
+    }
+    None
 }
 
 // Says of which blocks no frame came.
@@ -185,34 +207,41 @@ fn say_unheard(rt: &HostRuntime, words: &[&str], heard: &[bool]) {
     }
 }
 
+// Says which frames of other protocols were passed over, if any were.
+#[inline(never)]
+fn say_passed(rt: &HostRuntime, command: &str, passed: &PassedOver) {
+    if let Some(passed) = passed_frames(passed) {
+        let _ = eprintln!(rt; "goose {command}: {passed}");
+    }
+}
+
 // Runs a task from standard input to standard output, and answers the exit status.
-fn run(rt: &HostRuntime, task: Task, words: &[&str]) -> u8
-    requires { HasPeriod (asked_by task) }
+fn run(rt: &HostRuntime, request: Request, words: &[&str]) -> u8
+    requires { HasPeriod (asked_by request.task) }
 {
+    let Request { task, options } = request;
     let Ok(output) = Output::new(rt.alloc(), io::writer(rt)) else {
         return status(&Ending::Memory);
     };
     let seen = Seen::new();
-    let input = Input {
-        reader: rt.reader(),
-        output: &output,
-        seen: &seen,
-    };
+    let input = Input::new(rt.reader(), &output, &seen);
     let Ok(input) = BufReader::with_capacity(rt.alloc(), BLOCK, input) else {
         return status(&Ending::Memory);
     };
-    say_awaited(rt, &task);
     let command = task.name();
+    let intake = intake_of(&task, options);
+    say_awaited(rt, command, intake);
     let mut heard = flags_for(rt, &task);
     let mut writer = ToWrite::new(&output);
     let Performed {
         ending,
-        stop,
-        advice,
+        told,
+        passed,
         reader: _,
-    } = perform(
+    } = perform_request(
         rt.alloc(),
         task,
+        options,
         FromRead::new(input),
         heard.as_mut_slice(),
         &mut writer,
@@ -220,20 +249,18 @@ fn run(rt: &HostRuntime, task: Task, words: &[&str]) -> u8
     let is_written = ending != Ending::WriteFault && output.hand_on().is_ok();
     let failure = failure_of(&output, &seen);
     output.let_go();
-    match (ending, stop) {
-        _ if !is_written => answer_failure(rt, failure),
-        (Ending::ReadFault, _) => answer_failure(rt, failure),
-        (Ending::InputFault, Some(stop)) => {
-            let by_head = advice_by_head(&stop, seen.into_head().as_slice());
-            say_stop(rt, command, &stop, by_head.or(advice));
-            status(&ending)
-        }
-        (Ending::Done, _) => {
-            say_unheard(rt, words, heard.as_slice());
-            status(&ending)
-        }
-        _ => status(&ending),
+    if !is_written || ending == Ending::ReadFault {
+        return answer_failure(rt, failure);
     }
+    if let Some(passed) = &passed {
+        say_passed(rt, command, passed);
+    }
+    match told {
+        Some(told) => say_stop(rt, command, told, intake, seen.into_head().as_slice()),
+        None if ending == Ending::Done => say_unheard(rt, words, heard.as_slice()),
+        None => {}
+    }
+    status(&ending)
 }
 
 // Says which text is no control block, and why, and answers the exit status.
@@ -256,8 +283,8 @@ fn answer(rt: &HostRuntime, texts: &[String]) -> u8 {
     let Ok(words) = words_of(rt, texts) else {
         return status(&Ending::Memory);
     };
-    match task_of(rt, words.as_slice()) {
-        Ok(task) => run(rt, task, words.as_slice()),
+    match request_of(rt, words.as_slice()) {
+        Ok(request) => run(rt, request, words.as_slice()),
         Err(WordsError::Words(error)) => answer_words(rt, &error),
         Err(WordsError::Block(position)) => answer_block(rt, words.as_slice(), position),
         Err(WordsError::Memory) => status(&Ending::Memory),
@@ -271,30 +298,8 @@ fn say(rt: &HostRuntime, code: u8) {
     }
 }
 
-/// How much of the stack any task takes, and some more.
-const STACK: usize = 393_216;
-
-// The last octet.
-#[inline(never)]
-fn last_of(octets: &[u8]) -> u8 {
-    match octets.last() {
-        Some(octet) => *octet,
-        None => 0,
-    }
-}
-
-// Takes as much of the stack as any task does, and gives it back. What a system gives to the stack it leaves there: so where
-// memory is limited, a task is refused what it asks for and can say so, and never lacks the stack.
-#[inline(never)]
-fn grow_stack() -> u8 {
-    let room = [0u8; STACK];
-    last_of(&room)
-}
-
 fn main(rt: HostRuntime) -> ExitCode {
     let code = match texts_of(&rt) {
-        // Nothing is written there, so the answer is 0.
-        Ok(_) if grow_stack() != 0 => status(&Ending::Memory),
         Ok(texts) => answer(&rt, texts.as_slice()),
         Err(2) => {
             let _ = rt.eprintln("error: each argument must be text in UTF-8, and one is not");

@@ -21,6 +21,12 @@ pub enum Advice {
     Pcapng,
     /// The input is a libpcap capture, and the command reads something else.
     Capture,
+    /// The input is a capture, and the command reads one where it is told to.
+    AddCapture,
+    /// The input is a list, and the command was told that it is a capture.
+    LeaveCapture,
+    /// The link type of the capture is this one, and not Ethernet.
+    LinkType(u16),
     /// The input begins with the byte order mark of UTF-8.
     ByteOrderMark,
     /// The input begins with a byte order mark of UTF-16.
@@ -47,9 +53,10 @@ pub enum Advice {
     Split,
 }
 
-impl fmt::Display for Advice {
-    fn fmt<W: fmt::Write>(&self, f: &mut fmt::Formatter<W>) -> fmt::Result {
-        f.write_str(match self {
+impl Advice {
+    // What there is to say.
+    fn sentence(&self) -> &'static str {
+        match self {
             Advice::Gzip =>
                 "The input is compressed by gzip: zcat FILE | goose .. reads what is in it",
             Advice::Xz =>
@@ -61,6 +68,9 @@ impl fmt::Display for Advice {
             Advice::Pcapng =>
                 "The input is a pcapng capture: make a libpcap capture of it by editcap -F pcap FILE - or tcpdump -r FILE -w -, and give that to goose import",
             Advice::Capture => "The input is a libpcap capture: goose import writes it as a list",
+            Advice::AddCapture => "The input is a capture: add --capture, and it is read",
+            Advice::LeaveCapture => "The input is a list: leave --capture out",
+            Advice::LinkType(_) => "Its link type is not Ethernet",
             Advice::ByteOrderMark =>
                 "The input begins with a byte order mark, which no list or script has: tail -c +4 FILE leaves it out",
             Advice::Utf16 =>
@@ -83,8 +93,39 @@ impl fmt::Display for Advice {
             Advice::ScriptForms =>
                 "First comes 'control,..', then 'step,WAIT,LIVE', then 'change,TIME,T,MEMBERS' and 'poll,TIME'",
             Advice::Split =>
-                "Split it: editcap -F pcap -c 900000 FILE PART makes captures of 900000 records; docs/RECIPES.md has the rest",
-        })
+                "A list holds no more: goose show --capture and its kin read a capture of any length",
+        }
+    }
+}
+
+// The usual name of the type of a link.
+fn link_name(number: u16) -> &'static str {
+    match number {
+        0 => "NULL, the loopback interface of BSD",
+        12 | 101 => "RAW, IP without a link",
+        105 => "IEEE802_11, Wi-Fi",
+        108 => "LOOP, the loopback interface of OpenBSD",
+        113 => "LINUX_SLL, the interface any",
+        127 => "IEEE802_11_RADIOTAP, Wi-Fi",
+        189 => "USB_LINUX",
+        220 => "USB_LINUX_MMAPPED",
+        228 => "IPV4",
+        229 => "IPV6",
+        276 => "LINUX_SLL2, the interface any",
+        _ => "another link",
+    }
+}
+
+impl fmt::Display for Advice {
+    fn fmt<W: fmt::Write>(&self, f: &mut fmt::Formatter<W>) -> fmt::Result {
+        match self {
+            Advice::LinkType(number) => write!(
+                f,
+                "The link type is {number} ({}), and only 1 (Ethernet) is read: capture on the network card itself",
+                link_name(*number)
+            ),
+            advice => f.write_str(advice.sentence()),
+        }
     }
 }
 
@@ -99,6 +140,9 @@ const COMPRESSED: [(&[u8], Advice); 4] = [
     (&[0x42, 0x5A, 0x68], Advice::Bzip2),
 ];
 
+/// How a list begins: with its version, a comment or an event.
+const LIST_HEADS: [&[u8]; 5] = [b"V2", b"# ", b"F ", b"C ", b"M "];
+
 /// How a pcapng capture begins.
 const PCAPNG_HEAD: [u8; 4] = [0x0A, 0x0D, 0x0D, 0x0A];
 
@@ -110,11 +154,30 @@ const CAPTURE_HEADS: [[u8; 4]; 4] = [
     [0x4D, 0x3C, 0xB2, 0xA1],
 ];
 
+/// What a command reads.
+#[derive(Clone, Copy, Debug, PartialEq, Eq)]
+pub enum Intake {
+    /// A list.
+    List,
+    /// A list, and a capture where `--capture` says so.
+    ListOrCapture,
+    /// A capture in place of a list.
+    Packets,
+    /// A script.
+    Script,
+    /// A capture in the classic form.
+    Records,
+}
+
+// Whether an input begins as a capture in the classic form.
+fn is_classic(head: &[u8]) -> bool {
+    CAPTURE_HEADS
+        .iter()
+        .any(|magic| head.starts_with(magic.as_slice()))
+}
+
 // What the first octets of a text tell.
 fn by_text(head: &[u8]) -> Option<Advice> {
-    if CAPTURE_HEADS.iter().any(|magic| head == magic.as_slice()) {
-        return Some(Advice::Capture);
-    }
     if head.starts_with(&[0xEF, 0xBB, 0xBF]) {
         return Some(Advice::ByteOrderMark);
     }
@@ -124,18 +187,50 @@ fn by_text(head: &[u8]) -> Option<Advice> {
     None
 }
 
-/// What to do about an input that begins with these octets, four where it has as many, if they tell.
-pub fn advice_by_head(stop: &Stop, head: &[u8]) -> Option<Advice> {
+// Whether an input begins as a list does.
+fn begins_list(head: &[u8]) -> bool {
+    LIST_HEADS.iter().any(|first| head.starts_with(first))
+}
+
+// The type of the link that the header of a capture in the classic form tells (its last 4 octets, of which the lower 16 bits
+// count), if it is whole and this is not Ethernet.
+fn other_link(head: &[u8]) -> Option<u16> {
+    if !is_classic(head) {
+        return None;
+    }
+    let link = head.get(20..24)?;
+    // The magic numbers begin with A1 where the octet that counts most comes first.
+    let number = if head.starts_with(&[0xA1]) {
+        u16::from_be_bytes([link[2], link[3]])
+    } else {
+        u16::from_le_bytes([link[0], link[1]])
+    };
+    if number == 1 { None } else { Some(number) }
+}
+
+// What the first octets of a capture tell.
+fn by_capture(head: &[u8]) -> Option<Advice> {
+    match other_link(head) {
+        Some(number) => Some(Advice::LinkType(number)),
+        None => None,
+    }
+}
+
+/// What to do about an input that begins with these octets, 24 where it has as many, if they tell.
+pub fn advice_by_head(intake: Intake, head: &[u8]) -> Option<Advice> {
     for (first, advice) in COMPRESSED {
         if head.starts_with(first) {
             return Some(advice);
         }
     }
-    if head == PCAPNG_HEAD.as_slice() {
-        return Some(Advice::Pcapng);
-    }
-    match stop {
-        Stop::Capture(_) => None,
+    let is_pcapng = head.starts_with(PCAPNG_HEAD.as_slice());
+    match intake {
+        Intake::ListOrCapture if is_pcapng || is_classic(head) => Some(Advice::AddCapture),
+        Intake::Packets if begins_list(head) => Some(Advice::LeaveCapture),
+        Intake::Packets => by_capture(head),
+        _ if is_pcapng => Some(Advice::Pcapng),
+        Intake::Records => by_capture(head),
+        Intake::List | Intake::Script if is_classic(head) => Some(Advice::Capture),
         _ => by_text(head),
     }
 }
@@ -228,6 +323,6 @@ pub fn advice_by_line(stop: &Stop, octets: &[u8]) -> Option<Advice> {
         Stop::Script(ItemFault::Lines(fault)) => on_length(fault.cause, line),
         Stop::Script(ItemFault::Line(_, cause)) => on_script(*cause, line),
         Stop::Capture(fault) if fault.cause == CaptureCause::TooManyRecords => Some(Advice::Split),
-        Stop::Capture(_) | Stop::SameBlockTwice(_) => None,
+        Stop::Capture(_) | Stop::Packet(_) | Stop::SameBlockTwice(_) => None,
     }
 }

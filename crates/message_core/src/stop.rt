@@ -17,6 +17,8 @@ pub enum Stop {
     Script(ItemFault<ScriptCause>),
     /// The capture has this fault.
     Capture(CaptureFault),
+    /// The capture that stands in place of a list has this fault.
+    Packet(CaptureFault),
     /// The control block at this position, from 0, has the APPID and the gocbRef of an earlier one.
     SameBlockTwice(usize),
 }
@@ -52,22 +54,27 @@ fn write_script<W: fmt::Write>(
     }
 }
 
+// Writes the sentence on a fault of a capture, whose packets have this name.
+fn write_capture<W: fmt::Write>(
+    f: &mut fmt::Formatter<W>,
+    fault: &CaptureFault,
+    packet: &str,
+) -> fmt::Result {
+    let name = text(capture_cause_name(fault.cause));
+    match fault.number {
+        0 => write!(f, "header: {name}: {}", fault.cause),
+        number => write!(f, "{packet} {number}: {name}: {}", fault.cause),
+    }
+}
+
 impl fmt::Display for Stop {
     fn fmt<W: fmt::Write>(&self, f: &mut fmt::Formatter<W>) -> fmt::Result {
         match self {
             Stop::List(fault) => write_lines(f, fault),
             Stop::Script(ItemFault::Lines(fault)) => write_lines(f, fault),
             Stop::Script(ItemFault::Line(line, cause)) => write_script(f, *line, *cause),
-            Stop::Capture(CaptureFault { number: 0, cause }) => {
-                write!(f, "header: {}: {cause}", text(capture_cause_name(*cause)))
-            }
-            Stop::Capture(CaptureFault { number, cause }) => {
-                write!(
-                    f,
-                    "record {number}: {}: {cause}",
-                    text(capture_cause_name(*cause))
-                )
-            }
+            Stop::Capture(fault) => write_capture(f, fault, "record"),
+            Stop::Packet(fault) => write_capture(f, fault, "packet"),
             Stop::SameBlockTwice(position) => {
                 write!(
                     f,
