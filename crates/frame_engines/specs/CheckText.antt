@@ -14,6 +14,7 @@ use Rattle.list_core.specs.declared.list_fault.ListCause.{ListCause}
 use Rattle.frame_core.specs.computed.FrameReading.{frame_at}
 use Rattle.list_core.specs.ListReader.{list_fault_of}
 use Rattle.engine_core.specs.EngineText.{Text}
+use Rattle.engine_core.specs.EventsText.{EventText, over_events}
 use Rattle.text_core.specs.LineText.{fault_line, list_fault_line}
 use Rattle.frame_engines.specs.WrittenForm.{fitting_form}
 
@@ -61,10 +62,10 @@ abbrev pub has_text : List ℕ → Bool
 has_text [] = false
 has_text (c ∷ text) = true
 
--- the text of `check`, in which an event with a note is a finding
+-- what `check` writes of an event; one with a note is a finding
+abbrev pub check_event : {A : Type 0} → EventText A
+check_event before e = (notes e.0 e.1.kind, has_text (notes e.0 e.1.kind))
+
+-- the text of `check` over a list
 abbrev pub check_text : {A : Type 0} → Text (Event A) ListCause
-check_text = record {
-  first = [];
-  of_item = λ before e. Ok (notes e.0 e.1.kind, has_text (notes e.0 e.1.kind));
-  last = λ f. list_fault_line (list_fault_of f);
-}
+check_text = over_events check_event (λ f. list_fault_line (list_fault_of f))

@@ -13,6 +13,7 @@ use Rattle.frame_core.specs.computed.FrameReading.{frame_at}
 use Rattle.text_core.specs.LineText.{clock_line, fault_line, list_fault_line}
 use Rattle.frame_engines.specs.FrameText.{frame_line}
 use Rattle.engine_core.specs.EngineText.{Text}
+use Rattle.engine_core.specs.EventsText.{EventText, over_events}
 
 -- the line of the frame that octets spell, or of the fault that they have
 abbrev pub answer_line : {A : Type 0} → ℕ → Result (frames.Frame A) Fault → List ℕ
@@ -29,10 +30,10 @@ kind_line n moment Clock = clock_line n moment
 kind_line n moment (Frame octets) = octets_line n octets
 kind_line n moment (Mode on) = decimal n ++ codes " mode " ++ decimal moment ++ codes " " ++ mode_text on ++ codes "\n"
 
--- the text of `show`, in which nothing is a finding
+-- what `show` writes of an event, which is no finding
+abbrev pub show_event : {A : Type 0} → EventText A
+show_event before e = (kind_line e.0 e.1.moment e.1.kind, false)
+
+-- the text of `show` over a list
 abbrev pub show_text : {A : Type 0} → Text (Event A) ListCause
-show_text = record {
-  first = [];
-  of_item = λ before e. Ok (kind_line e.0 e.1.moment e.1.kind, false);
-  last = λ f. list_fault_line (list_fault_of f);
-}
+show_text = over_events show_event (λ f. list_fault_line (list_fault_of f))

@@ -8,21 +8,25 @@ ghost use Rattle.frame_core.specs.FrameViews.{frame_of, is_written};
 ghost use Rattle.frame_core.specs.Written.{ApduIsSpellable, written_frame};
 ghost use Rattle.frame_core.specs.computed.WrittenTest.{fits};
 ghost use Rattle.text_core.specs.Pieces.{AppendsText};
-ghost use Rattle.frame_engines.specs.CheckText.{check_text, goes_where_recommended, has_text, is_form, note_unless, notes, octets_notes};
+ghost use Rattle.frame_engines.specs.CheckText.{check_event, check_text, goes_where_recommended, has_text, is_form, note_unless, notes, octets_notes};
 ghost use Rattle.engine_core.specs.Ending.{is_write_fault};
 ghost use Rattle.list_core.specs.ItemReader.{item_state};
+ghost use Rattle.engine_core.specs.EventsText.{over_events};
 ghost use Rattle.engine_core.specs.Run.{Writes, WritesTo};
+ghost use Rattle.engine_core.specs.RunOver.{RunsOver};
 ghost use Rattle.frame_engines.specs.WrittenForm.{fitting_form};
 
 use arrayvec::ArrayVec;
 use byteorder::{BigEndian, ByteOrder};
-use engine_core::{Ending, Engine, Stopped, run_to_stop};
+use engine_core::{Ending, EventEngine, OfEvents, Stopped, run_over, run_to_stop};
 use frame_core::{
-    ApduView, Event, EventKind, EventLines, FrameView, ItemFault, ItemReader, LineError, ListCause,
-    Sink, Source, encode_view, fault_of_list, see_frame, written_length,
+    ApduView, Event, EventKind, EventLines, FrameView, ItemFault, ItemReader, ListCause, Sink,
+    Source, encode_view, see_frame, written_length,
 };
+use list_core::{InputFault, ReadItems};
 use std::alloc::{AllocError, Allocator};
-use text_core::line::{put_fault_line, put_list_fault_line};
+use text_core::LastLine;
+use text_core::line::put_fault_line;
 use text_core::pieces::put_decimal;
 
 /// The first recommended destination of GOOSE, 01-0C-CD-01-00-00, and the last.
@@ -153,36 +157,20 @@ fn put_event_notes<A: Allocator>(
 #[derive(Drop)]
 struct CheckText;
 
-impl<A: Allocator> Engine<A> for CheckText {
-    type Item = Event<A>;
-
-    type Cause = ListCause;
-
-    ghost text = { λ _. check_text };
+impl<A: Allocator> EventEngine<A> for CheckText {
+    ghost text = { λ _. check_event };
 
     ghost stands = { λ _ _. ⊤ };
 
-    fn put_item(
+    #[inline(always)]
+    fn put_event(
         &mut self,
         line: &mut Vec<u8, A>,
         number: u64,
-        event: Event<A>,
-        spare: &mut Option<Event<A>>,
-    ) -> Result<bool, LineError<ListCause>> {
-        let noted = put_event_notes(line, number, &event.kind);
-        *spare = Some(event);
-        match noted {
-            Ok(found) => Ok(found),
-            Err(error) => Err(LineError::Memory(error)),
-        }
-    }
-
-    fn put_last(
-        &self,
-        line: &mut Vec<u8, A>,
-        fault: &ItemFault<ListCause>,
-    ) -> Result<(), AllocError> {
-        put_list_fault_line(line, fault_of_list(fault))
+        event: &Event<A>,
+    ) -> Result<bool, AllocError> {
+        let found = put_event_notes(line, number, &event.kind)?;
+        Ok(found)
     }
 }
 
@@ -229,5 +217,22 @@ pub fn check_to_stop<A: Allocator + Copy, R: Source, W: Sink>(
     ensures read_fault { result.ending ≡ Ending.ReadFault → (item_state R.left R.ending result.reader).ending ≡ InputEnd.Failed }
     ensures fault { W.failed writer.new ≡ is_write_fault result.ending }
 {
-    run_to_stop(alloc, EventLines::First, CheckText, b"", reader, writer)
+    let engine = OfEvents { engine: CheckText };
+    run_to_stop(alloc, EventLines::First, engine, b"", reader, writer)
+}
+
+/// As `check`, over any reader of events: the last line is that of the input's fault. Hands out the fault by which it ended,
+/// and the reader of the events.
+pub fn check_over<
+    A: Allocator + Copy,
+    F: InputFault + LastLine + Drop,
+    I: ReadItems<A, Item = Event<A>, Fault = F>,
+    W: Sink,
+>(alloc: A, events: I, writer: &mut W) -> Stopped<I, F>
+    requires works { W.failed writer.old ≡ false }
+    ensures text { RunsOver I.answers F.refused F.failed (over_events (check_event {A = A}) F.last_line) events result.ending result.fault result.reader (W.contents writer.old) (W.contents writer.new) }
+    ensures fault { W.failed writer.new ≡ is_write_fault result.ending }
+{
+    let engine = OfEvents { engine: CheckText };
+    run_over(alloc, engine, b"", events, writer)
 }

@@ -134,10 +134,8 @@ fn put_event<A: Allocator>(line: &mut Vec<u8, A>, event: &Event<A>) -> Result<bo
 #[derive(Drop)]
 struct RewriteText;
 
-impl<A: Allocator> Engine<A> for RewriteText {
+impl<A: Allocator> Engine<A, ItemFault<ListCause>> for RewriteText {
     type Item = Event<A>;
-
-    type Cause = ListCause;
 
     ghost text = { λ _. rewrite_text };
 

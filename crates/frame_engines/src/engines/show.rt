@@ -8,18 +8,21 @@ ghost use Rattle.list_core.specs.declared.device.InputEnd.{InputEnd};
 ghost use Rattle.list_core.specs.Device.{GivesOctets};
 ghost use Rattle.engine_core.specs.Ending.{is_write_fault};
 ghost use Rattle.list_core.specs.ItemReader.{item_state};
+ghost use Rattle.engine_core.specs.EventsText.{over_events};
 ghost use Rattle.engine_core.specs.Run.{Writes, WritesTo};
+ghost use Rattle.engine_core.specs.RunOver.{RunsOver};
 ghost use Rattle.text_core.specs.Pieces.{AppendsText};
-ghost use Rattle.frame_engines.specs.ShowText.{kind_line, octets_line, show_text};
+ghost use Rattle.frame_engines.specs.ShowText.{kind_line, octets_line, show_event, show_text};
 
 use crate::texts::frame::put_frame;
-use engine_core::{Ending, Engine, Stopped, run_to_stop};
+use engine_core::{Ending, EventEngine, OfEvents, Stopped, run_over, run_to_stop};
 use frame_core::{
-    Event, EventKind, EventLines, ItemFault, ItemReader, LineError, ListCause, Sink, Source,
-    fault_of_list, view_frame,
+    Event, EventKind, EventLines, ItemFault, ItemReader, ListCause, Sink, Source, view_frame,
 };
+use list_core::{InputFault, ReadItems};
 use std::alloc::{AllocError, Allocator};
-use text_core::line::{put_clock_line, put_fault_line, put_list_fault_line, put_mode_word};
+use text_core::LastLine;
+use text_core::line::{put_clock_line, put_fault_line, put_mode_word};
 use text_core::pieces::put_decimal;
 
 // Appends the line of the octets of a frame.
@@ -56,7 +59,7 @@ fn put_mode<A: Allocator>(
 }
 
 // Appends the line of an event.
-fn put_event<A: Allocator>(
+fn put_shown<A: Allocator>(
     line: &mut Vec<u8, A>,
     number: u64,
     event: &Event<A>,
@@ -74,36 +77,20 @@ fn put_event<A: Allocator>(
 #[derive(Drop)]
 struct ShowText;
 
-impl<A: Allocator> Engine<A> for ShowText {
-    type Item = Event<A>;
-
-    type Cause = ListCause;
-
-    ghost text = { λ _. show_text };
+impl<A: Allocator> EventEngine<A> for ShowText {
+    ghost text = { λ _. show_event };
 
     ghost stands = { λ _ _. ⊤ };
 
-    fn put_item(
+    #[inline(always)]
+    fn put_event(
         &mut self,
         line: &mut Vec<u8, A>,
         number: u64,
-        event: Event<A>,
-        spare: &mut Option<Event<A>>,
-    ) -> Result<bool, LineError<ListCause>> {
-        let put = put_event(line, number, &event);
-        *spare = Some(event);
-        match put {
-            Ok(()) => Ok(false),
-            Err(error) => Err(LineError::Memory(error)),
-        }
-    }
-
-    fn put_last(
-        &self,
-        line: &mut Vec<u8, A>,
-        fault: &ItemFault<ListCause>,
-    ) -> Result<(), AllocError> {
-        put_list_fault_line(line, fault_of_list(fault))
+        event: &Event<A>,
+    ) -> Result<bool, AllocError> {
+        put_shown(line, number, event)?;
+        Ok(false)
     }
 }
 
@@ -145,5 +132,22 @@ pub fn show_to_stop<A: Allocator + Copy, R: Source, W: Sink>(
     ensures read_fault { result.ending ≡ Ending.ReadFault → (item_state R.left R.ending result.reader).ending ≡ InputEnd.Failed }
     ensures fault { W.failed writer.new ≡ is_write_fault result.ending }
 {
-    run_to_stop(alloc, EventLines::First, ShowText, b"", reader, writer)
+    let engine = OfEvents { engine: ShowText };
+    run_to_stop(alloc, EventLines::First, engine, b"", reader, writer)
+}
+
+/// As `show`, over any reader of events: the last line is that of the input's fault. Hands out the fault by which it ended,
+/// and the reader of the events.
+pub fn show_over<
+    A: Allocator + Copy,
+    F: InputFault + LastLine + Drop,
+    I: ReadItems<A, Item = Event<A>, Fault = F>,
+    W: Sink,
+>(alloc: A, events: I, writer: &mut W) -> Stopped<I, F>
+    requires works { W.failed writer.old ≡ false }
+    ensures text { RunsOver I.answers F.refused F.failed (over_events (show_event {A = A}) F.last_line) events result.ending result.fault result.reader (W.contents writer.old) (W.contents writer.new) }
+    ensures fault { W.failed writer.new ≡ is_write_fault result.ending }
+{
+    let engine = OfEvents { engine: ShowText };
+    run_over(alloc, engine, b"", events, writer)
 }
