@@ -9,7 +9,7 @@ use Rattle.std.specs.Prelude.{OnErr, OnOk}
 use Rattle.std.proofs.lemmas.List.Concat.{flat_map-append}
 use Rattle.list_core.proofs.Emptiness.{back_nil, front_nil}
 use Rattle.list_core.specs.declared.event.Event.{Event}
-use Rattle.engine_core.specs.computed.EngineStep.{Takes}
+use Rattle.engine_core.specs.computed.EventStep.{EventTaken}
 use Rattle.pdu_core.specs.SampledViews.{asdu_of}
 use Rattle.pdu_core.specs.declared.sampled.asdu.Asdu.{Asdu}
 use Rattle.pdu_core.specs.declared.sampled.view.AsduView.{AsduView}
@@ -19,7 +19,7 @@ use Rattle.inventory_engine.specs.declared.inventory.Place.{Place}
 use Rattle.inventory_engine.specs.declared.known.Known.{Known}
 use Rattle.inventory_engine.specs.Sightings.{Sighting, key_of, sightings_in, sightings_of, stream_sighting, stream_sightings}
 use Rattle.inventory_engine.specs.BlocksText.{changed_word, first_word, line_after, sighting_line}
-use Rattle.inventory_engine.specs.computed.BlocksStep.{Keeps, AppendsLines, HasLines, blocks_text, lines_by, newest, written_of}
+use Rattle.inventory_engine.specs.computed.BlocksStep.{Keeps, AppendsLines, HasLines, blocks_event, lines_by, newest, written_of}
 use Rattle.inventory_engine.specs.computed.KnownTexts.{InOrder, IsAt, IsGap, known_key, known_text, same_key, text_by}
 use Rattle.inventory_engine.specs.computed.Runs.{AreRuns, NoneEmpty, PutsOne, WritesText, held, in_runs, position_of}
 use Rattle.std.specs.declared.vec.Vec.{Vec}
@@ -200,13 +200,12 @@ sightings-push before e =
 
 -- an event was written
 pub takes_event : {A : Type 0} (n : ℕ) (before : List (ℕ × Event A)) (event : Event A) (known after : Inventory A) (old new : List ℕ) → AppendsLines n (sightings_of event.kind) known after old new → Keeps known (sightings_in before)
-    → Takes (blocks_text {A = A}) (λ (items : List (ℕ × Event A)). Keeps after (sightings_in items)) before (n, event) (Ok false) old new
+    → EventTaken (blocks_event {A = A}) (λ (items : List (ℕ × Event A)). Keeps after (sightings_in items)) before (n, event) false old new
 takes_event n before event known after old new wrote k =
     let p = wrote (sightings_in before) k in
     record {
-      text = written_of n (sightings_in before) (sightings_of event.kind);
-      has_text = refl;
       appended = p.0;
+      finds = refl;
       stands_after = subst (λ (l : List Sighting). Keeps after l) (sym (sightings-push before (n, event))) p.1;
     }
 

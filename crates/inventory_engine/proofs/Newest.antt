@@ -4,8 +4,8 @@ use Rattle.std.specs.Prelude.{if◌then◌else◌}
 use Rattle.std.proofs.lemmas.List.{append-nil, reverse-append, reverse-reverse}
 use Rattle.std.proofs.lemmas.Option.{slice_get_within, none-some, same_Some}
 use Rattle.inventory_engine.specs.Sightings.{Key, Sighting, key_of, sightings_in, sightings_of}
-use Rattle.inventory_engine.specs.BlocksText.{AreLines, IsBlocksText, IsLineAfter, IsNewest, line_after}
-use Rattle.inventory_engine.specs.computed.BlocksStep.{blocks_text, lines_by, newest, text_seen}
+use Rattle.inventory_engine.specs.BlocksText.{AreLines, IsBlocksOf, IsBlocksText, IsLineAfter, IsNewest, line_after}
+use Rattle.inventory_engine.specs.computed.BlocksStep.{blocks_event, blocks_text, lines_by, newest, text_seen}
 use Rattle.inventory_engine.specs.computed.KnownTexts.{same_key, text_by}
 use Rattle.inventory_engine.proofs.KeyLemmas.{same_is, same_yes}
 
@@ -91,13 +91,12 @@ lines_are n earlier seen = record { sizes = sizes earlier seen; each = each earl
         let rest = each (earlier ++ x ∷ []) seen i s line e f in
         subst (λ (l : List Sighting). IsLineAfter n l s line) (append_assoc earlier (x ∷ []) (take i seen)) rest
 
-pub blocks_is : {A : Type 0} → IsBlocksText {A = A} blocks_text
-blocks_is = record {
-  first = refl;
-  each_item = λ before e. record {
-    lines = lines_by e.0 (sightings_in before) (sightings_of e.1.kind);
-    are_lines = lines_are e.0 (sightings_in before) (sightings_of e.1.kind);
-    text = refl;
-  };
-  last = λ f. refl;
+pub blocks_of : {A : Type 0} → IsBlocksOf {A = A} blocks_event
+blocks_of = λ before e. record {
+  lines = lines_by e.0 (sightings_in before) (sightings_of e.1.kind);
+  are_lines = lines_are e.0 (sightings_in before) (sightings_of e.1.kind);
+  text = refl;
 }
+
+pub blocks_is : {A : Type 0} → IsBlocksText {A = A} blocks_text
+blocks_is = record { first = refl; each_item = blocks_of; last = λ f. refl }

@@ -8,6 +8,7 @@ use Rattle.list_core.specs.declared.line_rules.ItemFault.{ItemFault}
 use Rattle.list_core.specs.declared.list_fault.ListCause.{ListCause}
 use Rattle.list_core.specs.ListReader.{list_fault_of}
 use Rattle.engine_core.specs.EngineText.{Text}
+use Rattle.engine_core.specs.EventsText.{EventText}
 use Rattle.text_core.specs.LineText.{list_fault_line}
 use Rattle.inventory_engine.specs.Sightings.{Key, Sighting, key_of, sightings_in, sightings_of}
 
@@ -64,6 +65,10 @@ pub record ShowsEvent {A : Type 0} (before : List (ℕ × Event A)) (e : ℕ × 
   pub lines : List (List ℕ)
   pub are_lines : AreLines e.0 (sightings_in before) (sightings_of e.1.kind) lines
   pub text : written ≡ Ok (concat lines, false)
+
+-- what is written of events, whatever input they come from: of each the lines of what it shows
+abbrev pub IsBlocksOf : {A : Type 0} → EventText A → Type 0
+IsBlocksOf {A} text = (before : List (ℕ × Event A)) (e : ℕ × Event A) → ShowsEvent before e (Ok (text before e))
 
 -- what `blocks` writes: of each event the lines of what it shows
 pub record IsBlocksText {A : Type 0} (t : Text (Event A) ListCause) : Type 0 where

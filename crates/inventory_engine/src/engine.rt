@@ -7,19 +7,21 @@ ghost use Rattle.list_core.specs.Device.{GivesOctets};
 ghost use Rattle.list_core.specs.EventLine.{event_rules};
 ghost use Rattle.engine_core.specs.Ending.{is_write_fault};
 ghost use Rattle.list_core.specs.ItemReader.{item_state};
+ghost use Rattle.engine_core.specs.EventsText.{RunsSome};
 ghost use Rattle.engine_core.specs.Run.{WritesSome, WritesSomeTo};
 ghost use Rattle.inventory_engine.specs.Sightings.{sightings_in};
-ghost use Rattle.inventory_engine.specs.BlocksText.{IsBlocksText};
-ghost use Rattle.inventory_engine.specs.computed.BlocksStep.{Keeps, blocks_text};
+ghost use Rattle.inventory_engine.specs.BlocksText.{IsBlocksOf, IsBlocksText};
+ghost use Rattle.inventory_engine.specs.computed.BlocksStep.{Keeps, blocks_event};
 
 use crate::inventory::Inventory;
 use crate::sighting::put_event;
-use engine_core::{Ending, Engine, Stopped, run_to_stop};
+use engine_core::{Ending, EventEngine, OfEvents, Stopped, run_over, run_to_stop};
 use frame_core::{
-    Event, EventLines, ItemFault, ItemReader, LineError, ListCause, Sink, Source, fault_of_list,
+    Event, EventLines, ItemFault, ItemReader, ListCause, Sink, Source,
 };
+use list_core::{InputFault, ReadItems};
 use std::alloc::{AllocError, Allocator};
-use text_core::line::put_list_fault_line;
+use text_core::LastLine;
 
 /// What `blocks` writes, and what was seen by then.
 #[derive(Drop)]
@@ -28,36 +30,20 @@ struct Listing<A: Allocator> {
     known: Inventory<A>,
 }
 
-impl<A: Allocator + Copy> Engine<A> for Listing<A> {
-    type Item = Event<A>;
-
-    type Cause = ListCause;
-
-    ghost text = { λ _. blocks_text };
+impl<A: Allocator + Copy> EventEngine<A> for Listing<A> {
+    ghost text = { λ _. blocks_event };
 
     ghost stands = { λ s before. Keeps s.known (sightings_in before) };
 
-    fn put_item(
+    #[inline(always)]
+    fn put_event(
         &mut self,
         line: &mut Vec<u8, A>,
         number: u64,
-        event: Event<A>,
-        spare: &mut Option<Event<A>>,
-    ) -> Result<bool, LineError<ListCause>> {
-        let put = put_event(self.alloc, &mut self.known, line, number, &event.kind);
-        *spare = Some(event);
-        match put {
-            Ok(()) => Ok(false),
-            Err(error) => Err(LineError::Memory(error)),
-        }
-    }
-
-    fn put_last(
-        &self,
-        line: &mut Vec<u8, A>,
-        fault: &ItemFault<ListCause>,
-    ) -> Result<(), AllocError> {
-        put_list_fault_line(line, fault_of_list(fault))
+        event: &Event<A>,
+    ) -> Result<bool, AllocError> {
+        put_event(self.alloc, &mut self.known, line, number, &event.kind)?;
+        Ok(false)
     }
 }
 
@@ -107,5 +93,26 @@ pub fn blocks_to_stop<A: Allocator + Copy, R: Source, W: Sink>(
         alloc,
         known: Inventory::new(alloc),
     };
-    run_to_stop(alloc, EventLines::First, listing, b"", reader, writer)
+    let engine = OfEvents { engine: listing };
+    run_to_stop(alloc, EventLines::First, engine, b"", reader, writer)
+}
+
+/// As `blocks`, over any reader of events: the last line is that of the input's fault. Hands out the fault by which it ended,
+/// and the reader of the events.
+pub fn blocks_over<
+    A: Allocator + Copy,
+    F: InputFault + LastLine + Drop,
+    I: ReadItems<A, Item = Event<A>, Fault = F>,
+    W: Sink,
+>(alloc: A, events: I, writer: &mut W) -> Stopped<I, F>
+    requires works { W.failed writer.old ≡ false }
+    ensures text { RunsSome (IsBlocksOf {A = A}) I.answers F.refused F.failed F.last_line events result.ending result.fault result.reader (W.contents writer.old) (W.contents writer.new) }
+    ensures fault { W.failed writer.new ≡ is_write_fault result.ending }
+{
+    let listing = Listing {
+        alloc,
+        known: Inventory::new(alloc),
+    };
+    let engine = OfEvents { engine: listing };
+    run_over(alloc, engine, b"", events, writer)
 }

@@ -8,4 +8,4 @@ pub mod laws;
 mod pieces;
 mod sighting;
 
-pub use crate::engine::{blocks, blocks_to_stop};
+pub use crate::engine::{blocks, blocks_over, blocks_to_stop};

@@ -5,6 +5,7 @@ use Rattle.list_core.specs.declared.event.Event.{Event}
 use Rattle.list_core.specs.declared.list_fault.ListCause.{ListCause}
 use Rattle.list_core.specs.ListReader.{list_fault_of}
 use Rattle.engine_core.specs.EngineText.{Text}
+use Rattle.engine_core.specs.EventsText.{EventText, over_events}
 use Rattle.text_core.specs.LineText.{list_fault_line}
 use Rattle.inventory_engine.specs.declared.inventory.Inventory.{Inventory}
 use Rattle.inventory_engine.specs.Sightings.{Key, Sighting, key_of, sightings_in, sightings_of}
@@ -29,13 +30,13 @@ lines_by n earlier (s ∷ seen) = line_after n s (newest earlier (key_of s)) ∷
 abbrev pub written_of : ℕ → List Sighting → List Sighting → List ℕ
 written_of n earlier seen = concat (lines_by n earlier seen)
 
--- the text as it is computed
+-- what is written of an event as it is computed
+abbrev pub blocks_event : {A : Type 0} → EventText A
+blocks_event before e = (written_of e.0 (sightings_in before) (sightings_of e.1.kind), false)
+
+-- the text over a list
 abbrev pub blocks_text : {A : Type 0} → Text (Event A) ListCause
-blocks_text = record {
-  first = [];
-  of_item = λ before e. Ok (written_of e.0 (sightings_in before) (sightings_of e.1.kind), false);
-  last = λ f. list_fault_line (list_fault_of f);
-}
+blocks_text = over_events blocks_event (λ f. list_fault_line (list_fault_of f))
 
 -- what is held is the newest text of each key
 pub record Keeps {A : Type 0} (known : Inventory A) (seen : List Sighting) : Type 0 where
