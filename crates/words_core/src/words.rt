@@ -83,13 +83,17 @@ pub enum WordsError {
     Memory,
 }
 
-// What the help of `show`, of `blocks` and of `publish` ends with: they find nothing to be told by a status.
+// What the help of `show` and of `blocks` ends with: they find nothing to be told by a status.
 const SHOW_MORE: &str =
+    "Times in a list are microseconds where its first line is V2, else milliseconds; in the output they are always microseconds.\nExit status: 0 done, 2 wrong arguments, 3 an error in the input, 4 reading or writing failed, 5 out of memory.\nMore: man goose";
+
+// What the help of `publish` ends with.
+const PUBLISH_MORE: &str =
     "Times in the input are microseconds where its first line is V2, else milliseconds; in the output they are always microseconds.\nExit status: 0 done, 2 wrong arguments, 3 an error in the input, 4 reading or writing failed, 5 out of memory.\nMore: man goose";
 
 // What the help of `check` ends with: an encoding is no error.
 const CHECK_MORE: &str =
-    "A line fault is an error of the frame. A line not-written is a note and no error: the frame is valid, but encoded otherwise than rewrite would write it. A line destination is a note too: the frame is sent to another address than the standards recommend.\n\nTimes in the input are microseconds where its first line is V2, else milliseconds.\nExit status: 0 nothing to note, 1 a line was written for some frame, 2 wrong arguments, 3 an error in the input, 4 reading or writing failed, 5 out of memory.\nMore: man goose";
+    "A line fault is an error of the frame. A line not-written is a note and no error: the frame is valid, but encoded otherwise than rewrite would write it. A line destination is a note too: the frame is sent to another address than the standards recommend.\n\nTimes in a list are microseconds where its first line is V2, else milliseconds.\nExit status: 0 nothing to note, 1 a line was written for some frame, 2 wrong arguments, 3 an error in the input, 4 reading or writing failed, 5 out of memory.\nMore: man goose";
 
 // What the help of `rewrite` ends with.
 const REWRITE_MORE: &str =
@@ -97,11 +101,11 @@ const REWRITE_MORE: &str =
 
 // What the help of `replay` ends with.
 const REPLAY_MORE: &str =
-    "Times in the input are microseconds where its first line is V2, else milliseconds.\nExit status: 0 done, 2 wrong arguments, 3 an error in the input, or two blocks have one APPID and gocbRef, 4 reading or writing failed, 5 out of memory.\nMore: man goose";
+    "Times in a list are microseconds where its first line is V2, else milliseconds.\nExit status: 0 done, 2 wrong arguments, 3 an error in the input, or two blocks have one APPID and gocbRef, 4 reading or writing failed, 5 out of memory.\nMore: man goose";
 
 // What the help of `watch` ends with.
 const WATCH_MORE: &str =
-    "Times in the input are microseconds where its first line is V2, else milliseconds.\nExit status: 0 each line says first or next, 1 some line says another word, 2 wrong arguments, 3 an error in the input, 4 reading or writing failed, 5 out of memory.\nMore: man goose";
+    "Times in a list are microseconds where its first line is V2, else milliseconds.\nExit status: 0 each line says first or next, 1 some line says another word, 2 wrong arguments, 3 an error in the input, 4 reading or writing failed, 5 out of memory.\nMore: man goose";
 
 // What the help of `import` ends with: a capture has a unit of its own.
 const IMPORT_MORE: &str =
@@ -113,9 +117,7 @@ fn program<'a>(alloc: Global) -> Command<'a>
 {
     Command::new(alloc, "goose")
         .version("1.0.0")
-        .before_help(
-            "Example: goose import < FILE.pcap | goose blocks\nWireshark saves pcapng: editcap -F pcap FILE.pcapng FILE.pcap makes a classic capture of it",
-        )
+        .before_help("Example: goose blocks --capture < FILE.pcapng")
         .after_help(
             "Run goose COMMAND --help for an example of each command.\nTimes in lists and scripts are microseconds where the first line is V2, else milliseconds; what is written is always in microseconds.\nExit status: 0 done, 1 something was found, 2 wrong arguments, 3 an error in the input, 4 reading or writing failed, 5 out of memory.\nMore: man goose",
         )
@@ -165,7 +167,7 @@ fn with_replay<'a>(
 {
     let replay = Command::new(alloc, "replay")
         .before_help(
-            "Example: goose replay '3001,BAY1PROT/LLN0$GO$gcbTrip,BAY1PROT/LLN0$dsTrip,BAY1_Trip,1,2' < examples/trip_recording.list",
+            "Example: goose replay --capture '3001,BAY1PROT/LLN0$GO$gcbTrip,BAY1PROT/LLN0$dsTrip,BAY1_Trip,1,2' < examples/two_bays.pcapng",
         )
         .after_help(REPLAY_MORE)
         .about("Shows what a device that subscribes to control blocks does with each frame")
@@ -231,7 +233,7 @@ fn with_readers<'a>(
         offers,
         "show",
         "Shows each event on one line: every field of a frame, or its first error",
-        "Example: goose show < examples/one_frame.list",
+        "Example: goose show --capture < examples/two_bays.pcapng",
         SHOW_MORE,
     )?;
     let program = with_plain(
@@ -240,7 +242,7 @@ fn with_readers<'a>(
         offers,
         "check",
         "Writes a line for each error of a frame, and for each note on a valid one",
-        "Example: goose check < examples/notes.list",
+        "Example: goose check --capture < examples/two_bays.pcapng",
         CHECK_MORE,
     )?;
     let program = with_plain(
@@ -257,8 +259,8 @@ fn with_readers<'a>(
         program,
         offers,
         "blocks",
-        "Lists the control blocks and streams of a list, and each whose datSet, goID, confRev or size changes",
-        "Example: goose blocks < examples/two_bays.list",
+        "Lists control blocks and streams, and each whose datSet, goID, confRev or size changes",
+        "Example: goose blocks --capture < examples/two_bays.pcapng",
         SHOW_MORE,
     )
 }
@@ -277,7 +279,7 @@ fn command<'a>(alloc: Global, offers: bool) -> Result<Command<'a>, AllocError>
         "publish",
         "Reads a script and writes the list of frames that a publisher sends",
         "Example: goose publish < examples/publisher.script",
-        SHOW_MORE,
+        PUBLISH_MORE,
     )?;
     let program = with_watch(alloc, program, offers)?;
     with_plain(
