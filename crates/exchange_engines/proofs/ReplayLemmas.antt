@@ -10,11 +10,11 @@ use Rattle.subscribe_core.specs.State.{State, StandsAfter, fresh_state}
 use Rattle.subscribe_core.specs.computed.Steps.{step_entries, step_state}
 use Rattle.subscribe_core.proofs.Readings.{is_read}
 use Rattle.subscribe_core.proofs.Runs.{entries_step, fresh_stands, stands_step}
-use Rattle.engine_core.specs.computed.EngineStep.{Takes}
+use Rattle.engine_core.specs.computed.EventStep.{EventTaken}
 use Rattle.exchange_engines.specs.EntryText.{entry_lines}
-use Rattle.exchange_engines.specs.ReplayText.{IsReplayText, events_of}
+use Rattle.exchange_engines.specs.ReplayText.{IsReplayOf, IsReplayText, events_of}
 use Rattle.exchange_engines.proofs.NonEmpty.{no_entry}
-use Rattle.exchange_engines.specs.computed.ReplayStep.{kept_after, replay_text, state_after_list}
+use Rattle.exchange_engines.specs.computed.ReplayStep.{kept_after, replay_event, replay_text, state_after_list}
 
 state_push : {A : Type 0} (s : State A) (es : List (Event A)) (e : Event A) → state_after_list s (es ++ e ∷ []) ≡ step_state (state_after_list s es) (reading_of e)
 state_push s [] e = refl
@@ -31,11 +31,10 @@ kept_push blocks before e = ap (state_after_list (fresh_state blocks)) (events_p
 -- a subscriber took an event, and its entries were appended
 pub replays : {A : Type 0} (s t : State A) (before : List (ℕ × Event A)) (n : ℕ) (event : Event A) (entries : List (Entry A)) (old new : List ℕ) →
     s ≡ kept_after s.blocks before → entries ≡ step_entries s (reading_of event) → t ≡ step_state s (reading_of event) → new ≡ old ++ entry_lines n entries →
-    Takes (replay_text s.blocks) (λ (items : List (ℕ × Event A)). t ≡ kept_after t.blocks items) before (n, event) (Ok false) old new
+    EventTaken (replay_event s.blocks) (λ (items : List (ℕ × Event A)). t ≡ kept_after t.blocks items) before (n, event) false old new
 replays s t before n event entries old new stands said then_ wrote = record {
-  text = entry_lines n entries;
-  has_text = ap (λ (k : State _). Ok (entry_lines n (step_entries k (reading_of event)), false)) (sym stands) ∙ ap (λ (es : List (Entry _)). Ok (entry_lines n es, false)) (sym said);
-  appended = wrote;
+  appended = wrote ∙ ap (λ (es : List (Entry _)). old ++ entry_lines n es) said ∙ ap (λ (k : State _). old ++ entry_lines n (step_entries k (reading_of event))) stands;
+  finds = refl;
   stands_after = then_ ∙ ap (λ (k : State _). step_state k (reading_of event)) stands ∙ sym (kept_push s.blocks before (n, event)) ∙ ap (λ (bs : List (Block _)). kept_after bs (before ++ (n, event) ∷ [])) (sym (ap (λ (k : State _). k.blocks) then_));
 }
 
@@ -55,20 +54,19 @@ keeps_all blocks (e ∷ es) before s k =
 kept_keeps : {A : Type 0} (blocks : List (Block A)) (items : List (ℕ × Event A)) → KeepsAfter blocks (events_of items) (kept_after blocks items)
 kept_keeps blocks items = keeps_all blocks (events_of items) [] (fresh_state blocks) (record { of_blocks = refl; stands = fresh_stands blocks })
 
--- the text as it is computed is that of the entries of the whole list
+-- what is computed of events is that of the entries of all of them
+pub replay_of : {A : Type 0} (blocks : List (Block A)) → IsReplayOf blocks (replay_event blocks)
+replay_of blocks = λ before e.
+    let k = kept_keeps blocks before in
+    let s = kept_after blocks before in record {
+      entries = step_entries s (reading_of e.1);
+      are_entries = subst (λ (bs : List (Block _)). AreEntriesAt bs (events_of before ++ e.1 ∷ []) (length (events_of before)) (step_entries s (reading_of e.1))) k.of_blocks
+          (entries_step (events_of before) e.1 (reading_of e.1) s (is_read e.1) k.stands);
+      lines = refl;
+    }
+
 pub replay_is : {A : Type 0} (blocks : List (Block A)) → IsReplayText blocks (replay_text blocks)
-replay_is blocks = record {
-  first = refl;
-  each_item = λ before e.
-      let k = kept_keeps blocks before in
-      let s = kept_after blocks before in record {
-        entries = step_entries s (reading_of e.1);
-        are_entries = subst (λ (bs : List (Block _)). AreEntriesAt bs (events_of before ++ e.1 ∷ []) (length (events_of before)) (step_entries s (reading_of e.1))) k.of_blocks
-            (entries_step (events_of before) e.1 (reading_of e.1) s (is_read e.1) k.stands);
-        lines = refl;
-      };
-  last = λ f. refl;
-}
+replay_is blocks = record { first = refl; each_item = replay_of blocks; last = λ f. refl }
 
 -- where nothing is written of an event, it has no entry
 pub no_entries : {A : Type 0} (s : State A) (blocks : List (Block A)) (before : List (ℕ × Event A)) (n : ℕ) (e : Event A) → s ≡ kept_after blocks before →

@@ -17,10 +17,10 @@ use Rattle.subscribe_core.specs.declared.watch.Seen.{Seen}
 use Rattle.subscribe_core.specs.Watch.{AreSeen, seen_after}
 use Rattle.subscribe_core.specs.computed.WatchAnswers.{last_by, seen_all}
 use Rattle.subscribe_core.proofs.Counts.{none_last, none_seen, seen_from}
-use Rattle.engine_core.specs.computed.EngineStep.{Takes}
+use Rattle.engine_core.specs.computed.EventStep.{EventTaken}
 use Rattle.exchange_engines.specs.SampleLine.{Sample, sample_line}
-use Rattle.exchange_engines.specs.WatchText.{IsWatchText, counts, counts_of, frame_watched, is_unexpected, sample_at, sample_lines, samples_from, samples_in, samples_of, samples_read, watched}
-use Rattle.exchange_engines.specs.computed.WatchStep.{SamplesAppended, last_of, watch_text}
+use Rattle.exchange_engines.specs.WatchText.{IsWatchOf, IsWatchText, counts, counts_of, frame_watched, is_unexpected, sample_at, sample_lines, samples_from, samples_in, samples_of, samples_read, watched}
+use Rattle.exchange_engines.specs.computed.WatchStep.{SamplesAppended, last_of, watch_event, watch_text}
 use Rattle.text_core.proofs.NonEmpty.{fault_there}
 use Rattle.exchange_engines.proofs.NonEmpty.{no_sample}
 
@@ -96,33 +96,31 @@ last-push p id before e last is =
     ap (λ (o : Option ℕ). last_of p o (counts (samples_of id e.1.kind))) is
     ∙ sym (last-append p None (counts_of id before) (counts (samples_of id e.1.kind))) ∙ ap (last_of p None) (sym (counts-push id before e))
 
--- the text as it is computed is that of the counts of the whole list
+-- what is computed of events is that of the counts of all of them
+pub watch_of : {A : Type 0} (p : ℕ) (id : List ℕ) → IsWatchOf {A = A} p id (watch_event p id)
+watch_of p id = λ before e.
+    let c = counts_of id before in
+    let d = counts (samples_of id e.1.kind) in record {
+      earlier = seen_all p None c;
+      answers = seen_all p (last_of p None c) d;
+      one_each = seen-length p (last_of p None c) d ∙ counts-length (samples_of id e.1.kind);
+      are_seen = subst (λ (answers : List Seen). AreSeen p (c ++ d) answers) (seen-append p None c d) (seen_from p (c ++ d) [] [] None (none_seen p) none_last);
+      lines = refl;
+    }
+
 pub watch_is : {A : Type 0} (p : ℕ) (id : List ℕ) → IsWatchText {A = A} p id (watch_text p id)
-watch_is p id = record {
-  first = refl;
-  each_item = λ before e.
-      let c = counts_of id before in
-      let d = counts (samples_of id e.1.kind) in record {
-        earlier = seen_all p None c;
-        answers = seen_all p (last_of p None c) d;
-        one_each = seen-length p (last_of p None c) d ∙ counts-length (samples_of id e.1.kind);
-        are_seen = subst (λ (answers : List Seen). AreSeen p (c ++ d) answers) (seen-append p None c d) (seen_from p (c ++ d) [] [] None (none_seen p) none_last);
-        lines = refl;
-      };
-  last = λ f. refl;
-}
+watch_is p id = record { first = refl; each_item = watch_of p id; last = λ f. refl }
 
 -- an event was written, and the watch stands after it
 pub watches : {A : Type 0} (p q n : ℕ) (id : List ℕ) (before : List (ℕ × Event A)) (event : Event A) (last after : Option ℕ) (found : Bool) (old new : List ℕ) → last ≡ last_of p None (counts_of id before) → q ≡ p
     → new ≡ old ++ (watched n id event.kind (seen_all p last (counts (samples_of id event.kind)))).0 → found ≡ (watched n id event.kind (seen_all p last (counts (samples_of id event.kind)))).1
     → after ≡ last_of p last (counts (samples_of id event.kind))
-    → Takes (watch_text p id) (λ (items : List (ℕ × Event A)). after ≡ last_of q None (counts_of id items)) before (n, event) (Ok found) old new
+    → EventTaken (watch_event p id) (λ (items : List (ℕ × Event A)). after ≡ last_of q None (counts_of id items)) before (n, event) found old new
 watches p q n id before event last after found old new stands same wrote finds keeps =
-    let said = watched n id event.kind (seen_all p last (counts (samples_of id event.kind))) in
+    let said = ap (λ (o : Option ℕ). watched n id event.kind (seen_all p o (counts (samples_of id event.kind)))) stands in
     record {
-      text = said.0;
-      has_text = ap (λ (o : Option ℕ). Ok (watched n id event.kind (seen_all p o (counts (samples_of id event.kind))))) (sym stands) ∙ ap (λ (f : Bool). Ok (said.0, f)) (sym finds);
-      appended = wrote;
+      appended = wrote ∙ ap (λ (w : List ℕ × Bool). old ++ w.0) said;
+      finds = finds ∙ ap (λ (w : List ℕ × Bool). w.1) said;
       stands_after = keeps ∙ last-push p id before (n, event) last stands ∙ ap (λ (k : ℕ). last_of k None (counts_of id (before ++ (n, event) ∷ []))) (sym same);
     }
 

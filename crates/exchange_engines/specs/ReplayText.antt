@@ -9,6 +9,7 @@ use Rattle.list_core.specs.declared.event_lines.EventLines.TheVariants.{First}
 use Rattle.list_core.specs.declared.line_rules.ItemFault.{ItemFault}
 use Rattle.list_core.specs.declared.list_fault.ListCause.{ListCause}
 use Rattle.list_core.specs.EventLine.{event_rules}
+use Rattle.list_core.specs.ReadItems.{AnswerOf}
 use Rattle.list_core.specs.ListReader.{list_fault_of}
 use Rattle.block_core.specs.declared.block.Block.{Block}
 use Rattle.subscribe_core.specs.declared.entry.Entry.{Entry}
@@ -17,7 +18,10 @@ use Rattle.subscribe_core.specs.Apart.{AreApart, IsFirstTwice}
 use Rattle.engine_core.specs.declared.ending.Ending.{Ending}
 use Rattle.engine_core.specs.declared.ending.Ending.TheVariants.{Done, Findings, InputFault, ReadFault, WriteFault, Memory}
 use Rattle.engine_core.specs.EngineText.{Text}
+use Rattle.engine_core.specs.EventsText.{EventText, RunsSome}
 use Rattle.engine_core.specs.Run.{IsUntouched, LeavesRefused, WritesSome, ended_by}
+use Rattle.exchange_engines.specs.declared.engines.replay.ReplayStop.{ReplayStop}
+use Rattle.exchange_engines.specs.declared.engines.replay.ReplayStop.TheVariants as stop
 use Rattle.exchange_engines.specs.declared.engines.replay.ReplayFault.{ReplayFault}
 use Rattle.exchange_engines.specs.declared.engines.replay.ReplayFault.TheVariants as of
 use Rattle.exchange_engines.specs.EntryText.{entry_lines}
@@ -33,6 +37,10 @@ pub record ReplaysEvent {A : Type 0} (blocks : List (Block A)) (before : List (�
   pub are_entries : AreEntriesAt blocks (events_of before ++ e.1 ∷ []) (length (events_of before)) entries
   pub lines : written ≡ Ok (entry_lines e.0 entries, false)
 
+-- what is written of events that a subscriber of these blocks is handed, whatever input they come from
+abbrev pub IsReplayOf : {A : Type 0} → List (Block A) → EventText A → Type 0
+IsReplayOf {A} blocks text = (before : List (ℕ × Event A)) (e : ℕ × Event A) → ReplaysEvent blocks before e (Ok (text before e))
+
 -- What `replay` writes for these blocks: of each event the lines of its entries.
 pub record IsReplayText {A : Type 0} (blocks : List (Block A)) (t : Text (Event A) ListCause) : Type 0 where
   pub first : t.first ≡ []
@@ -43,12 +51,16 @@ pub record IsReplayText {A : Type 0} (blocks : List (Block A)) (t : Text (Event 
 abbrev pub twice_line : ℕ → List ℕ
 twice_line i = codes "blocks SameBlockTwice " ++ decimal i ++ codes "\n"
 
+-- what is left written of a block given twice, at its position: its one line, unless memory is refused for it
+abbrev pub LeavesTwice : ℕ → Ending → Option (List ℕ) → Option (List ℕ) → Type 0
+LeavesTwice position ending old new = LeavesRefused (twice_line position) ending old new ⊎ ((ending ≡ Memory) × (new ≡ old))
+
 -- A block is given twice, the first one at this position: the reader is untouched, and the line that says so is written, unless memory is refused for it.
 pub record RefusesTwice {A : Type 0} (blocks : List (Block A)) (ending : Ending) (z : InputEnd) (read : List ℕ) (old new : Option (List ℕ)) : Type 0 where
   pub position : ℕ
   pub is_twice : IsFirstTwice blocks position
   pub untouched : IsUntouched Open z read
-  pub written : LeavesRefused (twice_line position) ending old new ⊎ ((ending ≡ Memory) × (new ≡ old))
+  pub written : LeavesTwice position ending old new
 
 -- The blocks are apart, but memory is refused for what a subscriber of them keeps: the reader is untouched, and nothing is written.
 pub record KeepsNone {A : Type 0} (blocks : List (Block A)) (ending : Ending) (z : InputEnd) (read : List ℕ) (old new : Option (List ℕ)) : Type 0 where
@@ -85,3 +97,43 @@ replay_ended_by blocks ending z read old new (inr (inr ran)) = option_map of.Lis
 -- what a replay of these blocks leaves written of what was read, and the fault by which it ended
 abbrev pub ReplayWritesTo : {A : Type 0} → List (Block A) → Ending → InputEnd → List ℕ → Option (List ℕ) → Option (List ℕ) → Option ReplayFault → Type 0
 ReplayWritesTo blocks ending z read old new fault = (replay : ReplayWrites blocks ending z read old new) × (fault ≡ replay_ended_by blocks ending z read old new replay)
+
+-- ---- over any reader of events
+
+-- the same of a replay over any input
+abbrev pub twice_stop : {F : Type 0} → Ending → ℕ → Option (ReplayStop F)
+twice_stop Done position = None
+twice_stop Findings position = None
+twice_stop InputFault position = Some (stop.SameBlockTwice position)
+twice_stop ReadFault position = None
+twice_stop WriteFault position = None
+twice_stop Memory position = None
+
+-- A block is given twice, the first one at this position: the reader is untouched, and the line that says so is written, unless memory is refused for it.
+pub record RefusesTwiceOver {A I F : Type 0} (blocks : List (Block A)) (start : I) (ending : Ending) (why : Option (ReplayStop F)) (end : I) (old new : Option (List ℕ)) : Type 0 where
+  pub position : ℕ
+  pub is_twice : IsFirstTwice blocks position
+  pub untouched : end ≡ start
+  pub written : LeavesTwice position ending old new
+  pub by : why ≡ twice_stop ending position
+
+-- The blocks are apart, but memory is refused for what a subscriber of them keeps: the reader is untouched, and nothing is written.
+pub record KeepsNoneOver {A I F : Type 0} (blocks : List (Block A)) (start : I) (ending : Ending) (why : Option (ReplayStop F)) (end : I) (old new : Option (List ℕ)) : Type 0 where
+  pub wants_memory : ending ≡ Memory
+  pub are_apart : AreApart blocks
+  pub are_some : blocks ≡ [] → ⊥
+  pub untouched : end ≡ start
+  pub none_written : new ≡ old
+  pub by_none : why ≡ None
+
+-- The blocks are apart, and the text of their replay is written.
+pub record RunsReplayOver {A I C F : Type 0} (blocks : List (Block A)) (answers : I → AnswerOf (Event A) F → I → Type 0) (refused : ℕ → C → F) (failed : F → Bool) (last_line : F → List ℕ) (start : I) (ending : Ending) (why : Option (ReplayStop F)) (end : I) (old new : Option (List ℕ)) : Type 0 where
+  pub are_apart : AreApart blocks
+  pub fault : Option F
+  pub by : why ≡ option_map stop.Input fault
+  pub runs : RunsSome (IsReplayOf blocks) answers refused failed last_line start ending fault end old new
+
+-- what a replay of these blocks over a reader of events leaves, and why it stops
+abbrev pub ReplaysOver : {A I C F : Type 0} → List (Block A) → (I → AnswerOf (Event A) F → I → Type 0) → (ℕ → C → F) → (F → Bool) → (F → List ℕ) → I → Ending → Option (ReplayStop F) → I → Option (List ℕ) → Option (List ℕ) → Type 0
+ReplaysOver blocks answers refused failed last_line start ending why end old new =
+    RefusesTwiceOver blocks start ending why end old new ⊎ KeepsNoneOver blocks start ending why end old new ⊎ RunsReplayOver blocks answers refused failed last_line start ending why end old new

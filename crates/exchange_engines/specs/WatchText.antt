@@ -18,6 +18,7 @@ use Rattle.subscribe_core.specs.declared.watch.Seen.{Seen}
 use Rattle.subscribe_core.specs.declared.watch.Seen.TheVariants as seen
 use Rattle.subscribe_core.specs.Watch.{AreSeen}
 use Rattle.engine_core.specs.EngineText.{Text}
+use Rattle.engine_core.specs.EventsText.{EventText}
 use Rattle.text_core.specs.LineText.{fault_line, list_fault_line}
 use Rattle.exchange_engines.specs.SampleLine.{Sample, sample_line}
 
@@ -88,6 +89,10 @@ pub record WatchesEvent {A : Type 0} (period : ℕ) (id : List ℕ) (before : Li
   pub one_each : length answers ≡ length (samples_of id e.1.kind)
   pub are_seen : AreSeen period (counts_of id before ++ counts (samples_of id e.1.kind)) (earlier ++ answers)
   pub lines : written ≡ Ok (watched e.0 id e.1.kind answers)
+
+-- what is written of events that a watch over this stream is handed, whatever input they come from
+abbrev pub IsWatchOf : {A : Type 0} → ℕ → List ℕ → EventText A → Type 0
+IsWatchOf {A} period id text = (before : List (ℕ × Event A)) (e : ℕ × Event A) → WatchesEvent period id before e (Ok (text before e))
 
 -- What `watch` writes of the stream with this svID: for each of its ASDUs what its count is, over all counts of the stream up to it.
 pub record IsWatchText {A : Type 0} (period : ℕ) (id : List ℕ) (t : Text (Event A) ListCause) : Type 0 where

@@ -8,6 +8,7 @@ use Rattle.subscribe_core.specs.computed.Content.{reading_of}
 use Rattle.subscribe_core.specs.State.{State, fresh_state}
 use Rattle.subscribe_core.specs.computed.Steps.{step_entries, step_state}
 use Rattle.engine_core.specs.EngineText.{Text}
+use Rattle.engine_core.specs.EventsText.{EventText, over_events}
 use Rattle.exchange_engines.specs.EntryText.{entry_lines}
 use Rattle.text_core.specs.LineText.{list_fault_line}
 use Rattle.exchange_engines.specs.ReplayText.{events_of}
@@ -21,9 +22,10 @@ state_after_list s (e ∷ es) = state_after_list (step_state s (reading_of e)) e
 abbrev pub kept_after : {A : Type 0} → List (Block A) → List (ℕ × Event A) → State A
 kept_after blocks items = state_after_list (fresh_state blocks) (events_of items)
 
+-- what is written of an event
+abbrev pub replay_event : {A : Type 0} → List (Block A) → EventText A
+replay_event blocks before e = (entry_lines e.0 (step_entries (kept_after blocks before) (reading_of e.1)), false)
+
+-- the text over a list
 abbrev pub replay_text : {A : Type 0} → List (Block A) → Text (Event A) ListCause
-replay_text blocks = record {
-  first = [];
-  of_item = λ before e. Ok (entry_lines e.0 (step_entries (kept_after blocks before) (reading_of e.1)), false);
-  last = λ f. list_fault_line (list_fault_of f);
-}
+replay_text blocks = over_events (replay_event blocks) (λ f. list_fault_line (list_fault_of f))

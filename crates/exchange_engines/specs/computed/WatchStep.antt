@@ -7,6 +7,7 @@ use Rattle.list_core.specs.ListReader.{list_fault_of}
 use Rattle.subscribe_core.specs.Watch.{seen_after}
 use Rattle.subscribe_core.specs.computed.WatchAnswers.{last_by, seen_all}
 use Rattle.engine_core.specs.EngineText.{Text}
+use Rattle.engine_core.specs.EventsText.{EventText, over_events}
 use Rattle.text_core.specs.LineText.{list_fault_line}
 use Rattle.exchange_engines.specs.SampleLine.{Sample}
 use Rattle.exchange_engines.specs.WatchText.{counts, counts_of, is_unexpected, sample_lines, samples_of, watched}
@@ -16,12 +17,13 @@ abbrev pub last_of : ℕ → Option ℕ → List ℕ → Option ℕ
 last_of period last [] = last
 last_of period last (c ∷ cs) = last_of period (last_by last c (seen_after period last c)) cs
 
+-- what is written of an event
+abbrev pub watch_event : {A : Type 0} → ℕ → List ℕ → EventText A
+watch_event period id before e = watched e.0 id e.1.kind (seen_all period (last_of period None (counts_of id before)) (counts (samples_of id e.1.kind)))
+
+-- the text over a list
 abbrev pub watch_text : {A : Type 0} → ℕ → List ℕ → Text (Event A) ListCause
-watch_text period id = record {
-  first = [];
-  of_item = λ before e. Ok (watched e.0 id e.1.kind (seen_all period (last_of period None (counts_of id before)) (counts (samples_of id e.1.kind))));
-  last = λ f. list_fault_line (list_fault_of f);
-}
+watch_text period id = over_events (watch_event period id) (λ f. list_fault_line (list_fault_of f))
 
 -- the lines of samples were appended, it is known whether one is unexpected, and the last count is kept
 abbrev pub SamplesAppended : ℕ → ℕ → Option ℕ → List Sample → List ℕ → List ℕ → Bool → Option ℕ → Type 0

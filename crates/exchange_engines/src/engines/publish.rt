@@ -240,10 +240,8 @@ struct Publishing<A: Allocator> {
     stage: Stage<A>,
 }
 
-impl<A: Allocator> Engine<A> for Publishing<A> {
+impl<A: Allocator> Engine<A, ItemFault<ScriptCause>> for Publishing<A> {
     type Item = ScriptItem<A>;
-
-    type Cause = ScriptCause;
 
     ghost text = { λ _. publish_text };
 

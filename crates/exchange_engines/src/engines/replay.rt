@@ -6,17 +6,18 @@ ghost use Rattle.list_core.specs.Device.{GivesOctets};
 ghost use Rattle.list_core.specs.ItemReader.{item_state};
 ghost use Rattle.engine_core.specs.Ending.{is_write_fault};
 ghost use Rattle.text_core.specs.Pieces.{AppendsText};
-ghost use Rattle.exchange_engines.specs.ReplayText.{ReplayWrites, ReplayWritesTo, twice_fault};
-ghost use Rattle.exchange_engines.specs.computed.ReplayStep.{kept_after, replay_text};
+ghost use Rattle.exchange_engines.specs.ReplayText.{LeavesTwice, ReplayWrites, ReplayWritesTo, ReplaysOver, twice_fault, twice_stop};
+ghost use Rattle.exchange_engines.specs.computed.ReplayStep.{kept_after, replay_event};
 
 use crate::texts::entry::put_entries;
-use engine_core::{Ending, Engine, Stopped, refuse, run_to_stop};
+use engine_core::{Ending, EventEngine, OfEvents, Stopped, refuse, run_over, run_to_stop};
 use frame_core::{
-    Event, EventLines, ItemFault, ItemReader, LineError, ListCause, Sink, Source, fault_of_list,
+    Event, EventLines, ItemFault, ItemReader, ListCause, Sink, Source,
 };
+use list_core::{InputFault, ReadItems};
 use std::alloc::{AllocError, Allocator};
 use subscribe_core::{Block, Entry, SubscribeFault, Subscriber};
-use text_core::line::put_list_fault_line;
+use text_core::LastLine;
 use text_core::pieces::put_decimal;
 
 // The position of the block that an entry speaks of.
@@ -53,43 +54,22 @@ struct Replaying<'a, A: Allocator> {
     heard: &'a mut [bool],
 }
 
-impl<A: Allocator + Copy> Engine<A> for Replaying<'_, A> {
-    type Item = Event<A>;
-
-    type Cause = ListCause;
-
-    ghost text = { λ s. replay_text s.subscriber.state.blocks };
+impl<A: Allocator + Copy> EventEngine<A> for Replaying<'_, A> {
+    ghost text = { λ s. replay_event s.subscriber.state.blocks };
 
     ghost stands = { λ s before. s.subscriber.state ≡ kept_after s.subscriber.state.blocks before };
 
-    fn put_item(
+    #[inline(always)]
+    fn put_event(
         &mut self,
         line: &mut Vec<u8, A>,
         number: u64,
-        event: Event<A>,
-        spare: &mut Option<Event<A>>,
-    ) -> Result<bool, LineError<ListCause>> {
-        let taken = self.subscriber.take_into(&event, &mut self.entries);
-        *spare = Some(event);
-        match taken {
-            Ok(()) => {}
-            Err(error) => return Err(LineError::Memory(error)),
-        }
-        match put_entries(line, number, self.entries.as_slice()) {
-            Ok(()) => {
-                note(self.heard, self.entries.as_slice());
-                Ok(false)
-            }
-            Err(error) => Err(LineError::Memory(error)),
-        }
-    }
-
-    fn put_last(
-        &self,
-        line: &mut Vec<u8, A>,
-        fault: &ItemFault<ListCause>,
-    ) -> Result<(), AllocError> {
-        put_list_fault_line(line, fault_of_list(fault))
+        event: &Event<A>,
+    ) -> Result<bool, AllocError> {
+        self.subscriber.take_into(event, &mut self.entries)?;
+        put_entries(line, number, self.entries.as_slice())?;
+        note(self.heard, self.entries.as_slice());
+        Ok(false)
     }
 }
 
@@ -104,6 +84,34 @@ fn put_position<A: Allocator>(
     line.extend_from_slice(word)?;
     put_decimal(line, position as u64)?;
     line.extend_from_slice(b"\n")
+}
+
+// Writes the one line for a block given twice, and answers how that ended. Nothing is read.
+fn refuse_twice<A: Allocator, R, W: Sink>(
+    alloc: A,
+    position: usize,
+    reader: R,
+    writer: &mut W,
+) -> (Ending, R)
+    requires { W.failed writer.old ≡ false }
+    ensures written { LeavesTwice position result.0 (W.contents writer.old) (W.contents writer.new) }
+    ensures reader { result.1 ≡ reader }
+    ensures fault { W.failed writer.new ≡ is_write_fault result.0 }
+{
+    let mut line = Vec::new(alloc);
+    match put_position(&mut line, b"blocks SameBlockTwice ", position) {
+        Ok(()) => refuse(line.as_slice(), reader, writer),
+        Err(_) => (Ending::Memory, reader),
+    }
+}
+
+/// Why a replay ended before its input did.
+#[derive(Drop)]
+pub enum ReplayStop<F> {
+    /// The input has this fault.
+    Input(F),
+    /// The block at this position, from 0, has the APPID and the gocbRef of an earlier one. It is the first such.
+    SameBlockTwice(usize),
 }
 
 /// Why a replay ended before its list did.
@@ -215,25 +223,104 @@ pub fn replay_to_stop<A: Allocator + Copy, R: Source, W: Sink>(
         Ok(subscriber) => replayed(run_to_stop(
             alloc,
             EventLines::First,
-            Replaying {
-                subscriber,
-                entries: Vec::new(alloc),
-                heard,
+            OfEvents {
+                engine: Replaying {
+                    subscriber,
+                    entries: Vec::new(alloc),
+                    heard,
+                },
             },
             b"",
             reader,
             writer,
         )),
         Err(SubscribeFault::SameBlockTwice(position)) => {
-            let mut line = Vec::new(alloc);
-            match put_position(&mut line, b"blocks SameBlockTwice ", position) {
-                Ok(()) => {
-                    let (ending, reader) = refuse(line.as_slice(), reader, writer);
-                    unread(ending, fault_of_twice(ending, position), reader)
-                }
-                Err(_) => unread(Ending::Memory, None, reader),
-            }
+            let (ending, reader) = refuse_twice(alloc, position, reader, writer);
+            unread(ending, fault_of_twice(ending, position), reader)
         }
         Err(SubscribeFault::Memory(_)) => unread(Ending::Memory, None, reader),
+    }
+}
+
+// The reason for which a replay stops that was given a block twice.
+fn stop_of_twice<F>(ending: Ending, position: usize) -> Option<ReplayStop<F>>
+    ensures { result ≡ twice_stop ending position }
+{
+    match ending {
+        Ending::InputFault => Some(ReplayStop::SameBlockTwice(position)),
+        _ => None,
+    }
+}
+
+// What a replay hands out that ran over its input.
+fn replayed_over<I, F>(stopped: Stopped<I, F>) -> Stopped<I, ReplayStop<F>>
+    ensures ending { result.ending ≡ stopped.ending }
+    ensures fault { result.fault ≡ option_map ReplayStop.Input stopped.fault }
+    ensures reader { result.reader ≡ stopped.reader }
+{
+    let Stopped {
+        ending,
+        fault,
+        reader,
+    } = stopped;
+    let fault = match fault {
+        Some(fault) => Some(ReplayStop::Input(fault)),
+        None => None,
+    };
+    Stopped {
+        ending,
+        fault,
+        reader,
+    }
+}
+
+// What a replay hands out that read nothing.
+fn unread_over<I, F>(
+    ending: Ending,
+    fault: Option<ReplayStop<F>>,
+    reader: I,
+) -> Stopped<I, ReplayStop<F>>
+    ensures ending { result.ending ≡ ending }
+    ensures fault { result.fault ≡ fault }
+    ensures reader { result.reader ≡ reader }
+{
+    Stopped {
+        ending,
+        fault,
+        reader,
+    }
+}
+
+/// As `replay_to_stop`, over any reader of events: the last line is that of the input's fault.
+pub fn replay_over<
+    A: Allocator + Copy,
+    F: InputFault + LastLine + Drop,
+    I: ReadItems<A, Item = Event<A>, Fault = F>,
+    W: Sink,
+>(
+    alloc: A,
+    events: I,
+    blocks: Vec<Block<A>, A>,
+    heard: &mut [bool],
+    writer: &mut W,
+) -> Stopped<I, ReplayStop<F>>
+    requires works { W.failed writer.old ≡ false }
+    ensures text { ReplaysOver blocks.items I.answers F.refused F.failed F.last_line events result.ending result.fault result.reader (W.contents writer.old) (W.contents writer.new) }
+    ensures fault { W.failed writer.new ≡ is_write_fault result.ending }
+{
+    match Subscriber::new(alloc, blocks) {
+        Ok(subscriber) => {
+            let engine = Replaying {
+                subscriber,
+                entries: Vec::new(alloc),
+                heard,
+            };
+            replayed_over(run_over(alloc, OfEvents { engine }, b"", events, writer))
+        }
+        Err(SubscribeFault::SameBlockTwice(position)) => {
+            let (ending, events) = refuse_twice(alloc, position, events, writer);
+            unread_over(ending, stop_of_twice(ending, position), events)
+        }
+        Err(SubscribeFault::Memory(_)) => unread_over(Ending::Memory, None, events),
     }
 }

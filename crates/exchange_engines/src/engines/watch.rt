@@ -9,20 +9,23 @@ ghost use Rattle.block_core.specs.Period.{IsPeriod};
 ghost use Rattle.subscribe_core.specs.computed.WatchAnswers.{seen_all};
 ghost use Rattle.engine_core.specs.Ending.{is_write_fault};
 ghost use Rattle.list_core.specs.ItemReader.{item_state};
+ghost use Rattle.engine_core.specs.EventsText.{RunsSome};
 ghost use Rattle.engine_core.specs.Run.{WritesSome, WritesSomeTo};
-ghost use Rattle.exchange_engines.specs.WatchText.{IsWatchText, counts, counts_of, is_unexpected as unexpected, sample_at, samples_from, samples_of, watched};
-ghost use Rattle.exchange_engines.specs.computed.WatchStep.{SamplesAppended, last_of, watch_text};
+ghost use Rattle.exchange_engines.specs.WatchText.{IsWatchOf, IsWatchText, counts, counts_of, is_unexpected as unexpected, sample_at, samples_from, samples_of, watched};
+ghost use Rattle.exchange_engines.specs.computed.WatchStep.{SamplesAppended, last_of, watch_event};
 
 use crate::texts::watched::put_sample;
-use engine_core::{Ending, Engine, Stopped, run_to_stop};
+use engine_core::{Ending, EventEngine, OfEvents, Stopped, run_over, run_to_stop};
 use frame_core::{
-    ApduView, Event, EventKind, EventLines, ItemFault, ItemReader, LineError, ListCause, Sink,
-    Source, fault_of_list, view_frame,
+    ApduView, Event, EventKind, EventLines, ItemFault, ItemReader, ListCause, Sink, Source,
+    view_frame,
 };
+use list_core::{InputFault, ReadItems};
 use pdu_core::{AsduView, SvView};
 use std::alloc::{AllocError, Allocator};
 use subscribe_core::{Seen, Watch};
-use text_core::line::{put_fault_line, put_list_fault_line};
+use text_core::LastLine;
+use text_core::line::put_fault_line;
 
 // Whether a count is neither the first nor the next one.
 fn is_unexpected(seen: Seen) -> bool
@@ -84,7 +87,7 @@ fn put_asdus<A: Allocator>(
 }
 
 // Appends what is written of an event, and answers whether it is a finding.
-fn put_event<A: Allocator>(
+fn put_watched<A: Allocator>(
     watch: &mut Watch,
     id: &[u8],
     line: &mut Vec<u8, A>,
@@ -121,36 +124,20 @@ struct Watching<'a> {
     id: &'a [u8],
 }
 
-impl<A: Allocator> Engine<A> for Watching<'_> {
-    type Item = Event<A>;
-
-    type Cause = ListCause;
-
-    ghost text = { λ s. watch_text s.watch.period s.id.now };
+impl<A: Allocator> EventEngine<A> for Watching<'_> {
+    ghost text = { λ s. watch_event s.watch.period s.id.now };
 
     ghost stands = { λ s before. s.watch.last ≡ last_of s.watch.period None (counts_of s.id.now before) };
 
-    fn put_item(
+    #[inline(always)]
+    fn put_event(
         &mut self,
         line: &mut Vec<u8, A>,
         number: u64,
-        event: Event<A>,
-        spare: &mut Option<Event<A>>,
-    ) -> Result<bool, LineError<ListCause>> {
-        let put = put_event(&mut self.watch, self.id, line, number, &event.kind);
-        *spare = Some(event);
-        match put {
-            Ok(found) => Ok(found),
-            Err(error) => Err(LineError::Memory(error)),
-        }
-    }
-
-    fn put_last(
-        &self,
-        line: &mut Vec<u8, A>,
-        fault: &ItemFault<ListCause>,
-    ) -> Result<(), AllocError> {
-        put_list_fault_line(line, fault_of_list(fault))
+        event: &Event<A>,
+    ) -> Result<bool, AllocError> {
+        let found = put_watched(&mut self.watch, self.id, line, number, &event.kind)?;
+        Ok(found)
     }
 }
 
@@ -206,11 +193,42 @@ pub fn watch_to_stop<A: Allocator + Copy, R: Source, W: Sink>(
         Ok(watch) => run_to_stop(
             alloc,
             EventLines::First,
-            Watching { watch, id },
+            OfEvents {
+                engine: Watching { watch, id },
+            },
             b"",
             reader,
             writer,
         ),
+        // The period is in range.
+        Err(_) => unreachable!(),
+    }
+}
+
+/// As `watch`, over any reader of events: the last line is that of the input's fault. Hands out the fault by which it ended,
+/// and the reader of the events.
+pub fn watch_over<
+    A: Allocator + Copy,
+    F: InputFault + LastLine + Drop,
+    I: ReadItems<A, Item = Event<A>, Fault = F>,
+    W: Sink,
+>(
+    alloc: A,
+    events: I,
+    period: u32,
+    id: &[u8],
+    writer: &mut W,
+) -> Stopped<I, F>
+    requires works { W.failed writer.old ≡ false }
+    requires period { IsPeriod period }
+    ensures text { RunsSome (IsWatchOf {A = A} period id.now) I.answers F.refused F.failed F.last_line events result.ending result.fault result.reader (W.contents writer.old) (W.contents writer.new) }
+    ensures fault { W.failed writer.new ≡ is_write_fault result.ending }
+{
+    match Watch::new(period) {
+        Ok(watch) => {
+            let engine = Watching { watch, id };
+            run_over(alloc, OfEvents { engine }, b"", events, writer)
+        }
         // The period is in range.
         Err(_) => unreachable!(),
     }

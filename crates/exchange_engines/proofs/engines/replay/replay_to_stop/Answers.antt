@@ -31,35 +31,25 @@ returns-in-Ok-clause-text g c =
       ),
     )
 
-pub returns-in-Ok-put_position-clause-text : goal.returns-in-Ok-put_position-clause-text
-returns-in-Ok-put_position-clause-text g c =
+pub returns-in-Err-SameBlockTwice-clause-text : goal.returns-in-Err-SameBlockTwice-clause-text
+returns-in-Err-SameBlockTwice-clause-text g c =
     let twice = rw c.in-Err-SameBlockTwice.field-0-is at c.in-Err-SameBlockTwice.ensures.fault in
-    let line = c.as_slice.ensures.value ∙ c.in-Ok-put_position.ensures ∙ ap (λ (l : List ℕ). l ++ twice_line c.in-Err-SameBlockTwice.position) c.new-line.ensures.items in
     rw (c.unread.ensures.ending, c.unread.ensures.fault, c.unread.ensures.left, c.unread.ensures.source) (
       [],
-      rw c.refuse-ending.ensures.reader (Gives-from_Consumes _ _ [] (Consumes-none (g.R.Source.left c.args.reader))),
+      rw c.refuse_twice-ending.ensures.reader (Gives-from_Consumes _ _ [] (Consumes-none (g.R.Source.left c.args.reader))),
       (
         inl (record {
           position = c.in-Err-SameBlockTwice.position;
           is_twice = twice;
-          untouched = (rw c.refuse-ending.ensures.reader c.requires.open, refl);
-          written = inl (subst (λ (l : List ℕ). LeavesRefused l c.refuse-ending.result.0 (g.W.Sink.contents c.args.writer.now) (g.W.Sink.contents c.refuse-ending.new.writer)) line c.refuse-ending.ensures.text);
+          untouched = (rw c.refuse_twice-ending.ensures.reader c.requires.open, refl);
+          written = c.refuse_twice-ending.ensures.written;
         }),
         c.fault_of_twice.ensures,
       ),
     )
 
-pub returns-in-Err-SameBlockTwice-clause-text : goal.returns-in-Err-SameBlockTwice-clause-text
-returns-in-Err-SameBlockTwice-clause-text g c =
-    let twice = rw c.in-Err-SameBlockTwice.field-0-is at c.in-Err-SameBlockTwice.ensures.fault in
-    rw (c.unread-in-Err.ensures.ending, c.unread-in-Err.ensures.fault, c.unread-in-Err.ensures.left, c.unread-in-Err.ensures.source) (
-      [],
-      Gives-from_Consumes _ _ [] (Consumes-none (g.R.Source.left c.args.reader)),
-      (inl (record { position = c.in-Err-SameBlockTwice.position; is_twice = twice; untouched = (c.requires.open, refl); written = inr (refl, refl) }), refl),
-    )
-
-pub returns-clause-text : goal.returns-clause-text
-returns-clause-text g c =
+pub returns-in-Err-Memory-clause-text : goal.returns-in-Err-Memory-clause-text
+returns-in-Err-Memory-clause-text g c =
     let some = rw c.in-Err-Memory.field-0-is at c.in-Err-Memory.ensures.fault in
     rw (c.unread-in-Err-Memory.ensures.ending, c.unread-in-Err-Memory.ensures.fault, c.unread-in-Err-Memory.ensures.left, c.unread-in-Err-Memory.ensures.source) (
       [],

@@ -1,6 +1,6 @@
 use Rattle.exchange_engines.specs.computed.PublishStep.{progress_after}
 use Rattle.exchange_engines.proofs.PublishLemmas.{publishes}
-use Rattle.exchange_engines.proofs.engines.publish.PublishingEngine.put_item.Goals as goal
+use Rattle.exchange_engines.proofs.engines.publish.PublishingEngineItemFaultScriptCause.put_item.Goals as goal
 
 pub returns-in-Ok-clause-step : goal.returns-in-Ok-clause-step
 returns-in-Ok-clause-step g c = λ before stands.

@@ -1,5 +1,5 @@
 use Rattle.exchange_engines.proofs.WatchLemmas.{no_samples}
-use Rattle.exchange_engines.proofs.engines.watch.put_event.Goals as goal
+use Rattle.exchange_engines.proofs.engines.watch.put_watched.Goals as goal
 
 pub returns-in-Sampled-clause-quiet : goal.returns-in-Sampled-clause-quiet
 returns-in-Sampled-clause-quiet g c = λ none.
