@@ -46,12 +46,13 @@ fn gives<I: ReadItems<Global, Item = Event<Global>>>(
 ) -> bool {
     let mut spare = None;
     for (line, number) in wanted {
-        match items.read_item(alloc, &mut spare) {
-            Ok(Some(event))
-                if items.item_number() == *number && is_listed_as(alloc, &event, line.as_bytes()) =>
-                spare = Some(event),
-            _ => return false,
+        let Ok(Some(event)) = items.read_item(alloc, &mut spare) else {
+            return false;
+        };
+        if items.item_number() != *number || !is_listed_as(alloc, &event, line.as_bytes()) {
+            return false;
         }
+        spare = Some(event);
     }
     matches!(items.read_item(alloc, &mut spare), Ok(None))
 }
