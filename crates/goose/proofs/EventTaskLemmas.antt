@@ -6,19 +6,35 @@ use Rattle.list_core.specs.declared.device.InputEnd.TheVariants.{Open}
 use Rattle.list_core.specs.declared.event.Event.{Event}
 use Rattle.list_core.specs.declared.line_rules.ItemFault.{ItemFault}
 use Rattle.list_core.specs.declared.list_fault.ListCause.{ListCause}
+use Rattle.list_core.specs.declared.event_lines.EventLines.{EventLines}
+use Rattle.list_core.specs.declared.event_lines.EventLines.TheVariants.{First}
+use Rattle.list_core.specs.declared.item_reader.ItemReader.{ItemReader}
+use Rattle.list_core.specs.declared.line_rules.ItemFault.TheVariants as fault
 use Rattle.list_core.specs.Device.{GivesOctets}
-use Rattle.list_core.specs.ReadItems.{AnswerOf}
+use Rattle.list_core.specs.EventLine.{event_rules}
+use Rattle.list_core.specs.ItemReader.{Answer, AnswersItem, item_state}
+use Rattle.list_core.specs.ListReader.{list_fault_of}
+use Rattle.list_core.specs.ReadItems.{AnswerOf, is_failed_read}
 use Rattle.list_core.proofs.Devices.{Consumes-none, Gives-from_Consumes}
-use Rattle.capture_core.specs.PacketReader.{PacketAnswer}
-use Rattle.frame_core.specs.SkipOther.{skip_answer, skip_other}
+use Rattle.capture_core.specs.declared.capture_fault.CaptureFault.{CaptureFault}
+use Rattle.capture_core.specs.declared.packet_reader.PacketReader.{PacketReader}
+use Rattle.capture_core.specs.PacketReader.{AnswersPacket, PacketAnswer, at_start, packet_state}
+use Rattle.capture_core.specs.Packets as packet
+use Rattle.text_core.specs.LineText.{capture_line, list_fault_line}
+use Rattle.frame_core.specs.declared.skip_other.SkipOther.{SkipOther}
+use Rattle.frame_core.specs.SkipOther.{Skips, beneath, skip_answer, skip_other}
 use Rattle.engine_core.specs.declared.ending.Ending.{Ending}
 use Rattle.engine_core.specs.EventsText.{EventText, over_events}
 use Rattle.engine_core.specs.RunOver.{RunsOver}
+use Rattle.engine_core.specs.CaptureRun.{fault_of}
+use Rattle.engine_core.specs.MadeRun.{MadeWrites}
+use Rattle.engine_core.proofs.CaptureRuns.{capture_run}
 use Rattle.engine_core.proofs.MadeAnswers.{made}
+use Rattle.engine_core.proofs.MadeRuns.{made_run}
 use Rattle.exchange_engines.specs.declared.engines.replay.ReplayStop.{ReplayStop}
 use Rattle.words_core.specs.CommandLine.{Asked, show, check, rewrite, list_blocks, publish, import, replay, watch}
 use Rattle.goose.specs.EventTasks.{EventsLeave, LeavesText, OverWrites, RunsTask}
-use Rattle.goose.specs.RequestText.{made_by}
+use Rattle.goose.specs.RequestText.{OfCapture, OfList, made_by}
 
 module _ {I C F : Type 0} (answers : I → AnswerOf (Event Global) F → I → Type 0) (refused : ℕ → C → F) (failed : F → Bool) (last_line : F → List ℕ) (start end : I) (ending : Ending) (why : Option (ReplayStop F)) (old new : Option (List ℕ))
     (left : I → Option (List ℕ)) (told : I → InputEnd) (Leaves : List ℕ → EventText Global → Type 0) (is : told start ≡ Open)
@@ -55,13 +71,63 @@ module _ {I C F : Type 0} (answers : I → AnswerOf (Event Global) F → I → T
   events_leave import r = elim r [ ]
 
 -- of an answer of a reader of packets nothing is made
-pub made_none : (answer : PacketAnswer Global) → answer ≡ made (made_by false) answer
+made_none : (answer : PacketAnswer Global) → answer ≡ made (made_by false) answer
 made_none (Ok (Some e)) = refl
 made_none (Ok None) = refl
 made_none (Err f) = refl
 
--- an answer with what is left of its event
-pub made_left : {F : Type 0} (answer : AnswerOf (Event Global) F) → skip_answer answer ≡ made skip_other answer
-made_left (Ok (Some e)) = refl
-made_left (Ok None) = refl
-made_left (Err f) = refl
+-- an answer about packets with what is left of its event
+left_by : (answer : PacketAnswer Global) → skip_answer answer ≡ made (made_by true) answer
+left_by (Ok (Some e)) = refl
+left_by (Ok None) = refl
+left_by (Err f) = refl
+
+-- the same of a list
+left_of : (answer : Answer (Event Global) ListCause) → skip_answer answer ≡ made skip_other answer
+left_of (Ok (Some e)) = refl
+left_of (Ok None) = refl
+left_of (Err f) = refl
+
+module _ {R : Type 0} (left : R → Option (List ℕ)) (told : R → InputEnd) (asked : Asked) (ending : Ending) (old new : Option (List ℕ)) where
+  -- how a reader of packets answers
+  abbrev packets : PacketReader R Global → PacketAnswer Global → PacketReader R Global → Type 0
+  packets before answer after = AnswersPacket (packet_state left told before) answer (packet_state left told after)
+
+  -- a task over a capture
+  pub capture_leaves : (start end : PacketReader R Global) (why : Option (ReplayStop CaptureFault)) → (packet_state left told start).stage ≡ at_start → (packet_state left told start).ending ≡ Open →
+      OverWrites asked packets fault_of packet.is_failed_read capture_line start ending why end old new →
+      (given : List ℕ) × GivesOctets (packet_state left told start).left (packet_state left told end).left given
+      × EventsLeave asked (OfCapture (made_by false) ending (packet_state left told end).ending given old new) ending (packet_state left told end).ending given old new
+  capture_leaves start end why fresh is w =
+      events_leave packets fault_of packet.is_failed_read capture_line start end ending why old new (λ r. (packet_state left told r).left) (λ r. (packet_state left told r).ending)
+          (λ given text. OfCapture (made_by false) ending (packet_state left told end).ending given old new text) is
+          (λ text fault run. let c = capture_run (made_by false) (λ r. packet_state left told r) packets (λ o n answer h. (answer, h, made_none answer)) (over_events text capture_line) start end ending fault old new fresh is run in (c.0, c.1, (fault, c.2)))
+          asked w
+
+  -- a task over a capture of which frames of other protocols are passed over
+  pub passed_capture_leaves : (start end : SkipOther (PacketReader R Global) Global) (why : Option (ReplayStop CaptureFault)) → (packet_state left told (beneath start)).stage ≡ at_start → (packet_state left told (beneath start)).ending ≡ Open →
+      OverWrites asked (λ before answer after. Skips packets before answer after) fault_of packet.is_failed_read capture_line start ending why end old new →
+      (given : List ℕ) × GivesOctets (packet_state left told (beneath start)).left (packet_state left told (beneath end)).left given
+      × EventsLeave asked (OfCapture (made_by true) ending (packet_state left told (beneath end)).ending given old new) ending (packet_state left told (beneath end)).ending given old new
+  passed_capture_leaves start end why fresh is w =
+      events_leave (λ before answer after. Skips packets before answer after) fault_of packet.is_failed_read capture_line start end ending why old new (λ r. (packet_state left told (beneath r)).left) (λ r. (packet_state left told (beneath r)).ending)
+          (λ given text. OfCapture (made_by true) ending (packet_state left told (beneath end)).ending given old new text) is
+          (λ text fault run. let c = capture_run (made_by true) (λ r. packet_state left told (beneath r)) (λ before answer after. Skips packets before answer after) (λ o n answer h. (h.given, h.read, h.left ∙ left_by h.given)) (over_events text capture_line) start end ending fault old new fresh is run in (c.0, c.1, (fault, c.2)))
+          asked w
+
+  -- how a reader of a list answers
+  abbrev lines : ItemReader R EventLines → Answer (Event Global) ListCause → ItemReader R EventLines → Type 0
+  lines before answer after = AnswersItem event_rules (item_state left told before) answer (item_state left told after)
+
+  -- a task over a list of which frames of other protocols are passed over
+  pub passed_list_leaves : (start end : SkipOther (ItemReader R EventLines) Global) (why : Option (ReplayStop (ItemFault ListCause))) →
+      (item_state left told (beneath start)).ending ≡ Open → (item_state left told (beneath start)).taken ≡ 0 → (item_state left told (beneath start)).held ≡ [] → (item_state left told (beneath start)).settled ≡ First →
+      OverWrites asked (λ before answer after. Skips lines before answer after) fault.Line is_failed_read (λ f. list_fault_line (list_fault_of f)) start ending why end old new →
+      (given : List ℕ) × GivesOctets (item_state left told (beneath start)).left (item_state left told (beneath end)).left given
+      × EventsLeave asked (OfList ending (item_state left told (beneath end)).ending given old new) ending (item_state left told (beneath end)).ending given old new
+  passed_list_leaves start end why is no_line no_octet first w =
+      events_leave (λ before answer after. Skips lines before answer after) fault.Line is_failed_read (λ f. list_fault_line (list_fault_of f)) start end ending why old new (λ r. (item_state left told (beneath r)).left) (λ r. (item_state left told (beneath r)).ending)
+          (λ given text. OfList ending (item_state left told (beneath end)).ending given old new text) is
+          (λ text fault run. let c = made_run event_rules skip_other (λ r. item_state left told (beneath r)) (λ before answer after. Skips lines before answer after) (λ o n answer h. (h.given, h.read, h.left ∙ left_of h.given)) (over_events text (λ f. list_fault_line (list_fault_of f))) start end ending fault old new is no_line no_octet run in
+              (c.0, c.1, (fault, subst (λ s. MadeWrites event_rules s skip_other (over_events text (λ f. list_fault_line (list_fault_of f))) ending (item_state left told (beneath end)).ending c.0 fault old new) first c.2)))
+          asked w

@@ -1,5 +1,5 @@
 -- What tasks over events write, whatever input has the events, and why they stop.
-use Rattle.std.specs.Prelude.{◌≡◌, ◌⊎◌, ℕ, Bool, List, Option, option_map, ⊥}
+use Rattle.std.specs.Prelude.{◌≡◌, ◌⊎◌, ℕ, Bool, List, Option, option_map}
 use Rattle.std.specs.Global.{Global}
 use Rattle.list_core.specs.declared.device.InputEnd.{InputEnd}
 use Rattle.list_core.specs.declared.event.Event.{Event}

@@ -224,7 +224,9 @@ fn run(rt: &HostRuntime, request: Request, words: &[&str]) -> u8
         return status(&Ending::Memory);
     };
     let seen = Seen::new();
-    let input = Input::new(rt.reader(), &output, &seen);
+    // The reader has much room of its own; it stays here, and is not handed on with each result.
+    let mut standard = rt.reader();
+    let input = Input::new(&mut standard, &output, &seen);
     let Ok(input) = BufReader::with_capacity(rt.alloc(), BLOCK, input) else {
         return status(&Ending::Memory);
     };

@@ -98,32 +98,29 @@ impl Advice {
     }
 }
 
-// The usual name of the type of a link.
-fn link_name(number: u16) -> &'static str {
+// The usual name of the type of a link, where a capture often has it.
+fn link_name(number: u16) -> Option<&'static str> {
     match number {
-        0 => "NULL, the loopback interface of BSD",
-        12 | 101 => "RAW, IP without a link",
-        105 => "IEEE802_11, Wi-Fi",
-        108 => "LOOP, the loopback interface of OpenBSD",
-        113 => "LINUX_SLL, the interface any",
-        127 => "IEEE802_11_RADIOTAP, Wi-Fi",
-        189 => "USB_LINUX",
-        220 => "USB_LINUX_MMAPPED",
-        228 => "IPV4",
-        229 => "IPV6",
-        276 => "LINUX_SLL2, the interface any",
-        _ => "another link",
+        105 => Some("IEEE802_11, Wi-Fi"),
+        113 => Some("LINUX_SLL, the interface any"),
+        127 => Some("IEEE802_11_RADIOTAP, Wi-Fi"),
+        276 => Some("LINUX_SLL2, the interface any"),
+        _ => None,
     }
 }
 
 impl fmt::Display for Advice {
     fn fmt<W: fmt::Write>(&self, f: &mut fmt::Formatter<W>) -> fmt::Result {
         match self {
-            Advice::LinkType(number) => write!(
-                f,
-                "The link type is {number} ({}), and only 1 (Ethernet) is read: capture on the network card itself",
-                link_name(*number)
-            ),
+            Advice::LinkType(number) => {
+                write!(f, "The link type is {number}")?;
+                if let Some(name) = link_name(*number) {
+                    write!(f, " ({name})")?;
+                }
+                f.write_str(
+                    ", and only 1 (Ethernet) is read: capture on the network card itself",
+                )
+            }
             advice => f.write_str(advice.sentence()),
         }
     }

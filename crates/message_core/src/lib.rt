@@ -5,13 +5,13 @@
 mod advising;
 mod block_fields;
 mod failure;
-mod passed_frames;
+mod passed;
 mod stop;
 mod unheard;
 
 pub use crate::advising::{Advice, Intake, advice_by_head, advice_by_line};
 pub use crate::block_fields::{BlockFault, block_fault};
 pub use crate::failure::Failure;
-pub use crate::passed_frames::{PassedFrames, passed_frames};
+pub use crate::passed::{PassedFrames, passed_frames};
 pub use crate::stop::Stop;
 pub use crate::unheard::Unheard;

@@ -50,7 +50,11 @@ impl fmt::Display for PassedFrames<'_> {
         let mut before = "passed over: ";
         let mut of = "EtherType ";
         for kind in passed.kinds() {
-            write!(f, "{before}{} of {of}{:04x}", kind.frames.count, kind.ether_type)?;
+            write!(
+                f,
+                "{before}{} of {of}{:04x}",
+                kind.frames.count, kind.ether_type
+            )?;
             if let Some(protocol) = protocol_of(kind.ether_type) {
                 write!(f, " ({protocol})")?;
             }

@@ -1,0 +1,12 @@
+use Rattle.std.proofs.Common.{ap, sym, ◌∙◌}
+use Rattle.goose.proofs.EventTaskLemmas.{passed_capture_leaves}
+use Rattle.capture_core.specs.PacketReader.{packet_state}
+use Rattle.goose.proofs.over_events.over_passed_capture.Goals as goal
+
+pub returns-clause-text : goal.returns-clause-text
+returns-clause-text g c =
+    let same = c.new-packets.ensures.beneath in
+    rw (c.of_passed_packets.ensures.ending, c.of_passed_packets.ensures.left, c.of_passed_packets.ensures.source, sym (ap (λ r. (packet_state g.R.Source.left g.R.Source.ending r).left) same ∙ c.new.ensures.left))
+    (passed_capture_leaves g.R.Source.left g.R.Source.ending (g.T.EventTask.asked c.args.task) c.over.result.ending _ _ c.new-packets.result c.over.result.reader c.over.result.fault
+        (ap (λ r. (packet_state g.R.Source.left g.R.Source.ending r).stage) same ∙ c.new.ensures.stage)
+        (ap (λ r. (packet_state g.R.Source.left g.R.Source.ending r).ending) same ∙ c.new.ensures.ending ∙ c.requires.open) c.over.ensures.text)
