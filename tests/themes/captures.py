@@ -355,22 +355,23 @@ def broken():
 
 class AsImported:
     """A classic capture whose records a list can hold: a command writes of it what it writes of the list that `import` makes, with
-    numbers that are one less."""
+    numbers that are one less, and stops by the error that `import` tells."""
 
     def __init__(self, name, octets, commands=tuple(ASKED)):
         self.name, self.octets, self.commands = f"as imported: {name}", octets, commands
 
     def why_wrong(self, program):
-        listed, _, status = run(program, ["import"], self.octets)
-        why = [] if status == 0 else [f"import ended with status {status}"]
+        listed, _, ended = run(program, ["import"], self.octets)
+        why = [] if ended in (0, 3) else [f"import ended with status {ended}"]
+        error = listed.splitlines(keepends=True)[-1].removeprefix(b"# ") if ended == 3 else b""
         for command in self.commands:
             of_list, _, wanted = run(program, asking(command), listed)
             of_capture, _, status = run(program, capturing(command), self.octets)
             lines = [line.split(b" ", 1) for line in of_list.splitlines()]
             renumbered = b"".join(b"%d %s\n" % (int(number) - 1, rest) for number, rest in lines)
-            difference = first_difference(renumbered, of_capture)
+            difference = first_difference(renumbered + error, of_capture)
             why += [f"{command}: {difference}"] if difference else []
-            why += [f"{command} ended with status {status}, and not {wanted}"] if status != wanted else []
+            why += [f"{command} ended with status {status}, and not {ended or wanted}"] if status != (ended or wanted) else []
         return why
 
 
@@ -379,6 +380,11 @@ def as_imported():
         for magic in MAGICS:
             octets = header(order, magic) + b"".join(record(at, at * 77, octets, order) for at, (_, octets) in enumerate(EVENTS) if octets)
             yield AsImported(f"{order} endian, magic {magic:08x}", octets)
+    good = header() + record(1, 2, WORKED) + record(2, 3, ARP)
+    for name, more in (("cut in a record", record(4, 5, WORKED)[:-1]), ("cut before a record", bytes(15)),
+                       ("with a length that is too great", record(4, 5, b"", captured=262145))):
+        yield AsImported(name, good + more)
+    yield AsImported("with another version", header(version=(1, 0)) + record(1, 2, WORKED))
     chance = random.Random(SEED)
     for at in range(10):
         yield AsImported(f"by chance, {at}", header() + b"".join(
