@@ -12,9 +12,8 @@ use Rattle.engine_core.specs.declared.stopped.Halt.{Halt}
 use Rattle.engine_core.specs.declared.stopped.Halt.TheVariants as halt
 use Rattle.engine_core.specs.Ending.{ending_by_fault}
 use Rattle.engine_core.specs.EngineText.{TextTo, ItemText, step_text_to}
-use Rattle.engine_core.specs.RunOver.{RanOver}
+use Rattle.engine_core.specs.RunOver.{RanOver, Stops, WantsFor, due, closes, ending_by_halt, fault_by_halt, step_fault}
 use Rattle.engine_core.specs.InputRun.{InputRun, EndsByFault, EndsOnward, text_onward}
-use Rattle.engine_core.specs.computed.EngineStep.{Stops, WantsFor, due, closes, ending_by_halt, fault_by_halt, step_fault}
 
 -- what an answer says of what the input says onward
 abbrev pub TellsOnward : {X F : Type 0} → AnswerOf X F → Numbered X F → Type 0

@@ -25,8 +25,7 @@ use Rattle.engine_core.specs.EngineText.{Text, ItemText, AreItemTexts, has_findi
 use Rattle.engine_core.specs.declared.stopped.Halt.{Halt}
 use Rattle.engine_core.specs.declared.stopped.Halt.TheVariants as halt
 use Rattle.engine_core.specs.Run.{AtLine, EndsAt, EndsByFault, EndsWell, WritesTo, fault_at, said_onward}
-use Rattle.engine_core.specs.RunOver.{RunsOver}
-use Rattle.engine_core.specs.computed.EngineStep.{Stops, WantsFor, due, closes, ending_by_halt, fault_by_halt, step_fault}
+use Rattle.engine_core.specs.RunOver.{RunsOver, Stops, WantsFor, due, closes, ending_by_halt, fault_by_halt, step_fault}
 use Rattle.engine_core.proofs.Wanted.{wanted_behind, wanted_rest}
 
 -- a reader of a list took these items; where its source has ended or failed, it was read so far for one line alone

@@ -11,8 +11,7 @@ use Rattle.list_core.proofs.Devices.{Appends-append, Appends-none}
 use Rattle.engine_core.specs.declared.ending.Ending.TheVariants.{Done, Findings, WriteFault}
 use Rattle.engine_core.specs.declared.stopped.Halt.{Halt}
 use Rattle.engine_core.specs.EngineText.{TextTo, ItemText, has_finding, joined_texts}
-use Rattle.engine_core.specs.RunOver.{RunsOver}
-use Rattle.engine_core.specs.computed.EngineStep.{Stops, WantsFor, due, closes, ending_by_halt, fault_by_halt}
+use Rattle.engine_core.specs.RunOver.{RunsOver, Stops, WantsFor, due, closes, ending_by_halt, fault_by_halt}
 use Rattle.engine_core.proofs.ItemTexts.{AreNext, are_texts, next_push, or_false}
 
 -- what a run has done before a call: it was given these items, none of which was refused, and wrote their texts

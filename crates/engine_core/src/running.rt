@@ -8,8 +8,8 @@ ghost use Rattle.list_core.specs.ReadItems.{AnswerOf};
 ghost use Rattle.engine_core.specs.Ending.{ending_by_fault, is_write_fault};
 ghost use Rattle.engine_core.specs.EngineText.{TextTo};
 ghost use Rattle.engine_core.specs.Run.{LeavesRefused, Writes, WritesTo};
-ghost use Rattle.engine_core.specs.RunOver.{RunsOver};
-ghost use Rattle.engine_core.specs.computed.EngineStep.{StepWrites, Stops, Takes, ending_by_halt, fault_by_halt, is_failed_write, stops_by};
+ghost use Rattle.engine_core.specs.RunOver.{RunsOver, Stops, ending_by_halt, fault_by_halt};
+ghost use Rattle.engine_core.specs.computed.EngineStep.{StepWrites, Takes, is_failed_write, stops_by};
 
 use crate::ending::Ending;
 use crate::stopped::{Halt, Stopped};

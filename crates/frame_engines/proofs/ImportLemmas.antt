@@ -20,7 +20,7 @@ use Rattle.capture_core.specs.RecordAnswers.{ReadsHeader, ReadsRecord, TakesFor,
 use Rattle.engine_core.specs.declared.ending.Ending.{Ending}
 use Rattle.engine_core.specs.declared.stopped.Halt.{Halt}
 use Rattle.engine_core.specs.declared.stopped.Halt.TheVariants as halt
-use Rattle.engine_core.specs.computed.EngineStep.{fault_by_halt}
+use Rattle.engine_core.specs.RunOver.{fault_by_halt}
 use Rattle.engine_core.specs.declared.ending.Ending.TheVariants.{Done, Findings, ReadFault, WriteFault}
 use Rattle.frame_engines.specs.ImportText.{AtRecord, EndsBehind, FailsBehind, ImportsTo, ImportsToFault, capture_fault_line, ending_of_capture, is_left_out, last_line, put_records, record_line, text_behind}
 use Rattle.frame_engines.specs.computed.ImportStep.{ImportHalts, ending_of_halt, import_due}

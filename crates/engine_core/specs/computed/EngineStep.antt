@@ -13,6 +13,7 @@ use Rattle.engine_core.specs.declared.stopped.Halt.{Halt}
 use Rattle.engine_core.specs.declared.stopped.Halt.TheVariants as halt
 use Rattle.engine_core.specs.Ending.{ending_by_fault}
 use Rattle.engine_core.specs.EngineText.{TextTo, step_text_to}
+use Rattle.engine_core.specs.RunOver.{Stops, WantsFor, closes, due}
 
 -- an engine took an item after others: its text was appended to a line, and the engine stands after this item too
 pub record ItemTaken {X C F : Type 0} (t : TextTo X C F) (stands : List (ℕ × X) → Type 0) (before : List (ℕ × X)) (e : ℕ × X) (found : Bool) (old new : List ℕ) : Type 0 where
@@ -26,47 +27,6 @@ abbrev pub Takes : {X C F : Type 0} → (ℕ → C → F) → TextTo X C F → (
 Takes refused t stands before e (Ok found) old new = ItemTaken t stands before e found old new
 Takes refused t stands before e (Err (line.Cause why)) old new = t.of_item before e ≡ Err why
 Takes refused t stands before e (Err (line.Memory m)) old new = step_text_to refused t e.0 (t.of_item before e) ≡ [] → ⊥
-
--- the fault by which a step ends the text
-abbrev pub step_fault : {C F : Type 0} → (ℕ → C → F) → ℕ → Result (List ℕ × Bool) C → Option F
-step_fault refused n (Ok s) = None
-step_fault refused n (Err why) = Some (refused n why)
-
--- the text that an answer asks for, after these items
-abbrev pub due : {X C F : Type 0} → (ℕ → C → F) → TextTo X C F → List (ℕ × X) → AnswerOf X F → List ℕ
-due refused t before (Ok (Some e)) = step_text_to refused t e.0 (t.of_item before e)
-due refused t before (Ok None) = []
-due refused t before (Err (Some f)) = t.last f
-due refused t before (Err None) = []
-
--- the fault by which an answer ends the text
-abbrev pub closes : {X C F : Type 0} → (ℕ → C → F) → TextTo X C F → List (ℕ × X) → AnswerOf X F → Option F
-closes refused t before (Ok (Some e)) = step_fault refused e.0 (t.of_item before e)
-closes refused t before (Ok None) = None
-closes refused t before (Err (Some f)) = Some f
-closes refused t before (Err None) = None
-
--- memory is wanted by the answer itself, or for the text that it asks for
-abbrev pub WantsFor : {X C F : Type 0} → (ℕ → C → F) → TextTo X C F → List (ℕ × X) → AnswerOf X F → Type 0
-WantsFor refused t before answer = (answer ≡ Err None) ⊎ (due refused t before answer ≡ [] → ⊥)
-
--- The run stops: memory was wanted and nothing was written; the writer failed at a prefix of the text; or the text was written, and ends by the fault that is handed out.
-abbrev pub Stops : {F : Type 0} → Type 0 → List ℕ → Option F → Halt F → Option (List ℕ) → Option (List ℕ) → Type 0
-Stops wants text closing (halt.Fault why) old new = (closing ≡ Some why) × Appends old new text
-Stops wants text closing halt.WriteFault old new = AppendsPrefix old new text
-Stops wants text closing halt.Memory old new = wants × (new ≡ old)
-
--- the ending of a run that stops
-abbrev pub ending_by_halt : {F : Type 0} → (F → Bool) → Halt F → Ending
-ending_by_halt failed (halt.Fault why) = ending_by_fault failed why
-ending_by_halt failed halt.WriteFault = WriteFault
-ending_by_halt failed halt.Memory = Memory
-
--- the fault that it hands out
-abbrev pub fault_by_halt : {F : Type 0} → Halt F → Option F
-fault_by_halt (halt.Fault why) = Some why
-fault_by_halt halt.WriteFault = None
-fault_by_halt halt.Memory = None
 
 -- an item was answered, and its text was written; the engine stands after this item too
 pub record ItemWritten {X C F : Type 0} (t : TextTo X C F) (stands : List (ℕ × X) → Type 0) (before : List (ℕ × X)) (answer : AnswerOf X F) (found : Bool) (old new : Option (List ℕ)) : Type 0 where
