@@ -43,7 +43,8 @@ def why_said(asked, lines, status, passed, complained):
     the place and the name in the last line of its text; of a failing device, that; else which blocks were never seen."""
     told = complained.decode("utf-8", "replace").splitlines()
     over = [line for line in told if "passed over: " in line]
-    rest = [line for line in told if line not in over]
+    # The source that fails is a terminal, on which the program says what it awaits.
+    rest = [line for line in told if line not in over and ": waiting for a " not in line]
     why = why_passed(passed, over) if passed and status in (0, 1) else []
     why += [f"said {over}"] if over and not passed else []
     if status in (3, 4):
