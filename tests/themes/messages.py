@@ -148,7 +148,8 @@ def shown_by_octets():
     forms = {f"classic capture, {order} {magic:x}": header(order, magic) + record(1, 2, WORKED, order)
              for order in ("little", "big") for magic in (0xA1B2C3D4, 0xA1B23C4D)}
     for what, octets in {"pcapng": pcapng, **forms}.items():
-        number = octets.count(b"\n", 0, octets.find(b"\0") if what != "pcapng" else 4) + 1
+        # Behind the LF with which it begins a pcapng capture has a line of two CRs, and a classic one its first zero.
+        number = 2 if what == "pcapng" else octets.count(b"\n", 0, octets.find(b"\0")) + 1
         for command in ASKED:
             yield of_list(command, number, "LineForm", octets, "begins as a capture, and the command takes `--capture`", what)
         advice = ("begins as a pcapng capture, and the command does not" if what == "pcapng"

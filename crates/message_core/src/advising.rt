@@ -138,7 +138,7 @@ const COMPRESSED: [(&[u8], Advice); 4] = [
 ];
 
 /// How a list begins: with its version, a comment or an event.
-const LIST_HEADS: [&[u8]; 5] = [b"V2", b"# ", b"F ", b"C ", b"M "];
+const LIST_HEADS: [&[u8]; 5] = [b"V2", b"#", b"F ", b"C ", b"M "];
 
 /// How a pcapng capture begins.
 const PCAPNG_HEAD: [u8; 4] = [0x0A, 0x0D, 0x0D, 0x0A];
