@@ -100,9 +100,9 @@ module _ {R : Type 0} (left : R → Option (List ℕ)) (told : R → InputEnd) (
       × EventsLeave asked (OfCapture (made_by false) ending (packet_state left told end).ending given old new) ending (packet_state left told end).ending given old new
   capture_leaves start end why fresh is w =
       events_leave packets fault_of packet.is_failed_read capture_line start end ending why old new (λ r. (packet_state left told r).left) (λ r. (packet_state left told r).ending)
-          (λ given text. OfCapture (made_by false) ending (packet_state left told end).ending given old new text) is
-          (λ text fault run. let c = capture_run (made_by false) (λ r. packet_state left told r) packets (λ o n answer h. (answer, h, made_none answer)) (over_events text capture_line) start end ending fault old new fresh is run in (c.0, c.1, (fault, c.2)))
-          asked w
+      (λ given text. OfCapture (made_by false) ending (packet_state left told end).ending given old new text) is
+      (λ text fault run. let c = capture_run (made_by false) (λ r. packet_state left told r) packets (λ o n answer h. (answer, h, made_none answer)) (over_events text capture_line) start end ending fault old new fresh is run in (c.0, c.1, (fault, c.2)))
+      asked w
 
   -- a task over a capture of which frames of other protocols are passed over
   pub passed_capture_leaves : (start end : SkipOther (PacketReader R Global) Global) (why : Option (ReplayStop CaptureFault)) → (packet_state left told (beneath start)).stage ≡ at_start → (packet_state left told (beneath start)).ending ≡ Open →
@@ -111,9 +111,9 @@ module _ {R : Type 0} (left : R → Option (List ℕ)) (told : R → InputEnd) (
       × EventsLeave asked (OfCapture (made_by true) ending (packet_state left told (beneath end)).ending given old new) ending (packet_state left told (beneath end)).ending given old new
   passed_capture_leaves start end why fresh is w =
       events_leave (λ before answer after. Skips packets before answer after) fault_of packet.is_failed_read capture_line start end ending why old new (λ r. (packet_state left told (beneath r)).left) (λ r. (packet_state left told (beneath r)).ending)
-          (λ given text. OfCapture (made_by true) ending (packet_state left told (beneath end)).ending given old new text) is
-          (λ text fault run. let c = capture_run (made_by true) (λ r. packet_state left told (beneath r)) (λ before answer after. Skips packets before answer after) (λ o n answer h. (h.given, h.read, h.left ∙ left_by h.given)) (over_events text capture_line) start end ending fault old new fresh is run in (c.0, c.1, (fault, c.2)))
-          asked w
+      (λ given text. OfCapture (made_by true) ending (packet_state left told (beneath end)).ending given old new text) is
+      (λ text fault run. let c = capture_run (made_by true) (λ r. packet_state left told (beneath r)) (λ before answer after. Skips packets before answer after) (λ o n answer h. (h.given, h.read, h.left ∙ left_by h.given)) (over_events text capture_line) start end ending fault old new fresh is run in (c.0, c.1, (fault, c.2)))
+      asked w
 
   -- how a reader of a list answers
   abbrev lines : ItemReader R EventLines → Answer (Event Global) ListCause → ItemReader R EventLines → Type 0
@@ -127,7 +127,7 @@ module _ {R : Type 0} (left : R → Option (List ℕ)) (told : R → InputEnd) (
       × EventsLeave asked (OfList ending (item_state left told (beneath end)).ending given old new) ending (item_state left told (beneath end)).ending given old new
   passed_list_leaves start end why is no_line no_octet first w =
       events_leave (λ before answer after. Skips lines before answer after) fault.Line is_failed_read (λ f. list_fault_line (list_fault_of f)) start end ending why old new (λ r. (item_state left told (beneath r)).left) (λ r. (item_state left told (beneath r)).ending)
-          (λ given text. OfList ending (item_state left told (beneath end)).ending given old new text) is
-          (λ text fault run. let c = made_run event_rules skip_other (λ r. item_state left told (beneath r)) (λ before answer after. Skips lines before answer after) (λ o n answer h. (h.given, h.read, h.left ∙ left_of h.given)) (over_events text (λ f. list_fault_line (list_fault_of f))) start end ending fault old new is no_line no_octet run in
-              (c.0, c.1, (fault, subst (λ s. MadeWrites event_rules s skip_other (over_events text (λ f. list_fault_line (list_fault_of f))) ending (item_state left told (beneath end)).ending c.0 fault old new) first c.2)))
-          asked w
+      (λ given text. OfList ending (item_state left told (beneath end)).ending given old new text) is
+      (λ text fault run. let c = made_run event_rules skip_other (λ r. item_state left told (beneath r)) (λ before answer after. Skips lines before answer after) (λ o n answer h. (h.given, h.read, h.left ∙ left_of h.given)) (over_events text (λ f. list_fault_line (list_fault_of f))) start end ending fault old new is no_line no_octet run in
+      (c.0, c.1, (fault, subst (λ s. MadeWrites event_rules s skip_other (over_events text (λ f. list_fault_line (list_fault_of f))) ending (item_state left told (beneath end)).ending c.0 fault old new) first c.2)))
+      asked w

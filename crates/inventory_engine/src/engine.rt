@@ -16,9 +16,7 @@ ghost use Rattle.inventory_engine.specs.computed.BlocksStep.{Keeps, blocks_event
 use crate::inventory::Inventory;
 use crate::sighting::put_event;
 use engine_core::{Ending, EventEngine, OfEvents, Stopped, run_over, run_to_stop};
-use frame_core::{
-    Event, EventLines, ItemFault, ItemReader, ListCause, Sink, Source,
-};
+use frame_core::{Event, EventLines, ItemFault, ItemReader, ListCause, Sink, Source};
 use list_core::{InputFault, ReadItems};
 use std::alloc::{AllocError, Allocator};
 use text_core::LastLine;

@@ -117,9 +117,7 @@ impl fmt::Display for Advice {
                 if let Some(name) = link_name(*number) {
                     write!(f, " ({name})")?;
                 }
-                f.write_str(
-                    ", and only 1 (Ethernet) is read: capture on the network card itself",
-                )
+                f.write_str(", and only 1 (Ethernet) is read: capture on the network card itself")
             }
             advice => f.write_str(advice.sentence()),
         }

@@ -117,7 +117,9 @@ fn program<'a>(alloc: Global) -> Command<'a>
 {
     Command::new(alloc, "goose")
         .version("1.0.0")
-        .before_help("Example: goose blocks --capture < FILE.pcapng\nThen: goose replay --capture 'BLOCK' < FILE.pcapng, with a BLOCK that this lists")
+        .before_help(
+            "Example: goose blocks --capture < FILE.pcapng\nThen: goose replay --capture 'BLOCK' < FILE.pcapng, with a BLOCK that this lists",
+        )
         .after_help(
             "Run goose COMMAND --help for an example of each command.\nTimes in lists and scripts are microseconds where the first line is V2, else milliseconds; what is written is always in microseconds.\nExit status: 0 done, 1 something was found, 2 wrong arguments, 3 an error in the input, 4 reading or writing failed, 5 out of memory.\nMore: man goose",
         )

@@ -11,9 +11,7 @@ ghost use Rattle.exchange_engines.specs.computed.ReplayStep.{kept_after, replay_
 
 use crate::texts::entry::put_entries;
 use engine_core::{Ending, EventEngine, OfEvents, Stopped, refuse, run_over, run_to_stop};
-use frame_core::{
-    Event, EventLines, ItemFault, ItemReader, ListCause, Sink, Source,
-};
+use frame_core::{Event, EventLines, ItemFault, ItemReader, ListCause, Sink, Source};
 use list_core::{InputFault, ReadItems};
 use std::alloc::{AllocError, Allocator};
 use subscribe_core::{Block, Entry, SubscribeFault, Subscriber};

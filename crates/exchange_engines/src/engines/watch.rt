@@ -212,13 +212,7 @@ pub fn watch_over<
     F: InputFault + LastLine + Drop,
     I: ReadItems<A, Item = Event<A>, Fault = F>,
     W: Sink,
->(
-    alloc: A,
-    events: I,
-    period: u32,
-    id: &[u8],
-    writer: &mut W,
-) -> Stopped<I, F>
+>(alloc: A, events: I, period: u32, id: &[u8], writer: &mut W) -> Stopped<I, F>
     requires works { W.failed writer.old ≡ false }
     requires period { IsPeriod period }
     ensures text { RunsSome (IsWatchOf {A = A} period id.now) I.answers F.refused F.failed F.last_line events result.ending result.fault result.reader (W.contents writer.old) (W.contents writer.new) }

@@ -6,4 +6,4 @@ pub returns-clause-text : goal.returns-clause-text
 returns-clause-text g c =
     rw (c.of_packets.ensures.ending, c.of_packets.ensures.left, c.of_packets.ensures.source, sym c.new.ensures.left)
     (capture_leaves g.R.Source.left g.R.Source.ending (g.T.EventTask.asked c.args.task) c.over.result.ending _ _ c.new.result c.over.result.reader c.over.result.fault
-        c.new.ensures.stage (c.new.ensures.ending ∙ c.requires.open) c.over.ensures.text)
+    c.new.ensures.stage (c.new.ensures.ending ∙ c.requires.open) c.over.ensures.text)

@@ -8,5 +8,5 @@ returns-clause-text g c =
     let same = c.new-packets.ensures.beneath in
     rw (c.of_passed_packets.ensures.ending, c.of_passed_packets.ensures.left, c.of_passed_packets.ensures.source, sym (ap (λ r. (packet_state g.R.Source.left g.R.Source.ending r).left) same ∙ c.new.ensures.left))
     (passed_capture_leaves g.R.Source.left g.R.Source.ending (g.T.EventTask.asked c.args.task) c.over.result.ending _ _ c.new-packets.result c.over.result.reader c.over.result.fault
-        (ap (λ r. (packet_state g.R.Source.left g.R.Source.ending r).stage) same ∙ c.new.ensures.stage)
-        (ap (λ r. (packet_state g.R.Source.left g.R.Source.ending r).ending) same ∙ c.new.ensures.ending ∙ c.requires.open) c.over.ensures.text)
+    (ap (λ r. (packet_state g.R.Source.left g.R.Source.ending r).stage) same ∙ c.new.ensures.stage)
+    (ap (λ r. (packet_state g.R.Source.left g.R.Source.ending r).ending) same ∙ c.new.ensures.ending ∙ c.requires.open) c.over.ensures.text)

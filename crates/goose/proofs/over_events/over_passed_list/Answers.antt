@@ -8,7 +8,7 @@ returns-clause-text g c =
     let same = c.new-events.ensures.beneath in
     rw (c.of_passed_events.ensures.ending, c.of_passed_events.ensures.left, c.of_passed_events.ensures.source, sym (ap (λ r. (item_state g.R.Source.left g.R.Source.ending r).left) same ∙ c.new.ensures.left))
     (passed_list_leaves g.R.Source.left g.R.Source.ending (g.T.EventTask.asked c.args.task) c.over.result.ending _ _ c.new-events.result c.over.result.reader c.over.result.fault
-        (ap (λ r. (item_state g.R.Source.left g.R.Source.ending r).ending) same ∙ c.new.ensures.ending ∙ c.requires.open)
-        (ap (λ r. (item_state g.R.Source.left g.R.Source.ending r).taken) same ∙ c.new.ensures.taken)
-        (ap (λ r. (item_state g.R.Source.left g.R.Source.ending r).held) same ∙ c.new.ensures.held)
-        (ap (λ r. (item_state g.R.Source.left g.R.Source.ending r).settled) same ∙ c.new.ensures.settled) c.over.ensures.text)
+    (ap (λ r. (item_state g.R.Source.left g.R.Source.ending r).ending) same ∙ c.new.ensures.ending ∙ c.requires.open)
+    (ap (λ r. (item_state g.R.Source.left g.R.Source.ending r).taken) same ∙ c.new.ensures.taken)
+    (ap (λ r. (item_state g.R.Source.left g.R.Source.ending r).held) same ∙ c.new.ensures.held)
+    (ap (λ r. (item_state g.R.Source.left g.R.Source.ending r).settled) same ∙ c.new.ensures.settled) c.over.ensures.text)
