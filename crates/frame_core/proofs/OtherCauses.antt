@@ -1,9 +1,8 @@
 -- The cause of a fault behind the EtherType of a frame is another one: a frame whose first fault has that cause is one of another
 -- protocol.
-use Rattle.std.proofs.Common.{◌≡◌, ℕ, ◌+◌, ◌≤◌, ◌<◌, List, [], ◌∷◌, length, Option, Some, None, refl, sym, ap, ◌∙◌, ℤ, arith, inl, inr}
-use Rattle.std.specs.Prelude.{slice_range}
+use Rattle.std.proofs.Common.{◌≡◌, ℕ, ◌+◌, List, [], ◌∷◌, length, refl, sym, ap, ◌∙◌, ℤ}
 use Rattle.ber_core.specs.Contents.{IntegerFault, no_octet, over_nine, outside}
-use Rattle.ber_core.specs.Faults.{HeaderFault, LengthFault, fault_of, absent as no_length, cut, indefinite, form, past_end}
+use Rattle.ber_core.specs.Faults.{LengthFault, fault_of, absent as no_length, cut, indefinite, form, past_end}
 use Rattle.ber_core.specs.Fields.{Field, FieldsFault, Grammar}
 use Rattle.ber_core.specs.Fields as fields
 use Rattle.ber_core.specs.Repeated.{EachFault, FrontFault}
@@ -18,8 +17,7 @@ use Rattle.mms_data.specs.declared.kinds.SimpleKind.{SimpleKind}
 use Rattle.mms_data.specs.declared.kinds.SimpleKind.TheVariants as kinds
 use Rattle.pdu_core.specs.Contents.{ContentsFault, Kind, contents_grammar}
 use Rattle.pdu_core.specs.Contents as contents
-use Rattle.pdu_core.specs.Goose.{GooseFault, in_fields, in_entry_count, apdu_grammar, goose_fields}
-use Rattle.pdu_core.specs.Asdu.{asdu_fields}
+use Rattle.pdu_core.specs.Goose.{GooseFault, in_fields, in_entry_count, apdu_grammar}
 use Rattle.pdu_core.specs.Sampled.{SvContentsFault, SvFault, SvKind, asdu_grammar, in_asdu_count, in_sv_fields, sv_apdu_grammar, sv_fields, sv_grammar}
 use Rattle.pdu_core.specs.Sampled as sampled
 use Rattle.frame_core.specs.Apdu.{ApduFault, in_goose, in_sampled}

@@ -1,6 +1,6 @@
 -- One frame more of an EtherType.
-use Rattle.std.proofs.Common.{◌≡◌, ℕ, Bool, true, false, ◌||◌, List, [], ◌∷◌, map, length, refl, sym, ap, ◌∙◌}
-use Rattle.std.specs.List.{list_any, refill}
+use Rattle.std.proofs.Common.{◌≡◌, ℕ, Bool, true, false, ◌||◌, List, [], ◌∷◌, map, refl}
+use Rattle.std.specs.List.{list_any}
 use Rattle.std.proofs.lemmas.Bool.{eq-eqb, ne_eqb}
 use Rattle.frame_core.specs.PassedOver.{again, again_of, is_of}
 use Rattle.frame_core.specs.declared.passed_over.Passed.{Passed}

@@ -3,7 +3,7 @@ use Rattle.std.proofs.Common.{◌≡◌, ℕ, List, [], ◌∷◌, ◌++◌, map
 use Rattle.list_core.specs.declared.event.Event.{Event}
 use Rattle.list_core.specs.ReadItems.{AnswerOf, Gave}
 use Rattle.frame_core.specs.PassedOver.{Tally, pass_all}
-use Rattle.frame_core.specs.SkipOther.{LeavesWhatCame, Skips, beneath, pass_answer, pass_where, passed_in, passed_over, passed_where, skip_answer, skip_numbered, type_passed}
+use Rattle.frame_core.specs.SkipOther.{Skips, beneath, pass_answer, pass_where, passed_in, passed_over, passed_where, skip_answer, skip_numbered, type_passed}
 use Rattle.frame_core.specs.declared.skip_other.SkipOther.{SkipOther}
 
 pass_first : (n : ℕ) (o : Option ℕ) (fs : List (ℕ × ℕ)) (a : Tally) → pass_all (passed_where n o ++ fs) a ≡ pass_all fs (pass_where n o a)

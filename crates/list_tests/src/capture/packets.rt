@@ -270,7 +270,7 @@ fn stops_behind(alloc: Global, ends: &Ends<'_>, size: usize, cause: CaptureCause
     let number = if size < ends.first {
         0
     } else {
-        count as u64 + 1
+        (count as u64).saturating_add(1)
     };
     let packets = ends.packets.get(..count).unwrap_or(&[]);
     if cause == CaptureCause::ReadFailed {

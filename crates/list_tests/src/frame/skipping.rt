@@ -2,7 +2,7 @@
 
 use crate::frame::list_reading::is_listed_as;
 use frame_core::{
-    Event, EventLines, ItemReader, Passed, PassedKind, ReadError, ReadItems, SkipOther,
+    Event, EventLines, ItemReader, Passed, PassedKind, ReadItems, SkipOther,
 };
 use refusing_alloc::RefusingAlloc;
 use std::alloc::{AllocError, Global};
