@@ -9,7 +9,7 @@ fn faults_of_captures_name_the_record_and_the_cause(rt: HostRuntime) {
     for (cause, sentence) in [
         (
             CaptureCause::CaptureHeader,
-            "record 7: the header is not that of a libpcap capture, version 2.4, of Ethernet",
+            "record 7: the header is not that of a libpcap capture (2.4, of Ethernet), nor with --capture of a pcapng capture (1)",
         ),
         (
             CaptureCause::CaptureShort,

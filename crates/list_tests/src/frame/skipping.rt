@@ -1,9 +1,7 @@
 //! Frames of other protocols, passed over.
 
 use crate::frame::list_reading::is_listed_as;
-use frame_core::{
-    Event, EventLines, ItemReader, Passed, PassedKind, ReadItems, SkipOther,
-};
+use frame_core::{Event, EventLines, ItemReader, Passed, PassedKind, ReadItems, SkipOther};
 use refusing_alloc::RefusingAlloc;
 use std::alloc::{AllocError, Global};
 use std::test::Fail;
