@@ -1,5 +1,5 @@
 -- A subscriber that is handed the events of a list one by one, and the text that follows.
-use Rattle.std.proofs.Common.{◌≡◌, ℕ, List, [], ◌∷◌, ◌++◌, length, false, Ok, ap, subst, sym, ◌∙◌, refl, append_assoc}
+use Rattle.std.proofs.Common.{◌≡◌, ℕ, List, [], ◌∷◌, ◌++◌, length, false, ap, subst, sym, ◌∙◌, refl, append_assoc}
 use Rattle.std.proofs.lemmas.List.{append-nil}
 use Rattle.list_core.specs.declared.event.Event.{Event}
 use Rattle.block_core.specs.declared.block.Block.{Block}

@@ -2,8 +2,6 @@
 use Rattle.std.specs.Prelude.{◌≡◌, ◌<◌, ℕ, List, [], ◌∷◌, ◌++◌, length}
 use Rattle.list_core.specs.declared.device.InputEnd.{InputEnd}
 use Rattle.list_core.specs.Items.{listing}
-use Rattle.publish_core.specs.declared.control.Control.{Control}
-use Rattle.publish_core.specs.declared.table.Step.{Step}
 use Rattle.publish_core.specs.Frames.{Setup}
 use Rattle.publish_core.specs.Run.{Call}
 use Rattle.publish_core.specs.Table.{most_steps}

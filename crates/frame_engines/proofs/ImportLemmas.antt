@@ -1,6 +1,6 @@
 -- What several answers of a reader of records make `import` write.
 use Rattle.std.proofs.Common.{Option, Some, None, Ok, Err, Result, ◌≡◌, ℕ, ◌+◌, Bool, true, false, List, [], ◌∷◌, ◌++◌, inl, inr, ap, sym, ◌∙◌, refl, subst, append_assoc}
-use Rattle.std.specs.Prelude.{◌||◌, ◌⊎◌, if◌then◌else◌, codes}
+use Rattle.std.specs.Prelude.{◌||◌, if◌then◌else◌, codes}
 use Rattle.std.specs.List.{flat_map, list_any}
 use Rattle.std.proofs.lemmas.List.{append-nil}
 use Rattle.std.proofs.lemmas.Grind.{flat_map-append}

@@ -1,5 +1,5 @@
 -- The text of `show`: one line an event.
-use Rattle.std.specs.Prelude.{ℕ, List, [], ◌++◌, codes, false, Result, Ok, Err}
+use Rattle.std.specs.Prelude.{ℕ, List, ◌++◌, codes, false, Result, Ok, Err}
 use Rattle.std.specs.Fmt.{decimal}
 use Rattle.list_core.specs.declared.event.Event.{Event}
 use Rattle.list_core.specs.declared.list_fault.ListCause.{ListCause}

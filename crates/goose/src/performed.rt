@@ -1,8 +1,8 @@
 //! What a task leaves, of what its engine's run hands out.
-ghost use Rattle.std.specs.Prelude.{◌≡◌};
+ghost use Rattle.std.specs.Prelude.{◌≡◌, Some};
 ghost use Rattle.list_core.specs.ItemReader.{item_state};
 ghost use Rattle.capture_core.specs.PacketReader.{packet_state};
-ghost use Rattle.frame_core.specs.SkipOther.{beneath};
+ghost use Rattle.frame_core.specs.SkipOther.{beneath, passed_over};
 
 use capture_core::{CaptureFault, PacketReader};
 use engine_core::{Ending, Stopped};
@@ -217,6 +217,7 @@ pub fn of_passed_packets<R: Source>(
     ensures ending { result.ending ≡ stopped.ending }
     ensures left { R.left result.reader ≡ (packet_state R.left R.ending (beneath stopped.reader)).left }
     ensures source { R.ending result.reader ≡ (packet_state R.left R.ending (beneath stopped.reader)).ending }
+    ensures passed { result.passed ≡ Some (passed_over stopped.reader) }
 {
     let Stopped {
         ending,
@@ -243,6 +244,7 @@ pub fn of_passed_events<R: Source>(
     ensures ending { result.ending ≡ stopped.ending }
     ensures left { R.left result.reader ≡ (item_state R.left R.ending (beneath stopped.reader)).left }
     ensures source { R.ending result.reader ≡ (item_state R.left R.ending (beneath stopped.reader)).ending }
+    ensures passed { result.passed ≡ Some (passed_over stopped.reader) }
 {
     let Stopped {
         ending,

@@ -1,5 +1,5 @@
 -- The text of `replay` as it is computed: by what a subscriber keeps after the events before.
-use Rattle.std.specs.Prelude.{ℕ, List, [], ◌∷◌, false, Ok}
+use Rattle.std.specs.Prelude.{ℕ, List, [], ◌∷◌, false}
 use Rattle.list_core.specs.declared.event.Event.{Event}
 use Rattle.list_core.specs.declared.list_fault.ListCause.{ListCause}
 use Rattle.list_core.specs.ListReader.{list_fault_of}

@@ -1,5 +1,5 @@
 -- The text of `blocks` as it is computed: by the newest text of each key.
-use Rattle.std.specs.Prelude.{◌≡◌, ℕ, List, [], ◌∷◌, ◌++◌, reverse, false, Option, Ok}
+use Rattle.std.specs.Prelude.{◌≡◌, ℕ, List, [], ◌∷◌, ◌++◌, reverse, false, Option}
 use Rattle.std.specs.List.{concat}
 use Rattle.list_core.specs.declared.event.Event.{Event}
 use Rattle.list_core.specs.declared.list_fault.ListCause.{ListCause}

@@ -1,4 +1,4 @@
-use Rattle.std.proofs.Common.{ap, sym, ◌∙◌}
+use Rattle.std.proofs.Common.{sym, ◌∙◌}
 use Rattle.goose.proofs.EventTaskLemmas.{capture_leaves}
 use Rattle.goose.proofs.over_events.over_capture.Goals as goal
 

@@ -1,10 +1,8 @@
-use Rattle.std.proofs.Common.{◌++◌, ℕ, List, ap, subst, ◌∙◌, refl, inl, inr}
+use Rattle.std.proofs.Common.{List, ap, subst, refl, inl, inr}
 use Rattle.block_core.specs.declared.block.Block.{Block}
 use Rattle.subscribe_core.specs.State.{State}
 use Rattle.engine_core.specs.EventsText.{over_events}
-use Rattle.engine_core.specs.Run.{LeavesRefused}
 use Rattle.engine_core.specs.RunOver.{RunsOver}
-use Rattle.exchange_engines.specs.ReplayText.{twice_line}
 use Rattle.exchange_engines.specs.computed.ReplayStep.{replay_event}
 use Rattle.exchange_engines.proofs.ReplayLemmas.{replay_of}
 use Rattle.exchange_engines.proofs.engines.replay.replay_over.Goals as goal

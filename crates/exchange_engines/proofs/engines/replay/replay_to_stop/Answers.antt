@@ -1,4 +1,4 @@
-use Rattle.std.proofs.Common.{◌++◌, ℕ, List, [], ap, subst, ◌∙◌, refl, inl, inr}
+use Rattle.std.proofs.Common.{List, [], ap, subst, refl, inl, inr}
 use Rattle.std.specs.Prelude.{option_map}
 use Rattle.list_core.specs.EventLine.{event_rules}
 use Rattle.list_core.specs.ItemReader.{item_state}
@@ -6,9 +6,8 @@ use Rattle.list_core.specs.declared.event_lines.EventLines.TheVariants.{First}
 use Rattle.list_core.proofs.Devices.{Consumes-none, Gives-from_Consumes}
 use Rattle.block_core.specs.declared.block.Block.{Block}
 use Rattle.subscribe_core.specs.State.{State}
-use Rattle.engine_core.specs.Run.{LeavesRefused, WritesTo}
+use Rattle.engine_core.specs.Run.{WritesTo}
 use Rattle.exchange_engines.specs.declared.engines.replay.ReplayFault.TheVariants as of
-use Rattle.exchange_engines.specs.ReplayText.{twice_line}
 use Rattle.exchange_engines.specs.computed.ReplayStep.{replay_text}
 use Rattle.exchange_engines.proofs.ReplayLemmas.{replay_is}
 use Rattle.exchange_engines.proofs.engines.replay.replay_to_stop.Goals as goal
