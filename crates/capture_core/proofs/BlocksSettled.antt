@@ -17,7 +17,7 @@ use Rattle.capture_core.specs.declared.packet_reader.PacketReader.{PacketReader}
 use Rattle.capture_core.specs.declared.packet_reader.Progress.TheVariants as progress
 use Rattle.capture_core.specs.declared.packet_reader.Step.{Step}
 use Rattle.capture_core.specs.declared.packet_reader.Step.TheVariants.{Passed, Answered}
-use Rattle.capture_core.proofs.ReaderSteps.{block_begins, block_describes, block_gives, block_passes, blocks_want}
+use Rattle.capture_core.proofs.ReaderSteps.{block_begins, block_describes, block_gives, block_passes, interface_wants}
 
 same_block : (a b : Block) → ◌≡◌ {A = Result Block CaptureCause} (Ok a) (Ok b) → a ≡ b
 same_block a b e = cc
@@ -52,7 +52,7 @@ module _ {R A : Type 0} (left : R → Option (List ℕ)) (ending : R → InputEn
   settles_interface b i (Answered (Err (error.Fault f))) r e (inr t) = absurd t.0
   settles_interface b i (Answered (Err (error.Memory w))) r e (inr t) =
       let count : new.answered ≡ old.answered = t.2 ∙ answered in
-      (blocks_want _ _ s m at most (Ok (describes i)) (reads_now b (describes i) e r) (rw t.1 refl), rw t.1 count, tt)
+      (interface_wants _ _ s m at most i (reads_now b (describes i) e r) (rw t.1 refl), rw t.1 count, tt)
 
   settles_packet : (b : Block) (e : Event A) (step : Step A) → Reads old s b (left mid.reader) (ending mid.reader) → IsSaidAs (Ok (said.Captures e)) (Ok b) → Settles mid (said.Captures e) step new → Steps old step old.answered now (packet_number new)
   settles_packet b e step r (p, q, is) t =

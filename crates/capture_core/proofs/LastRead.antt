@@ -1,5 +1,5 @@
 -- What is told where no record or block may come any more, and after a capture has stopped.
-use Rattle.std.proofs.Common.{◌≡◌, ◌≢◌, ℕ, ◌+◌, ◌<◌, zero, List, [], ◌∷◌, ◌++◌, length, Option, Some, None, Ok, Err, ap, sym, ◌∙◌, refl, suc, arith}
+use Rattle.std.proofs.Common.{◌≡◌, ◌≢◌, ℕ, ◌+◌, ◌<◌, zero, List, [], ◌∷◌, ◌++◌, length, Option, Some, None, Ok, Err, ap, sym, ◌∙◌, refl, suc, arith, inr}
 use Rattle.list_core.specs.declared.device.InputEnd.{InputEnd}
 use Rattle.list_core.specs.declared.device.InputEnd.TheVariants.{Open}
 use Rattle.list_core.specs.Device.{GivesOctets, OnlyOpen}
@@ -8,7 +8,7 @@ use Rattle.list_core.proofs.Readers.{OnlyOpen-none}
 use Rattle.capture_core.specs.Capture.{ended, fault_in, records_of}
 use Rattle.capture_core.specs.Packets.{stopped}
 use Rattle.capture_core.specs.Blocks.{packets_of_blocks}
-use Rattle.capture_core.specs.PacketReader.{AnswersPacket, GivesPacket, PacketAnswer, PacketState, TellsPacket, events_behind, number_by, over, packets_from, stage_of}
+use Rattle.capture_core.specs.PacketReader.{AnswersPacket, GivesPacket, KeepsPacket, PacketAnswer, PacketState, TellsPacket, events_behind, number_by, over, packets_from, stage_of}
 use Rattle.capture_core.specs.computed.Filling.{Fills}
 use Rattle.capture_core.specs.computed.OneRead.{Front, ReadsFront}
 use Rattle.capture_core.specs.computed.Steps.{IsReading}
@@ -87,23 +87,24 @@ module _ (old new : PacketState) (p : Progress) (is : List Interface) (m : ℕ) 
 
 -- ---- once more how a capture stopped
 
-again : {A : Type 0} (s : PacketState) (answer : PacketAnswer A) → GivesPacket answer s.left s.left [] → ((z : InputEnd) (o : List ℕ) → TellsPacket answer (events_behind s z o) (events_behind s z o)) → AnswersPacket s answer s
-again s answer g t = record {
+again : {A : Type 0} (s : PacketState) (answer : PacketAnswer A) → GivesPacket answer s.left s.left [] → KeepsPacket answer s [] s.ending → ((z : InputEnd) (o : List ℕ) → TellsPacket answer (events_behind s z o) (events_behind s z o)) → AnswersPacket s answer s
+again s answer g k t = record {
   given = [];
   took = g;
   only_open = OnlyOpen-none s.ending;
   asked = asked_none _ s.ending;
+  kept = k;
   reads = λ more y c. t y more;
 }
 
 pub over_ends : {A : Type 0} (s : PacketState) → s.stage ≡ over finished → AnswersPacket {A = A} s (Ok None) s
-over_ends s e = again s (Ok None) (gave_nothing s.left) (λ z o. rw e (refl, refl))
+over_ends s e = again s (Ok None) (gave_nothing s.left) tt (λ z o. rw e (refl, refl))
 
 pub over_fails : {A : Type 0} (s : PacketState) (f : CaptureFault) → s.stage ≡ over (faulty f) → AnswersPacket {A = A} s (Err (Some f)) s
-over_fails s f e = again s (Err (Some f)) (gave_nothing s.left) (λ z o. rw e (refl, refl))
+over_fails s f e = again s (Err (Some f)) (gave_nothing s.left) tt (λ z o. rw e (refl, refl))
 
 pub over_wants : {A : Type 0} (s : PacketState) → s.stage ≡ over unfinished → AnswersPacket {A = A} s (Err None) s
-over_wants s e = again s (Err None) (gave_nothing s.left) (λ z o. rw e refl)
+over_wants s e = again s (Err None) (gave_nothing s.left) (inr (inr (λ more y c. rw e refl))) (λ z o. rw e refl)
 
 -- a reader that reads has the number of the packet before
 pub number_reading : (p : Progress) (n : ℕ) → IsReading p → number_by p n ≡ n

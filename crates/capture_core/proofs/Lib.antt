@@ -10,6 +10,7 @@ pub mod OptionsRead
 pub mod OptionValues
 pub mod BlocksRead
 pub mod PacketsRead
+pub mod FramesKept
 pub mod StartsRead
 pub mod StepsRead
 pub mod StagesRead
@@ -19,6 +20,7 @@ pub mod ReaderSteps
 pub mod LastRead
 pub mod BlocksSettled
 pub mod PacketsTaken
+pub mod StopsTold
 pub mod BlocksSpelled
 pub mod InterfacesSpelled
 pub mod PacketsSpelled

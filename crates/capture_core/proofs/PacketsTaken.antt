@@ -69,7 +69,7 @@ taken_more a b c e es p q = record {
 }
 
 -- events, and then an answer
-pub taken_then : {A : Type 0} (a b c : PacketState) (items : List (ℕ × Event A)) (answer : PacketAnswer A) → TookPackets a items b → AnswersPacket b answer c → RanPackets a items answer c
+unfoldable pub taken_then : {A : Type 0} (a b c : PacketState) (items : List (ℕ × Event A)) (answer : PacketAnswer A) → TookPackets a items b → AnswersPacket b answer c → RanPackets a items answer c
 taken_then a b c items answer p q = record {
   given = p.given ++ q.given;
   took = gives_after answer a.left b.left c.left p.given q.given p.took q.took;
@@ -82,6 +82,12 @@ taken_then a b c items answer p q = record {
     q.reads more y f,
   );
 }
+
+-- whatever comes behind events and an answer, the capture tells the events, and then what the reader told before the answer
+pub taken_before : {A : Type 0} (a b c : PacketState) (items : List (ℕ × Event A)) (answer : PacketAnswer A) (p : TookPackets a items b) (q : AnswersPacket b answer c) →
+    WhateverComes c.ending (λ y more. events_behind a y ((p.given ++ q.given) ++ more) ≡ put_items items (events_behind b y (q.given ++ more)))
+taken_before a b c items answer p q = λ more y f.
+    ap (events_behind a y) (append_assoc p.given q.given more) ∙ p.reads (q.given ++ more) y (CanFollow-given b.ending c.ending q.given more y q.only_open f)
 
 module _ {R A : Type 0} (left : R → Option (List ℕ)) (ending : R → InputEnd) where
   -- an answer leads from how a reader of packets stood to how it stands

@@ -15,8 +15,8 @@ use Rattle.capture_core.specs.computed.Filling.{IsShort, IsWanted, IsWhole, Read
 pub short_within : (old new : Option (List ℕ)) (z w : InputEnd) (k size : ℕ) → k ≤ size → IsShort k old z new w → IsShort size old z new w
 short_within old new z w k size h (given, few, took, o, shut) = (given, omega (arith, few), took, o, shut)
 
-pub wanted_within : (old new : Option (List ℕ)) (z w : InputEnd) (k size : ℕ) → k ≤ size → IsWanted k old z new w → IsWanted size old z new w
-wanted_within old new z w k size h (given, few, took, o, same) = (given, omega (arith, few), took, o, same)
+pub wanted_within : (Wants : List ℕ → Type 0) (old new : Option (List ℕ)) (z w : InputEnd) (k size : ℕ) → k ≤ size → IsWanted Wants k old z new w → IsWanted Wants size old z new w
+wanted_within Wants old new z w k size h (given, few, took, o, same, is) = (given, omega (arith, few), took, o, same, is)
 
 -- a part was read, and the source ended within the next one
 pub short_behind : (part : List ℕ) (old mid new : Option (List ℕ)) (z m w : InputEnd) (k size : ℕ) → length part + k ≤ size → Consumes old mid part → OnlyOpen z part m → IsShort k mid m new w → IsShort size old z new w
@@ -24,9 +24,10 @@ short_behind part old mid new z m w k size h took o (given, few, gave, p, shut) 
     (part ++ given, simp length-append (omega (arith, few, h)), Gives-append old mid new part given took gave, OnlyOpen-append z m w part given o p, shut)
 
 -- a part was read, and memory was wanted within the next one
-pub wanted_behind : (part : List ℕ) (old mid new : Option (List ℕ)) (z m w : InputEnd) (k size : ℕ) → length part + k ≤ size → Consumes old mid part → OnlyOpen z part m → m ≡ z → IsWanted k mid m new w → IsWanted size old z new w
-wanted_behind part old mid new z m w k size h took o same (given, few, gave, p, still) =
-    (part ++ given, simp length-append (omega (arith, few, h)), Gives-append old mid new part given took gave, OnlyOpen-append z m w part given o p, still ∙ same)
+pub wanted_behind : (Wants Both : List ℕ → Type 0) (part : List ℕ) (old mid new : Option (List ℕ)) (z m w : InputEnd) (k size : ℕ) → length part + k ≤ size → Consumes old mid part → OnlyOpen z part m → m ≡ z →
+    ((given : List ℕ) → Wants given → Both (part ++ given)) → IsWanted Wants k mid m new w → IsWanted Both size old z new w
+wanted_behind Wants Both part old mid new z m w k size h took o same f (given, few, gave, p, still, is) =
+    (part ++ given, simp length-append (omega (arith, few, h)), Gives-append old mid new part given took gave, OnlyOpen-append z m w part given o p, still ∙ same, f given is)
 
 -- a part was read, and the next one
 pub whole_behind : (Is Both : List ℕ → Type 0) (part : List ℕ) (old mid new : Option (List ℕ)) (z m w : InputEnd) (k size : ℕ) → length part + k ≡ size → Consumes old mid part → OnlyOpen z part m → m ≡ z →
@@ -45,7 +46,7 @@ part_behind Is Both part old mid new z m w k size h took o same (Ok t) f r = who
 part_behind Is Both part old mid new z m w k size h took o same (Err e) f r = short_behind part old mid new z m w k size (omega (arith, h)) took o r
 
 -- a part was read, and not the next one, for either reason
-pub unread_behind : {T S : Type 0} (Is : T → List ℕ → Type 0) (Both : S → List ℕ → Type 0) (part : List ℕ) (old mid new : Option (List ℕ)) (z m w : InputEnd) (k size : ℕ) (u : Unread) → length part + k ≤ size → Consumes old mid part → OnlyOpen z part m → m ≡ z →
-    ReadsKept Is k mid m (Err u) new w → ReadsKept Both size old z (Err u) new w
-unread_behind Is Both part old mid new z m w k size unread.Short h took o same r = short_behind part old mid new z m w k size h took o r
-unread_behind Is Both part old mid new z m w k size (unread.Memory e) h took o same r = wanted_behind part old mid new z m w k size h took o same r
+pub unread_behind : {T S : Type 0} (Is : T → List ℕ → Type 0) (Both : S → List ℕ → Type 0) (Wants WantsBoth : List ℕ → Type 0) (part : List ℕ) (old mid new : Option (List ℕ)) (z m w : InputEnd) (k size : ℕ) (u : Unread) → length part + k ≤ size →
+    Consumes old mid part → OnlyOpen z part m → m ≡ z → ((given : List ℕ) → Wants given → WantsBoth (part ++ given)) → ReadsKept Is Wants k mid m (Err u) new w → ReadsKept Both WantsBoth size old z (Err u) new w
+unread_behind Is Both Wants WantsBoth part old mid new z m w k size unread.Short h took o same f r = short_behind part old mid new z m w k size h took o r
+unread_behind Is Both Wants WantsBoth part old mid new z m w k size (unread.Memory e) h took o same f r = wanted_behind Wants WantsBoth part old mid new z m w k size h took o same f r

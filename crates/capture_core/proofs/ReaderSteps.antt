@@ -1,20 +1,21 @@
 -- The steps of a reader of packets, by what was read.
-use Rattle.std.proofs.Common.{◌≡◌, ℕ, ◌+◌, suc, List, [], drop, Some, None, Ok, Err, ap, ◌∙◌, refl}
+use Rattle.std.proofs.Common.{◌≡◌, ℕ, ◌+◌, suc, List, [], ◌++◌, drop, Some, None, Ok, Err, inl, inr, ap, subst, ◌∙◌, refl}
 use Rattle.list_core.specs.declared.device.InputEnd.{InputEnd}
 use Rattle.list_core.specs.Lines.{finished, unfinished, faulty}
 use Rattle.capture_core.specs.Capture.{records_of}
-use Rattle.capture_core.specs.Packets.{Numbered, Packet, event_of, packets_of_records, put_numbered}
+use Rattle.capture_core.specs.Packets.{Numbered, Packet, event_of, events_of, packets_of_records, put_numbered}
 use Rattle.capture_core.specs.Blocks.{Block, Settled, begins, captures, count_after, describes, next_block, packets_of_blocks, passes, put_block, settled_after}
-use Rattle.capture_core.specs.PacketReader.{AnswersPacket, PacketState, Stage, at_start, in_blocks, in_records, over, packets_from}
-use Rattle.capture_core.specs.computed.OneRead.{ReadsFront, Told, capture_front, next_record}
+use Rattle.capture_core.specs.PacketReader.{AnswersPacket, IsFrame, NextIsFrame, PacketState, Stage, at_start, in_blocks, in_records, over, packets_from}
+use Rattle.capture_core.specs.computed.OneRead.{IsFrameBlock, IsFramePacket, ReadsFront, ReadsToKeep, Told, capture_front, next_record}
 use Rattle.capture_core.specs.computed.Steps.{PassesOver}
 use Rattle.capture_core.specs.declared.form.CaptureForm.{CaptureForm}
 use Rattle.capture_core.specs.declared.form.OctetOrder.{OctetOrder}
 use Rattle.capture_core.specs.declared.interface.Interface.{Interface}
 use Rattle.capture_core.specs.declared.start.Start.TheVariants as start
 use Rattle.capture_core.specs.declared.capture_fault.CaptureFault.{CaptureFault}
+use Rattle.capture_core.proofs.PacketsRead.{frame_is}
 use Rattle.capture_core.proofs.StagesRead.{after_start, blocks_are, records_are, start_is}
-use Rattle.capture_core.proofs.StepsRead.{spread, step_ends, step_fails, step_gives, step_passes, step_wants}
+use Rattle.capture_core.proofs.StepsRead.{spread, step_ends, step_fails, step_gives, step_keeps, step_passes, step_wants}
 
 -- ---- the start
 
@@ -55,8 +56,12 @@ module _ (old new : PacketState) (form : CaptureForm) (m : ℕ) (at : old.stage 
   pub records_fail : {A : Type 0} (f : CaptureFault) → ReadsFront (λ y o. next_record form y (old.answered + 1) o) [] old.left old.ending (Err (Some (faulty f))) new.left new.ending → new.stage ≡ over (faulty f) → AnswersPacket {A = A} old (Err (Some f)) new
   records_fail f r a = step_fails (λ y o. next_record form y (old.answered + 1) o) others_of old records_spread new f r a
 
-  pub records_want : {A : Type 0} (told : Told Packet) → ReadsFront (λ y o. next_record form y (old.answered + 1) o) [] old.left old.ending told new.left new.ending → new.stage ≡ over unfinished → AnswersPacket {A = A} old (Err None) new
-  records_want told r a = step_wants (λ y o. next_record form y (old.answered + 1) o) others_of old records_spread new told r a
+  record_frames : (A : Type 0) (p : Packet) → IsFramePacket p → (y : InputEnd) (o : List ℕ) → NextIsFrame (events_of {A = A} (others_of p y o))
+  unfolding others_of
+  record_frames A p f y o = subst IsFrame (frame_is p.link_type p.octets f.0 f.1) tt
+
+  pub records_want : {A : Type 0} (told : Told Packet) → told ≡ Err None → ReadsToKeep IsFramePacket (λ y o. next_record form y (old.answered + 1) o) [] old.left old.ending told new.left new.ending → new.stage ≡ over unfinished → AnswersPacket {A = A} old (Err None) new
+  records_want {A} told none r a = step_keeps (λ y o. next_record form y (old.answered + 1) o) others_of old records_spread new IsFramePacket (record_frames A) told none r a
 
 -- ---- blocks
 
@@ -93,5 +98,28 @@ module _ (old new : PacketState) (s : Settled) (m : ℕ) (at : old.stage ≡ in_
   pub blocks_fail : {A : Type 0} (f : CaptureFault) → ReadsFront (λ y o. next_block y (old.answered + 1) s o) [] old.left old.ending (Err (Some (faulty f))) new.left new.ending → new.stage ≡ over (faulty f) → AnswersPacket {A = A} old (Err (Some f)) new
   blocks_fail f r a = step_fails (λ y o. next_block y (old.answered + 1) s o) behind_of old blocks_spread new f r a
 
-  pub blocks_want : {A : Type 0} (told : Told Block) → ReadsFront (λ y o. next_block y (old.answered + 1) s o) [] old.left old.ending told new.left new.ending → new.stage ≡ over unfinished → AnswersPacket {A = A} old (Err None) new
-  blocks_want told r a = step_wants (λ y o. next_block y (old.answered + 1) s o) behind_of old blocks_spread new told r a
+  block_frames : (A : Type 0) (b : Block) → IsFrameBlock b → (y : InputEnd) (o : List ℕ) → NextIsFrame (events_of {A = A} (behind_of b y o))
+  unfolding behind_of
+  block_frames A (begins order) f y o = absurd f
+  block_frames A (describes i) f y o = absurd f
+  block_frames A (captures p) f y o = subst IsFrame (frame_is p.link_type p.octets f.0 f.1) tt
+  block_frames A passes f y o = absurd f
+
+  pub blocks_want : {A : Type 0} (told : Told Block) → told ≡ Err None → ReadsToKeep IsFrameBlock (λ y o. next_block y (old.answered + 1) s o) [] old.left old.ending told new.left new.ending → new.stage ≡ over unfinished → AnswersPacket {A = A} old (Err None) new
+  blocks_want {A} told none r a = step_keeps (λ y o. next_block y (old.answered + 1) s o) behind_of old blocks_spread new IsFrameBlock (block_frames A) told none r a
+
+  -- memory was wanted for an interface
+  pub interface_wants : {A : Type 0} (i : Interface) → ReadsFront (λ y o. next_block y (old.answered + 1) s o) [] old.left old.ending (Ok (describes i)) new.left new.ending → new.stage ≡ over unfinished → AnswersPacket {A = A} old (Err None) new
+  interface_wants i r a = step_wants (λ y o. next_block y (old.answered + 1) s o) behind_of old blocks_spread new (Ok (describes i)) r
+      (inr (inl (record {
+        front = [];
+        block = r.given;
+        parts = refl;
+        settled = s;
+        packets = old.answered;
+        most = old.most;
+        behind = λ more y c. ap (λ (t : Stage). packets_from t old.answered old.most y (r.given ++ more)) at;
+        interface = i;
+        is_interface = λ more y c. r.stands more y c;
+      })))
+      a

@@ -1,5 +1,5 @@
 -- What one thing that was read says of a capture.
-use Rattle.std.proofs.Common.{◌≡◌, ℕ, List, [], ◌++◌, length, drop, Option, Some, None, Ok, Err, ap, sym, ◌∙◌, refl}
+use Rattle.std.proofs.Common.{◌≡◌, ℕ, List, [], ◌++◌, length, drop, Option, Some, None, Ok, Err, inl, ap, subst, sym, ◌∙◌, refl}
 use Rattle.std.proofs.Math.Seq.{drop-append_seam}
 use Rattle.list_core.specs.declared.device.InputEnd.{InputEnd}
 use Rattle.list_core.specs.declared.device.InputEnd.TheVariants.{Open}
@@ -8,8 +8,8 @@ use Rattle.list_core.specs.Lines.{Stop, finished, unfinished, faulty}
 use Rattle.list_core.proofs.Devices.{Gives-from_Consumes}
 use Rattle.capture_core.specs.Packets.{Numbered, Packet, event_of, events_of, put_numbered, stopped}
 use Rattle.capture_core.specs.Asked.{OnlyWhile}
-use Rattle.capture_core.specs.PacketReader.{AnswersPacket, PacketState, over, events_behind, packets_behind, packets_from}
-use Rattle.capture_core.specs.computed.OneRead.{Front, GivesFront, ReadsFront, Told}
+use Rattle.capture_core.specs.PacketReader.{AnswersPacket, KeepsPacket, NextIsFrame, PacketState, over, events_behind, packets_behind, packets_from}
+use Rattle.capture_core.specs.computed.OneRead.{Front, GivesFront, IsKept, KeepsFront, ReadsFront, ReadsToKeep, Told}
 use Rattle.capture_core.specs.computed.Steps.{PassesOver}
 use Rattle.capture_core.specs.declared.capture_fault.CaptureFault.{CaptureFault}
 
@@ -44,6 +44,18 @@ module _ {X : Type 0} (F : InputEnd → List ℕ → Front X) (others : X → In
       is y (given ++ more) ∙ ap (λ (f : Front X). spread f (λ x size. others x y (drop size (given ++ more)))) e
       ∙ ap (others x y) (drop-append_seam given more)
 
+  -- what is to be kept
+  spread_kept : (A : Type 0) (K : X → Type 0) → ((x : X) → K x → (y : InputEnd) (o : List ℕ) → NextIsFrame (events_of {A = A} (others x y o))) → (f : Front X) (y : InputEnd) (o : List ℕ) → IsKept K f →
+      NextIsFrame (events_of {A = A} (spread f (λ x size. others x y (drop size o))))
+  unfolding spread
+  spread_kept A K frames (Ok x) y o k = frames x.0 k y (drop x.1 o)
+  spread_kept A K frames (Err stop) y o k = k
+
+  kept_told : (A : Type 0) (K : X → Type 0) → ((x : X) → K x → (y : InputEnd) (o : List ℕ) → NextIsFrame (events_of {A = A} (others x y o))) → (given more : List ℕ) (y : InputEnd) → IsKept K (F y (given ++ more)) →
+      NextIsFrame (events_behind {A = A} old y (given ++ more))
+  kept_told A K frames given more y k =
+      subst (λ (l : Numbered Packet). NextIsFrame (events_of {A = A} l)) (sym (is y (given ++ more))) (spread_kept A K frames (F y (given ++ more)) y (given ++ more) k)
+
   module _ (new : PacketState) where
     -- the capture has ended
     pub step_ends : {A : Type 0} → ReadsFront F [] old.left old.ending (Err (Some finished)) new.left new.ending → new.stage ≡ over finished → AnswersPacket {A = A} old (Ok None) new
@@ -52,6 +64,7 @@ module _ {X : Type 0} (F : InputEnd → List ℕ → Front X) (others : X → In
       took = r.took;
       only_open = r.only_open;
       asked = asked_so (Err (Some finished)) new.left new.ending r;
+      kept = tt;
       reads = λ more y c. let e = stop_told r.given more y finished (r.stands more y c) in (e, rw s (sym e));
     }
 
@@ -62,18 +75,27 @@ module _ {X : Type 0} (F : InputEnd → List ℕ → Front X) (others : X → In
       took = r.took;
       only_open = r.only_open;
       asked = asked_so (Err (Some (faulty f))) new.left new.ending r;
+      kept = tt;
       reads = λ more y c. let e = stop_told r.given more y (faulty f) (r.stands more y c) in (e, rw s (sym e));
     }
 
     -- memory was wanted
-    pub step_wants : {A : Type 0} (told : Told X) → ReadsFront F [] old.left old.ending told new.left new.ending → new.stage ≡ over unfinished → AnswersPacket {A = A} old (Err None) new
-    step_wants told r s = record {
+    pub step_wants : {A : Type 0} (told : Told X) (r : ReadsFront F [] old.left old.ending told new.left new.ending) → KeepsPacket {A = A} (Err None) old r.given new.ending → new.stage ≡ over unfinished → AnswersPacket {A = A} old (Err None) new
+    step_wants told r k s = record {
       given = r.given;
       took = gave told old.left new.left r.given r.took;
       only_open = r.only_open;
       asked = asked_so told new.left new.ending r;
+      kept = k;
       reads = λ more y c. rw s refl;
     }
+
+    -- it was wanted to keep what stands at the front
+    pub step_keeps : {A : Type 0} (K : X → Type 0) → ((x : X) → K x → (y : InputEnd) (o : List ℕ) → NextIsFrame (events_of {A = A} (others x y o))) → (told : Told X) → told ≡ Err None →
+        ReadsToKeep K F [] old.left old.ending told new.left new.ending → new.stage ≡ over unfinished → AnswersPacket {A = A} old (Err None) new
+    step_keeps {A = A} K frames told none r s =
+        let keeps = subst (KeepsFront K F r.read.given new.ending) none r.keeps in
+        step_wants told r.read (inl (λ more y c. kept_told A K frames r.read.given more y (keeps more y c))) s
 
     -- a packet was read
     pub step_gives : {A : Type 0} (x : X) (n : ℕ) (p : Packet) → ReadsFront F [] old.left old.ending (Ok x) new.left new.ending →
@@ -83,6 +105,7 @@ module _ {X : Type 0} (F : InputEnd → List ℕ → Front X) (others : X → In
       took = r.took;
       only_open = r.only_open;
       asked = asked_so (Ok x) new.left new.ending r;
+      kept = tt;
       reads = λ more y c. ap events_of (thing_told r.given more y x (r.stands more y c) ∙ s y more);
     }
 

@@ -9,9 +9,9 @@ use Rattle.list_core.specs.Device.{OnlyOpen}
 use Rattle.list_core.specs.Lines.{CanFollow}
 use Rattle.list_core.proofs.Devices.{Consumes-append, Consumes-none, Gives-append}
 use Rattle.list_core.proofs.Readers.{CanFollow-given, OnlyOpen-append, OnlyOpen-none}
-use Rattle.capture_core.specs.Packets.{Numbered, events_of}
+use Rattle.capture_core.specs.Packets.{Numbered, events_of, Packet}
 use Rattle.capture_core.specs.Asked.{OnlyWhile}
-use Rattle.capture_core.specs.PacketReader.{AnswersPacket, GivesPacket, PacketAnswer, PacketState, TellsPacket, packets_behind}
+use Rattle.capture_core.specs.PacketReader.{AnswersPacket, GivesPacket, PacketAnswer, PacketState, TellsPacket, packets_behind, KeepsPacket, NextIsFrame}
 use Rattle.capture_core.specs.computed.Steps.{PassesOver}
 use Rattle.capture_core.proofs.Fronts.{asked_none, front_cases}
 
@@ -89,6 +89,28 @@ passes_passes a b c p q = record {
   reads = λ more y f. ap (packets_behind a y) (append_assoc p.given q.given more) ∙ p.reads (q.given ++ more) y (CanFollow-given b.ending c.ending q.given more y q.only_open f) ∙ q.reads more y f;
 }
 
+-- what is kept behind steps
+kept_behind : {A : Type 0} (a b c : PacketState) (answer : PacketAnswer A) (p : PassesOver a b) (given : List ℕ) → OnlyOpen b.ending given c.ending → KeepsPacket answer b given c.ending → KeepsPacket answer a (p.given ++ given) c.ending
+kept_behind a b c (Ok o) p given open_only k = tt
+kept_behind a b c (Err (Some f)) p given open_only k = tt
+kept_behind {A} a b c (Err None) p given open_only k =
+    let on = λ (more : List ℕ) (y : InputEnd) (f : CanFollow c.ending more y). ap (packets_behind a y) (append_assoc p.given given more) ∙ p.reads (given ++ more) y (CanFollow-given b.ending c.ending given more y open_only f) in
+    elim k [
+      | inl frame ↦ inl (λ more y f. subst (λ (l : Numbered Packet). NextIsFrame (events_of {A = A} l)) (sym (on more y f)) (frame more y f))
+      | inr (inl i) ↦ inr (inl (record {
+        front = p.given ++ i.front;
+        block = i.block;
+        parts = ap (λ (l : List ℕ). p.given ++ l) i.parts ∙ sym (append_assoc p.given i.front i.block);
+        settled = i.settled;
+        packets = i.packets;
+        most = i.most;
+        behind = λ more y f. on more y f ∙ i.behind more y f;
+        interface = i.interface;
+        is_interface = i.is_interface;
+      }))
+      | inr (inr none) ↦ inr (inr (λ more y f. on more y f ∙ none more y f))
+    ]
+
 -- an answer behind steps
 pub passes_answers : {A : Type 0} (a b c : PacketState) (answer : PacketAnswer A) → PassesOver a b → AnswersPacket b answer c → AnswersPacket a answer c
 passes_answers a b c answer p q = record {
@@ -96,6 +118,7 @@ passes_answers a b c answer p q = record {
   took = gives_after answer a.left b.left c.left p.given q.given p.took q.took;
   only_open = OnlyOpen-append a.ending b.ending c.ending p.given q.given p.only_open q.only_open;
   asked = asked_after _ _ p.given q.given a.ending b.ending c.ending p.only_open q.only_open (λ front rest e c. ap events_of (p.asked front rest e c)) q.asked (λ f h e. ap events_of (p.reads f Open h) ∙ e);
+  kept = kept_behind a b c answer p q.given q.only_open q.kept;
   reads = λ more y f. tells_from answer _ _ _
       (ap events_of (ap (packets_behind a y) (append_assoc p.given q.given more) ∙ p.reads (q.given ++ more) y (CanFollow-given b.ending c.ending q.given more y q.only_open f)))
       (q.reads more y f);

@@ -1,14 +1,16 @@
 -- What the answers of a reader of packets say of its capture.
-use Rattle.std.specs.Prelude.{◌≡◌, ℕ, List, ◌++◌, Option, Some, None, Result, Ok, Err}
+use Rattle.std.specs.Prelude.{◌≡◌, ◌⊎◌, ℕ, ◌+◌, List, [], ◌∷◌, ◌++◌, length, Option, Some, None, Result, Ok, Err}
 use Rattle.std.specs.Io.KnownBytes.{Consumes}
 use Rattle.list_core.specs.declared.device.InputEnd.{InputEnd}
 use Rattle.list_core.specs.declared.device.InputEnd.TheVariants.{Open}
 use Rattle.list_core.specs.declared.event.Event.{Event}
+use Rattle.list_core.specs.declared.event.EventKind.{EventKind}
+use Rattle.list_core.specs.declared.event.EventKind.TheVariants as kinds
 use Rattle.list_core.specs.Device.{GivesOctets, OnlyOpen}
 use Rattle.list_core.specs.Lines.{Stop, WhateverComes, unfinished, finished, faulty}
 use Rattle.capture_core.specs.Capture.{records_of}
 use Rattle.capture_core.specs.Packets.{Packet, Numbered, stopped, put_numbered, events_of, packets_of_records, stop_of}
-use Rattle.capture_core.specs.Blocks.{Settled, packets_of_blocks}
+use Rattle.capture_core.specs.Blocks.{Settled, describes, next_block, packets_of_blocks}
 use Rattle.capture_core.specs.Asked.{OnlyWhile}
 use Rattle.capture_core.specs.Captured.{captured_packets}
 use Rattle.capture_core.specs.declared.form.CaptureForm.{CaptureForm}
@@ -121,11 +123,48 @@ packet_number_told (Ok (Some e)) n = e.0
 packet_number_told (Err (Some f)) n = f.number
 packet_number_told (Err None) n = n
 
+-- the event is a frame
+abbrev pub IsFrame : {A : Type 0} → EventKind A → Type 0
+IsFrame (kinds.Frame octets) = Unit {0}
+IsFrame kinds.Clock = ⊥
+IsFrame (kinds.Mode on) = ⊥
+
+-- the first of these events is a frame; or there is none, and they do not stop at an end
+abbrev pub BeginsWithFrame : {A : Type 0} → List (ℕ × Event A) → Stop CaptureFault → Type 0
+BeginsWithFrame [] stop = stop ≡ finished → ⊥
+BeginsWithFrame (e ∷ es) stop = IsFrame e.1.kind
+
+-- what a capture tells next is a frame, or a stop that is not its end
+abbrev pub NextIsFrame : {A : Type 0} → Numbered (Event A) → Type 0
+NextIsFrame l = BeginsWithFrame l.items l.stop
+
+-- Of these octets the last are a block that describes an interface: whatever comes, the packets behind those before it are those of the blocks from it on.
+pub record DescribesInterface (old : PacketState) (given : List ℕ) (w : InputEnd) : Type 0 where
+  pub front : List ℕ
+  pub block : List ℕ
+  pub parts : given ≡ front ++ block
+  -- what is settled before the block, how many packets are before it, and how many blocks may come
+  pub settled : Settled
+  pub packets : ℕ
+  pub most : ℕ
+  pub behind : WhateverComes w (λ z more. packets_behind old z (given ++ more) ≡ packets_of_blocks z settled packets most (block ++ more))
+  pub interface : Interface
+  pub is_interface : WhateverComes w (λ z more. next_block z (packets + 1) settled (block ++ more) ≡ Ok (describes interface, length block))
+
+-- memory is wanted only to keep a frame, which these octets begin, or an interface; or it was wanted before, and nothing is told any more
+abbrev pub KeepsPacket : {A : Type 0} → PacketAnswer A → PacketState → List ℕ → InputEnd → Type 0
+KeepsPacket (Ok o) old given w = Unit {0}
+KeepsPacket (Err (Some f)) old given w = Unit {0}
+KeepsPacket {A} (Err None) old given w =
+    WhateverComes w (λ z more. NextIsFrame (events_behind {A = A} old z (given ++ more))) ⊎ DescribesInterface old given w
+    ⊎ WhateverComes w (λ z more. packets_behind old z (given ++ more) ≡ stopped unfinished)
+
 -- An answer takes its packet off the front of the capture. The end and a fault stay; want of memory ends it. Octets are asked for only while those before them tell neither a packet nor how the capture stops.
 pub record AnswersPacket {A : Type 0} (old : PacketState) (answer : PacketAnswer A) (new : PacketState) : Type 0 where
   pub given : List ℕ
   pub took : GivesPacket answer old.left new.left given
   pub only_open : OnlyOpen old.ending given new.ending
   pub asked : OnlyWhile (λ front. events_behind {A = A} old Open front ≡ stopped unfinished) given old.ending new.ending
+  pub kept : KeepsPacket answer old given new.ending
   -- whatever still comes, the answer is what the capture tells first
   pub reads : WhateverComes new.ending (λ z more. TellsPacket answer (events_behind old z (given ++ more)) (events_behind new z more))

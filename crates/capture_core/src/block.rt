@@ -3,7 +3,7 @@ ghost use Rattle.std.specs.Prelude.{◌≡◌, ◌≤◌, ◌-◌, [], length};
 ghost use Rattle.capture_core.specs.Blocks.{Block, first_block, is_bad_length, next_block, section_header};
 ghost use Rattle.capture_core.specs.computed.Filling.{ReadsPart};
 ghost use Rattle.capture_core.specs.computed.Sections.{settled};
-ghost use Rattle.capture_core.specs.computed.OneRead.{IsBlockTold, IsNextBlock, IsVersionTold, ReadsFront, Told, order_of_magic, section_told, version_rest};
+ghost use Rattle.capture_core.specs.computed.OneRead.{IsBlockTold, IsFrameBlock, IsNextBlock, IsVersionTold, ReadsFront, ReadsToKeep, Told, order_of_magic, section_told, version_rest};
 
 use crate::body::{Said, read_end, read_rest};
 use crate::capture_fault::{CaptureCause, CaptureFault, cut_in, ended_in};
@@ -116,7 +116,7 @@ fn read_behind<R: Source, A: Allocator + Copy>(
 ) -> Result<Said<A>, PacketError>
     requires { length head.now ≡ 8 }
     ensures { (told : Told Block) × IsBlockTold told result
-        × ReadsFront (λ z octets. first_block z number (settled section.entry) octets) head.now (R.left reader.old) (R.ending reader.old) told (R.left reader.new) (R.ending reader.new) }
+        × ReadsToKeep IsFrameBlock (λ z octets. first_block z number (settled section.entry) octets) head.now (R.left reader.old) (R.ending reader.old) told (R.left reader.new) (R.ending reader.new) }
 {
     let kind = long_at(section.order, head, 0);
     if kind == SECTION_HEADER {
@@ -146,7 +146,7 @@ pub(crate) fn read_block<R: Source, A: Allocator + Copy>(
     number: u64,
 ) -> Result<Option<Said<A>>, PacketError>
     ensures { (told : Told Block) × IsNextBlock told result
-        × ReadsFront (λ z octets. next_block z number (settled section.entry) octets) [] (R.left reader.old) (R.ending reader.old) told (R.left reader.new) (R.ending reader.new) }
+        × ReadsToKeep IsFrameBlock (λ z octets. next_block z number (settled section.entry) octets) [] (R.left reader.old) (R.ending reader.old) told (R.left reader.new) (R.ending reader.new) }
 {
     let mut head = [0u8; 8];
     match fill(reader, &mut head) {

@@ -1,10 +1,10 @@
 //! The bodies of blocks: each is read once, and only a frame of it is held.
-ghost use Rattle.std.specs.Prelude.{◌≡◌, ◌==◌, ◌≤◌, ◌-◌};
+ghost use Rattle.std.specs.Prelude.{◌≡◌, ◌==◌, ◌≤◌, ◌-◌, []};
 ghost use Rattle.capture_core.specs.Numbers.{number_at};
 ghost use Rattle.capture_core.specs.Packets.{event_of};
 ghost use Rattle.capture_core.specs.Blocks.{body_said, packet_in, head_size};
 ghost use Rattle.capture_core.specs.computed.Filling.{ReadsKept, ReadsPart};
-ghost use Rattle.capture_core.specs.computed.Sections.{IsSaidAs, IsPacketToldAs, block_rest, settled};
+ghost use Rattle.capture_core.specs.computed.Sections.{IsFrameHead, IsSaidAs, IsPacketToldAs, TellsFrame, TellsFrameOf, block_rest, settled};
 
 use crate::capture_fault::CaptureCause;
 use crate::filling::{Short, Unread, pass, take};
@@ -55,7 +55,7 @@ fn read_octets<R: Source, A: Allocator>(
     memory: Vec<u8, A>,
     size: usize,
 ) -> Result<Vec<u8, A>, Unread>
-    ensures { ReadsKept (λ r octets. r.items ≡ octets) size (R.left reader.old) (R.ending reader.old) result (R.left reader.new) (R.ending reader.new) }
+    ensures { ReadsKept (λ r octets. r.items ≡ octets) (λ given. given ≡ []) size (R.left reader.old) (R.ending reader.old) result (R.left reader.new) (R.ending reader.new) }
 {
     let mut octets = memory;
     match octets.resize(size, 0) {
@@ -73,7 +73,7 @@ pub(crate) fn read_event<R: Source, A: Allocator + Copy>(
     spare: &mut Option<Event<A>>,
     head: PacketHead,
 ) -> Result<Event<A>, Unread>
-    ensures { ReadsKept (λ e octets. e ≡ event_of (record { moment = head.moment; link_type = head.link_type; octets = octets })) head.size (R.left reader.old) (R.ending reader.old) result (R.left reader.new) (R.ending reader.new) }
+    ensures { ReadsKept (λ e octets. e ≡ event_of (record { moment = head.moment; link_type = head.link_type; octets = octets })) (λ given. (given ≡ []) × IsFrameHead head) head.size (R.left reader.old) (R.ending reader.old) result (R.left reader.new) (R.ending reader.new) }
 {
     let moment = head.moment;
     if head.link_type != ETHERNET || head.size == 0 {
@@ -99,7 +99,7 @@ fn read_packet<R: Source, A: Allocator + Copy>(
     kind: PacketBlock,
     size: usize,
 ) -> Result<Result<Event<A>, CaptureCause>, Unread>
-    ensures { ReadsKept (λ r body. IsPacketToldAs r (packet_in kind (settled section.entry) body)) size (R.left reader.old) (R.ending reader.old) result (R.left reader.new) (R.ending reader.new) }
+    ensures { ReadsKept (λ r body. IsPacketToldAs r (packet_in kind (settled section.entry) body)) (TellsFrame (settled section.entry) kind size) size (R.left reader.old) (R.ending reader.old) result (R.left reader.new) (R.ending reader.new) }
 {
     let before = head_size(kind);
     if size < before {
@@ -131,7 +131,7 @@ fn read_body<R: Source, A: Allocator + Copy>(
     kind: u32,
     size: usize,
 ) -> Result<Result<Said<A>, CaptureCause>, Unread>
-    ensures { ReadsKept (λ r body. IsSaidAs r (body_said (settled section.entry) kind body)) size (R.left reader.old) (R.ending reader.old) result (R.left reader.new) (R.ending reader.new) }
+    ensures { ReadsKept (λ r body. IsSaidAs r (body_said (settled section.entry) kind body)) (TellsFrameOf (settled section.entry) kind size) size (R.left reader.old) (R.ending reader.old) result (R.left reader.new) (R.ending reader.new) }
 {
     let kind = match kind {
         1 => {
@@ -179,7 +179,7 @@ pub(crate) fn read_rest<R: Source, A: Allocator + Copy>(
     total: u32,
 ) -> Result<Result<Said<A>, CaptureCause>, Unread>
     requires { 12 ≤ total }
-    ensures { ReadsKept (λ r rest. IsSaidAs r (block_rest section.entry.order total rest (body_said (settled section.entry) kind))) (total - 8) (R.left reader.old) (R.ending reader.old) result (R.left reader.new) (R.ending reader.new) }
+    ensures { ReadsKept (λ r rest. IsSaidAs r (block_rest section.entry.order total rest (body_said (settled section.entry) kind))) (TellsFrameOf (settled section.entry) kind (total - 12)) (total - 8) (R.left reader.old) (R.ending reader.old) result (R.left reader.new) (R.ending reader.new) }
 {
     let said = read_body(reader, alloc, spare, section, kind, total as usize - 12)?;
     if read_end(reader, section.order, total)? {

@@ -1,7 +1,7 @@
 //! The records of the classic form as packets.
 ghost use Rattle.std.specs.Prelude.{◌≡◌, [], length};
 ghost use Rattle.capture_core.specs.Packets.{Packet};
-ghost use Rattle.capture_core.specs.computed.OneRead.{IsNextEvent, IsRecordEvent, ReadsFront, Told, next_record, record_front};
+ghost use Rattle.capture_core.specs.computed.OneRead.{IsFramePacket, IsNextEvent, IsRecordEvent, ReadsToKeep, Told, next_record, record_front};
 
 use crate::body::{ETHERNET, read_event};
 use crate::capture_fault::{CaptureCause, cut_in, ended_in};
@@ -25,7 +25,7 @@ fn read_captured<R: Source, A: Allocator + Copy>(
 ) -> Result<Event<A>, PacketError>
     requires { length head.now ≡ 16 }
     ensures { (told : Told Packet) × IsRecordEvent told result
-        × ReadsFront (λ z octets. record_front form z number octets) head.now (R.left reader.old) (R.ending reader.old) told (R.left reader.new) (R.ending reader.new) }
+        × ReadsToKeep IsFramePacket (λ z octets. record_front form z number octets) head.now (R.left reader.old) (R.ending reader.old) told (R.left reader.new) (R.ending reader.new) }
 {
     let size = long_at(form.order, head, 8) as usize;
     if size > LONGEST_PACKET {
@@ -52,7 +52,7 @@ pub(crate) fn read_packet_record<R: Source, A: Allocator + Copy>(
     number: u64,
 ) -> Result<Option<Event<A>>, PacketError>
     ensures { (told : Told Packet) × IsNextEvent told result
-        × ReadsFront (λ z octets. next_record form z number octets) [] (R.left reader.old) (R.ending reader.old) told (R.left reader.new) (R.ending reader.new) }
+        × ReadsToKeep IsFramePacket (λ z octets. next_record form z number octets) [] (R.left reader.old) (R.ending reader.old) told (R.left reader.new) (R.ending reader.new) }
 {
     let mut head = [0u8; 16];
     match fill(reader, &mut head) {

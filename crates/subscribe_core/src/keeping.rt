@@ -70,30 +70,34 @@ fn idle_registers<A: Allocator>(alloc: A, count: usize) -> Result<Vec<Register, 
 }
 
 impl<A: Allocator + Copy> Keeper<A> {
-    // What a subscriber of these blocks keeps before any event.
-    pub(crate) fn new(alloc: A, blocks: Vec<Block<A>, A>) -> Result<Keeper<A>, SubscribeFault>
+    // What a subscriber of these blocks keeps before any event; or why there is none, and the blocks.
+    pub(crate) fn new(
+        alloc: A,
+        blocks: Vec<Block<A>, A>,
+    ) -> Result<Keeper<A>, (SubscribeFault, Vec<Block<A>, A>)>
         ensures fresh { IfOk result (λ s. s.state ≡ fresh_state blocks.items) }
         ensures looks { IfOk result (λ s. s.looks ≡ 0) }
         ensures apart { OnOk result (AreApart blocks.items) }
-        ensures fault { IfErr result (λ e. IsFaultOf blocks.items e) }
+        ensures fault { IfErr result (λ e. IsFaultOf blocks.items e.0) }
+        ensures back { IfErr result (λ e. e.1.items ≡ blocks.items) }
     {
         if let Some(i) = first_twice_of_few(&blocks) {
-            return Err(SubscribeFault::SameBlockTwice(i));
+            return Err((SubscribeFault::SameBlockTwice(i), blocks));
         }
         let registers = match idle_registers(alloc, blocks.len()) {
             Ok(registers) => registers,
-            Err(refused) => return Err(fault_of(&blocks, refused)),
+            Err(refused) => return Err((fault_of(&blocks, refused), blocks)),
         };
         let names = match names::sorted(alloc, &blocks) {
             Ok(names) => names,
-            Err(refused) => return Err(fault_of(&blocks, refused)),
+            Err(refused) => return Err((fault_of(&blocks, refused), blocks)),
         };
         if let Some(i) = names::first_twice(&names) {
-            return Err(SubscribeFault::SameBlockTwice(i));
+            return Err((SubscribeFault::SameBlockTwice(i), blocks));
         }
         let deadlines = match Deadlines::new(alloc, blocks.len()) {
             Ok(deadlines) => deadlines,
-            Err(refused) => return Err(SubscribeFault::Memory(refused)),
+            Err(refused) => return Err((SubscribeFault::Memory(refused), blocks)),
         };
         Ok(Keeper {
             alloc,
@@ -104,6 +108,13 @@ impl<A: Allocator + Copy> Keeper<A> {
             moment: 0,
             looks: 0,
         })
+    }
+
+    // The blocks.
+    pub(crate) fn blocks(&self) -> &[Block<A>]
+        ensures { result.now ≡ self.now.state.blocks }
+    {
+        self.rows.blocks()
     }
 
     // How often the last event that was answered Ok reached a block or its register, 0 before the first.

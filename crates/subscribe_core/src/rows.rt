@@ -12,9 +12,9 @@ pub struct Reach {
     at: usize,
 }
 
-/// The blocks and what is kept of each. The only ways to a block or to a register are a look, which takes a reach that was
-/// counted, and the two writes, which count one each. Nothing lowers the count: it is of all reaches ever, and stays at its
-/// greatest number.
+/// The blocks and what is kept of each. The only ways to a block or to a register for an event are a look, which takes a reach
+/// that was counted, and the two writes, which count one each; all the blocks are for whoever gave them. Nothing lowers the
+/// count: it is of all reaches ever, and stays at its greatest number.
 #[derive(Drop)]
 pub struct Rows<A: Allocator> {
     blocks: Vec<Block<A>, A>,
@@ -32,6 +32,13 @@ impl<A: Allocator> Rows<A> {
             registers,
             reaches: 0,
         }
+    }
+
+    // The blocks.
+    pub(crate) fn blocks(&self) -> &[Block<A>]
+        ensures { result.now ≡ self.now.blocks.items }
+    {
+        self.blocks.as_slice()
     }
 
     // How many blocks there are.

@@ -50,8 +50,42 @@ impl<A: Allocator + Copy> Subscriber<A> {
         ensures apart { OnOk result (AreApart blocks.items) }
         ensures fault { IfErr result (λ e. IsFaultOf blocks.items e) }
     {
-        let keeper = Keeper::new(alloc, blocks)?;
-        Ok(Subscriber { keeper })
+        match Subscriber::of_blocks(alloc, blocks) {
+            Ok(subscriber) => Ok(subscriber),
+            Err((fault, _blocks)) => Err(fault),
+        }
+    }
+
+    /// As `new`, and hands the blocks back where there is no subscriber of them.
+    ///
+    /// # Errors
+    ///
+    /// As those of `new`, with the blocks.
+    pub fn of_blocks(
+        alloc: A,
+        blocks: Vec<Block<A>, A>,
+    ) -> Result<Subscriber<A>, (SubscribeFault, Vec<Block<A>, A>)>
+        // Every block is idle and takes real frames; the mode is off.
+        ensures fresh { IfOk result (λ s. s.state ≡ fresh_state blocks.items) }
+        ensures stands { IfOk result (λ s. StandsAfter [] s.state) }
+        ensures looks { IfOk result (λ s. s.looks ≡ 0) }
+
+        // No two blocks have one name, and else the first that has an earlier one's name is told.
+        ensures apart { OnOk result (AreApart blocks.items) }
+        ensures fault { IfErr result (λ e. IsFaultOf blocks.items e.0) }
+        ensures back { IfErr result (λ e. e.1.items ≡ blocks.items) }
+    {
+        match Keeper::new(alloc, blocks) {
+            Ok(keeper) => Ok(Subscriber { keeper }),
+            Err(refused) => Err(refused),
+        }
+    }
+
+    /// The blocks, in their order.
+    pub fn blocks(&self) -> &[Block<A>]
+        ensures { result.now ≡ self.now.state.blocks }
+    {
+        self.keeper.blocks()
     }
 
     /// How often the last `take` or `take_into` that answered Ok reached a block or its register, 0 before the first.

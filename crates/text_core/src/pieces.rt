@@ -26,9 +26,9 @@ fn put_cut<A: Allocator>(out: &mut Vec<u8, A>, octets: &[u8], size: usize) -> Re
     Ok(())
 }
 
-// Appends the first octets of so many, and takes no more memory than those want.
+/// Appends the first octets of 32, and takes no more memory than those want.
 #[inline(always)]
-fn put_front<A: Allocator>(
+pub fn put_front<A: Allocator>(
     out: &mut Vec<u8, A>,
     octets: &[u8; REACH],
     size: usize,
@@ -293,10 +293,10 @@ fn are_plain(octets: &[u8]) -> bool
     without_marks && without_backslashes
 }
 
-// Appends the octets of a text, a quotation mark and a backslash after a backslash. A call of its own, since few texts are
-// passed octet by octet.
+/// Appends the octets of a text, a quotation mark and a backslash after a backslash. A call of its own, since few texts are
+/// passed octet by octet.
 #[inline(never)]
-fn put_escaped<A: Allocator>(out: &mut Vec<u8, A>, text: &[u8]) -> Result<(), AllocError>
+pub fn put_escaped<A: Allocator>(out: &mut Vec<u8, A>, text: &[u8]) -> Result<(), AllocError>
     ensures { AppendsText result out.old.items out.new.items (flat_map escaped text.now) }
 {
     for octet in text {

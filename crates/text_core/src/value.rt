@@ -23,16 +23,16 @@ pub fn put_utc<A: Allocator>(out: &mut Vec<u8, A>, time: UtcTime) -> Result<(), 
     put_short_hexadecimal(out, &time.to_octets())
 }
 
-// Appends bits. The unused ones, which have any value where they stand, are no part of them.
+/// Appends bits. The unused ones, which have any value where they stand, are no part of them.
 #[inline(always)]
-fn put_bit_view<A: Allocator>(out: &mut Vec<u8, A>, bits: BitView<'_>) -> Result<(), AllocError>
+pub fn put_bit_view<A: Allocator>(out: &mut Vec<u8, A>, bits: BitView<'_>) -> Result<(), AllocError>
     ensures { AppendsText result out.old.items out.new.items (bits_text bits.entry.unused (cleared bits.entry.unused bits.entry.octets.now)) }
 {
     put_few_bits(out, bits.unused, bits.octets)
 }
 
-// Appends the octets of a float. Those of single precision are five, and their digits are made without a call.
-fn put_float<A: Allocator>(out: &mut Vec<u8, A>, octets: &[u8]) -> Result<(), AllocError>
+/// Appends the octets of a float. Those of single precision are five, and their digits are made without a call.
+pub fn put_float<A: Allocator>(out: &mut Vec<u8, A>, octets: &[u8]) -> Result<(), AllocError>
     ensures { AppendsText result out.old.items out.new.items (encode_lower octets.now) }
 {
     match octets {
@@ -72,9 +72,13 @@ pub fn put_view<A: Allocator>(out: &mut Vec<u8, A>, view: &View<'_>) -> Result<(
     }
 }
 
-// Appends a sign and the text of a truth value.
+/// Appends a sign and the text of a truth value.
 #[inline(always)]
-fn put_truth<A: Allocator>(out: &mut Vec<u8, A>, sign: u8, is_true: bool) -> Result<(), AllocError>
+pub fn put_truth<A: Allocator>(
+    out: &mut Vec<u8, A>,
+    sign: u8,
+    is_true: bool,
+) -> Result<(), AllocError>
     ensures { AppendsText result out.old.items out.new.items (sign ∷ simple_text (boolean is_true)) }
 {
     if is_true {
@@ -141,9 +145,13 @@ fn put_moment<A: Allocator>(
     put_utc(out, *time)
 }
 
-// Appends a sign and a text between quotation marks.
+/// Appends a sign and a text between quotation marks.
 #[inline(always)]
-fn put_visible<A: Allocator>(out: &mut Vec<u8, A>, sign: u8, text: &[u8]) -> Result<(), AllocError>
+pub fn put_visible<A: Allocator>(
+    out: &mut Vec<u8, A>,
+    sign: u8,
+    text: &[u8],
+) -> Result<(), AllocError>
     ensures { AppendsText result out.old.items out.new.items (sign ∷ simple_text (visible text.now)) }
 {
     out.push(sign)?;

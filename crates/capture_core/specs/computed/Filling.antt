@@ -28,17 +28,17 @@ IsShort size old z new w = (given : List ℕ) × (length given < size) × GivesO
 abbrev pub IsWhole : (List ℕ → Type 0) → ℕ → Option (List ℕ) → InputEnd → Option (List ℕ) → InputEnd → Type 0
 IsWhole Is size old z new w = (given : List ℕ) × (length given ≡ size) × Consumes old new given × OnlyOpen z given w × (w ≡ z) × Is given
 
--- memory was wanted once so many octets at most were read
-abbrev pub IsWanted : ℕ → Option (List ℕ) → InputEnd → Option (List ℕ) → InputEnd → Type 0
-IsWanted size old z new w = (given : List ℕ) × (length given ≤ size) × GivesOctets old new given × OnlyOpen z given w × (w ≡ z)
+-- memory was wanted once so many octets at most were read, of which this is so
+abbrev pub IsWanted : (List ℕ → Type 0) → ℕ → Option (List ℕ) → InputEnd → Option (List ℕ) → InputEnd → Type 0
+IsWanted Wants size old z new w = (given : List ℕ) × (length given ≤ size) × GivesOctets old new given × OnlyOpen z given w × (w ≡ z) × Wants given
 
 -- a part of so many octets was read, of which this is said; or the source has ended before
 abbrev pub ReadsPart : {T : Type 0} → (T → List ℕ → Type 0) → ℕ → Option (List ℕ) → InputEnd → Result T Short → Option (List ℕ) → InputEnd → Type 0
 ReadsPart Says size old z (Ok t) new w = IsWhole (Says t) size old z new w
 ReadsPart Says size old z (Err e) new w = IsShort size old z new w
 
--- the same, where memory may be wanted
-abbrev pub ReadsKept : {T : Type 0} → (T → List ℕ → Type 0) → ℕ → Option (List ℕ) → InputEnd → Result T Unread → Option (List ℕ) → InputEnd → Type 0
-ReadsKept Says size old z (Ok t) new w = IsWhole (Says t) size old z new w
-ReadsKept Says size old z (Err unread.Short) new w = IsShort size old z new w
-ReadsKept Says size old z (Err (unread.Memory e)) new w = IsWanted size old z new w
+-- the same, where memory may be wanted once this is so of what was read
+abbrev pub ReadsKept : {T : Type 0} → (T → List ℕ → Type 0) → (List ℕ → Type 0) → ℕ → Option (List ℕ) → InputEnd → Result T Unread → Option (List ℕ) → InputEnd → Type 0
+ReadsKept Says Wants size old z (Ok t) new w = IsWhole (Says t) size old z new w
+ReadsKept Says Wants size old z (Err unread.Short) new w = IsShort size old z new w
+ReadsKept Says Wants size old z (Err (unread.Memory e)) new w = IsWanted Wants size old z new w

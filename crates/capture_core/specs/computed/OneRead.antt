@@ -1,5 +1,5 @@
 -- What private calls promise that read one thing: a header, a record, a block.
-use Rattle.std.specs.Prelude.{◌≡◌, ℕ, ◌+◌, ◌-◌, ◌==◌, List, [], ◌∷◌, ◌++◌, length, take, drop, Option, Some, None, Result, Ok, Err, nat_lt, if◌then◌else◌}
+use Rattle.std.specs.Prelude.{◌≡◌, ◌<◌, ℕ, ◌+◌, ◌-◌, ◌==◌, List, [], ◌∷◌, ◌++◌, length, take, drop, Option, Some, None, Result, Ok, Err, nat_lt, if◌then◌else◌}
 use Rattle.std.specs.Io.KnownBytes.{Consumes}
 use Rattle.list_core.specs.declared.device.InputEnd.{InputEnd}
 use Rattle.list_core.specs.declared.device.InputEnd.TheVariants.{Open}
@@ -10,7 +10,7 @@ use Rattle.capture_core.specs.Numbers.{number_at}
 use Rattle.capture_core.specs.Header.{form_of, header_of}
 use Rattle.capture_core.specs.Capture.{captured_size, cut, ended, fault_in, moment_in_head}
 use Rattle.capture_core.specs.Packets.{Packet, event_of}
-use Rattle.capture_core.specs.Blocks.{Block, begins, section_header}
+use Rattle.capture_core.specs.Blocks.{Block, begins, captures, describes, passes, section_header}
 use Rattle.capture_core.specs.Asked.{OnlyWhile}
 use Rattle.capture_core.specs.computed.Sections.{IsSaidAs}
 use Rattle.capture_core.specs.declared.form.CaptureForm.{CaptureForm}
@@ -53,6 +53,33 @@ pub record ReadsFront {X : Type 0} (front : InputEnd → List ℕ → Front X) (
   pub only_open : OnlyOpen z given w
   pub asked : OnlyWhile (λ octets. front Open (held ++ octets) ≡ Err unfinished) given z w
   pub stands : StandsSo front (held ++ given) w told
+
+-- what stands at the front is to be kept, or the capture stops there, but not at its end
+abbrev pub IsKept : {X : Type 0} → (X → Type 0) → Front X → Type 0
+IsKept Keeps (Ok x) = Keeps x.0
+IsKept Keeps (Err stop) = stop ≡ finished → ⊥
+
+-- where memory is wanted, whatever comes behind these octets, such a thing stands at the front
+abbrev pub KeepsFront : {X : Type 0} → (X → Type 0) → (InputEnd → List ℕ → Front X) → List ℕ → InputEnd → Told X → Type 0
+KeepsFront Keeps front octets w (Ok x) = Unit {0}
+KeepsFront Keeps front octets w (Err (Some stop)) = Unit {0}
+KeepsFront Keeps front octets w (Err None) = WhateverComes w (λ y more. IsKept Keeps (front y (octets ++ more)))
+
+-- What stands at the front was read, and memory was wanted only to keep it.
+pub record ReadsToKeep {X : Type 0} (Keeps : X → Type 0) (front : InputEnd → List ℕ → Front X) (held : List ℕ) (old : Option (List ℕ)) (z : InputEnd) (told : Told X) (new : Option (List ℕ)) (w : InputEnd) : Type 0 where
+  pub read : ReadsFront front held old z told new w
+  pub keeps : KeepsFront Keeps front (held ++ read.given) w told
+
+-- the packet is a frame
+abbrev pub IsFramePacket : Packet → Type 0
+IsFramePacket p = (p.link_type ≡ 1) × (0 < length p.octets)
+
+-- the block has a packet that is a frame
+abbrev pub IsFrameBlock : Block → Type 0
+IsFrameBlock (begins order) = ⊥
+IsFrameBlock (describes i) = ⊥
+IsFrameBlock (captures p) = IsFramePacket p
+IsFrameBlock passes = ⊥
 
 -- ---- a record of the classic form
 

@@ -1,5 +1,5 @@
 -- What private calls promise of sections and their blocks.
-use Rattle.std.specs.Prelude.{◌≡◌, ◌≤◌, ℕ, ◌+◌, ◌-◌, ◌==◌, List, ◌++◌, length, take, Option, Result, Ok, Err, if◌then◌else◌}
+use Rattle.std.specs.Prelude.{◌≡◌, ◌≤◌, ◌<◌, ℕ, ◌+◌, ◌-◌, ◌==◌, List, ◌++◌, length, take, Option, Some, Result, Ok, Err, if◌then◌else◌}
 use Rattle.std.specs.Io.KnownBytes.{Consumes}
 use Rattle.list_core.specs.declared.device.InputEnd.{InputEnd}
 use Rattle.list_core.specs.declared.event.Event.{Event}
@@ -7,10 +7,12 @@ use Rattle.list_core.specs.Device.{OnlyOpen}
 use Rattle.capture_core.specs.Numbers.{number_at}
 use Rattle.capture_core.specs.Packets.{Packet, event_of}
 use Rattle.capture_core.specs.Interfaces.{options_in}
-use Rattle.capture_core.specs.Blocks.{Settled, Block, begins, describes, captures, passes}
+use Rattle.capture_core.specs.Blocks.{Settled, Block, begins, describes, captures, passes, head_size, packet_block_of, packet_head}
 use Rattle.capture_core.specs.computed.Filling.{IsShort}
 use Rattle.capture_core.specs.declared.form.OctetOrder.{OctetOrder}
 use Rattle.capture_core.specs.declared.interface.Interface.{Interface}
+use Rattle.capture_core.specs.declared.packet_block.PacketBlock.{PacketBlock}
+use Rattle.capture_core.specs.declared.packet_block.PacketHead.{PacketHead}
 use Rattle.capture_core.specs.declared.packet_block.Section.{Section}
 use Rattle.capture_core.specs.declared.options.FirstOption.{FirstOption}
 use Rattle.capture_core.specs.declared.options.FirstOption.TheVariants.{More, Last}
@@ -34,6 +36,18 @@ OptionSays order i left (Last after) octets = (length octets ≡ left) × (after
 abbrev pub ReadsOption : OctetOrder → Interface → ℕ → Option (List ℕ) → InputEnd → Result FirstOption Short → Option (List ℕ) → InputEnd → Type 0
 ReadsOption order i left old z (Ok first) new w = (given : List ℕ) × OptionSays order i left first given × Consumes old new given × OnlyOpen z given w × (w ≡ z)
 ReadsOption order i left old z (Err e) new w = IsShort left old z new w
+
+-- such a head is that of a frame, which has octets to keep
+abbrev pub IsFrameHead : PacketHead → Type 0
+IsFrameHead head = (head.link_type ≡ 1) × (0 < head.size)
+
+-- what was read of the body of a packet block, of so many octets, is the head of a frame
+abbrev pub TellsFrame : Settled → PacketBlock → ℕ → List ℕ → Type 0
+TellsFrame s kind size given = (head : PacketHead) × (length given ≡ head_size kind) × (Ok head ≡ packet_head kind s given size) × (head_size kind + head.size ≤ size) × IsFrameHead head
+
+-- the same of the body of a block of this type
+abbrev pub TellsFrameOf : Settled → ℕ → ℕ → List ℕ → Type 0
+TellsFrameOf s type size given = (kind : PacketBlock) × (type ≡ 1 → ⊥) × (packet_block_of type ≡ Some kind) × TellsFrame s kind size given
 
 -- a packet's event, or why it is refused, as what its block says
 abbrev pub IsPacketToldAs : {A : Type 0} → Result (Event A) CaptureCause → Result Block CaptureCause → Type 0

@@ -4,7 +4,7 @@ use Rattle.list_core.specs.declared.device.InputEnd.{InputEnd}
 use Rattle.capture_core.specs.Capture.{cut}
 use Rattle.capture_core.specs.computed.Sections.{settled}
 use Rattle.capture_core.proofs.BlocksRead.{next_cut, next_open, next_some, next_told}
-use Rattle.capture_core.proofs.Fronts.{front_behind, front_cut, front_same}
+use Rattle.capture_core.proofs.Fronts.{front_cut, front_stops, keep_behind, keep_same}
 use Rattle.capture_core.proofs.block.read_block.Goals as goal
 
 pub returns-in-Short : goal.returns-in-Short
@@ -14,10 +14,10 @@ returns-in-Short g c =
     let size : length (take c.in-Short.field-0 c.fill.new.into) ≡ c.in-Short.field-0 = length-take-le c.in-Short.field-0 c.fill.new.into (omega (arith, f.0)) in (
       _,
       refl,
-      front_cut _ (take c.in-Short.field-0 c.fill.new.into) _ _ _ _ c.args.number _ f.1 f.2 f.3
+      front_stops _ _ [] _ _ _ _ _ (front_cut _ (take c.in-Short.field-0 c.fill.new.into) _ _ _ _ c.args.number _ f.1 f.2 f.3
           (λ front few. next_open c.args.number s front (omega (arith, few, size, f.0)))
           (λ y. next_cut y c.args.number s (take c.in-Short.field-0 c.fill.new.into) (omega (arith, size, c.in-Short.field-0-test)) (omega (arith, size, f.0)))
-          (ap (λ (z : InputEnd). cut z c.args.number) (sym c.ending-in-Short.ensures) ∙ c.cut_in.ensures.fault),
+          (ap (λ (z : InputEnd). cut z c.args.number) (sym c.ending-in-Short.ensures) ∙ c.cut_in.ensures.fault)),
     )
 
 pub returns-in-Ok : goal.returns-in-Ok
@@ -27,8 +27,8 @@ returns-in-Ok g c =
     let r = c.in-Ok.ensures in (
       r.0,
       r.1,
-      front_behind _ _ [] c.fill.new.into _ _ _ _ _ _ f.0 f.1 f.2 (λ front few. next_open c.args.number s front (omega (arith, few, c.fill.auto.into)))
-          (front_same _ _ _ c.fill.new.into _ _ _ _ (λ y rest. next_some y c.args.number s c.fill.new.into rest (omega (arith, c.fill.auto.into))) r.2),
+      keep_behind _ _ _ [] c.fill.new.into _ _ _ _ _ _ f.0 f.1 f.2 (λ front few. next_open c.args.number s front (omega (arith, few, c.fill.auto.into)))
+          (keep_same _ _ _ _ c.fill.new.into _ _ _ _ (λ y rest. next_some y c.args.number s c.fill.new.into rest (omega (arith, c.fill.auto.into))) r.2),
     )
 
 pub returns-in-Err : goal.returns-in-Err
@@ -38,6 +38,6 @@ returns-in-Err g c =
     let r = c.in-Err.ensures in (
       r.0,
       next_told g.row.A.Denot c.in-Err.error r.0 r.1,
-      front_behind _ _ [] c.fill.new.into _ _ _ _ _ _ f.0 f.1 f.2 (λ front few. next_open c.args.number s front (omega (arith, few, c.fill.auto.into)))
-          (front_same _ _ _ c.fill.new.into _ _ _ _ (λ y rest. next_some y c.args.number s c.fill.new.into rest (omega (arith, c.fill.auto.into))) r.2),
+      keep_behind _ _ _ [] c.fill.new.into _ _ _ _ _ _ f.0 f.1 f.2 (λ front few. next_open c.args.number s front (omega (arith, few, c.fill.auto.into)))
+          (keep_same _ _ _ _ c.fill.new.into _ _ _ _ (λ y rest. next_some y c.args.number s c.fill.new.into rest (omega (arith, c.fill.auto.into))) r.2),
     )

@@ -1,5 +1,5 @@
-use Rattle.std.proofs.Common.{◌≡◌, ◌-◌, ◌++◌, ◌∙◌, length, Result, ap, sym, arith}
-use Rattle.std.proofs.lemmas.List.{length-append, length-take}
+use Rattle.std.proofs.Common.{◌≡◌, ◌-◌, [], ◌++◌, ◌∙◌, length, Result, ap, subst, sym, arith}
+use Rattle.std.proofs.lemmas.List.{append-nil, length-append, length-take}
 use Rattle.std.proofs.lemmas.Result.{err_from_is_err_and}
 use Rattle.list_core.specs.declared.event.Event.{Event}
 use Rattle.list_core.proofs.Devices.{Consumes-append}
@@ -7,7 +7,7 @@ use Rattle.list_core.proofs.Readers.{OnlyOpen-append}
 use Rattle.capture_core.specs.declared.capture_fault.CaptureCause.{CaptureCause}
 use Rattle.capture_core.specs.Packets.{event_of}
 use Rattle.capture_core.specs.Blocks.{packet_head, packet_in}
-use Rattle.capture_core.specs.computed.Sections.{IsPacketToldAs, settled}
+use Rattle.capture_core.specs.computed.Sections.{IsFrameHead, IsPacketToldAs, TellsFrame, settled}
 use Rattle.capture_core.proofs.PacketsRead.{packet_found, packet_refused}
 use Rattle.capture_core.proofs.Parts.{short_behind, unread_behind}
 use Rattle.capture_core.proofs.body.read_packet.Goals as goal
@@ -23,7 +23,11 @@ returns-in_err-event-in-Ok g c =
     (unread_behind {T = Event g.row.A.Denot} {S = Result (Event g.row.A.Denot) CaptureCause}
     (λ v octets. v ≡ event_of (record { moment = c.in-Ok.found.moment; link_type = c.in-Ok.found.link_type; octets = octets }))
     (λ r body. IsPacketToldAs r (packet_in c.args.kind (settled c.args.section) body))
-    t.0 _ _ _ _ _ _ c.in-Ok.found.size c.args.size _ (omega (arith, h, fits.1, before.value)) t.2 t.3 t.4 c.in_err-event-in-Ok.ensures)
+    (λ given. (given ≡ []) × IsFrameHead c.in-Ok.found) (TellsFrame (settled c.args.section) c.args.kind c.args.size)
+    t.0 _ _ _ _ _ _ c.in-Ok.found.size c.args.size _ (omega (arith, h, fits.1, before.value)) t.2 t.3 t.4
+    (λ given is. subst (TellsFrame (settled c.args.section) c.args.kind c.args.size) (sym (append-nil t.0) ∙ ap (λ l. t.0 ++ l) (sym is.0))
+    (c.in-Ok.found, h ∙ before.value, c.in-Ok.ensures.value ∙ ap (λ l. packet_head c.args.kind (settled c.args.section) l c.args.size) (sym t.5), omega (arith, fits.1), is.1))
+    c.in_err-event-in-Ok.ensures)
 
 pub returns-in_err-pass-in-Ok : goal.returns-in_err-pass-in-Ok
 returns-in_err-pass-in-Ok g c =
