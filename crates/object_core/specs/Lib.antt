@@ -1,0 +1,5 @@
+pub mod Objects
+pub mod Times
+pub mod MemberObject
+pub mod EventObject
+pub mod Onward
