@@ -10,7 +10,7 @@ _goose() {
             awk '/^Commands:/ { on = 1; next } /^[^ ]/ { on = 0 } on && /^  [a-z]/ { print $1 }')
         words+=" --help --version"
     elif [ "${word:0:1}" = - ]; then
-        words=$("${goose:-${COMP_WORDS[0]}}" "${COMP_WORDS[1]}" --help 2>/dev/null | grep -oE -- '--[a-z]+' | sort -u)
+        words=$("${goose:-${COMP_WORDS[0]}}" "${COMP_WORDS[1]}" --help 2>/dev/null | grep -oE -- '--[a-z-]+' | sort -u)
     fi
     mapfile -t COMPREPLY < <(compgen -W "${words-}" -- "$word")
 }

@@ -2,14 +2,18 @@
 
 The names of a record and their order are those of COLUMNS. A value that is absent in the frame is None. Members of a
 data set are true, false, a text, or an object of one name: bits, int, uint, float, oct, btime, mms, utc, array or
-structure. A line of another form is kept whole, under the name text.
+structure. A line that is an object of JSON is such a record already, with more names in it. A line of another form is kept
+whole, under the name text.
 """
 import datetime
+import json
 import re
 
 COLUMNS = ("line", "microseconds", "time", "kind", "block", "reason", "offset", "error", "mode", "destination", "source", "tag",
            "appid", "reserved1", "reserved2", "gocbRef", "timeAllowedtoLive", "datSet", "goID", "t", "tTime", "stNum", "sqNum",
-           "simulation", "confRev", "ndsCom", "members", "asdus", "trailer", "asdu", "smpCnt", "missing", "svID", "text")
+           "simulation", "confRev", "ndsCom", "members", "asdus", "trailer", "asdu", "smpCnt", "missing", "svID", "text",
+           # Those that objects alone have.
+           "packet", "tQuality", "delay", "entries")
 
 # The words of a shown line, and the standard's; those of an ASDU differ.
 SHOWN = {"tag": "tag", "appid": "appid", "r1": "reserved1", "r2": "reserved2", "ref": "gocbRef", "live": "timeAllowedtoLive",
@@ -21,6 +25,7 @@ NUMBERS = ("timeAllowedtoLive", "stNum", "sqNum", "confRev", "smpCnt", "smpSynch
 TOKEN = re.compile(r'[\[\](){}]|(?:\w+=)?"(?:[^"\\]|\\.)*"|[^ "\[\](){}]+')
 OPENS = {"{": "}", "(": ")", "[": "]"}
 EPOCH = datetime.datetime(1970, 1, 1)
+read_object = json.JSONDecoder().raw_decode
 
 
 def date(moment):
@@ -132,29 +137,41 @@ KINDS = {
 COUNTED = re.compile(r"(\d+) (\d+) (\d+) (?:(skipped) (\d+)|(first|next|same|late|out-of-range))")
 
 
+def of_object(line):
+    """The record that a line of JSON is, or None."""
+    try:
+        found, end = read_object(line)
+    except (RecursionError, ValueError):
+        return None
+    return found if end == len(line) else None
+
+
 def record(line):
-    """The record of one line."""
-    counted = COUNTED.fullmatch(line)
-    if counted:
-        number, asdu, count, skipped, missing, word = counted.groups()
-        held = {"line": int(number), "kind": skipped or word, "asdu": int(asdu), "smpCnt": int(count)}
-        return {**held, "missing": int(missing)} if skipped else held
-    twice = re.fullmatch(r"blocks (\w+) (\d+)", line)
-    if twice:
-        return {"kind": "blocks", "block": int(twice[2]), "error": twice[1]}
+    """The record of one line of a text."""
     number, _, rest = line.partition(" ")
     kind, _, rest = rest.partition(" ")
     if number.isdigit() and kind in KINDS:
         try:
             return {"line": int(number), "kind": kind, **KINDS[kind](rest)}
         except (AttributeError, KeyError, StopIteration, TypeError, ValueError):
-            pass
-    return {"text": line}
+            return {"text": line}
+    counted = COUNTED.fullmatch(line)
+    if counted:
+        number, asdu, count, skipped, missing, word = counted.groups()
+        held = {"line": int(number), "kind": skipped or word, "asdu": int(asdu), "smpCnt": int(count)}
+        return {**held, "missing": int(missing)} if skipped else held
+    twice = re.fullmatch(r"blocks (\w+) (\d+)", line)
+    return {"kind": "blocks", "block": int(twice[2]), "error": twice[1]} if twice else {"text": line}
 
 
 def records(lines, times=None):
-    """The records of lines, in the order of COLUMNS, with the time of each line's event where the list's Times are given."""
+    """The records of lines, in the order of COLUMNS, with the time of each line's event where the list's Times are given. An object is
+    its own record."""
     for line in lines:
+        found = of_object(line) if line.startswith("{") else None
+        if found:
+            yield found
+            continue
         found = record(line[:-1] if line.endswith("\n") else line)
         moment = times.of(found) if times else found.get("microseconds")
         if moment is not None:

@@ -70,14 +70,14 @@ def lines_given():
 
 
 def lines_of(octets):
-    rest, piece = b"", b"first"
+    rest, piece = "", b"first"
     while piece:
         sys.stdout.flush()
         piece = octets.read(PIECE)
-        *whole, rest = (rest + piece).split(b"\n")
-        yield from (line.decode("latin-1") for line in whole)
+        *whole, rest = (rest + piece.decode("latin-1")).split("\n")
+        yield from whole
     if rest:
-        yield rest.decode("latin-1")
+        yield rest
 
 
 def reason(why):

@@ -1,8 +1,10 @@
 """A run of one of the tools, and its comparison with what it must write."""
+import importlib
 import os
 import pathlib
 import shlex
 import subprocess
+import sys
 
 from helpers.harness import SECONDS, clipped, first_difference
 
@@ -15,6 +17,13 @@ def ask(program, tool, words=(), given=b"", **how):
     ran = subprocess.run([TOOLS / tool, *words], input=given, stdout=subprocess.PIPE, stderr=subprocess.PIPE, timeout=SECONDS,
                          env={**os.environ, "GOOSE": shlex.join(program)}, **how)
     return ran.stdout, ran.stderr, ran.returncode
+
+
+def module(name):
+    """A module that the tools share."""
+    if str(TOOLS) not in sys.path:
+        sys.path.append(str(TOOLS))
+    return importlib.import_module(name)
 
 
 class Asked:

@@ -41,7 +41,7 @@ CONTENTS = {
     "bits": lambda chance: chance.choice([b"\0", bytes([chance.randrange(8)]) + some(chance, chance.randrange(1, 5))]),
     "int": lambda chance: integer(chance, chance.choice([1, -1]) * number(chance, 63) - chance.randrange(2)),
     "uint": lambda chance: integer(chance, number(chance, 64)),
-    "float": lambda chance: chance.choice([b"\x08" + some(chance, 4), some(chance, chance.randrange(1, 17))]),
+    "float": lambda chance: chance.choice([b"\x08" + some(chance, 4), b"\x0b" + some(chance, 8), some(chance, chance.randrange(1, 17))]),
     "oct": lambda chance: some(chance, chance.randrange(20)),
     "visible": lambda chance: text(chance, 20),
     "btime": lambda chance: some(chance, chance.choice([4, 6])),

@@ -3,6 +3,7 @@ import re
 
 from helpers.harness import clipped, first_difference, never_seen, run, text
 from oracles import reading
+from oracles.objects import numbers_read
 
 # The words of each command, for frames of the worked block and the worked stream.
 ASKED = {
@@ -57,10 +58,13 @@ def why_said(asked, lines, status, passed, complained):
     return why + ([] if rest == unseen else [f"standard error is {rest}, and not {unseen}"])
 
 
-def why_differs(asked, wanted, got, passed=None):
-    """What is wrong with a run that should have written these lines and ended with this status."""
+def why_differs(asked, wanted, got, passed=None, written=None):
+    """What is wrong with a run that should have answered these lines and ended with this status. They are written as they are, or in
+    another form."""
     (lines, wanted_status), (wrote, complained, status) = wanted, got
-    difference = first_difference(text(lines), wrote)
+    wanted_text = text(lines if written is None else written)
+    is_json = reading.JSON in reading.options_of(asked)[1]
+    difference = first_difference(*map(numbers_read, (wanted_text, wrote))) if is_json else first_difference(wanted_text, wrote)
     why = [difference] if difference else []
     why += [f"ended with status {status}, and not {wanted_status}: {clipped(complained)!r}"] if status != wanted_status else []
     why += [] if why else why_said(asked, lines, status, passed, complained)
@@ -70,7 +74,8 @@ def why_differs(asked, wanted, got, passed=None):
 def why_wrong_of(program, asked, octets, events_of=None):
     """What is wrong with a run over these octets."""
     lines, status, passed = reading.answered(asked, octets, events_of=events_of)
-    return why_differs(asked, (lines, status), run(program, asked, octets), passed)
+    written = reading.written(asked, lines, octets, events_of=events_of)
+    return why_differs(asked, (lines, status), run(program, asked, octets), passed, written)
 
 
 class Read:

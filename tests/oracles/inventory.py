@@ -19,36 +19,44 @@ def block_text(app_id, pdu):
 
 
 def sightings(octets):
-    """What the octets of a frame show: the word, the key and the text of each."""
+    """What the octets of a frame show: the word, the key, the text and the fields of each."""
     try:
         it = reference.frame(octets)
     except reference.Fault:
         return []
     if it["name"] == "goose":
-        return [("block", (it["app_id"], it["apdu"]["gocb_ref"]), block_text(it["app_id"], it["apdu"]))]
+        return [("block", (it["app_id"], it["apdu"]["gocb_ref"]), block_text(it["app_id"], it["apdu"]), it)]
     return [
-        ("stream", asdu["sv_id"], f"id={reference.quoted(asdu['sv_id'])} rev={reference.number_text(asdu['conf_rev'])}")
+        ("stream", asdu["sv_id"], f"id={reference.quoted(asdu['sv_id'])} rev={reference.number_text(asdu['conf_rev'])}", asdu)
         for asdu in it["apdu"]["asdus"]
     ]
 
 
-def line(number, earlier, sighting):
-    """What is written of a sighting behind earlier ones."""
-    word, key, shown = sighting
-    last = next((text for other, name, text in reversed(earlier) if (other, name) == (word, key)), None)
-    if last is None:
-        return [f"{number} {word} {shown}"]
-    return [] if last == shown else [f"{number} {word}-changed {shown}"]
+def told(earlier, sighting):
+    """The word that tells a sighting behind earlier ones, or None."""
+    word, key, shown, _ = sighting
+    last = next((text for other, name, text, _ in reversed(earlier) if (other, name) == (word, key)), None)
+    return word if last is None else None if last == shown else f"{word}-changed"
+
+
+def findings(octets, has_failed=False, events_of=reference.events):
+    """The sightings that are told of the events that are read of octets, each behind the number and the time of its event, and the word
+    that tells it."""
+    earlier = []
+    for number, (sort, moment, held) in events_of(octets, has_failed):
+        for sighting in sightings(held) if sort == "frame" else []:
+            word = told(earlier, sighting)
+            earlier.append(sighting)
+            if word:
+                yield number, moment, word, sighting
 
 
 def blocks(octets, has_failed=False, events_of=reference.events):
     """The text of `blocks` over the events that are read of octets, and the exit status."""
-    lines, earlier = [], []
+    lines = []
     try:
-        for number, (sort, _, held) in events_of(octets, has_failed):
-            for sighting in sightings(held) if sort == "frame" else []:
-                lines += line(number, earlier, sighting)
-                earlier.append(sighting)
+        for number, _, word, (_, _, shown, _) in findings(octets, has_failed, events_of):
+            lines.append(f"{number} {word} {shown}")
     except reference.ListFault as fault:
         return [*lines, fault.text()], fault.status()
     return lines, 0

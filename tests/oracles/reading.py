@@ -1,15 +1,16 @@
 """What the commands that read events write of a list or of a capture, by the slow programs."""
-from oracles import inventory, packets, reference, skipping, subscriber, watcher
+from oracles import dates, inventory, objects, packets, reference, skipping, subscriber, watcher
 
 COMMANDS = ("show", "check", "blocks", "replay", "watch")
-CAPTURE, SKIP = "--capture", "--skip-other"
+CAPTURE, SKIP, TIME, JSON = "--capture", "--skip-other", "--time", "--json"
+OPTIONS = {CAPTURE, SKIP, TIME, JSON}
 
 
 def options_of(asked):
-    """The words of a command line without the two options on the input, and whether each is among them."""
+    """The words of a command line without its options, and those of them that it has."""
     end = asked.index("--") if "--" in asked else len(asked)
-    plain = [word for at, word in enumerate(asked) if at > end or word not in (CAPTURE, SKIP)]
-    return plain, CAPTURE in asked[:end], SKIP in asked[:end]
+    plain = [word for at, word in enumerate(asked) if at > end or word not in OPTIONS]
+    return plain, OPTIONS & set(asked[:end])
 
 
 def value(asked, name):
@@ -18,20 +19,46 @@ def value(asked, name):
                  if word == name or word.startswith(f"{name}=")))
 
 
+def reader_of(asked):
+    """The reader that a command line asks for."""
+    return packets.events if CAPTURE in options_of(asked)[1] else reference.events
+
+
 def answered(asked, octets, has_failed=False, events_of=None):
-    """The lines that a command line writes of octets, its exit status, and what it passed over, if it passes over anything. The
+    """The lines that a command line answers of octets, its exit status, and what it passed over, if it passes over anything. The
     octets are read as the command line says, or by another reader."""
-    plain, is_capture, skips = options_of(asked)
-    reader = events_of or (packets.events if is_capture else reference.events)
-    passed = skipping.Skipping(reader) if skips else None
+    plain, options = options_of(asked)
+    reader = events_of or reader_of(asked)
+    passed = skipping.Skipping(reader) if SKIP in options else None
     how = has_failed, passed or reader
-    name, *own = [word for word in plain if word != "--"]
+    name, *own = own_words(plain)
     if name in ("show", "check"):
         lines, status = {"show": reference.show, "check": reference.check}[name](octets, *how)
     elif name == "blocks":
         lines, status = inventory.blocks(octets, *how)
     elif name == "replay":
-        lines, status = subscriber.replay(octets, own, *how)
+        lines, status = subscriber.replay(octets, *own, *how)
     else:
-        lines, status = watcher.watch(octets, int(value(own, "--period")), value(own, "--id"), *how)
+        lines, status = watcher.watch(octets, *own, *how)
     return lines, status, passed
+
+
+def own_words(plain):
+    """A command's name, and what it is asked for."""
+    name, *own = [word for word in plain if word != "--"]
+    if name == "watch":
+        return name, int(value(own, "--period")), value(own, "--id")
+    return (name, own) if name == "replay" else (name,)
+
+
+def written(asked, lines, octets, has_failed=False, events_of=None):
+    """These lines as the command line has them written."""
+    plain, options = options_of(asked)
+    reader = events_of or reader_of(asked)
+    if TIME in options:
+        return list(dates.dated(lines, octets, has_failed, reader))
+    if JSON in options:
+        name, *own = own_words(plain)
+        reader = skipping.Skipping(reader) if SKIP in options else reader
+        return list(objects.objects(name, "packet" if CAPTURE in options else "line", own, octets, has_failed, reader))
+    return lines

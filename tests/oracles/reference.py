@@ -91,6 +91,9 @@ class Fault(Exception):
         super().__init__(place, cause)
         self.place, self.cause = place, cause
 
+    def __str__(self):
+        return f"fault {self.place} {self.cause}"
+
 
 # ---- BER (ISO/IEC 8825-1) ---------------------------------------------------
 
@@ -407,6 +410,11 @@ def value_text(kind, held):
     return quoted(held) if kind == "visible" else f"{kind}:{held.hex()}"
 
 
+def members_text(members):
+    """The text of members in braces."""
+    return "{" + " ".join(value_text(*member) for member in members) + "}"
+
+
 def or_dash(held, text):
     """The text of what is there, and a dash for what is not."""
     return "-" if held is None else text(held)
@@ -431,7 +439,7 @@ def goose_text(pdu):
         "sim=" + truth(pdu["simulation"]),
         f"rev={pdu['conf_rev']}",
         "com=" + truth(pdu["nds_com"]),
-        "{" + " ".join(value_text(*member) for member in pdu["members"]) + "}",
+        members_text(pdu["members"]),
     ])
 
 
@@ -574,7 +582,7 @@ def shown(sort, moment, held):
     try:
         return frame_text(frame(held))
     except Fault as fault:
-        return f"fault {fault.place} {fault.cause}"
+        return str(fault)
 
 
 def notes(sort, held):
@@ -584,7 +592,7 @@ def notes(sort, held):
     try:
         it = frame(held)
     except Fault as fault:
-        return [f"fault {fault.place} {fault.cause}"]
+        return [fault]
     first, last = DESTINATIONS[it["name"]]
     is_recommended = first <= it["destination"].hex() <= last
     return ["not-written"] * (written_frame(it) != held) + ["destination"] * (not is_recommended)
@@ -652,12 +660,14 @@ HELP = {
     "watch": "Shows each sample of one stream, and whether its count is the next one",
     "import": "Reads a capture (classic libpcap, as tcpdump -w writes) and writes it as a list",
 }
-# The words behind a command's name, as its help writes them, and what help says of the options on the input.
+# The words behind a command's name, as its help writes them, and what help says of the options.
 TAKES = {"show": " [OPTIONS]", "check": " [OPTIONS]", "blocks": " [OPTIONS]", "replay": " [OPTIONS] <BLOCK>...",
          "watch": " [OPTIONS] --period <N> --id <TEXT>"}
 OPTIONS = {
     "--capture": "Reads a capture (classic or pcapng) in place of a list",
     "--skip-other": "Takes frames of other EtherTypes as a sign that time passes, and counts them",
+    "--time": "Begins each line with the date of its event, in UTC",
+    "--json": "Writes JSON objects, one a line, in place of text",
 }
 VERSION = "goose 1.0.0"
 

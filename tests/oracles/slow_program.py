@@ -41,13 +41,16 @@ def said(asked, lines, status, passed):
 
 
 def main(asked):
-    plain, _, _ = reading.options_of(asked)
+    plain, _ = reading.options_of(asked)
     if not plain or plain[0] not in reading.COMMANDS or {"-h", "--help"} & set(plain) or (
             plain == asked and asked[0] in reference.COMMANDS):
         return reference.main(asked)
+    if {reading.TIME, reading.JSON} <= reading.options_of(asked)[1]:
+        reference.put(2, [f"error: {reading.TIME} does not go with {reading.JSON}"])
+        return 2
     octets, has_failed = all_octets(reference.LIST_DESCRIPTOR)
     lines, status, passed = reading.answered(asked, octets, has_failed)
-    status = status if reference.put(1, lines) else 4
+    status = status if reference.put(1, reading.written(asked, lines, octets, has_failed)) else 4
     reference.put(2, said(asked, lines, status, passed))
     return status
 

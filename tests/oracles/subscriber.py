@@ -32,57 +32,74 @@ class Block:
 
 
 def entries_of_frame(blocks, mode, now, octets):
-    """The switches and the entry of a frame."""
+    """The switches and the entry of a frame: the word of each, the position of its block, and what else it has."""
     try:
         it = reference.frame(octets)
     except reference.Fault as fault:
-        return [f"fault {fault.place} {fault.cause}"]
+        return [("fault", None, fault)]
     if it["name"] == "sv":
-        return ["sampled"]
+        return [("sampled", None, None)]
     place = next((place for place, block in enumerate(blocks) if block.has(it)), None)
     if place is None:
-        return ["not-subscribed"]
+        return [("not-subscribed", None, None)]
     block, pdu, said = blocks[place], it["apdu"], []
     if mode and pdu["simulation"] and not block.takes_simulated and not block.reasons(pdu, mode):
         block.switch(True)
-        said.append(f"switched {place}")
+        said.append(("switched", place, None))
     why = block.reasons(pdu, mode)
     if why:
-        return [*said, f"refused {place} {why[0]}"]
+        return [*said, ("refused", place, why[0])]
     pair, best = (pdu["st_num"], pdu["sq_num"]), block.best
     verdict = "act" if best is None or pair[0] > best[0] else "refreshed" if pair > best else "repeated" if pair == best else "old"
     if verdict in ("act", "refreshed"):
         block.best, block.deadline = pair, now + 1000 * pdu["live"]
-    line = f"{verdict} {place} st={pair[0]} sq={pair[1]}"
-    if verdict == "act":
-        members = " ".join(reference.value_text(*member) for member in pdu["members"])
-        line += f" t={pdu['t'].hex()} {{{members}}}"
-    return [*said, line]
+    return [*said, (verdict, place, pdu)]
+
+
+def entry_text(word, place, held):
+    """The text of an entry."""
+    if word == "fault":
+        return str(held)
+    if word in ("act", "refreshed", "repeated", "old"):
+        line = f"{word} {place} st={held['st_num']} sq={held['sq_num']}"
+        return line + f" t={held['t'].hex()} {reference.members_text(held['members'])}" if word == "act" else line
+    return " ".join(str(it) for it in (word, place, held) if it is not None)
+
+
+def twice(blocks):
+    """The position of the first block with the APPID and the gocbRef of an earlier one, or None."""
+    names = [(block.app_id, block.gocb_ref) for block in blocks]
+    return next((place for place, name in enumerate(names) if name in names[:place]), None)
+
+
+def entries(octets, blocks, has_failed=False, events_of=reference.events):
+    """The entries of the events that are read of octets, each behind the number and the time of its event."""
+    now, mode = 0, False
+    for number, (sort, moment, held) in events_of(octets, has_failed):
+        now, said = max(now, moment), []
+        for place, block in enumerate(blocks):
+            if block.best is not None and block.deadline <= now:
+                block.best = None
+                said.append(("expired", place, None))
+        if sort == "mode":
+            mode = held
+            for place, block in enumerate(blocks):
+                if not mode and block.takes_simulated:
+                    block.switch(False)
+                    said.append(("switched", place, None))
+        if sort == "frame":
+            said += entries_of_frame(blocks, mode, now, held)
+        yield from ((number, moment, *entry) for entry in said)
 
 
 def replay(octets, words, has_failed=False, events_of=reference.events):
     """The text of `replay` of these blocks over the events that are read of octets, and the exit status."""
-    blocks, lines, now, mode = [Block(word) for word in words], [], 0, False
-    names = [(block.app_id, block.gocb_ref) for block in blocks]
-    for place, name in enumerate(names):
-        if name in names[:place]:
-            return [f"blocks SameBlockTwice {place}"], 3
+    blocks, lines = [Block(word) for word in words], []
+    if twice(blocks) is not None:
+        return [f"blocks SameBlockTwice {twice(blocks)}"], 3
     try:
-        for number, (sort, moment, held) in events_of(octets, has_failed):
-            now, said = max(now, moment), []
-            for place, block in enumerate(blocks):
-                if block.best is not None and block.deadline <= now:
-                    block.best = None
-                    said.append(f"expired {place}")
-            if sort == "mode":
-                mode = held
-                for place, block in enumerate(blocks):
-                    if not mode and block.takes_simulated:
-                        block.switch(False)
-                        said.append(f"switched {place}")
-            if sort == "frame":
-                said += entries_of_frame(blocks, mode, now, held)
-            lines += [f"{number} {line}" for line in said]
+        for number, _, *entry in entries(octets, blocks, has_failed, events_of):
+            lines.append(f"{number} {entry_text(*entry)}")
     except reference.ListFault as fault:
         return [*lines, fault.text()], fault.status()
     return lines, 0

@@ -72,16 +72,17 @@ def live():
 class FailsAtEach:
     """Reading a short capture fails after each of its octets."""
 
-    def __init__(self, form, made):
-        self.name, self.made = f"{form}: reading fails after each octet", made
+    def __init__(self, form, made, *options):
+        self.name, self.made, self.options = f"{' '.join([form, *options])}: reading fails after each octet", made, options
 
     def why_wrong(self, program):
         whole, why, commands = self.made(), [], list(ASKED)
         for size in range(len(whole) + 1):
-            asked = capturing(commands[size % len(commands)])
+            asked = capturing(commands[size % len(commands)], *self.options)
             lines, status, _ = reading.answered(asked, whole[:size], has_failed=True)
+            written = reading.written(asked, lines, whole[:size], has_failed=True)
             got = FailsAfter("", asked, whole[:size]).run(program)
-            why += [f"after {size} octets: {it}" for it in why_differs(asked, (lines, status), got)]
+            why += [f"after {size} octets: {it}" for it in why_differs(asked, (lines, status), got, written=written)]
         return why[:5]
 
 
@@ -89,8 +90,9 @@ class WritesAtMost:
     """What a command writes of a short capture fits the place for it up to each octet: then the octets before stand written, and the
     status is 4."""
 
-    def __init__(self, command, form, made):
-        self.name, self.asked, self.made = f"{command}, {form}: writing fails after each octet", capturing(command), made
+    def __init__(self, command, form, made, *options):
+        self.name, self.asked = f"{' '.join([command, *options])}, {form}: writing fails after each octet", capturing(command, *options)
+        self.made = made
 
     def limited(self, program, whole, most):
         """A run that writes into a file of at most so many octets: what is in the file then, the messages and the status."""
@@ -105,7 +107,7 @@ class WritesAtMost:
     def why_wrong(self, program):
         whole, why = self.made(), []
         lines, wanted, _ = reading.answered(self.asked, whole)
-        wrote = text(lines)
+        wrote = text(reading.written(self.asked, lines, whole))
         for most in range(len(wrote) + 1):
             got, complained, status = self.limited(program, whole, most)
             is_whole = most == len(wrote)

@@ -1,4 +1,4 @@
-"""tools/to_json and tools/to_csv: no line is lost or invented, and each says what it said.
+"""tools/to_json and tools/to_csv, of text and of objects: no line is lost or invented, and each says what it said.
 
 What JSON has of a line is written as a line again, by the formats of docs/FORMATS.md, and held against that line.
 """
@@ -23,7 +23,8 @@ from themes import replaying
 SEED, COUNT = 8259, 400
 COLUMNS = ("line", "microseconds", "time", "kind", "block", "reason", "offset", "error", "mode", "destination", "source", "tag",
            "appid", "reserved1", "reserved2", "gocbRef", "timeAllowedtoLive", "datSet", "goID", "t", "tTime", "stNum", "sqNum",
-           "simulation", "confRev", "ndsCom", "members", "asdus", "trailer", "asdu", "smpCnt", "missing", "svID", "text")
+           "simulation", "confRev", "ndsCom", "members", "asdus", "trailer", "asdu", "smpCnt", "missing", "svID", "text",
+           "packet", "tQuality", "delay", "entries")
 REPLAYED = ["0001,G,D,,1,1", "0002,G,D,,1,1", "3001,BAY1PROT/LLN0$GO$gcbTrip,BAY1PROT/LLN0$dsTrip,BAY1_Trip,1,2"]
 COMMANDS = (["show"], ["check"], ["replay", *REPLAYED], ["replay", REPLAYED[0], REPLAYED[0]], ["watch", "--period", "4000", "--id", "MU01"])
 
@@ -209,9 +210,12 @@ class Live:
                 status = started.wait(timeout=SECONDS)
         return why + ([] if status == 0 else [f"status {status}"])
 
+    def sent(self, number):
+        return f"{number + 1} clock {number}"
+
     def why_rows_wrong(self, started, recorded):
         for number, row in enumerate(self.rows, 1):
-            started.stdin.write(f"{number + 1} clock {number}\n".encode())
+            started.stdin.write(f"{self.sent(number)}\n".encode())
             if self.is_late:
                 time.sleep(0.2)
                 recorded.write(f"C {number}\n".encode())
@@ -224,6 +228,17 @@ class Live:
                 return
 
 
+class LiveObjects(Live):
+    """The same of lines of JSON, which need no list."""
+
+    def __init__(self, head, rows):
+        super().__init__("to_csv", head, rows)
+        self.name = "to_csv of objects in a live pipe"
+
+    def sent(self, number):
+        return json.dumps({"line": number + 1, "microseconds": number, "time": f"1970-01-01T00:00:00.{number:06}Z", "kind": "clock"})
+
+
 def live():
     head = ",".join(COLUMNS).encode() + b"\n"
     rows = [f"{number + 1},{number},1970-01-01T00:00:00.00000{number}Z,clock".encode() + b"," * (len(COLUMNS) - 4) + b"\n" for number in (1, 2)]
@@ -232,6 +247,24 @@ def live():
     for is_late in (False, True):
         yield Live("to_csv", head, rows, is_late)
         yield Live("to_json", b"", objects, is_late)
+    yield LiveObjects(head, rows)
+
+
+def of_objects():
+    """What `to_csv` makes of lines of JSON: each is a row, and needs no list. One that is no object is kept whole."""
+    quality = {"leapSecondsKnown": False, "clockFailure": False, "clockNotSynchronized": True, "timeAccuracy": 10}
+    acted = {"packet": 7, "microseconds": 1, "time": "1970-01-01T00:00:00.000001Z", "kind": "act", "block": 0, "appid": "0001",
+             "gocbRef": 'a"b', "t": "0000000000000000", "tTime": "1970-01-01T00:00:00.000000Z", "tQuality": quality, "delay": -3,
+             "stNum": 2**64 - 1, "sqNum": 0, "members": [True, {"float": "0843c80000", "value": 400.0}, "x,y"]}
+    late = {"packet": 8, "microseconds": 253402300800000000, "time": None, "kind": "clock"}
+    lines = [json.dumps(acted, separators=(",", ":")), json.dumps(late), '{"packet":9', '{"packet":9} x', "9 clock 5"]
+    columns = "packet,line,time,kind,gocbRef,tQuality,delay,stNum,members,text"
+    rows = [",".join(columns.split(",")), '7,,1970-01-01T00:00:00.000001Z,act,"a""b","' + json.dumps(quality).replace('"', '""')
+            + '",-3,18446744073709551615,"[true, {""float"": ""0843c80000"", ""value"": 400.0}, ""x,y""]",', "8,,,clock,,,,,,",
+            ',,,,,,,,,"{""packet"":9"', ',,,,,,,,,"{""packet"":9} x"', ",9,1970-01-01T00:00:00.000005Z,clock,,,,,,"]
+    yield Asked("objects, and lines that are none", "to_csv", ["--columns", columns], text(lines), text(rows), 1)
+    yield Asked("one column, that an object does not have", "to_csv", ["--columns", "delay"], text(lines[:2]), b'delay\n-3\n""\n')
+    yield Asked("a column that is asked for twice", "to_csv", ["--columns", "kind,packet,kind"], text(lines[1:2]), b"kind,packet,kind\nclock,8,clock\n")
 
 
 class Another:
@@ -269,6 +302,7 @@ def another():
 
 def cases():
     yield from live()
+    yield from of_objects()
     yield from another()
     chance = random.Random(SEED)
     yield Whole("frames of GOOSE by chance", listed(*[by_chance.goose(chance) for _ in range(COUNT)]))

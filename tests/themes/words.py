@@ -44,6 +44,7 @@ RIGHT = {
     b"required arguments were not provided": b"\nUsage: goose ",
     b"a value is required": b" but none was supplied\n",
     b"cannot be used multiple times": b" cannot be used multiple times\n",
+    b"cannot be used with": b"\nUsage: goose <COMMAND> [OPTIONS]\n",
     b"unexpected value": b" found; no more were expected\n",
 }
 # What standard error says of a text that is no control block, behind its position.
@@ -204,6 +205,9 @@ def refusals():
         *(([option, "show"], f"'{option}'".encode()) for option in OPTIONS), (["show", "--cap"], b"'--cap'"),
         (["show", "--skip_other"], b"'--skip_other'"), (["check", "--", "--capture"], b"'--capture'"),
         (["blocks", "--capture", "--capture"], b"'--capture'"), (["show", "--skip-other", "--capture", "--skip-other"], b"'--skip-other'"),
+        (["watch", "--time", *name, "--time", "--period=5"], b"'--time'"), (["show", "--time=UTC"], b"'--time'"),
+        *(([*words, "--time", "--json"], b"'--time' cannot be used with '--json'") for words in (["show"], ["replay", "0001"], [*five, *name])),
+        (["check", "--json", "--time", "--capture"], b"'--time' cannot be used with '--json'"), (["blocks", "--json", "--json"], b"'--json'"), (["show", "--times"], b"'--times'"),
         (["show", "--capture=FILE"], b"'--capture'"), (["check", "--capture", "FILE"], b"'FILE'"), (["replay", "--capture"], b"BLOCK"),
         ([*five, "--id", "--capture"], b"--id <TEXT>"), (["watch", "--capture", *name], b"--period <N>"),
     ):
@@ -233,6 +237,8 @@ def accepted():
     for words in (["check", "--capture", "--"], ["blocks", "--capture", "--skip-other"], ["watch", "--id", "S", "--capture", "--period=4000"],
                   ["watch", "--capture", "--period", "4000", "--skip-other", "--id=S"], ["watch", "--period", "4000", "--id=--capture", "--capture"]):
         yield Case(" ".join(words), words, capture, b"1 block 0001,G,D,,1,1\n" if words[0] == "blocks" else b"")
+    for words in (["replay", "0001,G,D,,1,1", "--time", "--capture"], ["replay", "--capture", "--time", "--", "0001,G,D,,1,1"]):
+        yield Case(" ".join(words), words, capture, b"1970-01-01T00:00:01.000002Z " + act)
     blocks = [f"0001,G{at},D,,1,1" for at in range(299)]
     yield Case("replay of 300 blocks", ["replay", *blocks, "0001,G,D,,1,1"], listed(WORKED), b"1 act 299 st=1 sq=0 t=0000000000000000 {true}\n")
 

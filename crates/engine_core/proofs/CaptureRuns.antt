@@ -1,7 +1,7 @@
 -- What a run over a reader of packets leaves of the capture that it reads, where something is made of each event.
-use Rattle.std.proofs.Common.{Option, Some, None, Ok, Err, ◌≡◌, ℕ, List, [], ◌∷◌, inl, inr, ap, ap₂, sym, ◌∙◌, refl, subst, map}
-use Rattle.std.proofs.lemmas.List.{append-nil}
-use Rattle.list_core.specs.declared.device.InputEnd.TheVariants.{Open}
+use Rattle.std.proofs.Common.{Option, Some, None, Ok, Err, ◌≡◌, ℕ, List, [], ◌∷◌, ◌++◌, inl, inr, ap, ap₂, sym, ◌∙◌, refl, subst, map}
+use Rattle.std.proofs.lemmas.List.{append-nil, append_assoc}
+use Rattle.list_core.specs.declared.device.InputEnd.TheVariants.{End, Failed, Open}
 use Rattle.list_core.specs.declared.event.Event.{Event}
 use Rattle.list_core.specs.Device.{GivesOctets}
 use Rattle.list_core.specs.Items.{Numbered, put_items}
@@ -9,16 +9,19 @@ use Rattle.list_core.specs.ReadItems.{AnswerOf, Gave}
 use Rattle.list_core.proofs.Devices.{Consumes-none, Gives-from_Consumes}
 use Rattle.list_core.proofs.Readers.{CanFollow-none}
 use Rattle.capture_core.specs.declared.capture_fault.CaptureFault.{CaptureFault}
-use Rattle.capture_core.specs.Packets.{is_failed_read}
-use Rattle.capture_core.specs.Captured.{captured_events}
-use Rattle.capture_core.specs.PacketReader.{AnswersPacket, GivesPacket, PacketAnswer, PacketState, TellsPacket, at_start, events_behind}
-use Rattle.capture_core.proofs.PacketsTaken.{TookPackets, behind_start, taken_more, taken_none, taken_then}
+use Rattle.list_core.specs.declared.device.InputEnd.{InputEnd}
+use Rattle.list_core.specs.Lines.{WhateverComes, unfinished}
+use Rattle.capture_core.specs.Packets.{Packet, events_of, is_failed_read, stopped}
+use Rattle.capture_core.specs.Captured.{captured_events, captured_packets}
+use Rattle.capture_core.specs.PacketReader.{AnswersPacket, GivesPacket, KeepsPacket, PacketAnswer, PacketState, TellsPacket, at_start, events_behind}
+use Rattle.capture_core.proofs.StopsTold.{capture_means}
+use Rattle.capture_core.proofs.PacketsTaken.{TookPackets, behind_start, taken_before, taken_more, taken_none, taken_then}
 use Rattle.engine_core.specs.declared.ending.Ending.{Ending}
 use Rattle.engine_core.specs.RunOver.{RunsOver}
-use Rattle.engine_core.specs.CaptureRun.{CaptureText, CaptureWrites, fault_of}
+use Rattle.engine_core.specs.CaptureRun.{CaptureText, CaptureWrites, KeepsOfCapture, fault_of}
 use Rattle.engine_core.specs.MadeRun.{with_each}
 use Rattle.engine_core.proofs.InputRuns.{TellsOnward, input_run}
-use Rattle.engine_core.proofs.MadeAnswers.{each_put, made, made_some, made_tells}
+use Rattle.engine_core.proofs.MadeAnswers.{each_put, made, made_none, made_some, made_tells}
 
 -- the octets of an answer were given
 gives_packet : {A : Type 0} (answer : PacketAnswer A) (old new : Option (List ℕ)) (given : List ℕ) → GivesPacket answer old new given → GivesOctets old new given
@@ -46,10 +49,46 @@ module _ {I A : Type 0} (make : Event A → Event A) (state : I → PacketState)
       let q = gave_made next es before g in
       (s.0 ∷ q.0, ap₂ (λ x xs. x ∷ xs) s.2 q.1, taken_more _ (state next) _ s.0 q.0 (subst (λ o. AnswersPacket (state start) o (state next)) s.1 p.1) q.2)
 
+  module _ (start before end : I) (answer : AnswerOf (Event A) CaptureFault) (fresh : (state start).stage ≡ at_start) (items raw : List (ℕ × Event A)) (each : items ≡ map (λ e. (e.0, make e.1)) raw) (p : TookPackets (state start) raw (state before))
+      (a : PacketAnswer A) (q : AnswersPacket (state before) a (state end)) where
+    -- whatever comes, the capture tells the events and then what the reader told before the answer
+    capture_before : WhateverComes (state end).ending (λ y more. captured_events {A = A} y ((p.given ++ q.given) ++ more) ≡ put_items raw (events_behind (state before) y (q.given ++ more)))
+    capture_before more y f = sym (behind_start (state start) y ((p.given ++ q.given) ++ more) fresh) ∙ taken_before (state start) (state before) (state end) raw a p q more y f
+
+    -- a capture that goes on is not given up
+    gives_up : (y : InputEnd) (octets : List ℕ) → captured_events {A = A} y octets ≡ put_items raw (events_of (stopped unfinished)) → y ≡ Open
+    gives_up y octets e = let stops : (captured_packets y octets).stop ≡ unfinished = ap (λ (l : Numbered (Event A) CaptureFault). l.stop) e in rw stops at (capture_means y octets)
+
+    not_given_up : (z : InputEnd) → WhateverComes z (λ y more. captured_events {A = A} y ((p.given ++ q.given) ++ more) ≡ put_items raw (events_of (stopped unfinished))) → ⊥
+    not_given_up Open h = let e = gives_up End _ (h [] End tt) in cc
+    not_given_up End h = let e = gives_up End _ (h [] End (refl, refl)) in cc
+    not_given_up Failed h = let e = gives_up Failed _ (h [] Failed (refl, refl)) in cc
+
+    -- what the reader has to keep, the capture has
+    capture_keeps : a ≡ Err None → KeepsOfCapture make (state end).ending (p.given ++ q.given) items
+    capture_keeps none = elim (subst (λ (o : PacketAnswer A). KeepsPacket o (state before) q.given (state end).ending) none q.kept) [
+      | inl frame ↦ inl (record { told = raw; are_made = each; next = λ more y f. (events_behind (state before) y (q.given ++ more), capture_before more y f, frame more y f) })
+      | inr (inl i) ↦ inr (record {
+        told = raw;
+        are_made = each;
+        front = p.given ++ i.front;
+        block = i.block;
+        parts = ap (λ (l : List ℕ). p.given ++ l) i.parts ∙ sym (append_assoc p.given i.front i.block);
+        settled = i.settled;
+        packets = i.packets;
+        most = i.most;
+        behind = λ more y f. capture_before more y f ∙ ap (λ (l : Numbered Packet CaptureFault). put_items raw (events_of l)) (i.behind more y f);
+        interface = i.interface;
+        is_interface = i.is_interface;
+      })
+      | inr (inr gone) ↦ absurd (not_given_up (state end).ending (λ more y f. capture_before more y f ∙ ap (λ (l : Numbered Packet CaptureFault). put_items raw (events_of l)) (gone more y f)))
+    ]
+
   -- a run over it
   pub capture_run : (t : CaptureText A) (start end : I) (ending : Ending) (fault : Option CaptureFault) (old new : Option (List ℕ)) →
       (state start).stage ≡ at_start → (state start).ending ≡ Open → RunsOver answers fault_of is_failed_read t start ending fault end old new →
       (given : List ℕ) × GivesOctets (state start).left (state end).left given × CaptureWrites make t ending (state end).ending given fault old new
+  unfolding taken_then
   capture_run t start end ending fault old new fresh is (inl w) =
       ([], rw w.untouched (Gives-from_Consumes _ _ [] (Consumes-none _)), inl (record { has_ending = w.write_fault; by_none = w.by_none; is_open = rw w.untouched is; read_none = refl; written = w.written }))
   capture_run t start end ending fault old new fresh is (inr run) =
@@ -60,7 +99,8 @@ module _ {I A : Type 0} (make : Event A → Event A) (state : I → PacketState)
       let whole : captured_events {A = A} (state end).ending ran.given ≡ put_items p.0 reads.0 = sym (behind_start (state start) (state end).ending ran.given fresh) ∙ ap (events_behind (state start) (state end).ending) (sym (append-nil ran.given)) ∙ reads.1 in (
         ran.given,
         gives_packet q.0 _ _ ran.given ran.took,
-        inr (input_run answers fault_of is_failed_read t start end ending fault old new run _ (with_each make reads.0)
+        inr (input_run (KeepsOfCapture make (state end).ending ran.given) answers fault_of is_failed_read t start end ending fault old new run _ (with_each make reads.0)
             (ap (with_each make) whole ∙ each_put make p.0 reads.0 ∙ ap (λ es. put_items es (with_each make reads.0)) (sym p.1))
-            (subst (λ o. TellsOnward o (with_each make reads.0)) (sym q.2) (made_tells make q.0 reads.0 (first_told q.0 reads.0 _ reads.2)))),
+            (subst (λ o. TellsOnward o (with_each make reads.0)) (sym q.2) (made_tells make q.0 reads.0 (first_told q.0 reads.0 _ reads.2)))
+            (λ none. capture_keeps start run.before end run.answer fresh run.items p.0 p.1 p.2 q.0 q.1 (made_none make q.0 (sym none ∙ q.2)))),
       )

@@ -1,6 +1,10 @@
+pub mod DatedLines
+pub mod DatesAway
+pub mod PlainRuns
 pub mod Wanted
 pub mod ItemTexts
 pub mod EventSteps
+pub mod EngineSteps
 pub mod ListRuns
 pub mod InputRuns
 pub mod MadeAnswers
@@ -8,4 +12,5 @@ pub mod MadeRuns
 pub mod CaptureRuns
 pub mod ReaderRuns
 pub mod ReadFaults
+pub mod InputFaults
 pub mod WholeTexts

@@ -19,6 +19,12 @@ module _ {X F : Type 0} (make : X → X) where
   made_some (Ok None) e h = cc
   made_some (Err f) e h = cc
 
+  -- one for want of memory was made of one
+  pub made_none : (raw : AnswerOf X F) → Err None ≡ made make raw → raw ≡ Err None
+  made_none (Ok (Some r)) h = cc
+  made_none (Ok None) h = cc
+  made_none (Err f) h = let same : f ≡ None = cc in ap Err same
+
   -- what an answer says of the input, it says of what is made of its items
   pub made_tells : (raw : AnswerOf X F) (onward : Numbered X F) → TellsOnward raw onward → TellsOnward (made make raw) (with_each make onward)
   made_tells (Ok (Some e)) onward h = (with_each make h.0, ap (with_each make) h.1)

@@ -1,5 +1,5 @@
 -- A run ends by a read fault only where its reader failed.
-use Rattle.std.proofs.Common.{◌≡◌, List, ℕ, Option, inl, inr, refl, subst}
+use Rattle.std.proofs.Common.{◌≡◌, List, [], ◌++◌, ℕ, Option, Some, Err, true, refl, subst}
 use Rattle.list_core.specs.declared.device.InputEnd.{InputEnd}
 use Rattle.list_core.specs.declared.device.InputEnd.TheVariants.{Failed}
 use Rattle.list_core.specs.declared.list_fault.ListCause.{ListCause}
@@ -8,34 +8,37 @@ use Rattle.list_core.specs.declared.line_rules.ItemFault.{ItemFault}
 use Rattle.list_core.specs.declared.line_rules.ItemFault.TheVariants as fault
 use Rattle.list_core.specs.Lines.{faulty}
 use Rattle.list_core.specs.Items.{Listing, Rules, listing}
+use Rattle.list_core.specs.ItemReader.{AnswersItem, ReaderState}
+use Rattle.list_core.specs.ReadItems.{is_failed_read, is_of_source}
+use Rattle.list_core.proofs.Readers.{CanFollow-none}
 use Rattle.list_core.proofs.Stops.{ItemsMean, listing-means}
 use Rattle.engine_core.specs.declared.ending.Ending.{Ending}
 use Rattle.engine_core.specs.declared.ending.Ending.TheVariants.{ReadFault}
-use Rattle.engine_core.specs.Ending.{ending_of, ending_at}
-use Rattle.engine_core.specs.EngineText.{Text}
-use Rattle.engine_core.specs.Run.{EndsByFault, Writes}
+use Rattle.engine_core.specs.EngineText.{Allowed}
+use Rattle.engine_core.specs.RunOver.{RunsOver}
+use Rattle.engine_core.proofs.ReaderRuns.{failed_read}
 
-by_cause : (why : ListCause) → ending_of why ≡ ReadFault → why ≡ ReadFailed
-by_cause ReadFailed e = refl
-by_cause LineTooLong e = cc
-by_cause LineForm e = cc
-by_cause Moment e = cc
-by_cause Hex e = cc
-by_cause ListTooLong e = cc
+-- a cause that is the source's
+of_source : (why : ListCause) → is_of_source why ≡ true → why ≡ ReadFailed
+of_source ReadFailed e = refl
+of_source LineTooLong e = cc
+of_source LineForm e = cc
+of_source Moment e = cc
+of_source Hex e = cc
+of_source ListTooLong e = cc
 
-blamed : {C : Type 0} (f : ItemFault C) (z : InputEnd) → ItemsMean (faulty f) z → ending_at f ≡ ReadFault → z ≡ Failed
-blamed (fault.Lines f) z h e = h (by_cause f.cause e)
+pub blamed : {C : Type 0} (f : ItemFault C) (z : InputEnd) → ItemsMean (faulty f) z → is_failed_read f ≡ true → z ≡ Failed
+blamed (fault.Lines f) z h e = h (of_source f.cause e)
 blamed (fault.Line n why) z h e = cc
 
--- a fault that has this ending is no refused item, and a list has it only where its reader failed
-blames : {S X C : Type 0} (r : Rules S X C) (s : S) (t : Text X C) (z : InputEnd) (n : ℕ) (octets : List ℕ) (es : List (ℕ × X)) (k : ℕ) (held new : Option (List ℕ)) →
-    EndsByFault t ReadFault es k (listing r s z n octets) held new → z ≡ Failed
-blames r s t z n octets es k held new w = elim w.is_next [
-  | inl h ↦ blamed w.why z (subst (λ (l : Listing _ _). ItemsMean l.stop z) h (listing-means r s z n octets)) w.has_ending
-  | inr x ↦ blamed w.why z (rw x.in_line tt) w.has_ending
-]
+-- a reader of a list answers a fault of its source only where that failed
+answered : {S X C : Type 0} (r : Rules S X C) (b c : ReaderState S) (f : ItemFault C) → AnswersItem r b (Err (Some f)) c → is_failed_read f ≡ true → c.ending ≡ Failed
+answered r b c f q e =
+    let told = (q.reads [] c.ending (CanFollow-none c.ending)).0 in
+    blamed f c.ending (subst (λ (l : Listing _ _). ItemsMean l.stop c.ending) told (listing-means r b.settled c.ending b.taken (b.held ++ q.given ++ []))) e
 
-pub only_failed : {S X C : Type 0} (r : Rules S X C) (s : S) (t : Text X C) (ending : Ending) (z : InputEnd) (read : List ℕ) (old new : Option (List ℕ)) → Writes r s t ending z read old new → ending ≡ ReadFault → z ≡ Failed
-only_failed r s t ending z read old new (inl w) e = let same = w.write_fault in cc
-only_failed r s t ending z read old new (inr run) e =
-    blames r run.line.settled t z run.line.lines_before run.line.onward run.items run.line.lines_before run.held new (rw e at run.ends)
+pub only_failed : {I S X C : Type 0} (r : Rules S X C) (state : I → ReaderState S) (t : Allowed X C (ItemFault C)) (x y : I) (ending : Ending) (by : Option (ItemFault C)) (old new : Option (List ℕ)) →
+    RunsOver (λ a answer b. AnswersItem r (state a) answer (state b)) fault.Line is_failed_read t x ending by y old new → ending ≡ ReadFault → (state y).ending ≡ Failed
+only_failed r state t x y ending by old new run is =
+    let p = failed_read (λ a answer b. AnswersItem r (state a) answer (state b)) fault.Line is_failed_read t (λ n why. refl) x ending by y old new run is in
+    answered r (state p.0) (state y) p.1 p.2 p.3

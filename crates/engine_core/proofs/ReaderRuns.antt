@@ -1,5 +1,5 @@
 -- What several answers of a reader of items make an engine write, whatever its input.
-use Rattle.std.proofs.Common.{Option, Some, None, Ok, ◌≡◌, ℕ, Bool, false, List, [], ◌∷◌, ◌++◌, inl, inr, ap, ap₂, sym, ◌∙◌, refl, subst}
+use Rattle.std.proofs.Common.{Option, Some, None, Ok, Err, Result, ◌≡◌, ℕ, Bool, true, false, List, [], ◌∷◌, ◌++◌, inl, inr, ap, ap₂, sym, ◌∙◌, refl, subst}
 use Rattle.std.specs.Prelude.{◌||◌, if◌then◌else◌}
 use Rattle.std.proofs.lemmas.List.{append-nil}
 use Rattle.std.proofs.lemmas.Grind.{flat_map-append}
@@ -8,14 +8,17 @@ use Rattle.std.specs.Io.KnownBytes.{Appends}
 use Rattle.list_core.specs.Device.{AppendsPrefix}
 use Rattle.list_core.specs.ReadItems.{AnswerOf, Gave}
 use Rattle.list_core.proofs.Devices.{Appends-append, Appends-none}
-use Rattle.engine_core.specs.declared.ending.Ending.TheVariants.{Done, Findings, WriteFault}
+use Rattle.engine_core.specs.declared.ending.Ending.{Ending}
+use Rattle.engine_core.specs.declared.ending.Ending.TheVariants.{Done, Findings, InputFault, ReadFault, WriteFault}
 use Rattle.engine_core.specs.declared.stopped.Halt.{Halt}
-use Rattle.engine_core.specs.EngineText.{TextTo, ItemText, has_finding, joined_texts}
-use Rattle.engine_core.specs.RunOver.{RunsOver, Stops, WantsFor, due, closes, ending_by_halt, fault_by_halt}
+use Rattle.engine_core.specs.declared.stopped.Halt.TheVariants as halt
+use Rattle.engine_core.specs.EngineText.{Alike, Allowed, ItemText, has_finding, joined_texts}
+use Rattle.engine_core.specs.RunOver.{IsDue, RunsOver, Stops, WantsFor, ending_by_halt, fault_by_halt, step_fault}
+use Rattle.engine_core.proofs.EngineSteps.{stops_alike}
 use Rattle.engine_core.proofs.ItemTexts.{AreNext, are_texts, next_push, or_false}
 
 -- what a run has done before a call: it was given these items, none of which was refused, and wrote their texts
-pub record Ran {I X C F : Type 0} (answers : I → AnswerOf X F → I → Type 0) (t : TextTo X C F) (a b : I) (es : List (ℕ × X)) (old mid : Option (List ℕ)) (found : Bool) : Type 0 where
+pub record Ran {I X C F : Type 0} (answers : I → AnswerOf X F → I → Type 0) (t : Allowed X C F) (a b : I) (es : List (ℕ × X)) (old mid : Option (List ℕ)) (found : Bool) : Type 0 where
   pub gave : Gave answers a es b
   pub texts : List ItemText
   pub are_next : AreNext t [] es texts
@@ -32,10 +35,10 @@ gave_none : {I X F : Type 0} (answers : I → AnswerOf X F → I → Type 0) (a 
 unfolding Gave
 gave_none answers a = refl
 
-module _ {I X C F : Type 0} (answers : I → AnswerOf X F → I → Type 0) (t : TextTo X C F) where
+module _ {I X C F : Type 0} (answers : I → AnswerOf X F → I → Type 0) (t : Allowed X C F) where
   -- an item more
   pub go_on : (a b c : I) (es : List (ℕ × X)) (old mid new : Option (List ℕ)) (found : Bool) → Ran answers t a b es old mid found →
-      (e : ℕ × X) → answers b (Ok (Some e)) c → (text : List ℕ) (is_finding : Bool) → t.of_item es e ≡ Ok (text, is_finding) → Appends mid new text →
+      (e : ℕ × X) → answers b (Ok (Some e)) c → (text : List ℕ) (is_finding : Bool) → t.of_item es e (Ok (text, is_finding)) → Appends mid new text →
       Ran answers t a c (es ++ e ∷ []) old new (found || is_finding)
   go_on a b c es old mid new found p e q text is_finding s w =
       let last : ItemText = record { text = text; is_finding = is_finding } in
@@ -69,7 +72,7 @@ module _ {I X C F : Type 0} (answers : I → AnswerOf X F → I → Type 0) (t :
     })
 
     -- the run stopped
-    pub stopped : (answer : AnswerOf X F) → answers b answer c → (h : Halt F) → Stops (WantsFor refused t es answer) (due refused t es answer) (closes refused t es answer) h mid new →
+    pub stopped : (answer : AnswerOf X F) → answers b answer c → (h : Halt F) → Stops (WantsFor refused t es answer) (IsDue refused t es answer) h mid new →
         RunsOver answers refused failed t a (ending_by_halt failed h) (fault_by_halt h) c old new
     stopped answer q h x = inr (record {
       items = es;
@@ -87,3 +90,63 @@ module _ {I X C F : Type 0} (answers : I → AnswerOf X F → I → Type 0) (t :
   -- the first text was not written whole, and the reader is untouched
   pub not_begun : (refused : ℕ → C → F) (failed : F → Bool) (a : I) (old new : Option (List ℕ)) → AppendsPrefix old new t.first → RunsOver answers refused failed t a WriteFault None a old new
   not_begun refused failed a old new w = inl (record { write_fault = refl; by_none = refl; untouched = refl; written = w })
+
+-- a run of an engine that may write the same
+pub runs_alike : {I X C F : Type 0} (answers : I → AnswerOf X F → I → Type 0) (refused : ℕ → C → F) (failed : F → Bool) (a b : Allowed X C F) → Alike a b → (start : I) (ending : Ending) (fault : Option F) (end : I) (old new : Option (List ℕ)) →
+    RunsOver answers refused failed a start ending fault end old new → RunsOver answers refused failed b start ending fault end old new
+runs_alike answers refused failed a b same start ending fault end old new (inl w) =
+    inl (record { write_fault = w.write_fault; by_none = w.by_none; untouched = w.untouched; written = subst (λ l. AppendsPrefix old new l) same.first w.written })
+runs_alike answers refused failed a b same start ending fault end old new (inr run) = inr (record {
+  items = run.items;
+  texts = run.texts;
+  are_texts = record { one_each = run.are_texts.one_each; each = λ i e w h g. same.there _ e _ (run.are_texts.each i e w h g) };
+  before = run.before;
+  gave = run.gave;
+  held = run.held;
+  written = subst (λ (l : List ℕ). Appends old run.held (l ++ joined_texts run.texts)) same.first run.written;
+  answer = run.answer;
+  answered = run.answered;
+  ends = elim run.ends [
+    | inl e ↦ inl e
+    | inr e ↦ inr (record { halt = e.halt; stops = stops_alike refused a b same run.items run.answer e.halt run.held new e.stops; has_ending = e.has_ending; by = e.by })
+  ];
+})
+
+-- ---- a run that ends since its source failed
+
+pub whole_ending : (found : Bool) → (if found then Findings else Done) ≡ ReadFault → ⊥
+whole_ending true e = cc
+whole_ending false e = cc
+
+pub fault_ending : (failed : Bool) → (if failed then ReadFault else InputFault) ≡ ReadFault → failed ≡ true
+fault_ending true e = refl
+fault_ending false e = cc
+
+module _ {I X C F : Type 0} (answers : I → AnswerOf X F → I → Type 0) (refused : ℕ → C → F) (failed : F → Bool) (t : Allowed X C F) (never : (n : ℕ) (why : C) → failed (refused n why) ≡ false) where
+  -- a reader answered a fault of its source
+  abbrev pub FailedRead : I → Type 0
+  FailedRead end = (before : I) × (f : F) × answers before (Err (Some f)) end × (failed f ≡ true)
+
+  by_step : (n : ℕ) (written : Result (List ℕ × Bool) C) (f : F) → Some f ≡ step_fault refused n written → failed f ≡ true → ⊥
+  by_step n (Ok w) f h by = cc
+  by_step n (Err why) f h by = let same : f ≡ refused n why = cc in let no = never n why in cc
+
+  by_answer : (items : List (ℕ × X)) (before end : I) (answer : AnswerOf X F) → answers before answer end → (text : List ℕ) (f : F) → IsDue refused t items answer text (Some f) → failed f ≡ true → FailedRead end
+  by_answer items before end (Ok (Some e)) a text f due by = absurd (by_step e.0 due.written f due.has_fault by)
+  by_answer items before end (Ok None) a text f due by = let h = due.1 in cc
+  by_answer items before end (Err (Some g)) a text f due by = let h = due.1 in let same : f ≡ g = cc in (before, g, a, ap failed (sym same) ∙ by)
+  by_answer items before end (Err None) a text f due by = absurd due
+
+  by_halt : (items : List (ℕ × X)) (before end : I) (answer : AnswerOf X F) → answers before answer end → (h : Halt F) (old new : Option (List ℕ)) → Stops (WantsFor refused t items answer) (IsDue refused t items answer) h old new →
+      ending_by_halt failed h ≡ ReadFault → FailedRead end
+  by_halt items before end answer a (halt.Fault why) old new s e = by_answer items before end answer a s.0 why s.1 (fault_ending (failed why) e)
+  by_halt items before end answer a halt.WriteFault old new s e = cc
+  by_halt items before end answer a halt.Memory old new s e = cc
+
+  -- its reader answered that fault, where no item is refused by such a one
+  pub failed_read : (start : I) (ending : Ending) (fault : Option F) (end : I) (old new : Option (List ℕ)) → RunsOver answers refused failed t start ending fault end old new → ending ≡ ReadFault → FailedRead end
+  failed_read start ending fault end old new (inl w) is = let e = w.write_fault in cc
+  failed_read start ending fault end old new (inr run) is = elim run.ends [
+    | inl e ↦ absurd (whole_ending (has_finding run.texts) (sym e.has_ending ∙ is))
+    | inr e ↦ by_halt run.items run.before end run.answer run.answered e.halt run.held new e.stops (sym e.has_ending ∙ is)
+  ]

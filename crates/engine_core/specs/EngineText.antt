@@ -16,6 +16,26 @@ pub record TextTo (X C F : Type 0) : Type 0 where
   -- last, on a fault
   pub last : F → List ℕ
 
+-- What an engine may write of items, where what it writes for one need not be fixed: each result is allowed or not.
+pub record Allowed (X C F : Type 0) : Type 1 where
+  -- before anything is read
+  pub first : List ℕ
+  -- after these items, for this one: a text, and whether it is a finding; or why it is refused
+  pub of_item : List (ℕ × X) → ℕ × X → Result (List ℕ × Bool) C → Type 0
+  -- last, on a fault
+  pub last : F → List ℕ
+
+-- this text is allowed, and no other
+abbrev pub exactly : {X C F : Type 0} → TextTo X C F → Allowed X C F
+exactly t = record { first = t.first; of_item = λ before e written. t.of_item before e ≡ written; last = t.last }
+
+-- the same is allowed by both
+pub record Alike {X C F : Type 0} (a b : Allowed X C F) : Type 0 where
+  pub first : a.first ≡ b.first
+  pub there : (before : List (ℕ × X)) (e : ℕ × X) (written : Result (List ℕ × Bool) C) → a.of_item before e written → b.of_item before e written
+  pub back : (before : List (ℕ × X)) (e : ℕ × X) (written : Result (List ℕ × Bool) C) → b.of_item before e written → a.of_item before e written
+  pub last : (f : F) → a.last f ≡ b.last f
+
 -- what an engine writes of a list of items
 abbrev pub Text : Type 0 → Type 0 → Type 0
 Text X C = TextTo X C (ItemFault C)
@@ -25,10 +45,14 @@ pub record ItemText : Type 0 where
   pub text : List ℕ
   pub is_finding : Bool
 
--- What is written of each of these items, after those before it. None of them is refused.
-pub record AreItemTexts {X C F : Type 0} (t : TextTo X C F) (items : List (ℕ × X)) (texts : List ItemText) : Type 0 where
+-- What is written of each of these items, after those before it: a text that is allowed. None of them is refused.
+pub record AreAllowedTexts {X C F : Type 0} (t : Allowed X C F) (items : List (ℕ × X)) (texts : List ItemText) : Type 0 where
   pub one_each : length texts ≡ length items
-  pub each : (i : ℕ) (e : ℕ × X) (w : ItemText) → slice_get items i ≡ Some e → slice_get texts i ≡ Some w → t.of_item (take i items) e ≡ Ok (w.text, w.is_finding)
+  pub each : (i : ℕ) (e : ℕ × X) (w : ItemText) → slice_get items i ≡ Some e → slice_get texts i ≡ Some w → t.of_item (take i items) e (Ok (w.text, w.is_finding))
+
+-- the same of a text that is fixed
+abbrev pub AreItemTexts : {X C F : Type 0} → TextTo X C F → List (ℕ × X) → List ItemText → Type 0
+AreItemTexts t items texts = AreAllowedTexts (exactly t) items texts
 
 -- their texts, one after another
 abbrev pub joined_texts : List ItemText → List ℕ
@@ -45,13 +69,13 @@ last_text t unfinished = []
 last_text t (faulty f) = t.last f
 
 -- the text that a step writes: that of its item, or the last one where it is refused, which is this fault then
-abbrev pub step_text_to : {X C F : Type 0} → (ℕ → C → F) → TextTo X C F → ℕ → Result (List ℕ × Bool) C → List ℕ
+abbrev pub step_text_to : {X C F : Type 0} → (ℕ → C → F) → Allowed X C F → ℕ → Result (List ℕ × Bool) C → List ℕ
 step_text_to refused t n (Ok s) = s.0
 step_text_to refused t n (Err why) = t.last (refused n why)
 
 -- the same of a list, where a refused item is a fault of its line
 abbrev pub step_text : {X C : Type 0} → Text X C → ℕ → Result (List ℕ × Bool) C → List ℕ
-step_text t n s = step_text_to fault.Line t n s
+step_text t n s = step_text_to fault.Line (exactly t) n s
 
 -- what is written next, after these items: the text of the first of those that follow, or the last one
 abbrev pub next_text : {X C : Type 0} → Text X C → List (ℕ × X) → List (ℕ × X) → Stop (ItemFault C) → List ℕ

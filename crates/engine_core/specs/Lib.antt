@@ -1,4 +1,5 @@
 pub mod Ending
+pub mod Dated
 pub mod EngineText
 pub mod Run
 pub mod RunOver
@@ -8,3 +9,4 @@ pub mod MadeRun
 pub mod CaptureRun
 pub mod computed
 pub mod Laws
+pub mod DatedLaws

@@ -1,47 +1,102 @@
 //! Engines over events, whatever input the events come from: a list, or a capture.
 ghost use Rattle.std.specs.Prelude.{◌≡◌, ℕ, List, OnErr, length, take};
 ghost use Rattle.list_core.specs.declared.event.Event.{Event};
-ghost use Rattle.engine_core.specs.EventsText.{EventText, over_events};
+ghost use Rattle.object_core.specs.declared.counted.Form.{Form};
+ghost use Rattle.engine_core.specs.EventsText.{AgreesOnNothing, AlikeEvents, EventAllows, in_style, over_in};
 ghost use Rattle.engine_core.specs.computed.EventStep.{TakesEvent};
 
+use crate::dated::put_dated;
 use crate::running::Engine;
+use crate::style::Style;
 use list_core::{Event, InputFault, LineError};
+use object_core::{Form, LastObject};
 use std::alloc::{AllocError, Allocator};
 use text_core::LastLine;
 
 /// What an engine writes for an event. It refuses none. A value stands after some events.
 pub trait EventEngine<A: Allocator> {
-    /// What is written of an event, as a function of it and of those before it.
-    ghost text: { Self → EventText A };
+    /// What may be written of an event in a form, by it and by those before it.
+    ghost allows: { Self → Form → EventAllows A };
 
     /// The engine was handed these events.
     ghost stands: { Self → List (ℕ × Event A) → Type 0 };
 
-    /// Appends the text of the next event, and answers whether the event is a finding. Memory is wanted for a text alone: an
+    /// Appends the text of the next event in a form, and answers whether the event is a finding. Memory is wanted for a text alone: an
     /// event of which nothing is written asks for none. Where it is refused, the line's earlier text remains.
     fn put_event(
         &mut self,
+        form: Form,
         line: &mut Vec<u8, A>,
         number: u64,
         event: &Event<A>,
     ) -> Result<bool, AllocError>
-        ensures same { text self.new ≡ text self.old }
+        ensures same { (each : Form) → AlikeEvents (allows self.old each) (allows self.new each) }
         ensures step { (before : List (ℕ × Event A)) → stands self.old before →
-            TakesEvent (text self.old) (stands self.new) before (number, event.now) result line.old.items line.new.items }
+            TakesEvent (allows self.old form) (stands self.new) before (number, event.now) result line.old.items line.new.items }
         ensures kept { OnErr result (take (length line.old.items) line.new.items ≡ line.old.items) };
+
+    /// Whether nothing is written of an event in a form is fixed by it and by those before it.
+    ghost agrees: { (s : Self) (form : Form) → AgreesOnNothing (allows s form) };
+}
+
+// Appends the text of the next event, each line of it behind the event's date. Never inlined, so that a run without dates
+// keeps its registers.
+#[inline(never)]
+fn put_dated_event<A: Allocator, E: EventEngine<A>>(
+    engine: &mut E,
+    undated: &mut Vec<u8, A>,
+    line: &mut Vec<u8, A>,
+    number: u64,
+    event: &Event<A>,
+) -> Result<bool, AllocError>
+    ensures same { (each : Form) → AlikeEvents (E.allows engine.old each) (E.allows engine.new each) }
+    ensures step { (before : List (ℕ × Event A)) → E.stands engine.old before →
+        TakesEvent (in_style Style.Dated (E.allows engine.old)) (E.stands engine.new) before (number, event.now) result line.old.items line.new.items }
+    ensures kept { OnErr result (take (length line.old.items) line.new.items ≡ line.old.items) }
+{
+    undated.clear();
+    let found = engine.put_event(Form::Text, undated, number, event)?;
+    put_dated(line, event.moment, undated.as_slice())?;
+    Ok(found)
+}
+
+// Appends what is written of the next event in a style.
+#[inline(always)]
+fn put_in_style<A: Allocator, E: EventEngine<A>>(
+    style: Style,
+    engine: &mut E,
+    undated: &mut Vec<u8, A>,
+    line: &mut Vec<u8, A>,
+    number: u64,
+    event: &Event<A>,
+) -> Result<bool, AllocError>
+    ensures same { (each : Form) → AlikeEvents (E.allows engine.old each) (E.allows engine.new each) }
+    ensures step { (before : List (ℕ × Event A)) → E.stands engine.old before →
+        TakesEvent (in_style style (E.allows engine.old)) (E.stands engine.new) before (number, event.now) result line.old.items line.new.items }
+    ensures kept { OnErr result (take (length line.old.items) line.new.items ≡ line.old.items) }
+{
+    match style {
+        Style::Lines(form) => engine.put_event(form, line, number, event),
+        Style::Dated => put_dated_event(engine, undated, line, number, event),
+    }
 }
 
 /// Such an engine over one input of events, the fault of which the last line tells.
 #[derive(Drop)]
-pub struct OfEvents<E> {
+pub struct OfEvents<E, A: Allocator> {
     /// What writes of each event.
     pub engine: E,
+    /// How that is laid out.
+    pub style: Style,
+    /// What was written of an event before its dates: its memory is used again for the next.
+    pub undated: Vec<u8, A>,
 }
 
-impl<A: Allocator, F: InputFault + LastLine, E: EventEngine<A>> Engine<A, F> for OfEvents<E> {
+impl<A: Allocator, F: InputFault + LastLine + LastObject, E: EventEngine<A>> Engine<A, F>
+    for OfEvents<E, A> {
     type Item = Event<A>;
 
-    ghost text = { λ s. over_events (E.text s.engine) F.last_line };
+    ghost allows = { λ s. over_in s.style (E.allows s.engine) F.last_line F.last_object };
 
     ghost stands = { λ s before. E.stands s.engine before };
 
@@ -53,7 +108,14 @@ impl<A: Allocator, F: InputFault + LastLine, E: EventEngine<A>> Engine<A, F> for
         event: Event<A>,
         spare: &mut Option<Event<A>>,
     ) -> Result<bool, LineError<F::Refusal>> {
-        let put = self.engine.put_event(line, number, &event);
+        let put = put_in_style(
+            self.style,
+            &mut self.engine,
+            &mut self.undated,
+            line,
+            number,
+            &event,
+        );
         *spare = Some(event);
         match put {
             Ok(found) => Ok(found),
@@ -62,6 +124,13 @@ impl<A: Allocator, F: InputFault + LastLine, E: EventEngine<A>> Engine<A, F> for
     }
 
     fn put_last(&self, line: &mut Vec<u8, A>, fault: &F) -> Result<(), AllocError> {
-        fault.put_last_line(line)
+        match self.style {
+            Style::Lines(Form::Text) => fault.put_last_line(line),
+            Style::Lines(Form::Object(_)) => fault.put_last_object(line),
+            Style::Dated => {
+                line.extend_from_slice(b"- ")?;
+                fault.put_last_line(line)
+            }
+        }
     }
 }

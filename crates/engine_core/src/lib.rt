@@ -1,13 +1,17 @@
 //! What an engine of the program `goose` is: a text over the items of an input, written by one run.
 #![tactic(auto)]
 
+mod dated;
 mod ending;
 mod event_engine;
 pub mod laws;
 mod running;
 mod stopped;
+mod style;
 
 pub use crate::ending::{Ending, status};
 pub use crate::event_engine::{EventEngine, OfEvents};
 pub use crate::running::{Engine, Next, ending_where, refuse, run, run_over, run_to_stop};
 pub use crate::stopped::{Halt, Stopped};
+pub use crate::style::Style;
+pub use object_core::{Counted, Form};

@@ -6,7 +6,7 @@ ghost use Rattle.list_core.specs.Device.{GivesOctets};
 ghost use Rattle.list_core.specs.ItemReader.{item_state};
 ghost use Rattle.list_core.specs.ReadItems.{AnswerOf};
 ghost use Rattle.engine_core.specs.Ending.{ending_by_fault, is_write_fault};
-ghost use Rattle.engine_core.specs.EngineText.{TextTo};
+ghost use Rattle.engine_core.specs.EngineText.{Alike, Allowed, Text, exactly};
 ghost use Rattle.engine_core.specs.Run.{LeavesRefused, Writes, WritesTo};
 ghost use Rattle.engine_core.specs.RunOver.{RunsOver, Stops, ending_by_halt, fault_by_halt};
 ghost use Rattle.engine_core.specs.computed.EngineStep.{StepWrites, Takes, is_failed_write, stops_by};
@@ -24,8 +24,8 @@ pub trait Engine<A: Allocator, F: InputFault> {
     /// What the input gives.
     type Item: Drop;
 
-    /// The text, as a function of items and of those before them.
-    ghost text: { Self → TextTo Self.Item F.Refusal F };
+    /// What it may write of an item, by those before it.
+    ghost allows: { Self → Allowed Self.Item F.Refusal F };
 
     /// The engine was handed these items.
     ghost stands: { Self → List (ℕ × Self.Item) → Type 0 };
@@ -40,16 +40,16 @@ pub trait Engine<A: Allocator, F: InputFault> {
         item: Self::Item,
         spare: &mut Option<Self::Item>,
     ) -> Result<bool, LineError<F::Refusal>>
-        ensures same { text self.new ≡ text self.old }
+        ensures same { Alike (allows self.old) (allows self.new) }
         ensures step { (before : List (ℕ × Self.Item)) → stands self.old before →
-            Takes F.refused (text self.old) (stands self.new) before (number, item) result line.old.items line.new.items }
+            Takes F.refused (allows self.old) (stands self.new) before (number, item) result line.old.items line.new.items }
         ensures kept { OnErr result (take (length line.old.items) line.new.items ≡ line.old.items) };
 
     /// Appends the last text on a fault. Where memory is refused, the line's earlier text remains.
     fn put_last(&self, line: &mut Vec<u8, A>, fault: &F) -> Result<(), AllocError>
-        ensures text { OnOk result (line.new.items ≡ line.old.items ++ (text self.now).last fault.now) }
+        ensures text { OnOk result (line.new.items ≡ line.old.items ++ (allows self.now).last fault.now) }
         ensures kept { OnErr result (take (length line.old.items) line.new.items ≡ line.old.items) }
-        ensures quiet { (text self.now).last fault.now ≡ [] → IsOk result };
+        ensures quiet { (allows self.now).last fault.now ≡ [] → IsOk result };
 }
 
 /// How a run goes on after an answer of the reader.
@@ -82,7 +82,7 @@ fn answer_fault<A: Allocator, F: InputFault + Drop, E: Engine<A, F>, W: Sink>(
     writer: &mut W,
 ) -> Halt<F>
     requires { W.failed writer.old ≡ false }
-    ensures stops { Stops ((E.text engine.now).last fault ≡ [] → ⊥) ((E.text engine.now).last fault) (Some fault) result (W.contents writer.old) (W.contents writer.new) }
+    ensures stops { Stops ((E.allows engine.now).last fault ≡ [] → ⊥) (λ text closing. (text ≡ (E.allows engine.now).last fault) × (closing ≡ Some fault)) result (W.contents writer.old) (W.contents writer.new) }
     ensures fails { W.failed writer.new ≡ is_failed_write result }
 {
     line.clear();
@@ -105,9 +105,9 @@ fn answer_item<A: Allocator, F: InputFault + Drop, E: Engine<A, F>, W: Sink>(
     writer: &mut W,
 ) -> Next<F>
     requires { W.failed writer.old ≡ false }
-    ensures same { E.text engine.new ≡ E.text engine.old }
+    ensures same { Alike (E.allows engine.old) (E.allows engine.new) }
     ensures step { (before : List (ℕ × E.Item)) → E.stands engine.old before →
-        StepWrites F.refused (E.text engine.old) (E.stands engine.new) before (Ok (Some (number, item))) result (W.contents writer.old) (W.contents writer.new) }
+        StepWrites F.refused (E.allows engine.old) (E.stands engine.new) before (Ok (Some (number, item))) result (W.contents writer.old) (W.contents writer.new) }
     ensures fails { W.failed writer.new ≡ stops_by is_failed_write result }
 {
     line.clear();
@@ -139,10 +139,10 @@ fn answer_next<
     writer: &mut W,
 ) -> Next<F>
     requires { W.failed writer.old ≡ false }
-    ensures same { E.text engine.new ≡ E.text engine.old }
+    ensures same { Alike (E.allows engine.old) (E.allows engine.new) }
     ensures step { (answer : AnswerOf I.Item F) × I.answers items.old answer items.new
         × ((before : List (ℕ × I.Item)) → E.stands engine.old before →
-        StepWrites F.refused (E.text engine.old) (E.stands engine.new) before answer result (W.contents writer.old) (W.contents writer.new)) }
+        StepWrites F.refused (E.allows engine.old) (E.stands engine.new) before answer result (W.contents writer.old) (W.contents writer.new)) }
     ensures fewer { (found : Bool) → result ≡ Next.Wrote found → I.most items.new < I.most items.old }
     ensures fails { W.failed writer.new ≡ stops_by is_failed_write result }
 {
@@ -187,9 +187,9 @@ fn run_on<
     W: Sink,
 >(alloc: A, engine: &mut E, first: &[u8], items: &mut I, writer: &mut W) -> (Ending, Option<F>)
     requires works { W.failed writer.old ≡ false }
-    requires first { first.now ≡ (E.text engine.old).first }
+    requires first { first.now ≡ (E.allows engine.old).first }
     requires fresh { E.stands engine.old [] }
-    ensures text { RunsOver I.answers F.refused F.failed (E.text engine.old) items.old result.0 result.1 items.new (W.contents writer.old) (W.contents writer.new) }
+    ensures text { RunsOver I.answers F.refused F.failed (E.allows engine.old) items.old result.0 result.1 items.new (W.contents writer.old) (W.contents writer.new) }
     ensures fault { W.failed writer.new ≡ is_write_fault result.0 }
 {
     match put_all(writer, first) {
@@ -218,9 +218,9 @@ pub fn run_over<
     W: Sink,
 >(alloc: A, mut engine: E, first: &[u8], mut items: I, writer: &mut W) -> Stopped<I, F>
     requires works { W.failed writer.old ≡ false }
-    requires first { first.now ≡ (E.text engine).first }
+    requires first { first.now ≡ (E.allows engine).first }
     requires fresh { E.stands engine [] }
-    ensures text { RunsOver I.answers F.refused F.failed (E.text engine) items result.ending result.fault result.reader (W.contents writer.old) (W.contents writer.new) }
+    ensures text { RunsOver I.answers F.refused F.failed (E.allows engine) items result.ending result.fault result.reader (W.contents writer.old) (W.contents writer.new) }
     ensures fault { W.failed writer.new ≡ is_write_fault result.ending }
 {
     let (ending, fault) = run_on(alloc, &mut engine, first, &mut items, writer);
@@ -249,10 +249,10 @@ pub fn run_to_stop<
 ) -> Stopped<ItemReader<R, G>, ItemFault<G::Cause>>
     requires open { R.ending reader ≡ InputEnd.Open }
     requires works { W.failed writer.old ≡ false }
-    requires first { first.now ≡ (E.text engine).first }
+    requires first { first.now ≡ (E.allows engine).first }
     requires fresh { E.stands engine [] }
-    ensures text { (given : List ℕ) × GivesOctets (R.left reader) (item_state R.left R.ending result.reader).left given
-        × WritesTo G.rules rules (E.text engine) result.ending (item_state R.left R.ending result.reader).ending given (W.contents writer.old) (W.contents writer.new) result.fault }
+    ensures text { (t : Text G.Item G.Cause) → Alike (E.allows engine) (exactly t) → (given : List ℕ) × GivesOctets (R.left reader) (item_state R.left R.ending result.reader).left given
+        × WritesTo G.rules rules t result.ending (item_state R.left R.ending result.reader).ending given (W.contents writer.old) (W.contents writer.new) result.fault }
     ensures read_fault { result.ending ≡ Ending.ReadFault → (item_state R.left R.ending result.reader).ending ≡ InputEnd.Failed }
     ensures fault { W.failed writer.new ≡ is_write_fault result.ending }
 {
@@ -276,10 +276,10 @@ pub fn run<
 >(alloc: A, rules: G, engine: E, first: &[u8], reader: R, writer: &mut W) -> (Ending, R)
     requires open { R.ending reader ≡ InputEnd.Open }
     requires works { W.failed writer.old ≡ false }
-    requires first { first.now ≡ (E.text engine).first }
+    requires first { first.now ≡ (E.allows engine).first }
     requires fresh { E.stands engine [] }
-    ensures text { (given : List ℕ) × GivesOctets (R.left reader) (R.left result.1) given
-        × Writes G.rules rules (E.text engine) result.0 (R.ending result.1) given (W.contents writer.old) (W.contents writer.new) }
+    ensures text { (t : Text G.Item G.Cause) → Alike (E.allows engine) (exactly t) → (given : List ℕ) × GivesOctets (R.left reader) (R.left result.1) given
+        × Writes G.rules rules t result.0 (R.ending result.1) given (W.contents writer.old) (W.contents writer.new) }
     ensures read_fault { result.0 ≡ Ending.ReadFault → R.ending result.1 ≡ InputEnd.Failed }
     ensures fault { W.failed writer.new ≡ is_write_fault result.0 }
 {

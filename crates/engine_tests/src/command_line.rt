@@ -2,7 +2,7 @@
 
 use crate::blocks::{Fields, has_fields};
 use clap::error::ErrorKind;
-use goose_cmd::{Request, Task, WordsError, read_request, read_words};
+use goose_cmd::{Options, Request, Task, WordsError, Writing, read_request, read_words};
 use std::test::Fail;
 
 // The name of the task that these words ask for, or `none`.
@@ -210,6 +210,15 @@ fn each_refusal_has_its_kind(rt: HostRuntime) -> Result<(), Fail> {
     Ok(())
 }
 
+// Whether these are the options: on the input, and whether lines have dates.
+fn are_options(options: &Options, is_capture: bool, skips_other: bool, is_dated: bool) -> bool {
+    let has_dates = match options.writes {
+        Writing::Lines | Writing::Objects => false,
+        Writing::Dated => true,
+    };
+    options.is_capture == is_capture && options.skips_other == skips_other && has_dates == is_dated
+}
+
 // The name of the task that these words ask for with these options, or `none`.
 fn request_named(
     rt: &HostRuntime,
@@ -313,6 +322,57 @@ fn a_request_has_its_options(rt: HostRuntime) -> Result<(), Fail> {
     Ok(())
 }
 
+// Words that ask for dates, on a capture.
+const DATED: [&[&str]; 6] = [
+    &["goose", "show", "--time", "--capture"],
+    &["goose", "check", "--capture", "--time", "--"],
+    &["goose", "blocks", "--capture", "--time"],
+    &["goose", "replay", "0001,G,D,,1,1", "--time", "--capture"],
+    &[
+        "goose",
+        "replay",
+        "--capture",
+        "--time",
+        "--",
+        "0001,G,D,,1,1",
+    ],
+    &[
+        "goose",
+        "watch",
+        "--time",
+        "--id=S",
+        "--period=5",
+        "--capture",
+    ],
+];
+
+#[test]
+fn a_request_has_dates(rt: HostRuntime) -> Result<(), Fail> {
+    let mut case = 0u32;
+    for words in DATED {
+        let is_dated = match read_request(rt.alloc(), words) {
+            Ok(request) => are_options(&request.options, true, false, true),
+            Err(_) => false,
+        };
+        assert!(rt; is_dated, "case {case}");
+        case = case.saturating_add(1);
+    }
+    Ok(())
+}
+
+#[test]
+fn a_request_has_objects(rt: HostRuntime) -> Result<(), Fail> {
+    let words = ["goose", "check", "--skip-other", "--json"];
+    let has_objects = match read_request(rt.alloc(), words.as_slice()) {
+        Ok(request) => {
+            request.options.skips_other && matches!(&request.options.writes, Writing::Objects)
+        }
+        Err(_) => false,
+    };
+    assert!(rt; has_objects);
+    Ok(())
+}
+
 // Whether the options are refused where they are offered, by this kind of error.
 fn is_no_request(rt: &HostRuntime, words: &[&str], kind: ErrorKind) -> bool {
     match read_request(rt.alloc(), words) {
@@ -322,7 +382,7 @@ fn is_no_request(rt: &HostRuntime, words: &[&str], kind: ErrorKind) -> bool {
 }
 
 // Words with options that are refused, and by which kind of error.
-const NO_REQUESTS: [(&[&str], ErrorKind); 11] = [
+const NO_REQUESTS: [(&[&str], ErrorKind); 16] = [
     (
         &["goose", "rewrite", "--capture"],
         ErrorKind::UnknownArgument,
@@ -357,6 +417,21 @@ const NO_REQUESTS: [(&[&str], ErrorKind); 11] = [
     (
         &["goose", "watch", "--id", "--capture", "--period", "5"],
         ErrorKind::InvalidValue,
+    ),
+    (&["goose", "rewrite", "--time"], ErrorKind::UnknownArgument),
+    (&["goose", "import", "--json"], ErrorKind::UnknownArgument),
+    // Dates and objects exclude each other, also where a text says no block.
+    (
+        &["goose", "watch", "--json", "--id=S", "--period=5", "--time"],
+        ErrorKind::ArgumentConflict,
+    ),
+    (
+        &["goose", "replay", "--time", "x", "--json"],
+        ErrorKind::ArgumentConflict,
+    ),
+    (
+        &["goose", "blocks", "--time", "--time"],
+        ErrorKind::ArgumentConflict,
     ),
     (&["goose", "show", "--help"], ErrorKind::DisplayHelp),
 ];

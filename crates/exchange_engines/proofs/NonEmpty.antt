@@ -4,37 +4,36 @@ use Rattle.std.specs.Prelude.{if◌then◌else◌}
 use Rattle.std.specs.Fmt.{decimal}
 use Rattle.std.specs.Str.{bytes_eq}
 use Rattle.pdu_core.specs.declared.sampled.asdu.Asdu.{Asdu}
-use Rattle.subscribe_core.specs.declared.entry.Entry.{Entry}
-use Rattle.subscribe_core.specs.declared.entry.Entry.TheVariants as says
 use Rattle.subscribe_core.specs.declared.watch.Seen.{Seen}
 use Rattle.list_core.proofs.Emptiness.{back_nil, front_nil}
-use Rattle.exchange_engines.specs.EntryText.{entry_line, entry_lines}
 use Rattle.text_core.proofs.NonEmpty.{IsThere, ends, fault_there}
-use Rattle.exchange_engines.specs.SampleLine.{Sample, sample_line}
-use Rattle.exchange_engines.specs.WatchText.{sample_at, sample_lines, samples_from}
+use Rattle.exchange_engines.specs.SampleLine.{Sample}
+use Rattle.exchange_engines.specs.WatchText.{Telling, sample_at, sample_lines, samples_from, telling}
+use Rattle.exchange_engines.specs.computed.WatchStep.{Tells}
+use Rattle.std.specs.Prelude.{codes}
+use Rattle.object_core.specs.EventObject.{event_fields, fault_fields}
+use Rattle.object_core.specs.Objects.{Field, object, object_line}
+use Rattle.exchange_engines.specs.SampleObject.{missing_fields, seen_kind}
+use Rattle.object_core.specs.declared.counted.Form.{Form}
+use Rattle.object_core.specs.declared.counted.Form.TheVariants.{Text as Lines, Object}
 
-entry_there : {A : Type 0} (n : ℕ) (x : Entry A) → IsThere (entry_line n x)
-entry_there n (says.Expired block) e = ends _ e
-entry_there n (says.Switched block) e = ends _ e
-entry_there n (says.Act block state sequence t members) e = ends _ e
-entry_there n (says.Refreshed block state sequence) e = ends _ e
-entry_there n (says.Repeated block state sequence) e = ends _ e
-entry_there n (says.Older block state sequence) e = ends _ e
-entry_there n (says.Refused block reason) e = ends _ e
-entry_there n says.NotSubscribed e = let h = back_nil (decimal n) _ e in cc
-entry_there n says.Sampled e = let h = back_nil (decimal n) _ e in cc
-entry_there n (says.Faulty f) e = fault_there n f e
+-- an object has its end
+pub object_there : (fields : List Field) → IsThere (object_line fields)
+object_there fields = ends (object fields)
 
--- no line is written only where there is no entry
-pub no_entry : {A : Type 0} (n : ℕ) (entries : List (Entry A)) → entry_lines n entries ≡ [] → entries ≡ []
-no_entry n [] e = refl
-no_entry n (x ∷ entries) e = absurd (entry_there n x (front_nil (entry_line n x) _ e))
+-- what is told of a sample and of a fault is not empty
+pub each_told : (form : Form) (n moment : ℕ) → Tells (telling form n moment)
+each_told Lines n moment = record { of_sample = λ s a. ends _; of_fault = λ f. fault_there n f }
+each_told (Object counted) n moment = record {
+  of_sample = λ s a. object_there (event_fields counted n moment (seen_kind a) ++ (codes "asdu", decimal s.position) ∷ (codes "smpCnt", decimal s.count) ∷ missing_fields a);
+  of_fault = λ f. object_there (event_fields counted n moment (codes "fault") ++ fault_fields f);
+}
 
 -- no line is written only where there is no sample
-pub no_sample : (n : ℕ) (samples : List Sample) (answers : List Seen) → length answers ≡ length samples → sample_lines n samples answers ≡ [] → samples ≡ []
-no_sample n [] answers same e = refl
-no_sample n (s ∷ samples) [] same e = cc
-no_sample n (s ∷ samples) (a ∷ answers) same e = absurd (ends _ (front_nil (sample_line n s a) _ e))
+pub no_sample : (how : Telling) → Tells how → (samples : List Sample) (answers : List Seen) → length answers ≡ length samples → sample_lines how samples answers ≡ [] → samples ≡ []
+no_sample how tells [] answers same e = refl
+no_sample how tells (s ∷ samples) [] same e = cc
+no_sample how tells (s ∷ samples) (a ∷ answers) same e = absurd (tells.of_sample s a (front_nil (how.of_sample s a) _ e))
 
 none_by : (is : Bool) (x y : Sample) → (if is then x ∷ [] else []) ≡ [] → (if is then y ∷ [] else []) ≡ []
 none_by true x y e = cc

@@ -31,7 +31,7 @@ use Rattle.list_core.specs.declared.line_rules.LineError.{LineError}
 use Rattle.list_core.specs.declared.line_rules.LineError.TheVariants as line
 use Rattle.list_core.specs.declared.line_rules.ItemFault.TheVariants as of_line
 use Rattle.engine_core.specs.computed.EngineStep.{Takes}
-use Rattle.engine_core.specs.EngineText.{step_text}
+use Rattle.engine_core.specs.EngineText.{exactly, step_text}
 use Rattle.exchange_engines.specs.PublishText.{IsCallText, IsPublishText, IsScriptSound, answer_text, item_of_request, item_of_call, items_of_lines, script_cause, script_of}
 use Rattle.exchange_engines.specs.computed.PublishStep.{Progress, nothing, setting_up, calling, Holds, Runs, RunsPublisher, TakesCall, TakesItem, call_at, call_written, called, is_good, item_written, next_progress, progress_after, progress_from, publish_text, setup_cause, state_after_calls, text_unless_refused, unless_unsound, with_step}
 
@@ -269,5 +269,5 @@ poll_is {A} g held s m (Err (line.Memory x)) old new w takes = λ n none.
 
 -- an item was taken, and the engine stands after it
 pub publishes : {A : Type 0} (before : List (ℕ × ScriptItem A)) (n : ℕ) (i : ScriptItem A) (s : Stage A) (old new : List ℕ) → TakesItem (progress_after before) i (Ok tt) s old new →
-    Takes of_line.Line publish_text (λ (items : List (ℕ × ScriptItem A)). Holds s (progress_after items)) before (n, i) (Ok false) old new
+    Takes of_line.Line (exactly publish_text) (λ (items : List (ℕ × ScriptItem A)). Holds s (progress_after items)) before (n, i) (Ok false) old new
 publishes before n i s old new t = record { text = t.text; has_text = t.has_text; appended = t.appended; stands_after = subst (Holds s) (sym (progress-push before (n, i))) t.holds }

@@ -31,7 +31,7 @@ use Rattle.exchange_engines.specs.PublishText.{answer_text}
 use Rattle.exchange_engines.specs.computed.ReplayStep.{replay_text}
 use Rattle.exchange_engines.specs.ReplayText.{twice_line}
 use Rattle.exchange_engines.specs.computed.WatchStep.{watch_text}
-use Rattle.exchange_engines.specs.WatchText.{sample_lines}
+use Rattle.exchange_engines.specs.WatchText.{in_lines, sample_lines}
 
 -- ---- lists
 
@@ -75,7 +75,7 @@ are_sampled = record { watched = refl; finds = refl; other_stream = refl }
 -- ---- samples and single lines
 
 pub record AreLines : Type 0 where
-  pub watched : sample_lines 4 (record { position = 0; count = 7 } ∷ record { position = 1; count = 10 } ∷ []) (seen.First ∷ seen.Skipped 2 ∷ []) ≡ codes "4 0 7 first\n4 1 10 skipped 2\n"
+  pub watched : sample_lines (in_lines 4) (record { position = 0; count = 7 } ∷ record { position = 1; count = 10 } ∷ []) (seen.First ∷ seen.Skipped 2 ∷ []) ≡ codes "4 0 7 first\n4 1 10 skipped 2\n"
   pub nothing_sent : answer_text {A = Unit {0}} 7 None ≡ []
   pub twice : twice_line 1 ≡ codes "blocks SameBlockTwice 1\n"
 

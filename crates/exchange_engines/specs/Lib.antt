@@ -3,7 +3,9 @@ pub mod ReplayText
 pub mod WatchText
 pub mod PublishText
 pub mod EntryText
+pub mod EntryObject
 pub mod ScriptFaultLine
 pub mod SampleLine
+pub mod SampleObject
 pub mod computed
 pub mod ScriptLaws

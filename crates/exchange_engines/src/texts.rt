@@ -1,6 +1,8 @@
 //! The texts that these engines alone write.
 
 pub mod entry;
+pub mod entry_object;
 pub mod names;
+pub mod sample_object;
 pub mod script;
 pub mod watched;

@@ -1,6 +1,7 @@
 -- What is noted of a frame that was read.
-use Rattle.std.proofs.Common.{◌≡◌, ◌++◌, ℕ, List, [], Bool, true, false, Ok, Err, Result, ap, sym, ◌∙◌, refl}
-use Rattle.std.specs.Prelude.{Option, Some, None, ◌≢◌, ◌∷◌, ◌↔◌, IsErr, OnOk, codes, if◌then◌else◌, length}
+use Rattle.std.proofs.Common.{◌≡◌, ◌++◌, ℕ, List, [], Bool, true, false, Ok, Err, Result, ap, sym, ◌∙◌, refl, arith, length-append}
+use Rattle.std.specs.Prelude.{Option, Some, None, ◌≢◌, ◌∷◌, ◌↔◌, IsErr, OnOk, codes, if◌then◌else◌, length, nat_lt}
+use Rattle.std.proofs.lemmas.Bool.Decides.{nat_tests}
 use Rattle.std.specs.Fmt.{decimal}
 use Rattle.std.specs.Str.{bytes_eq}
 use Rattle.std.proofs.lemmas.List.{append_assoc}
@@ -13,17 +14,31 @@ use Rattle.frame_core.specs.FrameViews.{frame_of}
 use Rattle.frame_core.specs.computed.FrameReading.{frame_at}
 use Rattle.frame_core.specs.Written.{ApduIsSpellable, IsTooLong, written_frame}
 use Rattle.frame_core.specs.computed.WrittenTest.{fits}
-use Rattle.frame_engines.specs.CheckText.{frame_notes, goes_where_recommended, is_form, note_unless, octets_notes}
+use Rattle.object_core.specs.declared.counted.Form.{Form}
+use Rattle.object_core.specs.declared.counted.Form.TheVariants.{Text, Object}
+use Rattle.frame_engines.specs.declared.engines.check.Note.{Note}
+use Rattle.frame_engines.specs.declared.engines.check.Note.TheVariants.{NotWritten, Destination}
+use Rattle.list_core.specs.declared.event.EventKind.TheVariants as kind
+use Rattle.frame_engines.specs.computed.InForm.{note_in, octets_notes_in}
+use Rattle.frame_engines.specs.CheckObject.{notes_in}
+use Rattle.frame_engines.specs.CheckText.{has_text, is_form}
 use Rattle.frame_engines.specs.WrittenForm.{fitting_form}
 use Rattle.list_core.proofs.Emptiness.{back_nil, front_nil}
 use Rattle.text_core.specs.Pieces.{AppendsText}
 use Rattle.text_core.proofs.Fronts.{grown}
 use Rattle.frame_engines.proofs.RewriteLemmas.{form_known, form_seen}
 
--- nothing is noted only where all holds
-pub all_holds : (holds : Bool) (n c : ℕ) (word : List ℕ) → note_unless holds n (c ∷ word) ≡ [] → holds ≡ true
-all_holds true n c word e = refl
-all_holds false n c word e = let h = back_nil (decimal n) _ e in cc
+-- nothing is noted only where it holds
+pub note_holds : (form : Form) (n moment : ℕ) (note : Note) (holds : Bool) → note_in form n moment note holds ≡ [] → holds ≡ true
+note_holds form n moment note true e = refl
+note_holds Text n moment NotWritten false e = let h = back_nil (decimal n) (codes " not-written\n") e in cc
+note_holds Text n moment Destination false e = let h = back_nil (decimal n) (codes " destination\n") e in cc
+note_holds (Object counted) n moment note false e = cc
+
+-- a text was appended to so many octets, where there is one
+pub text_there : (n m : ℕ) (old new text : List ℕ) → n ≡ length old → m ≡ length new → new ≡ old ++ text → nat_lt n m ≡ has_text text
+text_there n m old new [] p q e = let same = ap length e in let none = length-append old [] in grind (arith, nat_tests)
+text_there n m old new (c ∷ text) p q e = let same = ap length e in let more = length-append old (c ∷ text) in grind (arith, nat_tests)
 
 -- what was written is compared with the octets
 pub form_compared : {A : Type 0} (f : Frame A) (form octets : List ℕ) (r : Result (Unit {0}) Full) (u : Unit {0}) (same : Bool) → ApduIsSpellable f.apdu → (IsErr r ↔ IsTooLong f)
@@ -49,24 +64,7 @@ another_length f octets differ = in_case (fits f) where
   in_case true = not_so (bytes_eq (written_frame f) octets) (λ same. differ (ap length ((bytes_eq-Decides (written_frame f) octets).0 same)))
   in_case false = refl
 
--- both notes, one after the other
-pub both_noted : {E : Type 0} (n : ℕ) (octets : List ℕ) (v : FrameView) (form to : Bool) (before mid after : List ℕ) (r : Result (Unit {0}) E)
-    → frame_at octets ≡ Ok (frame_of {A = Unit {0}} v) → form ≡ is_form (fitting_form (Ok (frame_of {A = Unit {0}} v))) octets → to ≡ goes_where_recommended (frame_of {A = Unit {0}} v)
-    → mid ≡ before ++ note_unless form n (codes " not-written\n") → AppendsText r mid after (note_unless to n (codes " destination\n"))
-    → AppendsText r before after (octets_notes n octets)
-both_noted n octets v form to before mid after (Ok u) read a b m l =
-    l ∙ ap (λ (x : List ℕ). x ++ note_unless to n (codes " destination\n")) m
-    ∙ append_assoc before (note_unless form n (codes " not-written\n")) (note_unless to n (codes " destination\n"))
-    ∙ ap (λ (x : List ℕ). before ++ x)
-    (ap (λ (x : Bool). note_unless x n (codes " not-written\n") ++ note_unless to n (codes " destination\n")) a
-    ∙ ap (λ (x : Bool). note_unless (is_form (fitting_form (Ok (frame_of {A = Unit {0}} v))) octets) n (codes " not-written\n") ++ note_unless x n (codes " destination\n")) b
-    ∙ ap (λ (x : Result (Frame (Unit {0})) Fault). frame_notes n octets x) (sym read))
-both_noted n octets v form to before mid after (Err x) read a b m l = grown before mid after (note_unless form n (codes " not-written\n")) m l
-
--- where nothing is noted, both hold
-pub both_hold : (n : ℕ) (octets : List ℕ) (v : FrameView) (form to : Bool)
-    → frame_at octets ≡ Ok (frame_of {A = Unit {0}} v) → form ≡ is_form (fitting_form (Ok (frame_of {A = Unit {0}} v))) octets → to ≡ goes_where_recommended (frame_of {A = Unit {0}} v)
-    → octets_notes n octets ≡ [] → (form ≡ true) × (to ≡ true)
-both_hold n octets v form to read a b none =
-    let both = ap (frame_notes {A = Unit {0}} n octets) (sym read) ∙ none in
-    (a ∙ all_holds _ n _ _ (front_nil _ _ both), b ∙ all_holds _ n _ _ (back_nil _ _ both))
+-- what is noted of the event of a frame is what is noted of its octets
+pub notes_of_frame : (A : Type 0) (form : Form) (n moment : ℕ) (octets : List ℕ) → octets_notes_in form n moment octets ≡ notes_in {A = A} form n moment (kind.Frame octets)
+notes_of_frame A Text n moment octets = refl
+notes_of_frame A (Object counted) n moment octets = refl

@@ -6,3 +6,7 @@ pub mod ImportLemmas
 pub mod ImportedLists
 pub mod WorkedLines
 pub mod WorkedExamples
+pub mod ObjectTexts
+pub mod GooseFields
+pub mod AsduFields
+pub mod FrameObjects

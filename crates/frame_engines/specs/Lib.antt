@@ -4,5 +4,8 @@ pub mod WrittenForm
 pub mod CheckText
 pub mod ImportText
 pub mod FrameText
+pub mod FrameObject
+pub mod ShowObject
+pub mod CheckObject
 pub mod Laws
 pub mod computed

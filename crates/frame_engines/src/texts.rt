@@ -1,3 +1,6 @@
-//! The texts that these engines alone write.
+//! The texts and objects that these engines alone write.
 
+pub mod event_object;
 pub mod frame;
+pub mod frame_object;
+pub mod sampled_object;

@@ -1,4 +1,4 @@
-//! Tasks over events that a capture has, or of which the frames of other protocols are passed over.
+//! Tasks over events that any reader has, in a style.
 ghost use Rattle.std.specs.Prelude.{◌≡◌, false, option_map};
 ghost use Rattle.block_core.specs.Period.{IsPeriod};
 ghost use Rattle.engine_core.specs.Ending.{is_write_fault};
@@ -6,11 +6,12 @@ ghost use Rattle.words_core.specs.CommandLine.{Asked, check, list_blocks, replay
 ghost use Rattle.goose.specs.EventTasks.{OverWrites};
 
 use block_core::Block;
-use engine_core::Stopped;
+use engine_core::{Stopped, Style};
 use exchange_engines::{ReplayStop, replay_over, watch_over};
 use frame_core::{Event, InputFault, ReadItems, Sink};
 use frame_engines::{check_over, show_over};
 use inventory_engine::blocks_over;
+use object_core::LastObject;
 use std::alloc::Global;
 use text_core::LastLine;
 
@@ -19,14 +20,14 @@ pub trait EventTask {
     /// What is asked for.
     ghost asked: { Self → Asked };
 
-    /// Writes what is asked for of the events of a reader, and hands out how that ended, why, and the reader.
+    /// Writes what is asked for of the events of a reader in a style, and hands out how that ended, why, and the reader.
     fn over<
-        F: InputFault + LastLine + Drop,
+        F: InputFault + LastLine + LastObject + Drop,
         I: ReadItems<Global, Item = Event<Global>, Fault = F>,
         W: Sink,
-    >(self, alloc: Global, events: I, writer: &mut W) -> Stopped<I, ReplayStop<F>>
+    >(self, alloc: Global, style: Style, events: I, writer: &mut W) -> Stopped<I, ReplayStop<F>>
         requires works { W.failed writer.old ≡ false }
-        ensures text { OverWrites (asked self) I.answers F.refused F.failed F.last_line events result.ending result.fault result.reader (W.contents writer.old) (W.contents writer.new) }
+        ensures text { OverWrites style (asked self) I.answers F.refused F.failed F.last_line F.last_object events result.ending result.fault result.reader (W.contents writer.old) (W.contents writer.new) }
         ensures fault { W.failed writer.new ≡ is_write_fault result.ending };
 }
 
@@ -61,11 +62,11 @@ impl EventTask for Shows {
 
     #[inline(never)]
     fn over<
-        F: InputFault + LastLine + Drop,
+        F: InputFault + LastLine + LastObject + Drop,
         I: ReadItems<Global, Item = Event<Global>, Fault = F>,
         W: Sink,
-    >(self, alloc: Global, events: I, writer: &mut W) -> Stopped<I, ReplayStop<F>> {
-        of_input(show_over(alloc, events, writer))
+    >(self, alloc: Global, style: Style, events: I, writer: &mut W) -> Stopped<I, ReplayStop<F>> {
+        of_input(show_over(alloc, style, events, writer))
     }
 }
 
@@ -78,11 +79,11 @@ impl EventTask for Checks {
 
     #[inline(never)]
     fn over<
-        F: InputFault + LastLine + Drop,
+        F: InputFault + LastLine + LastObject + Drop,
         I: ReadItems<Global, Item = Event<Global>, Fault = F>,
         W: Sink,
-    >(self, alloc: Global, events: I, writer: &mut W) -> Stopped<I, ReplayStop<F>> {
-        of_input(check_over(alloc, events, writer))
+    >(self, alloc: Global, style: Style, events: I, writer: &mut W) -> Stopped<I, ReplayStop<F>> {
+        of_input(check_over(alloc, style, events, writer))
     }
 }
 
@@ -95,11 +96,11 @@ impl EventTask for ListsBlocks {
 
     #[inline(never)]
     fn over<
-        F: InputFault + LastLine + Drop,
+        F: InputFault + LastLine + LastObject + Drop,
         I: ReadItems<Global, Item = Event<Global>, Fault = F>,
         W: Sink,
-    >(self, alloc: Global, events: I, writer: &mut W) -> Stopped<I, ReplayStop<F>> {
-        of_input(blocks_over(alloc, events, writer))
+    >(self, alloc: Global, style: Style, events: I, writer: &mut W) -> Stopped<I, ReplayStop<F>> {
+        of_input(blocks_over(alloc, style, events, writer))
     }
 }
 
@@ -117,12 +118,12 @@ impl EventTask for Replays<'_> {
 
     #[inline(never)]
     fn over<
-        F: InputFault + LastLine + Drop,
+        F: InputFault + LastLine + LastObject + Drop,
         I: ReadItems<Global, Item = Event<Global>, Fault = F>,
         W: Sink,
-    >(self, alloc: Global, events: I, writer: &mut W) -> Stopped<I, ReplayStop<F>> {
+    >(self, alloc: Global, style: Style, events: I, writer: &mut W) -> Stopped<I, ReplayStop<F>> {
         let Replays { blocks, heard } = self;
-        replay_over(alloc, events, blocks, heard, writer)
+        replay_over(alloc, style, events, blocks, heard, writer)
     }
 }
 
@@ -141,11 +142,11 @@ impl EventTask for Watches<'_> {
 
     #[inline(never)]
     fn over<
-        F: InputFault + LastLine + Drop,
+        F: InputFault + LastLine + LastObject + Drop,
         I: ReadItems<Global, Item = Event<Global>, Fault = F>,
         W: Sink,
-    >(self, alloc: Global, events: I, writer: &mut W) -> Stopped<I, ReplayStop<F>> {
+    >(self, alloc: Global, style: Style, events: I, writer: &mut W) -> Stopped<I, ReplayStop<F>> {
         let Watches { period, id } = self;
-        of_input(watch_over(alloc, events, period, id, writer))
+        of_input(watch_over(alloc, style, events, period, id, writer))
     }
 }

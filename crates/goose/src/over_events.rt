@@ -1,22 +1,28 @@
-//! Tasks over the events of a capture, or over what is left of events where frames of other protocols are passed over. Each
-//! reader of events has a function of its own, so that it takes its room on the stack only where it is read.
-ghost use Rattle.std.specs.Prelude.{◌≡◌, ◌||◌, ℕ, List, false, true};
+//! Tasks by options: over the events of a list or of a capture, or over what is left of them where frames of other protocols are
+//! passed over, in a style. Each reader of events has a function of its own, so that it takes its room on the stack only where it is read.
+ghost use Rattle.std.specs.Prelude.{◌≡◌, ℕ, List, false, true};
 ghost use Rattle.list_core.specs.declared.device.InputEnd.{InputEnd};
 ghost use Rattle.list_core.specs.Device.{GivesOctets};
+ghost use Rattle.engine_core.specs.declared.ending.Ending.{Ending};
 ghost use Rattle.engine_core.specs.Ending.{is_write_fault};
 ghost use Rattle.goose.specs.EventTasks.{EventsLeave};
-ghost use Rattle.goose.specs.RequestText.{EventsWrite, OfCapture, OfList, made_by};
+ghost use Rattle.goose.specs.RequestText.{EventsWrite, OfCapture, OfList, made_by, style_of};
 
 use crate::event_tasks::EventTask;
-use crate::performed::{Performed, of_packets, of_passed_events, of_passed_packets};
+use crate::performed::{
+    Performed, of_packets, of_passed_events, of_passed_packets, of_styled_events,
+};
 use capture_core::PacketReader;
+use engine_core::Style;
 use frame_core::{EventLines, ItemReader, Sink, SkipOther, Source};
+use object_core::{Counted, Form};
 use std::alloc::Global;
-use words_core::Options;
+use words_core::{Options, Writing};
 
 #[inline(never)]
-fn over_capture<T: EventTask, R: Source, W: Sink>(
+fn over_list<T: EventTask, R: Source, W: Sink>(
     alloc: Global,
+    style: Style,
     task: T,
     reader: R,
     writer: &mut W,
@@ -24,15 +30,36 @@ fn over_capture<T: EventTask, R: Source, W: Sink>(
     requires open { R.ending reader ≡ InputEnd.Open }
     requires works { W.failed writer.old ≡ false }
     ensures text { (given : List ℕ) × GivesOctets (R.left reader) (R.left result.reader) given
-        × EventsLeave (T.asked task) (OfCapture (made_by false) result.ending (R.ending result.reader) given (W.contents writer.old) (W.contents writer.new)) result.ending (R.ending result.reader) given (W.contents writer.old) (W.contents writer.new) }
+        × EventsLeave style (T.asked task) (OfList style (made_by false) result.ending (R.ending result.reader) given (W.contents writer.old) (W.contents writer.new)) result.ending (R.ending result.reader) given (W.contents writer.old) (W.contents writer.new) }
+    ensures read_fault { result.ending ≡ Ending.ReadFault → R.ending result.reader ≡ InputEnd.Failed }
     ensures fault { W.failed writer.new ≡ is_write_fault result.ending }
 {
-    of_packets(task.over(alloc, PacketReader::new(alloc, reader), writer))
+    let events = ItemReader::new(reader, EventLines::First);
+    of_styled_events(task.over(alloc, style, events, writer))
+}
+
+#[inline(never)]
+fn over_capture<T: EventTask, R: Source, W: Sink>(
+    alloc: Global,
+    style: Style,
+    task: T,
+    reader: R,
+    writer: &mut W,
+) -> Performed<R>
+    requires open { R.ending reader ≡ InputEnd.Open }
+    requires works { W.failed writer.old ≡ false }
+    ensures text { (given : List ℕ) × GivesOctets (R.left reader) (R.left result.reader) given
+        × EventsLeave style (T.asked task) (OfCapture style (made_by false) result.ending (R.ending result.reader) given (W.contents writer.old) (W.contents writer.new)) result.ending (R.ending result.reader) given (W.contents writer.old) (W.contents writer.new) }
+    ensures read_fault { result.ending ≡ Ending.ReadFault → R.ending result.reader ≡ InputEnd.Failed }
+    ensures fault { W.failed writer.new ≡ is_write_fault result.ending }
+{
+    of_packets(task.over(alloc, style, PacketReader::new(alloc, reader), writer))
 }
 
 #[inline(never)]
 fn over_passed_capture<T: EventTask, R: Source, W: Sink>(
     alloc: Global,
+    style: Style,
     task: T,
     reader: R,
     writer: &mut W,
@@ -40,16 +67,18 @@ fn over_passed_capture<T: EventTask, R: Source, W: Sink>(
     requires open { R.ending reader ≡ InputEnd.Open }
     requires works { W.failed writer.old ≡ false }
     ensures text { (given : List ℕ) × GivesOctets (R.left reader) (R.left result.reader) given
-        × EventsLeave (T.asked task) (OfCapture (made_by true) result.ending (R.ending result.reader) given (W.contents writer.old) (W.contents writer.new)) result.ending (R.ending result.reader) given (W.contents writer.old) (W.contents writer.new) }
+        × EventsLeave style (T.asked task) (OfCapture style (made_by true) result.ending (R.ending result.reader) given (W.contents writer.old) (W.contents writer.new)) result.ending (R.ending result.reader) given (W.contents writer.old) (W.contents writer.new) }
+    ensures read_fault { result.ending ≡ Ending.ReadFault → R.ending result.reader ≡ InputEnd.Failed }
     ensures fault { W.failed writer.new ≡ is_write_fault result.ending }
 {
     let packets = SkipOther::new(PacketReader::new(alloc, reader));
-    of_passed_packets(task.over(alloc, packets, writer))
+    of_passed_packets(task.over(alloc, style, packets, writer))
 }
 
 #[inline(never)]
 fn over_passed_list<T: EventTask, R: Source, W: Sink>(
     alloc: Global,
+    style: Style,
     task: T,
     reader: R,
     writer: &mut W,
@@ -57,15 +86,28 @@ fn over_passed_list<T: EventTask, R: Source, W: Sink>(
     requires open { R.ending reader ≡ InputEnd.Open }
     requires works { W.failed writer.old ≡ false }
     ensures text { (given : List ℕ) × GivesOctets (R.left reader) (R.left result.reader) given
-        × EventsLeave (T.asked task) (OfList result.ending (R.ending result.reader) given (W.contents writer.old) (W.contents writer.new)) result.ending (R.ending result.reader) given (W.contents writer.old) (W.contents writer.new) }
+        × EventsLeave style (T.asked task) (OfList style (made_by true) result.ending (R.ending result.reader) given (W.contents writer.old) (W.contents writer.new)) result.ending (R.ending result.reader) given (W.contents writer.old) (W.contents writer.new) }
+    ensures read_fault { result.ending ≡ Ending.ReadFault → R.ending result.reader ≡ InputEnd.Failed }
     ensures fault { W.failed writer.new ≡ is_write_fault result.ending }
 {
     let events = SkipOther::new(ItemReader::new(reader, EventLines::First));
-    of_passed_events(task.over(alloc, events, writer))
+    of_passed_events(task.over(alloc, style, events, writer))
 }
 
-/// Does what a task asks for over the events of a capture, or over what is left of events where frames of other protocols are
-/// passed over, or both.
+// The style that options ask for.
+fn style_of(options: Options) -> Style
+    ensures { result ≡ style_of options }
+{
+    match options.writes {
+        Writing::Lines => Style::Lines(Form::Text),
+        Writing::Dated => Style::Dated,
+        Writing::Objects if options.is_capture => Style::Lines(Form::Object(Counted::Packet)),
+        Writing::Objects => Style::Lines(Form::Object(Counted::Line)),
+    }
+}
+
+/// Does what a task asks for by its options: over the events of a capture in place of a list, over what is left of events where
+/// frames of other protocols are passed over, and in the style that is asked for.
 pub fn over_events<T: EventTask, R: Source, W: Sink>(
     alloc: Global,
     options: Options,
@@ -75,14 +117,16 @@ pub fn over_events<T: EventTask, R: Source, W: Sink>(
 ) -> Performed<R>
     requires open { R.ending reader ≡ InputEnd.Open }
     requires works { W.failed writer.old ≡ false }
-    requires given { options.is_capture || options.skips_other ≡ true }
     ensures text { (given : List ℕ) × GivesOctets (R.left reader) (R.left result.reader) given
-        × EventsWrite options.is_capture options.skips_other (T.asked task) result.ending (R.ending result.reader) given (W.contents writer.old) (W.contents writer.new) }
+        × EventsWrite options (T.asked task) result.ending (R.ending result.reader) given (W.contents writer.old) (W.contents writer.new) }
+    ensures read_fault { result.ending ≡ Ending.ReadFault → R.ending result.reader ≡ InputEnd.Failed }
     ensures fault { W.failed writer.new ≡ is_write_fault result.ending }
 {
+    let style = style_of(options);
     match (options.is_capture, options.skips_other) {
-        (false, _) => over_passed_list(alloc, task, reader, writer),
-        (true, false) => over_capture(alloc, task, reader, writer),
-        (true, true) => over_passed_capture(alloc, task, reader, writer),
+        (false, false) => over_list(alloc, style, task, reader, writer),
+        (false, true) => over_passed_list(alloc, style, task, reader, writer),
+        (true, false) => over_capture(alloc, style, task, reader, writer),
+        (true, true) => over_passed_capture(alloc, style, task, reader, writer),
     }
 }

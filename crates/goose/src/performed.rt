@@ -233,6 +233,46 @@ pub fn of_passed_packets<R: Source>(
     }
 }
 
+// What is told of why a task over the events of a list stopped.
+fn told_of_events<R: Source>(
+    why: Option<ReplayStop<ItemFault<ListCause>>>,
+    events: &ItemReader<R, EventLines>,
+) -> Option<Told> {
+    match why {
+        Some(ReplayStop::Input(fault)) => {
+            let fault = fault_of_list(&fault);
+            Some(told_of(Stop::List(fault), fault.line, events))
+        }
+        Some(ReplayStop::SameBlockTwice(position)) => {
+            Some(told_at(Stop::SameBlockTwice(position), b""))
+        }
+        None => None,
+    }
+}
+
+/// What a task leaves that ran over the events of a list, in a style.
+#[inline(never)]
+pub fn of_styled_events<R: Source>(
+    stopped: Stopped<ItemReader<R, EventLines>, ReplayStop<ItemFault<ListCause>>>,
+) -> Performed<R>
+    ensures ending { result.ending ≡ stopped.ending }
+    ensures left { R.left result.reader ≡ (item_state R.left R.ending stopped.reader).left }
+    ensures source { R.ending result.reader ≡ (item_state R.left R.ending stopped.reader).ending }
+{
+    let Stopped {
+        ending,
+        fault,
+        reader,
+    } = stopped;
+    let told = told_of_events(fault, &reader);
+    Performed {
+        ending,
+        told,
+        passed: None,
+        reader: reader.into_reader(),
+    }
+}
+
 /// What a task leaves that ran over what is left of the events of a list.
 #[inline(never)]
 pub fn of_passed_events<R: Source>(
@@ -252,16 +292,7 @@ pub fn of_passed_events<R: Source>(
         reader,
     } = stopped;
     let (events, passed) = reader.into_parts();
-    let told = match fault {
-        Some(ReplayStop::Input(fault)) => {
-            let fault = fault_of_list(&fault);
-            Some(told_of(Stop::List(fault), fault.line, &events))
-        }
-        Some(ReplayStop::SameBlockTwice(position)) => {
-            Some(told_at(Stop::SameBlockTwice(position), b""))
-        }
-        None => None,
-    };
+    let told = told_of_events(fault, &events);
     Performed {
         ending,
         told,

@@ -6,7 +6,7 @@ ghost use Rattle.list_core.specs.Device.{GivesOctets};
 ghost use Rattle.engine_core.specs.Ending.{is_write_fault};
 ghost use Rattle.block_core.specs.Period.{IsPeriod};
 ghost use Rattle.words_core.specs.CommandLine.{HasPeriod, asked_by, check, import, list_blocks, publish, replay, rewrite, show, watch};
-ghost use Rattle.goose.specs.RequestText.{RequestWrites};
+ghost use Rattle.goose.specs.RequestText.{RequestWrites, has_option};
 ghost use Rattle.goose.specs.TaskText.{TaskWrites};
 
 use crate::event_tasks::{Checks, ListsBlocks, Replays, Shows, Watches};
@@ -19,7 +19,7 @@ use frame_engines::{check_to_stop, import_to_stop, rewrite_to_stop, show_to_stop
 use inventory_engine::blocks_to_stop;
 use list_core::{Sink, Source};
 use std::alloc::Global;
-use words_core::{Options, Task};
+use words_core::{Options, Task, Writing};
 
 #[inline(never)]
 fn perform_show<R: Source, W: Sink>(alloc: Global, reader: R, writer: &mut W) -> Performed<R>
@@ -164,11 +164,18 @@ pub fn perform<R: Source, W: Sink>(
     }
 }
 
-/// Does what a task asks for, by its options: of a capture in place of a list, and with the frames of other protocols passed
-/// over. Tasks that take no options are done as without.
+// Whether some option is given.
+fn has_option(options: Options) -> bool
+    ensures { result ≡ has_option options }
+{
+    options.is_capture || options.skips_other || !matches!(&options.writes, Writing::Lines)
+}
+
+/// Does what a task asks for, by its options: of a capture in place of a list, with the frames of other protocols passed over, and
+/// with each line behind the date of its event, or as an object. Tasks that take no options are done as without.
 ///
 /// The reader is Open and the writer has not failed. What is written is the text of the task over the events of the capture, or
-/// over what is left of the events.
+/// over what is left of the events, in the style of the options.
 pub fn perform_request<R: Source, W: Sink>(
     alloc: Global,
     task: Task,
@@ -182,9 +189,10 @@ pub fn perform_request<R: Source, W: Sink>(
     requires period { HasPeriod (asked_by task) }
     ensures text { (given : List ℕ) × GivesOctets (R.left reader) (R.left result.reader) given
         × RequestWrites options (asked_by task) result.ending (R.ending result.reader) given (W.contents writer.old) (W.contents writer.new) }
+    ensures read_fault { result.ending ≡ Ending.ReadFault → R.ending result.reader ≡ InputEnd.Failed }
     ensures fault { W.failed writer.new ≡ is_write_fault result.ending }
 {
-    if !options.is_capture && !options.skips_other {
+    if !has_option(options) {
         return perform(alloc, task, reader, heard, writer);
     }
     match task {

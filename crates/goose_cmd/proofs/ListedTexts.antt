@@ -40,7 +40,7 @@ use Rattle.subscribe_core.specs.computed.Content.{content_by, content_of, conten
 use Rattle.subscribe_core.specs.EventsRead.{Content, OfClock, OfFault, OfGoose, OfMode, OfSampled}
 use Rattle.engine_core.specs.computed.WholeText.{told_after}
 use Rattle.inventory_engine.specs.Sightings.{Key, Sighting, block_sighting, block_text, key_of, sightings_in, sightings_of, sightings_read, sightings_with, stream_sighting, stream_sightings}
-use Rattle.inventory_engine.specs.BlocksText.{IsNewest, changed_word, first_word, line_after, sighting_line}
+use Rattle.inventory_engine.specs.BlocksText.{IsNewest, changed_kind, first_kind, in_lines, line_after, sighting_line, spaced_word}
 use Rattle.inventory_engine.specs.computed.BlocksStep.{blocks_text, newest, written_of}
 use Rattle.inventory_engine.specs.Laws.{IsFirst, block_told}
 use Rattle.inventory_engine.proofs.FirstLines.{one_first}
@@ -102,20 +102,20 @@ Starts front = (front ≡ []) ⊎ ((earlier : List ℕ) × (front ≡ earlier ++
 line_ends : (front : List ℕ) (n : ℕ) (word text : List ℕ) → Starts (front ++ sighting_line n word text)
 line_ends front n word text = inr (front ++ (decimal n ++ word ++ text), sym (append_assoc front (decimal n ++ word ++ text) (10 ∷ [])))
 
-after_ends : (front : List ℕ) (n : ℕ) (s : Sighting) (o : Option (List ℕ)) → Starts front → Starts (front ++ line_after n s o)
-after_ends front n s None h = line_ends front n (first_word s.app_id) s.text
+after_ends : (front : List ℕ) (n : ℕ) (s : Sighting) (o : Option (List ℕ)) → Starts front → Starts (front ++ line_after (in_lines n) s o)
+after_ends front n s None h = line_ends front n (spaced_word (first_kind s.app_id)) s.text
 after_ends front n s (Some last) h = elim (cases_Bool (bytes_eq last s.text)) [
   | inl same ↦
-      subst (λ (l : List ℕ). Starts (front ++ l)) (sym (chosen (bytes_eq last s.text) [] (sighting_line n (changed_word s.app_id) s.text) same)) (subst Starts (sym (append-nil front)) h)
+      subst (λ (l : List ℕ). Starts (front ++ l)) (sym (chosen (bytes_eq last s.text) [] (sighting_line n (spaced_word (changed_kind s.app_id)) s.text) same)) (subst Starts (sym (append-nil front)) h)
   | inr other ↦
-      subst (λ (l : List ℕ). Starts (front ++ l)) (sym (otherwise (bytes_eq last s.text) [] (sighting_line n (changed_word s.app_id) s.text) other)) (line_ends front n (changed_word s.app_id) s.text)
+      subst (λ (l : List ℕ). Starts (front ++ l)) (sym (otherwise (bytes_eq last s.text) [] (sighting_line n (spaced_word (changed_kind s.app_id)) s.text) other)) (line_ends front n (spaced_word (changed_kind s.app_id)) s.text)
 ]
 
-written_ends : (front : List ℕ) (n : ℕ) (earlier seen : List Sighting) → Starts front → Starts (front ++ written_of n earlier seen)
+written_ends : (front : List ℕ) (n : ℕ) (earlier seen : List Sighting) → Starts front → Starts (front ++ written_of (in_lines n) earlier seen)
 written_ends front n earlier [] h = subst Starts (sym (append-nil front)) h
 written_ends front n earlier (s ∷ seen) h =
-    let line = line_after n s (newest earlier (key_of s)) in
-    subst Starts (append_assoc front line (written_of n (earlier ++ s ∷ []) seen))
+    let line = line_after (in_lines n) s (newest earlier (key_of s)) in
+    subst Starts (append_assoc front line (written_of (in_lines n) (earlier ++ s ∷ []) seen))
     (written_ends (front ++ line) n (earlier ++ s ∷ []) seen (after_ends front n s (newest earlier (key_of s)) h))
 
 line_there : (text front rest : List ℕ) (n : ℕ) (word told : List ℕ) → text ≡ front ++ ((sighting_line n word told ++ []) ++ rest) → Starts front → n ≤ 1000000 → HasNo 10 word → HasNo 10 told → LineTells text word told
@@ -161,25 +161,25 @@ module _ {A : Type 0} (blocks : List (Block A)) (text : List ℕ) (listed : AreL
           let w = all is.position is.is.sighting app_id is.is.there (ap (λ (k : Key). k.0) is.is.has_key) in
           record { position = w.position; block = w.block; there = w.there; says = ap (λ (t : List ℕ). block_in {A = A} t) (sym same ∙ sym is.has_text) ∙ w.says }
 
-      by_newest : (o : Option (List ℕ)) → IsNewest earlier (key_of seen_now) o → text ≡ front ++ ((line_after n seen_now o ++ []) ++ rest) → Listed blocks seen_now
+      by_newest : (o : Option (List ℕ)) → IsNewest earlier (key_of seen_now) o → text ≡ front ++ ((line_after (in_lines n) seen_now o ++ []) ++ rest) → Listed blocks seen_now
       by_newest None is stands =
           listed.each (block_text app_id p) (line_there text front rest n (codes " block ") (block_text app_id p) stands starts small (word_unbroken (codes " block ") refl) (block_unbroken app_id p low spelled))
       by_newest (Some last) is stands = elim (cases_Bool (bytes_eq last (block_text app_id p))) [
         | inl same ↦ seen_before last is ((bytes_eq-Decides last (block_text app_id p)).0 same)
         | inr other ↦
-            let line : line_after n seen_now (Some last) ≡ sighting_line n (codes " block-changed ") (block_text app_id p) =
+            let line : line_after (in_lines n) seen_now (Some last) ≡ sighting_line n (codes " block-changed ") (block_text app_id p) =
             otherwise (bytes_eq last (block_text app_id p)) [] (sighting_line n (codes " block-changed ") (block_text app_id p)) other in
             absurd (listed.none_changes (block_text app_id p)
             (line_there text front rest n (codes " block-changed ") (block_text app_id p) (stands ∙ ap (λ (l : List ℕ). front ++ ((l ++ []) ++ rest)) line) starts small (word_unbroken (codes " block-changed ") refl) (block_unbroken app_id p low spelled)))
       ]
 
-      now_listed : text ≡ front ++ (written_of n earlier (seen_now ∷ []) ++ rest) → Listed blocks seen_now
+      now_listed : text ≡ front ++ (written_of (in_lines n) earlier (seen_now ∷ []) ++ rest) → Listed blocks seen_now
       now_listed stands = by_newest (newest earlier (key_of seen_now)) (newest_is earlier (key_of seen_now)) stands
 
     -- so are all control blocks of the event
-    shown_listed : (seen : List Sighting) → Shows seen → text ≡ front ++ (written_of n earlier seen ++ rest) → AllListed blocks seen
+    shown_listed : (seen : List Sighting) → Shows seen → text ≡ front ++ (written_of (in_lines n) earlier seen ++ rest) → AllListed blocks seen
     shown_listed seen (inl w) stands =
-        subst (AllListed blocks) (sym w.4) (λ i s app_id at own. only (block_sighting w.0 w.1) (now_listed w.0 w.1 w.2 w.3 (stands ∙ ap (λ (l : List Sighting). front ++ (written_of n earlier l ++ rest)) w.4)) i s at)
+        subst (AllListed blocks) (sym w.4) (λ i s app_id at own. only (block_sighting w.0 w.1) (now_listed w.0 w.1 w.2 w.3 (stands ∙ ap (λ (l : List Sighting). front ++ (written_of (in_lines n) earlier l ++ rest)) w.4)) i s at)
       where
         only : (x : Sighting) → Listed blocks x → (i : ℕ) (s : Sighting) → slice_get (x ∷ []) i ≡ Some s → Listed blocks s
         only x l zero s at = subst (Listed blocks) (same_Some x s at) l
@@ -225,7 +225,7 @@ module _ {A : Type 0} (blocks : List (Block A)) (text : List ℕ) (listed : AreL
   unfolding told_after
   events_there stop before [] front kept all starts stands = tt
   events_there stop before (e ∷ items) front kept all starts stands =
-      let now = written_of e.0 (sightings_in before) (sightings_of e.1.kind) in
+      let now = written_of (in_lines e.0) (sightings_in before) (sightings_of e.1.kind) in
       let rest = (told_after blocks_text (before ++ e ∷ []) items stop).text in
       let shown = shown_listed (sightings_in before) all e.0 kept.0 front rest starts (sightings_of e.1.kind) (event_shows e.1.kind kept.1) stands in
       let next = subst (AllListed blocks) (sym (sightings_push before e)) (both_listed (sightings_in before) (sightings_of e.1.kind) all shown) in (

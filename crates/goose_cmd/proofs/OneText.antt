@@ -34,9 +34,9 @@ use Rattle.engine_core.specs.computed.WholeText.{Account, put_step, told_after, 
 use Rattle.exchange_engines.specs.PublishText.{IsCallText, IsPublishText, IsRefused, IsAnswered, answer_text, items_of_lines, script_cause}
 use Rattle.exchange_engines.specs.ScriptLaws.{StandsBefore}
 use Rattle.exchange_engines.specs.ReplayText.{IsReplayText, events_of}
-use Rattle.exchange_engines.specs.WatchText.{IsWatchText, counts, counts_of, samples_of, watched}
+use Rattle.exchange_engines.specs.WatchText.{IsWatchText, counts, counts_of, in_lines as watch_lines, samples_of, watched}
 use Rattle.inventory_engine.specs.Sightings.{sightings_in, sightings_of}
-use Rattle.inventory_engine.specs.BlocksText.{IsBlocksText}
+use Rattle.inventory_engine.specs.BlocksText.{IsBlocksText, in_lines as blocks_lines}
 use Rattle.inventory_engine.proofs.FirstLines.{lines_one}
 use Rattle.goose_cmd.specs.OneText.{SaySame}
 use Rattle.goose_cmd.specs.OneTextLaws.{BlocksTextsAreOne, PublishTextsAreOne, ReplayTextsAreOne, WatchTextsAreOne}
@@ -106,7 +106,7 @@ seen_same {A} period id t u is other before e =
     let all : a.earlier ++ a.answers ≡ b.earlier ++ b.answers =
     (answers_are_one period (counts_of id before ++ counts (samples_of id e.1.kind))).1 (a.earlier ++ a.answers) (b.earlier ++ b.answers) a.are_seen b.are_seen in
     let same : a.answers ≡ b.answers = end_same a.earlier a.answers b.earlier b.answers (a.one_each ∙ sym b.one_each) all in
-    a.lines ∙ (ap (λ (answers : List Seen). Ok (watched e.0 id e.1.kind answers)) same ∙ sym b.lines)
+    a.lines ∙ (ap (λ (answers : List Seen). Ok (watched (watch_lines e.0) id e.1.kind answers)) same ∙ sym b.lines)
 
 pub watch_texts_are_one : {A : Type 0} → WatchTextsAreOne A
 watch_texts_are_one period id t u l is other =
@@ -119,7 +119,7 @@ seen_alike : {A : Type 0} (t u : Text (Event A) ListCause) → IsBlocksText t �
 seen_alike t u is other before e =
     let a = is.each_item before e in
     let b = other.each_item before e in
-    a.text ∙ (ap (λ (lines : List (List ℕ)). Ok (concat lines, false)) (lines_one e.0 (sightings_in before) (sightings_of e.1.kind) a.lines b.lines a.are_lines b.are_lines) ∙ sym b.text)
+    a.text ∙ (ap (λ (lines : List (List ℕ)). Ok (concat lines, false)) (lines_one (blocks_lines e.0) (sightings_in before) (sightings_of e.1.kind) a.lines b.lines a.are_lines b.are_lines) ∙ sym b.text)
 
 pub blocks_texts_are_one : {A : Type 0} → BlocksTextsAreOne A
 blocks_texts_are_one t u l is other =

@@ -8,4 +8,4 @@ pub use engine_core::{Ending, status};
 pub use exchange_engines::{publish, replay, watch};
 pub use frame_engines::{check, import, rewrite, show};
 pub use inventory_engine::blocks;
-pub use words_core::{Options, Request, Task, WordsError, read_request, read_words};
+pub use words_core::{Options, Request, Task, WordsError, Writing, read_request, read_words};

@@ -3,7 +3,7 @@ use Rattle.std.proofs.Common.{◌≡◌, ℕ, zero, suc, ◌<◌, ◌≤◌, Boo
 use Rattle.std.proofs.lemmas.Bool.{cases_lt}
 use Rattle.std.proofs.lemmas.Option.{none-some, same_Some}
 use Rattle.inventory_engine.specs.Sightings.{Key, Sighting, key_of}
-use Rattle.inventory_engine.specs.BlocksText.{AreLines, HasKeyAt, IsLineAfter, IsNewest, line_after}
+use Rattle.inventory_engine.specs.BlocksText.{AreLines, HasKeyAt, IsLineAfter, IsNewest, Telling, line_after}
 use Rattle.inventory_engine.specs.computed.KnownTexts.{same_key}
 use Rattle.inventory_engine.specs.Laws.{IsFirst, LinesAreOne, OneFirstLine}
 use Rattle.inventory_engine.proofs.KeyLemmas.{same_is, same_yes}
@@ -26,24 +26,24 @@ newest_one seen key (Some t) (Some u) h g = elim (cases_lt h.position g.position
 ]
 
 -- the lines behind the first one
-behind : (n : ℕ) (earlier seen : List Sighting) (s : Sighting) (x : List ℕ) (xs : List (List ℕ)) → AreLines n earlier (s ∷ seen) (x ∷ xs) → AreLines n (earlier ++ s ∷ []) seen xs
-behind n earlier seen s x xs h = record {
+behind : (t : Telling) (earlier seen : List Sighting) (s : Sighting) (x : List ℕ) (xs : List (List ℕ)) → AreLines t earlier (s ∷ seen) (x ∷ xs) → AreLines t (earlier ++ s ∷ []) seen xs
+behind t earlier seen s x xs h = record {
   sizes = let size = h.sizes in omega arith;
-  each = λ i r line e f. subst (λ (l : List Sighting). IsLineAfter n l r line) (sym (append_assoc earlier (s ∷ []) (take i seen))) (h.each (suc i) r line e f);
+  each = λ i r line e f. subst (λ (l : List Sighting). IsLineAfter t l r line) (sym (append_assoc earlier (s ∷ []) (take i seen))) (h.each (suc i) r line e f);
 }
 
 pub lines_one : LinesAreOne
-lines_one n earlier [] [] [] h g = refl
-lines_one n earlier [] [] (y ∷ ys) h g = let size = g.sizes in absurd (omega arith)
-lines_one n earlier [] (x ∷ xs) b h g = let size = h.sizes in absurd (omega arith)
-lines_one n earlier (s ∷ seen) [] b h g = let size = h.sizes in absurd (omega arith)
-lines_one n earlier (s ∷ seen) (x ∷ xs) [] h g = let size = g.sizes in absurd (omega arith)
-lines_one n earlier (s ∷ seen) (x ∷ xs) (y ∷ ys) h g =
+lines_one t earlier [] [] [] h g = refl
+lines_one t earlier [] [] (y ∷ ys) h g = let size = g.sizes in absurd (omega arith)
+lines_one t earlier [] (x ∷ xs) b h g = let size = h.sizes in absurd (omega arith)
+lines_one t earlier (s ∷ seen) [] b h g = let size = h.sizes in absurd (omega arith)
+lines_one t earlier (s ∷ seen) (x ∷ xs) [] h g = let size = g.sizes in absurd (omega arith)
+lines_one t earlier (s ∷ seen) (x ∷ xs) (y ∷ ys) h g =
     let a = h.each 0 s x refl refl in
     let b = g.each 0 s y refl refl in
     let same : a.newest ≡ b.newest = newest_one (earlier ++ []) (key_of s) a.newest b.newest a.is_newest b.is_newest in
-    let first : x ≡ y = a.is_line ∙ ap (line_after n s) same ∙ sym b.is_line in
-    let others : xs ≡ ys = lines_one n (earlier ++ s ∷ []) seen xs ys (behind n earlier seen s x xs h) (behind n earlier seen s y ys g) in
+    let first : x ≡ y = a.is_line ∙ ap (line_after t s) same ∙ sym b.is_line in
+    let others : xs ≡ ys = lines_one t (earlier ++ s ∷ []) seen xs ys (behind t earlier seen s x xs h) (behind t earlier seen s y ys g) in
     cc
 
 get_taken : (seen : List Sighting) (k i : ℕ) → i < k → slice_get (take k seen) i ≡ slice_get seen i

@@ -1,3 +1,4 @@
+pub mod Escapes
 pub mod Fields
 pub mod Fronts
 pub mod KeyLemmas
@@ -7,3 +8,4 @@ pub mod RunLemmas
 pub mod Appending
 pub mod FirstLines
 pub mod BlockBack
+pub mod WorkedObjects

@@ -3,8 +3,10 @@ use Rattle.std.proofs.Common.{◌≡◌, ◌⊎◌, ℕ, zero, suc, ◌<◌, Boo
 use Rattle.std.specs.Prelude.{if◌then◌else◌}
 use Rattle.std.proofs.lemmas.List.{append-nil, reverse-append, reverse-reverse}
 use Rattle.std.proofs.lemmas.Option.{slice_get_within, none-some, same_Some}
+use Rattle.object_core.specs.declared.counted.Form.{Form}
+use Rattle.object_core.specs.declared.counted.Form.TheVariants.{Text as Lines}
 use Rattle.inventory_engine.specs.Sightings.{Key, Sighting, key_of, sightings_in, sightings_of}
-use Rattle.inventory_engine.specs.BlocksText.{AreLines, IsBlocksOf, IsBlocksText, IsLineAfter, IsNewest, line_after}
+use Rattle.inventory_engine.specs.BlocksText.{AreLines, IsBlocksIn, IsBlocksText, IsLineAfter, IsNewest, Telling, line_after, telling}
 use Rattle.inventory_engine.specs.computed.BlocksStep.{blocks_event, blocks_text, lines_by, newest, text_seen}
 use Rattle.inventory_engine.specs.computed.KnownTexts.{same_key, text_by}
 use Rattle.inventory_engine.proofs.KeyLemmas.{same_is, same_yes}
@@ -70,33 +72,33 @@ pub newest_is : (seen : List Sighting) (key : Key) → IsNewest seen key (newest
 newest_is seen key = subst (λ (l : List Sighting). IsNewest l key (newest seen key)) (reverse-reverse seen) (newest_of (reverse seen) key)
 
 -- the lines as they are computed are those of the sightings
-lines_are : (n : ℕ) (earlier seen : List Sighting) → AreLines n earlier seen (lines_by n earlier seen)
-lines_are n earlier seen = record { sizes = sizes earlier seen; each = each earlier seen }
+lines_are : (t : Telling) (earlier seen : List Sighting) → AreLines t earlier seen (lines_by t earlier seen)
+lines_are t earlier seen = record { sizes = sizes earlier seen; each = each earlier seen }
   where
-    sizes : (earlier seen : List Sighting) → length (lines_by n earlier seen) ≡ length seen
+    sizes : (earlier seen : List Sighting) → length (lines_by t earlier seen) ≡ length seen
     sizes earlier [] = refl
     sizes earlier (s ∷ seen) = ap suc (sizes (earlier ++ s ∷ []) seen)
 
-    each : (earlier seen : List Sighting) (i : ℕ) (s : Sighting) (line : List ℕ) → slice_get seen i ≡ Some s → slice_get (lines_by n earlier seen) i ≡ Some line →
-        IsLineAfter n (earlier ++ take i seen) s line
+    each : (earlier seen : List Sighting) (i : ℕ) (s : Sighting) (line : List ℕ) → slice_get seen i ≡ Some s → slice_get (lines_by t earlier seen) i ≡ Some line →
+        IsLineAfter t (earlier ++ take i seen) s line
     each earlier [] i s line e f = absurd (none-some s e)
     each earlier (x ∷ seen) zero s line e f =
         let same : x ≡ s = same_Some x s e in
         let o = newest earlier (key_of x) in record {
           newest = o;
           is_newest = subst (λ (y : Sighting). IsNewest (earlier ++ []) (key_of y) o) same (subst (λ (l : List Sighting). IsNewest l (key_of x) o) (sym (append-nil earlier)) (newest_is earlier (key_of x)));
-          is_line = sym (same_Some _ line f) ∙ ap (λ (y : Sighting). line_after n y o) same;
+          is_line = sym (same_Some _ line f) ∙ ap (λ (y : Sighting). line_after t y o) same;
         }
     each earlier (x ∷ seen) (suc i) s line e f =
         let rest = each (earlier ++ x ∷ []) seen i s line e f in
-        subst (λ (l : List Sighting). IsLineAfter n l s line) (append_assoc earlier (x ∷ []) (take i seen)) rest
+        subst (λ (l : List Sighting). IsLineAfter t l s line) (append_assoc earlier (x ∷ []) (take i seen)) rest
 
-pub blocks_of : {A : Type 0} → IsBlocksOf {A = A} blocks_event
-blocks_of = λ before e. record {
-  lines = lines_by e.0 (sightings_in before) (sightings_of e.1.kind);
-  are_lines = lines_are e.0 (sightings_in before) (sightings_of e.1.kind);
+pub blocks_of : {A : Type 0} (form : Form) → IsBlocksIn {A = A} form (blocks_event form)
+blocks_of form = λ before e. record {
+  lines = lines_by (telling form e.0 e.1.moment) (sightings_in before) (sightings_of e.1.kind);
+  are_lines = lines_are (telling form e.0 e.1.moment) (sightings_in before) (sightings_of e.1.kind);
   text = refl;
 }
 
 pub blocks_is : {A : Type 0} → IsBlocksText {A = A} blocks_text
-blocks_is = record { first = refl; each_item = blocks_of; last = λ f. refl }
+blocks_is = record { first = refl; each_item = blocks_of Lines; last = λ f. refl }

@@ -5,11 +5,11 @@ use Rattle.block_core.specs.BlockText.{block_in, go_id_of}
 use Rattle.pdu_core.specs.declared.goose.GoosePdu.{GoosePdu}
 use Rattle.pdu_core.specs.Spellable.{IsSpellableGoose}
 use Rattle.inventory_engine.specs.Sightings.{Key, Sighting, block_text, has_fields, text_or_none}
-use Rattle.inventory_engine.specs.BlocksText.{AreLines, HasKeyAt, IsNewest}
+use Rattle.inventory_engine.specs.BlocksText.{AreLines, HasKeyAt, IsNewest, Telling}
 
 -- what is written of some sightings behind earlier ones is one
 abbrev pub LinesAreOne : Type 0
-LinesAreOne = (n : ℕ) (earlier seen : List Sighting) (a b : List (List ℕ)) → AreLines n earlier seen a → AreLines n earlier seen b → a ≡ b
+LinesAreOne = (t : Telling) (earlier seen : List Sighting) (a b : List (List ℕ)) → AreLines t earlier seen a → AreLines t earlier seen b → a ≡ b
 
 -- at this position stands a sighting with the key, and none before it: there its first line is written
 pub record IsFirst (seen : List Sighting) (key : Key) (i : ℕ) : Type 0 where

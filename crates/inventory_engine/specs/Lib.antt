@@ -1,3 +1,4 @@
+pub mod SightingObject
 pub mod Sightings
 pub mod BlocksText
 pub mod Laws

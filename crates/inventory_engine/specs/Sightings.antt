@@ -14,12 +14,15 @@ use Rattle.frame_core.specs.declared.frame.Apdu.TheVariants as apdus
 use Rattle.frame_core.specs.declared.frame.Frame.{Frame}
 use Rattle.frame_core.specs.computed.FrameReading.{frame_at}
 use Rattle.text_core.specs.Pieces.{four_digits, quoted, quoted_or_dash}
+use Rattle.object_core.specs.Objects.{Field}
+use Rattle.inventory_engine.specs.SightingObject.{block_fields, stream_fields}
 
--- A control block by its APPID and its gocbRef (IEC 61850-8-1), or a stream, which has no APPID here, by its svID (IEC 61850-9-2), and the text that tells how it is configured.
+-- A control block by its APPID and its gocbRef (IEC 61850-8-1), or a stream, which has no APPID here, by its svID (IEC 61850-9-2), the text that tells how it is configured, and the same by named fields.
 pub record Sighting : Type 0 where
   pub app_id : Option ℕ
   pub name : List ℕ
   pub text : List ℕ
+  pub fields : List Field
 
 -- what tells control blocks and streams apart
 abbrev pub Key : Type 0
@@ -89,11 +92,11 @@ stream_parts a = codes "id=" ∷ quoted a.sv_id ∷ codes " rev=" ∷ decimal a.
 
 -- the control block of a frame with this APPID and APDU
 abbrev pub block_sighting : {A : Type 0} → ℕ → GoosePdu A → Sighting
-block_sighting app_id p = record { app_id = Some app_id; name = p.gocb_ref; text = block_text app_id p }
+block_sighting app_id p = record { app_id = Some app_id; name = p.gocb_ref; text = block_text app_id p; fields = block_fields (block_text app_id p) app_id p }
 
 -- the stream of an ASDU
 abbrev pub stream_sighting : {A : Type 0} → Asdu A → Sighting
-stream_sighting a = record { app_id = None; name = a.sv_id; text = concat (stream_parts a) }
+stream_sighting a = record { app_id = None; name = a.sv_id; text = concat (stream_parts a); fields = stream_fields a }
 
 -- the streams of several ASDUs, in their order
 abbrev pub stream_sightings : {A : Type 0} → List (Asdu A) → List Sighting

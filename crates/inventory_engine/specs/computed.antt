@@ -3,4 +3,5 @@
 pub mod PieceText
 pub mod KnownTexts
 pub mod Runs
+pub mod ShownFields
 pub mod BlocksStep

@@ -7,17 +7,19 @@ ghost use Rattle.list_core.specs.Device.{GivesOctets};
 ghost use Rattle.list_core.specs.EventLine.{event_rules};
 ghost use Rattle.engine_core.specs.Ending.{is_write_fault};
 ghost use Rattle.list_core.specs.ItemReader.{item_state};
-ghost use Rattle.engine_core.specs.EventsText.{RunsSome};
+ghost use Rattle.engine_core.proofs.EventSteps.{exactly_agrees};
+ghost use Rattle.engine_core.specs.EventsText.{RunsSome, exactly_each, exactly_event};
 ghost use Rattle.engine_core.specs.Run.{WritesSome, WritesSomeTo};
 ghost use Rattle.inventory_engine.specs.Sightings.{sightings_in};
-ghost use Rattle.inventory_engine.specs.BlocksText.{IsBlocksOf, IsBlocksText};
+ghost use Rattle.inventory_engine.specs.BlocksText.{AreBlocksTexts, IsBlocksText};
 ghost use Rattle.inventory_engine.specs.computed.BlocksStep.{Keeps, blocks_event};
 
 use crate::inventory::Inventory;
 use crate::sighting::put_event;
-use engine_core::{Ending, EventEngine, OfEvents, Stopped, run_over, run_to_stop};
+use engine_core::{Ending, EventEngine, OfEvents, Stopped, Style, run_over, run_to_stop};
 use frame_core::{Event, EventLines, ItemFault, ItemReader, ListCause, Sink, Source};
 use list_core::{InputFault, ReadItems};
+use object_core::{Form, Heading, LastObject};
 use std::alloc::{AllocError, Allocator};
 use text_core::LastLine;
 
@@ -29,18 +31,26 @@ struct Listing<A: Allocator> {
 }
 
 impl<A: Allocator + Copy> EventEngine<A> for Listing<A> {
-    ghost text = { λ _. blocks_event };
+    ghost allows = { λ _ form. exactly_event (blocks_event form) };
 
     ghost stands = { λ s before. Keeps s.known (sightings_in before) };
+
+    ghost agrees = { λ s form. exactly_agrees (blocks_event form) };
 
     #[inline(always)]
     fn put_event(
         &mut self,
+        form: Form,
         line: &mut Vec<u8, A>,
         number: u64,
         event: &Event<A>,
     ) -> Result<bool, AllocError> {
-        put_event(self.alloc, &mut self.known, line, number, &event.kind)?;
+        let heading = Heading {
+            form,
+            number,
+            moment: event.moment,
+        };
+        put_event(self.alloc, &mut self.known, line, heading, &event.kind)?;
         Ok(false)
     }
 }
@@ -91,26 +101,34 @@ pub fn blocks_to_stop<A: Allocator + Copy, R: Source, W: Sink>(
         alloc,
         known: Inventory::new(alloc),
     };
-    let engine = OfEvents { engine: listing };
+    let engine = OfEvents {
+        engine: listing,
+        style: Style::Lines(Form::Text),
+        undated: Vec::new(alloc),
+    };
     run_to_stop(alloc, EventLines::First, engine, b"", reader, writer)
 }
 
-/// As `blocks`, over any reader of events: the last line is that of the input's fault. Hands out the fault by which it ended,
-/// and the reader of the events.
+/// As `blocks`, over any reader of events, in a style: the last line is that of the input's fault. Hands out the fault by which
+/// it ended, and the reader of the events.
 pub fn blocks_over<
     A: Allocator + Copy,
-    F: InputFault + LastLine + Drop,
+    F: InputFault + LastLine + LastObject + Drop,
     I: ReadItems<A, Item = Event<A>, Fault = F>,
     W: Sink,
->(alloc: A, events: I, writer: &mut W) -> Stopped<I, F>
+>(alloc: A, style: Style, events: I, writer: &mut W) -> Stopped<I, F>
     requires works { W.failed writer.old ≡ false }
-    ensures text { RunsSome (IsBlocksOf {A = A}) I.answers F.refused F.failed F.last_line events result.ending result.fault result.reader (W.contents writer.old) (W.contents writer.new) }
+    ensures text { RunsSome style (AreBlocksTexts {A = A}) exactly_each I.answers F.refused F.failed F.last_line F.last_object events result.ending result.fault result.reader (W.contents writer.old) (W.contents writer.new) }
     ensures fault { W.failed writer.new ≡ is_write_fault result.ending }
 {
     let listing = Listing {
         alloc,
         known: Inventory::new(alloc),
     };
-    let engine = OfEvents { engine: listing };
+    let engine = OfEvents {
+        engine: listing,
+        style,
+        undated: Vec::new(alloc),
+    };
     run_over(alloc, engine, b"", events, writer)
 }

@@ -1,19 +1,19 @@
 // The pieces of which the text of a sighting is made. It is compared with a text that is held piece by piece, so that
 // a sighting of which nothing is written asks for no memory.
 
-ghost use Rattle.std.specs.Prelude.{◌≡◌, ◌∷◌, []};
+ghost use Rattle.std.specs.Prelude.{◌≡◌, ◌∷◌, [], IfOk, OnOk, length, take};
 ghost use Rattle.std.specs.List.{flat_map};
 ghost use Rattle.std.specs.Str.{bytes_eq};
 ghost use Rattle.std.specs.Fmt.{decimal};
 ghost use Rattle.pdu_core.specs.Views.{octets_if};
 ghost use Rattle.text_core.specs.Pieces.{AppendsText, escaped, four_digits, quoted, quoted_or_dash};
-ghost use Rattle.inventory_engine.specs.computed.PieceText.{IsAfter, piece_text};
+ghost use Rattle.inventory_engine.specs.computed.PieceText.{IsAfter, escaped_piece, escaped_twice, piece_text};
 
 use itoa::Buffer;
 use list_core::write_digits;
 use std::alloc::{AllocError, Allocator};
 use text_core::fields::put_optional;
-use text_core::pieces::{put_decimal, put_four_digits, put_quoted};
+use text_core::pieces::{put_decimal, put_escaped, put_four_digits, put_quoted};
 
 /// A piece of a text.
 #[derive(Clone, Copy)]
@@ -60,6 +60,104 @@ pub fn put_pieces<A: Allocator>(
         put_piece(out, piece)?;
     }
     Ok(())
+}
+
+// Appends the octets of a text as they stand where it is written between quotation marks twice.
+fn put_escaped_twice<A: Allocator>(out: &mut Vec<u8, A>, text: &[u8]) -> Result<(), AllocError>
+    ensures { AppendsText result out.old.items out.new.items (flat_map escaped_twice text.now) }
+{
+    for octet in text {
+        match *octet {
+            b'"' => out.extend_from_slice(&[b'\\', b'\\', b'\\', b'"'])?,
+            b'\\' => out.extend_from_slice(&[b'\\', b'\\', b'\\', b'\\'])?,
+            _ => out.push(*octet)?,
+        }
+    }
+    Ok(())
+}
+
+// Appends the octets of a text between quotation marks as they stand between others.
+fn put_quoted_twice<A: Allocator>(out: &mut Vec<u8, A>, text: &[u8]) -> Result<(), AllocError>
+    ensures { AppendsText result out.old.items out.new.items (flat_map escaped (quoted text.now)) }
+{
+    out.extend_from_slice(&[b'\\', b'"'])?;
+    put_escaped_twice(out, text)?;
+    out.extend_from_slice(&[b'\\', b'"'])
+}
+
+// Appends the octets of a number in four hexadecimal digits.
+fn put_escaped_digits<A: Allocator>(out: &mut Vec<u8, A>, number: u16) -> Result<(), AllocError>
+    ensures { AppendsText result out.old.items out.new.items (flat_map escaped (four_digits number)) }
+{
+    let mut digits = [0; 4];
+    let octets = [(number / 256) as u8, (number % 256) as u8];
+    if write_digits(&octets, &mut digits) {
+        put_escaped(out, &digits)
+    } else {
+        unreachable!()
+    }
+}
+
+// Appends the octets of a piece as they stand between quotation marks.
+fn put_escaped_piece<A: Allocator>(
+    out: &mut Vec<u8, A>,
+    piece: &Piece<'_>,
+) -> Result<(), AllocError>
+    ensures { AppendsText result out.old.items out.new.items (escaped_piece piece.now) }
+{
+    match piece {
+        Piece::Octet(octet) => put_escaped(out, &[*octet]),
+        Piece::Octets(octets) => put_escaped(out, octets),
+        Piece::Quoted(text) => put_quoted_twice(out, text),
+        Piece::Optional(text) => match text {
+            Some(text) => put_quoted_twice(out, text),
+            None => put_escaped(out, b"-"),
+        },
+        Piece::Digits(number) => put_escaped_digits(out, *number),
+        Piece::Decimal(number) => put_escaped(out, Buffer::new().format(*number).as_bytes()),
+    }
+}
+
+// Appends the octets of pieces as they stand between quotation marks.
+fn put_escaped_pieces<A: Allocator>(
+    out: &mut Vec<u8, A>,
+    pieces: &[Piece<'_>],
+) -> Result<(), AllocError>
+    ensures { AppendsText result out.old.items out.new.items (flat_map escaped_piece pieces.now) }
+{
+    for piece in pieces {
+        put_escaped_piece(out, piece)?;
+    }
+    Ok(())
+}
+
+/// Appends the text of pieces between quotation marks.
+pub fn put_quoted_pieces<A: Allocator>(
+    out: &mut Vec<u8, A>,
+    pieces: &[Piece<'_>],
+) -> Result<(), AllocError>
+    ensures { AppendsText result out.old.items out.new.items (quoted (flat_map piece_text pieces.now)) }
+{
+    out.push(b'"')?;
+    put_escaped_pieces(out, pieces)?;
+    out.push(b'"')?;
+    Ok(())
+}
+
+/// The size of the text of pieces. It is written at the end of a vector, and cut off.
+pub fn text_size<A: Allocator>(
+    out: &mut Vec<u8, A>,
+    pieces: &[Piece<'_>],
+) -> Result<usize, AllocError>
+    ensures size { IfOk result (λ size. size ≡ length (flat_map piece_text pieces.now)) }
+    ensures same { OnOk result (out.new.items ≡ out.old.items) }
+    ensures kept { take (length out.old.items) out.new.items ≡ out.old.items }
+{
+    let start = out.len();
+    put_pieces(out, pieces)?;
+    let size = out.len() - start;
+    out.truncate(start);
+    Ok(size)
 }
 
 // What follows these octets at the start of a text.

@@ -1,56 +1,77 @@
 // The lines of sightings.
 
-ghost use Rattle.std.specs.Prelude.{◌≡◌, ◌∷◌, [], IfOk, OnErr, OnOk, Some, length, take};
+ghost use Rattle.std.specs.Prelude.{◌≡◌, ◌∷◌, ◌++◌, [], IfOk, OnErr, OnOk, Some, length, take};
 ghost use Rattle.std.specs.List.{concat, flat_map};
+ghost use Rattle.std.specs.Fmt.{decimal};
 ghost use Rattle.pdu_core.specs.SampledViews.{asdu_of, asdus_left};
 ghost use Rattle.pdu_core.specs.Views.{octets_if, pdu_of};
 ghost use Rattle.list_core.specs.declared.event.EventKind.{EventKind as SpecKind};
 ghost use Rattle.text_core.specs.Pieces.{AppendsText};
+ghost use Rattle.object_core.specs.Onward.{onward};
+ghost use Rattle.inventory_engine.specs.SightingObject.{block_fields, fields_of_stream, name_fields, sighting_object};
+ghost use Rattle.inventory_engine.specs.computed.ShownFields.{shown_fields, sighting_by};
 ghost use Rattle.inventory_engine.specs.computed.PieceText.{piece_text};
 ghost use Rattle.inventory_engine.specs.Sightings.{block_parts, block_sighting, has_fields as fields_have, is_field as field_is, is_field_octet as octet_is, named_parts, sightings_of, stream_parts, stream_sighting, stream_sightings, text_or_none};
-ghost use Rattle.inventory_engine.specs.BlocksText.{changed_word, first_word, sighting_line};
-ghost use Rattle.inventory_engine.specs.computed.BlocksStep.{AppendsLines, HasLines};
+ghost use Rattle.inventory_engine.specs.BlocksText.{changed_kind, first_kind, sighting_line, spaced_word, told_by};
+ghost use Rattle.inventory_engine.specs.computed.BlocksStep.{AppendsLines, HasLines, telling_at};
 
 use crate::inventory::Inventory;
 use crate::known::Known;
-use crate::pieces::{Piece, is_text, put_pieces};
+use crate::pieces::{Piece, is_text, put_pieces, put_quoted_pieces, text_size};
 use frame_core::{ApduView, EventKind, view_frame};
+use object_core::event::put_event_head;
+use object_core::fields::{put_field_octets, put_field_text_if};
+use object_core::{Counted, Form, Heading};
 use pdu_core::{AsduView, GooseView, SvView};
 use std::alloc::{AllocError, Allocator};
+use text_core::fields::{put_number, put_text};
 use text_core::pieces::put_decimal;
 
-// The word of a control block or a stream that was not seen before.
+// The kind of a control block or a stream that was not seen before.
 fn first(app_id: Option<u16>) -> &'static [u8]
-    ensures { result.now ≡ first_word app_id }
+    ensures { result.now ≡ first_kind app_id }
 {
     match app_id {
-        Some(_) => b" block ",
-        None => b" stream ",
+        Some(_) => b"block",
+        None => b"stream",
     }
 }
 
-// The word of one whose configuration changes.
+// The kind of one whose configuration changes.
 fn changed(app_id: Option<u16>) -> &'static [u8]
-    ensures { result.now ≡ changed_word app_id }
+    ensures { result.now ≡ changed_kind app_id }
 {
     match app_id {
-        Some(_) => b" block-changed ",
-        None => b" stream-changed ",
+        Some(_) => b"block-changed",
+        None => b"stream-changed",
     }
 }
 
-// Appends the line of a sighting, and gives the size of its text.
+// Appends the number of a line, and a kind between spaces.
+fn put_start<A: Allocator>(
+    line: &mut Vec<u8, A>,
+    number: u64,
+    kind: &[u8],
+) -> Result<(), AllocError>
+    ensures { AppendsText result line.old.items line.new.items (decimal number ++ spaced_word kind.now) }
+{
+    put_decimal(line, number)?;
+    line.extend_from_slice(b" ")?;
+    line.extend_from_slice(kind)?;
+    line.extend_from_slice(b" ")
+}
+
+// Appends the line of a sighting of a kind, and gives the size of its text.
 fn put_line<A: Allocator>(
     line: &mut Vec<u8, A>,
     number: u64,
-    word: &[u8],
+    kind: &[u8],
     pieces: &[Piece<'_>],
 ) -> Result<usize, AllocError>
-    ensures text { AppendsText result line.old.items line.new.items (sighting_line number word.now (flat_map piece_text pieces.now)) }
+    ensures text { AppendsText result line.old.items line.new.items (sighting_line number (spaced_word kind.now) (flat_map piece_text pieces.now)) }
     ensures size { IfOk result (λ size. size ≡ length (flat_map piece_text pieces.now)) }
 {
-    put_decimal(line, number)?;
-    line.extend_from_slice(word)?;
+    put_start(line, number, kind)?;
     let start = line.len();
     put_pieces(line, pieces)?;
     let size = line.len().saturating_sub(start);
@@ -58,18 +79,145 @@ fn put_line<A: Allocator>(
     Ok(size)
 }
 
+/// What a sighting is of.
+#[derive(Clone, Copy)]
+pub enum Shown<'a> {
+    /// The control block of a frame with this APPID and APDU.
+    Block(u16, &'a GooseView<'a>),
+    /// The stream with this confRev and svID: not its ASDU, so that of this no more is read.
+    Stream(u32, &'a [u8]),
+}
+
+// Appends the fields of a control block, behind its text.
+fn put_name_fields<A: Allocator>(
+    line: &mut Vec<u8, A>,
+    app_id: u16,
+    goose: &GooseView<'_>,
+) -> Result<(), AllocError>
+    ensures { AppendsText result line.old.items line.new.items (onward (name_fields app_id (pdu_of {A = Unit {0}} goose.now))) }
+{
+    let octets = [(app_id / 256) as u8, (app_id % 256) as u8];
+    put_field_octets(line, b",\"appid\":", &octets)?;
+    put_text(line, b",\"gocbRef\":", goose.gocb_ref)?;
+    put_text(line, b",\"datSet\":", goose.dat_set)?;
+    put_field_text_if(line, b",\"goID\":", goose.go_id)?;
+    put_number(line, b",\"confRev\":", goose.conf_rev)?;
+    line.extend_from_slice(b",\"entries\":")?;
+    put_decimal(line, goose.entries as u64)
+}
+
+// Appends the fields of a control block, of which the text is of these pieces.
+fn put_block_fields<A: Allocator>(
+    line: &mut Vec<u8, A>,
+    app_id: u16,
+    goose: &GooseView<'_>,
+    pieces: &[Piece<'_>],
+) -> Result<(), AllocError>
+    ensures { AppendsText result line.old.items line.new.items (onward (block_fields (flat_map piece_text pieces.now) app_id (pdu_of {A = Unit {0}} goose.now))) }
+{
+    line.extend_from_slice(b",\"text\":")?;
+    put_quoted_pieces(line, pieces)?;
+    put_name_fields(line, app_id, goose)
+}
+
+// Appends the fields of a stream.
+fn put_stream_fields<A: Allocator>(
+    line: &mut Vec<u8, A>,
+    conf_rev: u32,
+    sv_id: &[u8],
+) -> Result<(), AllocError>
+    ensures { AppendsText result line.old.items line.new.items (onward (fields_of_stream conf_rev sv_id.now)) }
+{
+    put_number(line, b",\"confRev\":", conf_rev)?;
+    put_text(line, b",\"svID\":", sv_id)
+}
+
+// Appends the fields of what a sighting is of.
+fn put_fields<A: Allocator>(
+    line: &mut Vec<u8, A>,
+    shown: Shown<'_>,
+    pieces: &[Piece<'_>],
+) -> Result<(), AllocError>
+    ensures { AppendsText result line.old.items line.new.items (onward (shown_fields shown.entry (flat_map piece_text pieces.now))) }
+{
+    match shown {
+        Shown::Block(app_id, goose) => put_block_fields(line, app_id, goose, pieces),
+        Shown::Stream(conf_rev, sv_id) => put_stream_fields(line, conf_rev, sv_id),
+    }
+}
+
+// Appends the object of a sighting of a kind.
+fn put_object_line<A: Allocator>(
+    line: &mut Vec<u8, A>,
+    counted: Counted,
+    number: u64,
+    moment: u64,
+    kind: &[u8],
+    shown: Shown<'_>,
+    pieces: &[Piece<'_>],
+) -> Result<(), AllocError>
+    ensures { AppendsText result line.old.items line.new.items (sighting_object counted number moment kind.now (shown_fields shown.entry (flat_map piece_text pieces.now))) }
+{
+    put_event_head(line, counted, number, moment, kind)?;
+    put_fields(line, shown, pieces)?;
+    line.extend_from_slice(b"}\n")
+}
+
+// Appends the object of a sighting of a kind, and gives the size of its text.
+fn put_object<A: Allocator>(
+    line: &mut Vec<u8, A>,
+    counted: Counted,
+    number: u64,
+    moment: u64,
+    kind: &[u8],
+    shown: Shown<'_>,
+    pieces: &[Piece<'_>],
+) -> Result<usize, AllocError>
+    ensures text { AppendsText result line.old.items line.new.items (sighting_object counted number moment kind.now (shown_fields shown.entry (flat_map piece_text pieces.now))) }
+    ensures size { IfOk result (λ size. size ≡ length (flat_map piece_text pieces.now)) }
+{
+    let size = text_size(line, pieces)?;
+    put_object_line(line, counted, number, moment, kind, shown, pieces)?;
+    Ok(size)
+}
+
+// Appends what is told of a sighting of a kind, and gives the size of its text. A call of its own, since nearly every frame
+// shows what is known.
+#[inline(never)]
+fn put_told<A: Allocator>(
+    line: &mut Vec<u8, A>,
+    heading: Heading,
+    kind: &[u8],
+    shown: Shown<'_>,
+    pieces: &[Piece<'_>],
+) -> Result<usize, AllocError>
+    ensures text { AppendsText result line.old.items line.new.items (told_by heading.form heading.number heading.moment kind.now (flat_map piece_text pieces.now) (shown_fields shown.entry (flat_map piece_text pieces.now))) }
+    ensures size { IfOk result (λ size. size ≡ length (flat_map piece_text pieces.now)) }
+{
+    let Heading {
+        form,
+        number,
+        moment,
+    } = heading;
+    match form {
+        Form::Text => put_line(line, number, kind, pieces),
+        Form::Object(counted) => put_object(line, counted, number, moment, kind, shown, pieces),
+    }
+}
+
 // Appends what is written of a sighting, and keeps its text.
 fn put_sighting<A: Allocator + Copy>(
     alloc: A,
     known: &mut Inventory<A>,
     line: &mut Vec<u8, A>,
-    number: u64,
+    heading: Heading,
     app_id: Option<u16>,
     name: &[u8],
     pieces: &[Piece<'_>],
+    shown: Shown<'_>,
 ) -> Result<(), AllocError>
-    ensures written { OnOk result (AppendsLines number (record { app_id = app_id; name = name.now; text = flat_map piece_text pieces.now } ∷ []) known.old known.new line.old.items line.new.items) }
-    ensures wants { OnErr result (HasLines number (record { app_id = app_id; name = name.now; text = flat_map piece_text pieces.now } ∷ []) known.old) }
+    ensures written { OnOk result (AppendsLines (telling_at heading) (sighting_by app_id name.now shown.entry (flat_map piece_text pieces.now) ∷ []) known.old known.new line.old.items line.new.items) }
+    ensures wants { OnErr result (HasLines (telling_at heading) (sighting_by app_id name.now shown.entry (flat_map piece_text pieces.now) ∷ []) known.old) }
     ensures kept { take (length line.old.items) line.new.items ≡ line.old.items }
 {
     match known.find(app_id, name) {
@@ -77,11 +225,11 @@ fn put_sighting<A: Allocator + Copy>(
             if is_text(known.text(place), pieces) {
                 return Ok(());
             }
-            let size = put_line(line, number, changed(app_id), pieces)?;
+            let size = put_told(line, heading, changed(app_id), shown, pieces)?;
             known.set_text(alloc, place, pieces, size)
         }
         Err(place) => {
-            let size = put_line(line, number, first(app_id), pieces)?;
+            let size = put_told(line, heading, first(app_id), shown, pieces)?;
             let one = Known::new(alloc, app_id, name, pieces, size)?;
             known.insert(alloc, place, one)
         }
@@ -201,21 +349,40 @@ fn put_block<A: Allocator + Copy>(
     alloc: A,
     known: &mut Inventory<A>,
     line: &mut Vec<u8, A>,
-    number: u64,
+    heading: Heading,
     app_id: u16,
     goose: &GooseView<'_>,
 ) -> Result<(), AllocError>
-    ensures written { OnOk result (AppendsLines number (block_sighting app_id (pdu_of {A = Unit {0}} goose.now) ∷ []) known.old known.new line.old.items line.new.items) }
-    ensures wants { OnErr result (HasLines number (block_sighting app_id (pdu_of {A = Unit {0}} goose.now) ∷ []) known.old) }
+    ensures written { OnOk result (AppendsLines (telling_at heading) (block_sighting app_id (pdu_of {A = Unit {0}} goose.now) ∷ []) known.old known.new line.old.items line.new.items) }
+    ensures wants { OnErr result (HasLines (telling_at heading) (block_sighting app_id (pdu_of {A = Unit {0}} goose.now) ∷ []) known.old) }
     ensures kept { take (length line.old.items) line.new.items ≡ line.old.items }
 {
     let name = goose.gocb_ref;
+    let shown = Shown::Block(app_id, goose);
     if has_fields(goose) {
         let pieces = block_pieces(app_id, goose);
-        put_sighting(alloc, known, line, number, Some(app_id), name, &pieces)
+        put_sighting(
+            alloc,
+            known,
+            line,
+            heading,
+            Some(app_id),
+            name,
+            &pieces,
+            shown,
+        )
     } else {
         let pieces = named_pieces(app_id, goose);
-        put_sighting(alloc, known, line, number, Some(app_id), name, &pieces)
+        put_sighting(
+            alloc,
+            known,
+            line,
+            heading,
+            Some(app_id),
+            name,
+            &pieces,
+            shown,
+        )
     }
 }
 
@@ -224,15 +391,24 @@ fn put_stream<A: Allocator + Copy>(
     alloc: A,
     known: &mut Inventory<A>,
     line: &mut Vec<u8, A>,
-    number: u64,
+    heading: Heading,
     asdu: &AsduView<'_>,
 ) -> Result<(), AllocError>
-    ensures written { OnOk result (AppendsLines number (stream_sighting (asdu_of {A = Unit {0}} asdu.now) ∷ []) known.old known.new line.old.items line.new.items) }
-    ensures wants { OnErr result (HasLines number (stream_sighting (asdu_of {A = Unit {0}} asdu.now) ∷ []) known.old) }
+    ensures written { OnOk result (AppendsLines (telling_at heading) (stream_sighting (asdu_of {A = Unit {0}} asdu.now) ∷ []) known.old known.new line.old.items line.new.items) }
+    ensures wants { OnErr result (HasLines (telling_at heading) (stream_sighting (asdu_of {A = Unit {0}} asdu.now) ∷ []) known.old) }
     ensures kept { take (length line.old.items) line.new.items ≡ line.old.items }
 {
     let pieces = stream_pieces(asdu);
-    put_sighting(alloc, known, line, number, None, asdu.sv_id, &pieces)
+    put_sighting(
+        alloc,
+        known,
+        line,
+        heading,
+        None,
+        asdu.sv_id,
+        &pieces,
+        Shown::Stream(asdu.conf_rev, asdu.sv_id),
+    )
 }
 
 // Appends what is written of the streams of a frame's ASDUs.
@@ -240,15 +416,15 @@ fn put_streams<A: Allocator + Copy>(
     alloc: A,
     known: &mut Inventory<A>,
     line: &mut Vec<u8, A>,
-    number: u64,
+    heading: Heading,
     sampled: &SvView<'_>,
 ) -> Result<(), AllocError>
-    ensures written { OnOk result (AppendsLines number (stream_sightings (asdus_left {A = Unit {0}} sampled.now.asdus)) known.old known.new line.old.items line.new.items) }
-    ensures wants { OnErr result (HasLines number (stream_sightings (asdus_left {A = Unit {0}} sampled.now.asdus)) known.old) }
+    ensures written { OnOk result (AppendsLines (telling_at heading) (stream_sightings (asdus_left {A = Unit {0}} sampled.now.asdus)) known.old known.new line.old.items line.new.items) }
+    ensures wants { OnErr result (HasLines (telling_at heading) (stream_sightings (asdus_left {A = Unit {0}} sampled.now.asdus)) known.old) }
     ensures kept { take (length line.old.items) line.new.items ≡ line.old.items }
 {
     for asdu in sampled.asdus {
-        put_stream(alloc, known, line, number, &asdu)?;
+        put_stream(alloc, known, line, heading, &asdu)?;
     }
     Ok(())
 }
@@ -258,11 +434,11 @@ pub fn put_event<A: Allocator + Copy>(
     alloc: A,
     known: &mut Inventory<A>,
     line: &mut Vec<u8, A>,
-    number: u64,
+    heading: Heading,
     kind: &EventKind<A>,
 ) -> Result<(), AllocError>
-    ensures written { OnOk result (AppendsLines number (sightings_of kind.now) known.old known.new line.old.items line.new.items) }
-    ensures wants { OnErr result (HasLines number (sightings_of kind.now) known.old) }
+    ensures written { OnOk result (AppendsLines (telling_at heading) (sightings_of kind.now) known.old known.new line.old.items line.new.items) }
+    ensures wants { OnErr result (HasLines (telling_at heading) (sightings_of kind.now) known.old) }
     ensures kept { take (length line.old.items) line.new.items ≡ line.old.items }
 {
     let EventKind::Frame(octets) = kind else {
@@ -271,8 +447,8 @@ pub fn put_event<A: Allocator + Copy>(
     match view_frame(octets.as_slice()) {
         Err(_) => Ok(()),
         Ok(view) => match &view.apdu {
-            ApduView::Goose(goose) => put_block(alloc, known, line, number, view.app_id, goose),
-            ApduView::Sampled(sampled) => put_streams(alloc, known, line, number, sampled),
+            ApduView::Goose(goose) => put_block(alloc, known, line, heading, view.app_id, goose),
+            ApduView::Sampled(sampled) => put_streams(alloc, known, line, heading, sampled),
         },
     }
 }

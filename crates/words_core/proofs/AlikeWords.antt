@@ -1,5 +1,5 @@
 -- Words none of which names an option are answered alike where options are offered and where they are not.
-use Rattle.std.proofs.Common.{◌≡◌, ◌||◌, ◌∙◌, ℕ, Bool, true, false, true≢false, not, List, [], ◌∷◌, ◌++◌, drop, Option, Some, None, is_some, option_map, option_and_then, refl, sym, ap, ap₂, subst}
+use Rattle.std.proofs.Common.{◌≡◌, ◌&&◌, ◌||◌, ◌∙◌, ℕ, Bool, true, false, true≢false, not, List, [], ◌∷◌, ◌++◌, drop, map, Option, Some, None, is_some, option_map, option_and_then, refl, sym, ap, ap₂, subst}
 use Rattle.std.specs.Prelude.{Ok, codes, find, fold, if◌then◌else◌, slice_get}
 use Rattle.std.specs.List.{list_any}
 use Rattle.std.specs.Option.{option_map_or}
@@ -9,11 +9,12 @@ use Rattle.clap.specs.Words.{Kinds, Row, Rule, Shape, Text, all_of}
 use Rattle.clap.specs.Kinds.{check_kinds, or_else}
 use Rattle.clap.specs.Faults.{check_fault, default_fault, defaults_fault, entered_fault, level_fault, settle_fault}
 use Rattle.clap.specs.Simple.{entered, label_of, rows_at}
-use Rattle.clap.specs.Walk.{Held, Step, Walk, after_step, answers_to, arg_by_id, arg_by_index, arg_by_long, arg_by_short, has_row, next, nothing_held, row_text, rows_after, settled, stop_after, subcommand, to_positional, trailing, value, walk, walk_from, walked, walked_from, with_default, word_met}
+use Rattle.clap.specs.Walk.{Held, Step, Walk, after_step, answers_to, arg_by_id, arg_by_index, arg_by_long, arg_by_short, has_long, has_row, next, nothing_held, row_text, rows_after, settled, stop_after, subcommand, to_positional, trailing, value, walk, walk_from, walked, walked_from, with_default, word_met}
 use Rattle.clap.specs.declared.parser.matches.ValueSource.TheVariants.{CommandLine}
 use Rattle.words_core.specs.declared.option_words.Options.{Options}
-use Rattle.words_core.specs.CommandLine.{Asked, Meaning, check, import, list_blocks, name_of, number_said, publish, replay_of, rewrite, show, task_asked, watch, watch_asked}
-use Rattle.words_core.specs.RequestLine.{AnsweredAlike, Switch, capture, is_set, names_option, no_options, options_in, request_asked, skip_other, switch_name, with_these}
+use Rattle.words_core.specs.CommandLine.{Asked, Meaning, check, import, list_blocks, name_of, number_said, publish, replay_of, rewrite, show, task_asked, task_of_words, watch, watch_asked}
+use Rattle.words_core.specs.RequestLine.{AnsweredAlike, Switch, capture, is_set, names_option, no_options, options_in, request_asked, request_of_words, switch_name, switches, with_these}
+use Rattle.words_core.specs.computed.OfferedLine.{faults_by}
 use Rattle.words_core.proofs.AskingWords.{line, names, top}
 use Rattle.words_core.proofs.KeptRows.{no_default}
 use Rattle.words_core.proofs.LoneFlags.{help_flag}
@@ -21,8 +22,10 @@ use Rattle.words_core.proofs.OptionRows.{more_other, row_at, set_other, switch_f
 use Rattle.words_core.proofs.PlainWords.{plain_defaults, plain_leaf}
 use Rattle.words_core.proofs.ReplayWords.{block_apart, block_argument, block_default, replay_set, replays}
 use Rattle.words_core.proofs.SameWalks.{IsOther, NoSwitchRow, OtherHeld, OtherRule, settled_same, settle_fault_same, settled_held, walk_alike}
+use Rattle.words_core.proofs.Switches.{fails_at, is_off, options_from}
 use Rattle.words_core.proofs.WatchRows.{id_option, period_option, watches}
 use Rattle.words_core.proofs.WatchWords.{watch_default, watch_set}
+use Rattle.words_core.proofs.WordLemmas.{alike_mistakes, faultless_asks}
 
 -- ---- the rules of each subcommand, with the options and without
 
@@ -34,23 +37,29 @@ record Offered (s : Shape) (c : List Rule) : Type 0 where
   by_id : (id : Text) → IsOther id → arg_by_id c id ≡ arg_by_id s.rules id
   own : (test : Rule → Bool) → OtherRule (find test s.rules)
 
-no_name : (name : Text) → IsOther name → (bytes_eq (codes "capture") name ≡ false) × (bytes_eq (codes "skip-other") name ≡ false)
-no_name name e = go (bytes_eq (codes "capture") name) (bytes_eq (codes "skip-other") name) e
-  where
-    go : (a b : Bool) → (a || (b || false)) ≡ false → (a ≡ false) × (b ≡ false)
-    go true b f = absurd (true≢false f)
-    go false true f = absurd (true≢false f)
-    go false false f = (refl, refl)
+-- a test that no option passes finds the same without them
+past_options : (test : Rule → Bool) → ((o : Switch) → test (switch_flag o) ≡ false) → (before : List Rule) (os : List Switch) (rest : List Rule)
+    → find test (before ++ (map switch_flag os ++ rest)) ≡ find test (before ++ rest)
+past_options test fails [] [] rest = refl
+past_options test fails [] (o ∷ os) rest = let here = fails o in rw here (past_options test fails [] os rest)
+past_options test fails (a ∷ before) os rest = ap (λ (x : Option Rule). if test a then Some a else x) (past_options test fails before os rest)
+
+long_past : (name : Text) → IsOther name → (before : List Rule) → arg_by_long (before ++ (map switch_flag switches ++ help_flag ∷ [])) name ≡ arg_by_long (before ++ help_flag ∷ []) name
+long_past name other before =
+    past_options (λ a. not (is_some a.index) && has_long a name) (λ o. let apart = fails_at (λ x. bytes_eq (switch_name x) name) other o in rw apart refl) before switches (help_flag ∷ [])
+
+id_past : (id : Text) → IsOther id → (before : List Rule) → arg_by_id (before ++ (map switch_flag switches ++ help_flag ∷ [])) id ≡ arg_by_id (before ++ help_flag ∷ []) id
+id_past id other before = past_options (λ a. bytes_eq a.id id) (fails_at (λ x. bytes_eq (switch_name x) id) other) before switches (help_flag ∷ [])
 
 help_own : OtherRule (Some help_flag)
 help_own = (refl, λ o values rows. refl)
 
 plain_offered : (t : Asked) → Offered (plain_leaf false t) (plain_leaf true t).rules
 plain_offered t = record {
-  long = λ name e. let p = no_name name e in rw (p.0, p.1) refl;
+  long = λ name e. long_past name e [];
   short = λ x. refl;
   index = λ i. refl;
-  by_id = λ id e. let p = no_name id e in rw (p.0, p.1) refl;
+  by_id = λ id e. id_past id e [];
   own = λ test. go (test help_flag);
 }
   where
@@ -67,10 +76,10 @@ block_own = (refl, λ o values rows. more_other (codes "BLOCK") (switch_name o) 
 
 replay_offered : Offered (replays false) (replays true).rules
 replay_offered = record {
-  long = λ name e. let p = no_name name e in rw (p.0, p.1) refl;
+  long = λ name e. long_past name e (block_argument ∷ []);
   short = λ x. refl;
   index = λ i. refl;
-  by_id = λ id e. let p = no_name id e in rw (p.0, p.1) refl;
+  by_id = λ id e. id_past id e (block_argument ∷ []);
   own = λ test. go (test block_argument) (test help_flag);
 }
   where
@@ -84,21 +93,21 @@ period_own = (refl, λ o values rows. set_other (codes "period") (switch_name o)
   where
     apart : (o : Switch) → bytes_eq (codes "period") (switch_name o) ≡ false
     apart capture = refl
-    apart skip_other = refl
+    apart _ = refl
 
 id_own : OtherRule (Some id_option)
 id_own = (refl, λ o values rows. set_other (codes "id") (switch_name o) (apart o) _ CommandLine _ rows)
   where
     apart : (o : Switch) → bytes_eq (codes "id") (switch_name o) ≡ false
     apart capture = refl
-    apart skip_other = refl
+    apart _ = refl
 
 watch_offered : Offered (watches false) (watches true).rules
 watch_offered = record {
-  long = λ name e. let p = no_name name e in rw (p.0, p.1) refl;
+  long = λ name e. long_past name e (period_option ∷ id_option ∷ []);
   short = λ x. refl;
   index = λ i. refl;
-  by_id = λ id e. let p = no_name id e in rw (p.0, p.1) refl;
+  by_id = λ id e. id_past id e (period_option ∷ id_option ∷ []);
   own = λ test. go (test period_option) (test id_option) (test help_flag);
 }
   where
@@ -169,28 +178,28 @@ record SameSub (x y : Shape) : Type 0 where
   wish : (words : List Text) → NameNone words → request_asked (rows_at x words) ≡ option_map (with_these no_options) (task_asked (rows_at y words))
 
 -- where no option is set
-none_set : (rows : List Row) → ((o : Switch) → is_set (switch_name o) rows ≡ false) → options_in rows ≡ no_options
-none_set rows off = ap₂ (λ (a b : Bool). record { is_capture = a; skips_other = b }) (off capture) (off skip_other)
+none_set : (rows : List Row) → ((o : Switch) → is_set (switch_name o) rows ≡ false) → options_in rows ≡ Some no_options
+none_set rows off = options_from rows no_options (λ o. off o ∙ sym (is_off o))
 
 no_row_set : (o : Switch) (rows : List Row) → NoSwitchRow rows → is_set (switch_name o) rows ≡ false
 no_row_set o rows none = let at = none o in rw at refl
 
 -- the options and the flag for help
-switches_pass : DefaultsPass (switch_flag capture ∷ switch_flag skip_other ∷ help_flag ∷ [])
+switches_pass : (os : List Switch) → DefaultsPass (map switch_flag os ++ help_flag ∷ [])
 unfolding defaults_fault
-switches_pass rows =
-    ap₂ or_else (switch_fault capture rows)
-    (ap₂ or_else (switch_fault skip_other (with_default rows (switch_flag capture))) (ap₂ or_else (no_fault help_flag (with_default (with_default rows (switch_flag capture)) (switch_flag skip_other)) refl) refl))
+switches_pass [] rows = ap₂ or_else (no_fault help_flag rows refl) refl
+switches_pass (o ∷ os) rows = ap₂ or_else (switch_fault o rows) (switches_pass os (with_default rows (switch_flag o)))
 
 plain_pass : (offers : Bool) (t : Asked) → DefaultsPass (plain_leaf offers t).rules
 unfolding defaults_fault
-plain_pass true t rows = switches_pass rows
+plain_pass true t rows = switches_pass switches rows
 plain_pass false t rows = ap₂ or_else (no_fault help_flag rows refl) refl
 
 plain_wish : (t : Asked) (rows other : List Row) → ((r : List Row) → task_asked (name_of t, r) ≡ Some (Ok t)) → ((o : Switch) → is_set (switch_name o) rows ≡ false)
     → request_asked (name_of t, rows) ≡ option_map (with_these no_options) (task_asked (name_of t, other))
 plain_wish t rows other asks off =
-    ap (option_map (with_these (options_in rows))) (asks rows) ∙ ap (λ (o : Options). Some (Ok (t, o))) (none_set rows off) ∙ sym (ap (option_map (with_these no_options)) (asks other))
+    ap (option_and_then (λ (o : Options). option_map (with_these o) (task_asked (name_of t, rows)))) (none_set rows off)
+    ∙ ap (option_map (with_these no_options)) (asks rows) ∙ sym (ap (option_map (with_these no_options)) (asks other))
 
 plain_sub : (t : Asked) → ((r : List Row) → task_asked (name_of t, r) ≡ Some (Ok t)) → SameSub (plain_leaf true t) (plain_leaf false t)
 plain_sub t asks = record {
@@ -220,7 +229,7 @@ given_by r = option_map_or (λ x. explicit_source x.source) r false
 
 replay_pass : (offers : Bool) → DefaultsPass (replays offers).rules
 unfolding defaults_fault
-replay_pass true rows = ap₂ or_else (no_fault block_argument rows refl) (switches_pass (with_default rows block_argument))
+replay_pass true rows = ap₂ or_else (no_fault block_argument rows refl) (switches_pass switches (with_default rows block_argument))
 replay_pass false rows = ap₂ or_else (no_fault block_argument rows refl) (ap₂ or_else (no_fault help_flag (with_default rows block_argument) refl) refl)
 
 block_rows_same : (rows : List Row) → row_at (codes "BLOCK") (fold with_default rows (replays true).rules) ≡ row_at (codes "BLOCK") (fold with_default rows (replays false).rules)
@@ -240,8 +249,8 @@ replay_sub = record {
     wish : (words : List Text) → Level (replays false) (replays true).rules words
         → request_asked (codes "replay", rows_after (replays true).rules [] words) ≡ option_map (with_these no_options) (task_asked (codes "replay", rows_after (replays false).rules [] words))
     wish words l =
-        ap (λ (r : List Row). option_map (with_these (options_in r)) (option_map replay_of (all_of (codes "BLOCK") r))) l.with_options
-        ∙ ap₂ (λ (o : Options) (r : Option Row). option_map (with_these o) (option_map replay_of (option_map (λ x. x.values) r)))
+        ap (λ (r : List Row). option_and_then (λ (o : Options). option_map (with_these o) (option_map replay_of (all_of (codes "BLOCK") r))) (options_in r)) l.with_options
+        ∙ ap₂ (λ (x : Option Options) (r : Option Row). option_and_then (λ (o : Options). option_map (with_these o) (option_map replay_of (option_map (λ y. y.values) r))) x)
         (none_set (fold with_default l.rows (replays true).rules) (λ o. replay_set true o l.rows ∙ no_row_set o l.rows l.none)) (block_rows_same l.rows)
         ∙ sym (ap (λ (r : List Row). option_map (with_these no_options) (option_map replay_of (all_of (codes "BLOCK") r))) l.without)
 
@@ -249,18 +258,18 @@ watch_pass : (offers : Bool) → DefaultsPass (watches offers).rules
 unfolding defaults_fault
 watch_pass true rows =
     ap₂ or_else (no_fault period_option rows refl)
-    (ap₂ or_else (no_fault id_option (with_default rows period_option) refl) (switches_pass (with_default (with_default rows period_option) id_option)))
+    (ap₂ or_else (no_fault id_option (with_default rows period_option) refl) (switches_pass switches (with_default (with_default rows period_option) id_option)))
 watch_pass false rows =
     ap₂ or_else (no_fault period_option rows refl)
     (ap₂ or_else (no_fault id_option (with_default rows period_option) refl) (ap₂ or_else (no_fault help_flag (with_default (with_default rows period_option) id_option) refl) refl))
 
 period_past : (o : Switch) → bytes_eq (switch_name o) (codes "period") ≡ false
 period_past capture = refl
-period_past skip_other = refl
+period_past _ = refl
 
-id_past : (o : Switch) → bytes_eq (switch_name o) (codes "id") ≡ false
-id_past capture = refl
-id_past skip_other = refl
+svid_past : (o : Switch) → bytes_eq (switch_name o) (codes "id") ≡ false
+svid_past capture = refl
+svid_past _ = refl
 
 watch_rows_same : (id : Text) → ((o : Switch) → bytes_eq (switch_name o) id ≡ false) → (rows : List Row)
     → row_at id (fold with_default rows (watches true).rules) ≡ row_at id (fold with_default rows (watches false).rules)
@@ -279,16 +288,16 @@ watch_sub = record {
   where
     level : (words : List Text) → NameNone words → Level (watches false) (watches true).rules words
     level words n = level_alike (watches false) (watches true).rules watch_offered (watch_pass true) (watch_pass false)
-        (λ rows. ap₂ (λ (p i : Option Row). check_kinds false false (not (given_by p) || (not (given_by i) || false))) (watch_rows_same (codes "period") period_past rows) (watch_rows_same (codes "id") id_past rows)) words n
+        (λ rows. ap₂ (λ (p i : Option Row). check_kinds false false (not (given_by p) || (not (given_by i) || false))) (watch_rows_same (codes "period") period_past rows) (watch_rows_same (codes "id") svid_past rows)) words n
 
     wish : (words : List Text) → Level (watches false) (watches true).rules words
         → request_asked (codes "watch", rows_after (watches true).rules [] words) ≡ option_map (with_these no_options) (task_asked (codes "watch", rows_after (watches false).rules [] words))
     wish words l =
         let last = fold with_default l.rows (watches true).rules in
         let none = none_set last (λ o. watch_set true o l.rows ∙ no_row_set o l.rows l.none) in
-        ap (λ (r : List Row). option_map (with_these (options_in r)) (watch_asked r)) l.with_options
-        ∙ ap (λ (o : Options). option_map (with_these o) (watch_asked last)) none
-        ∙ ap₂ (λ (p i : Option Row). option_map (with_these no_options) (watch_by p i)) (watch_rows_same (codes "period") period_past l.rows) (watch_rows_same (codes "id") id_past l.rows)
+        ap (λ (r : List Row). option_and_then (λ (o : Options). option_map (with_these o) (watch_asked r)) (options_in r)) l.with_options
+        ∙ ap (option_and_then (λ (o : Options). option_map (with_these o) (watch_asked last))) none
+        ∙ ap₂ (λ (p i : Option Row). option_map (with_these no_options) (watch_by p i)) (watch_rows_same (codes "period") period_past l.rows) (watch_rows_same (codes "id") svid_past l.rows)
         ∙ sym (ap (λ (r : List Row). option_map (with_these no_options) (watch_asked r)) l.without)
 
 abbrev SameSubs : List Shape → List Shape → Type 0
@@ -367,7 +376,9 @@ walk_clear (word ∷ words) w n k = go (names_option word) refl n (walk_clear wo
 -- ---- the whole line
 
 pub answered_alike : (words : List Text) → AnsweredAlike words
-answered_alike words n = go (stop_after top.rules names (drop 1 words)) (walk_clear (drop 1 words) (walk_from nothing_held) n refl)
+answered_alike words n =
+    let both = go (stop_after top.rules names (drop 1 words)) (walk_clear (drop 1 words) (walk_from nothing_held) n refl) in
+    (alike_mistakes (faults_by true words) (faults_by false words) (request_of_words words) (task_of_words words) both.0 both.1 (faultless_asks false words), both.1)
   where
     go : (o : Option (Text × List Text)) → StopsClear o
         → (level_fault top names nothing_held (drop 1 words) (is_some (entered (line true) o)) (entered_fault (line true) o) ≡ level_fault top names nothing_held (drop 1 words) (is_some (entered (line false) o)) (entered_fault (line false) o))

@@ -14,22 +14,22 @@ use Rattle.clap.proofs.OnLiterals.{clap_on_literals}
 use Rattle.block_core.specs.declared.block.Block.{Block}
 use Rattle.words_core.specs.declared.option_words.Options.{Options}
 use Rattle.words_core.specs.CommandLine.{Asked, Asks, AsksReplay, AsksWatch, check, import, list_blocks, name_of, publish, replay, rewrite, show, task_asked, watch}
-use Rattle.words_core.specs.RequestLine.{AsksByNameWith, AsksReplayWith, AsksWatchWith, AsksWith, Switch, capture, is_on, is_option, no_options, request_asked, skip_other, switch_word, takes_options, times}
-use Rattle.words_core.specs.computed.OfferedLine.{line_of, task_by}
+use Rattle.words_core.specs.RequestLine.{AsksByNameWith, AsksReplayWith, AsksWatchWith, AsksWith, Switch, is_on, is_option, no_options, switch_word, takes_options, times}
+use Rattle.words_core.specs.computed.OfferedLine.{line_of, request_by, task_by}
 use Rattle.words_core.proofs.AskingWords.{line, names, stops}
-use Rattle.words_core.proofs.NamedWords.{IsTaken, at_most, on_or_off, taken_behind, wished}
+use Rattle.words_core.proofs.NamedWords.{IsTaken, all_off, at_most, taken_behind, wished}
 use Rattle.words_core.proofs.OptionRows.{AtMostOnce, once_if, times_of, use_all, words_of}
 use Rattle.words_core.proofs.OptionWalks.{dashes, level_ends}
 use Rattle.words_core.proofs.PlainWords.{IsEnd, plain_leaf, plain_rows, plain_set}
 use Rattle.words_core.proofs.ReplayWords.{all_texts, no_times, replay_asked_for, some_option, texts_in, texts_no_options}
+use Rattle.words_core.proofs.Switches.{is_off}
 use Rattle.words_core.proofs.WatchWords.{in_all, watch_asked_for}
 use Rattle.words_core.proofs.WordLemmas.{asked_by_name, task_wished}
 
 -- ---- where no options are offered
 
 none_on : (o : Switch) → zero ≡ once_if (is_on no_options o)
-none_on capture = refl
-none_on skip_other = refl
+none_on o = ap once_if (sym (is_off o))
 
 abbrev TaskTaken : List Text → Asked → Type 0
 TaskTaken words t = (task_by false words ≡ Some (Ok t)) × (takes (line_of false) words ≡ true)
@@ -127,8 +127,8 @@ options_asked t k called os mark options end gives =
     let new : AtMostOnce (λ o. 0) os = λ o. let m = at_most (is_on options o) (times_of o os) (gives o) in omega (arith, m) in
     let ended = plain_rows t os mark end new in
     let level = level_ends (plain_leaf true t) (use_all os) rest ended refl refl refl in (
-      ap (λ (o : Option (Text × List Text)). option_and_then request_asked (entered (line true) o)) (stops (name_of t) (name_of t) rest k.met) ∙ ap (option_and_then request_asked) (k.enters rest)
-          ∙ wished options rows (λ o. times_of o os) t (task_asked (name_of t, rows)) (k.asks rows) (plain_set t os mark end new) gives,
+      ap (λ (o : Option (Text × List Text)). option_and_then (request_by true) (entered (line true) o)) (stops (name_of t) (name_of t) rest k.met) ∙ ap (option_and_then (request_by true)) (k.enters rest)
+          ∙ wished true options rows (λ o. times_of o os) t (task_asked (name_of t, rows)) (k.asks rows) (plain_set t os mark end new) gives (λ f. absurd (true≢false f)),
       taken_behind true called (name_of t) rest k.met (there_is t rest (entered (line true) (Some (name_of t, rest))) (k.enters rest)) (k.passes rest level),
     )
 
@@ -150,11 +150,6 @@ name_alone called check e = absurd (true≢false e)
 name_alone called list_blocks e = absurd (true≢false e)
 name_alone called (replay blocks) e = absurd (true≢false e)
 name_alone called (watch period id) e = absurd (true≢false e)
-
-all_off : (options : Options) → ((o : Switch) → zero ≡ once_if (is_on options o)) → options ≡ no_options
-all_off options none =
-    let at = λ (o : Switch). on_or_off (is_on options o) false (sym (none o)) in
-    ap₂ (λ (a b : Bool). record { is_capture = a; skips_other = b }) (at capture) (at skip_other)
 
 without_options_asked : (words : List Text) (t : Asked) (options : Options) → takes_options t ≡ false → AsksByNameWith words t options → IsTaken true words t options
 without_options_asked words t options none a =

@@ -17,12 +17,13 @@ use Rattle.block_core.specs.declared.block.Block.{Block}
 use Rattle.words_core.specs.CommandLine.{Asked, Asks, AsksByName, Meaning, Subcommand, blocks_in, check, first_bad_block, import, is_plain, list_blocks, name_of, number_said, plain, publish, replay, replay_of, replay_shape, replaying, rewrite, show, subcommands, task_asked, watch, watch_shape, watching}
 use Rattle.words_core.proofs.KeptRows.{first_none, leaf, then_none}
 use Rattle.words_core.specs.declared.option_words.Options.{Options}
-use Rattle.words_core.specs.RequestLine.{AsksByNameWith, AsksWith, Switch, Wish, capture, is_on, is_option, is_set, options_in, request_asked, skip_other, switch_name, takes_options, with_these}
-use Rattle.words_core.specs.computed.OfferedLine.{faults_by, line_of, offered, wish_by}
+use Rattle.words_core.specs.RequestLine.{AsksByNameWith, AsksWith, Switch, Wish, is_on, is_option, is_set, no_options, switch_name, takes_options, with_these}
+use Rattle.words_core.specs.computed.OfferedLine.{faults_by, line_of, offered, options_by, request_by, wish_by}
 use Rattle.words_core.proofs.LoneFlags.{AreFlags, help_flag, lone_mark, version_flag}
 use Rattle.words_core.proofs.OptionRows.{once_if, times_of, words_of}
 use Rattle.words_core.proofs.OptionWalks.{dashes}
 use Rattle.words_core.proofs.PlainWords.{IsEnd, given, none_given_at, none_yet, plain_leaf, plain_set}
+use Rattle.words_core.proofs.Switches.{an_option, is_off, is_on_in}
 
 -- the built command, its words before a subcommand, and the names of its subcommands
 abbrev pub line : Bool → App
@@ -44,14 +45,9 @@ no_wish w e = cc
 no_pair : (r : Text × List Row) → None ≡ Some r → ⊥
 no_pair r e = cc
 
-is_on_in : (o : Switch) (rows : List Row) → is_set (switch_name o) rows ≡ is_on (options_in rows) o
-is_on_in capture rows = refl
-is_on_in skip_other rows = refl
-
 all_options : (os : List Switch) → list_all is_option (words_of os) ≡ true
 all_options [] = refl
-all_options (capture ∷ os) = all_options os
-all_options (skip_other ∷ os) = all_options os
+all_options (o ∷ os) = rw (an_option o) (all_options os)
 
 -- ---- a subcommand is met by its name
 
@@ -291,20 +287,28 @@ parts_none offers p words f =
     (first_none (walk_fault top names (walk_from nothing_held) words) _ f, first_none (entered_fault (line offers) (stop words)) _ rest)
 
 -- a wish is a task and the options of the rows
-wish_parts : (m : Option Meaning) (o : Options) (t : Asked) (options : Options) → option_map (with_these o) m ≡ Some (Ok (t, options)) → (m ≡ Some (Ok t)) × (o ≡ options)
-wish_parts None o t options e = cc
-wish_parts (Some (Err i)) o t options e = cc
-wish_parts (Some (Ok u)) o t options e = (
+wish_parts : (m : Option Meaning) (o : Option Options) (t : Asked) (options : Options) → option_and_then (λ x. option_map (with_these x) m) o ≡ Some (Ok (t, options)) → (m ≡ Some (Ok t)) × (o ≡ Some options)
+wish_parts m None t options e = cc
+wish_parts None (Some o) t options e = cc
+wish_parts (Some (Err i)) (Some o) t options e = cc
+wish_parts (Some (Ok u)) (Some o) t options e = (
   ap (λ (w : Option Wish). Some (Ok (wish_or (u, o) w).0)) e,
-  ap (λ (w : Option Wish). (wish_or (u, o) w).1) e,
+  ap (λ (w : Option Wish). Some (wish_or (u, o) w).1) e,
 )
+
+-- options are given where they are set, or none where none are offered
+gives_by : (offers : Bool) (os : List Switch) (rows : List Row) (options : Options) → options_by offers rows ≡ Some options → ((o : Switch) → times_of o os ≡ (if is_set (switch_name o) rows then 1 else 0))
+    → (offers ≡ false → os ≡ []) → (o : Switch) → times_of o os ≡ (if is_on options o then 1 else 0)
+gives_by true os rows options e sets none o = sets o ∙ ap once_if (is_on_in rows options e o)
+gives_by false os rows options e sets none o =
+    ap (times_of o) (none refl) ∙ ap once_if (sym (is_off o) ∙ ap (λ (x : Option Options). is_on (unwrap_or x no_options) o) e)
 
 subcommand_asks : (offers : Bool) (p word name : Text) (words : List Text) (t : Asked) (options : Options) → is_plain t ≡ true → subcommand_met names idle word ≡ Some name → faults_by offers (p ∷ word ∷ words) ≡ []
     → wish_by offers (p ∷ word ∷ words) ≡ Some (Ok (t, options)) → NamesPlainly offers (p ∷ word ∷ words) t options
 subcommand_asks offers p word name words t options plainly m f e = go (entered (line offers) (Some (name, words))) refl
   where
-    met : option_and_then request_asked (entered (line offers) (Some (name, words))) ≡ Some (Ok (t, options))
-    met = subst (λ (o : Option (Text × List Text)). option_and_then request_asked (entered (line offers) o) ≡ Some (Ok (t, options))) (stops word name words m) e
+    met : option_and_then (request_by offers) (entered (line offers) (Some (name, words))) ≡ Some (Ok (t, options))
+    met = subst (λ (o : Option (Text × List Text)). option_and_then (request_by offers) (entered (line offers) o) ≡ Some (Ok (t, options))) (stops word name words m) e
 
     fault : entered_fault (line offers) (Some (name, words)) ≡ []
     fault = subst (λ (o : Option (Text × List Text)). entered_fault (line offers) o ≡ []) (stops word name words m) (parts_none offers p (word ∷ words) f).1
@@ -312,7 +316,7 @@ subcommand_asks offers p word name words t options plainly m f e = go (entered (
     go : (o : Option (Text × List Row)) → entered (line offers) (Some (name, words)) ≡ o → NamesPlainly offers (p ∷ word ∷ words) t options
     go None n = absurd (no_wish (Ok (t, options)) (rw n at met))
     go (Some r) n =
-        let both = wish_parts (task_asked r) (options_in r.1) t options (rw n at met) in
+        let both = wish_parts (task_asked r) (options_by offers r.1) t options (rw n at met) in
         let named : name_of t ≡ r.0 = asked_name subcommands all_named r.0 r.1 t both.0 in
         let is : word ≡ name_of t = sym (named ∙ (entered_name offers name words r n ∙ met_name word name names refl m)) in
         let b = below offers name words r t plainly named n fault in
@@ -322,7 +326,7 @@ subcommand_asks offers p word name words t options plainly m f e = go (entered (
           mark = b.mark;
           are = ap₂ (λ (w : Text) (l : List Text). p ∷ w ∷ l) is b.are;
           end = b.end;
-          gives = λ o. b.sets o ∙ ap once_if (is_on_in o r.1 ∙ ap (λ (x : Options). is_on x o) both.1);
+          gives = gives_by offers b.options r.1 options both.1 b.sets (λ f. b.none (rw f refl));
           none = b.none;
         }
 

@@ -1,3 +1,4 @@
+pub mod Switches
 pub mod OptionRows
 pub mod KeptRows
 pub mod OptionWalks

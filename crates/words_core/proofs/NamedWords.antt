@@ -1,5 +1,5 @@
 -- The words behind the name of a subcommand are its own, and pass where they do.
-use Rattle.std.proofs.Common.{◌≡◌, ◌∙◌, ◌&&◌, ◌||◌, ◌≤◌, ℕ, Bool, true, false, not, List, [], ◌∷◌, ◌++◌, Option, Some, Ok, is_some, option_map, refl, sym, ap, ap₂, subst, append_assoc, arith}
+use Rattle.std.proofs.Common.{◌≡◌, ◌∙◌, ◌&&◌, ◌||◌, ◌≤◌, ℕ, zero, Bool, true, false, not, List, [], ◌∷◌, ◌++◌, Option, Some, Ok, is_some, option_and_then, option_map, refl, sym, ap, subst, append_assoc, arith}
 use Rattle.std.specs.Prelude.{codes, fold, if◌then◌else◌}
 use Rattle.std.specs.List.{list_all}
 use Rattle.std.specs.Str.{bytes_eq}
@@ -10,11 +10,12 @@ use Rattle.clap.specs.Takes.{default_passes, entered_passes, is_valid, level_pas
 use Rattle.clap.specs.Walk.{Walk, finished, idle, nothing_held, subcommand_met, walk, walk_from, walked}
 use Rattle.words_core.specs.declared.option_words.Options.{Options}
 use Rattle.words_core.specs.CommandLine.{Asked, Meaning}
-use Rattle.words_core.specs.RequestLine.{Switch, capture, is_on, is_set, options_in, skip_other, switch_name, with_these}
-use Rattle.words_core.specs.computed.OfferedLine.{line_of, wish_by}
+use Rattle.words_core.specs.RequestLine.{Switch, is_on, is_set, no_options, switch_name, with_these}
+use Rattle.words_core.specs.computed.OfferedLine.{line_of, options_by, wish_by}
 use Rattle.words_core.proofs.AskingWords.{line, names, top}
 use Rattle.words_core.proofs.OptionRows.{once_if}
 use Rattle.words_core.proofs.OptionWalks.{both_true}
+use Rattle.words_core.proofs.Switches.{is_off, options_from, same_options}
 use Rattle.words_core.proofs.WordLemmas.{simple_line}
 
 abbrev stopped_at : Text → List Text → Walk
@@ -68,17 +69,20 @@ on_or_off true false e = absurd (omega (arith, e))
 on_or_off false true e = absurd (omega (arith, e))
 on_or_off false false e = refl
 
--- options that are set where they are on are these
-pub same_options : (options : Options) (rows : List Row) (n : Switch → ℕ) → ((o : Switch) → n o ≡ (if is_set (switch_name o) rows then 1 else 0)) → ((o : Switch) → n o ≡ (if is_on options o then 1 else 0))
-    → options_in rows ≡ options
-same_options options rows n sets gives =
-    let at = λ (o : Switch). on_or_off (is_set (switch_name o) rows) (is_on options o) (sym (sets o) ∙ gives o) in
-    ap₂ (λ (a b : Bool). record { is_capture = a; skips_other = b }) (at capture) (at skip_other)
+-- options of which none is on are none
+pub all_off : (options : Options) → ((o : Switch) → zero ≡ once_if (is_on options o)) → options ≡ no_options
+all_off options none = same_options options no_options (λ o. on_or_off (is_on options o) (is_on no_options o) (sym (none o) ∙ ap once_if (sym (is_off o))))
 
-pub wished : (options : Options) (rows : List Row) (n : Switch → ℕ) (t : Asked) (m : Option Meaning) → m ≡ Some (Ok t) → ((o : Switch) → n o ≡ (if is_set (switch_name o) rows then 1 else 0))
-    → ((o : Switch) → n o ≡ (if is_on options o then 1 else 0)) → option_map (with_these (options_in rows)) m ≡ Some (Ok (t, options))
-wished options rows n t m asks sets gives =
-    ap (option_map (with_these (options_in rows))) asks ∙ ap (λ (o : Options). Some (Ok (t, o))) (same_options options rows n sets gives)
+-- options that are set where they are on are these, and none where none are offered
+set_as_on : (offers : Bool) (options : Options) (rows : List Row) (n : Switch → ℕ) → ((o : Switch) → n o ≡ (if is_set (switch_name o) rows then 1 else 0)) → ((o : Switch) → n o ≡ (if is_on options o then 1 else 0))
+    → (offers ≡ false → (o : Switch) → n o ≡ 0) → options_by offers rows ≡ Some options
+set_as_on true options rows n sets gives none = options_from rows options (λ o. on_or_off (is_set (switch_name o) rows) (is_on options o) (sym (sets o) ∙ gives o))
+set_as_on false options rows n sets gives none = ap (λ (o : Options). Some o) (sym (all_off options (λ o. sym (none refl o) ∙ gives o)))
+
+pub wished : (offers : Bool) (options : Options) (rows : List Row) (n : Switch → ℕ) (t : Asked) (m : Option Meaning) → m ≡ Some (Ok t) → ((o : Switch) → n o ≡ (if is_set (switch_name o) rows then 1 else 0))
+    → ((o : Switch) → n o ≡ (if is_on options o then 1 else 0)) → (offers ≡ false → (o : Switch) → n o ≡ 0) → option_and_then (λ o. option_map (with_these o) m) (options_by offers rows) ≡ Some (Ok (t, options))
+wished offers options rows n t m asks sets gives none =
+    ap (option_and_then (λ (o : Options). option_map (with_these o) m)) (set_as_on offers options rows n sets gives none) ∙ ap (option_map (with_these options)) asks
 
 pub at_most : (b : Bool) (n : ℕ) → n ≡ (if b then 1 else 0) → n ≤ 1
 at_most true n e = omega (arith, e)

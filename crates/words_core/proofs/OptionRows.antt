@@ -11,7 +11,7 @@ use Rattle.clap.specs.Walk.{has_row, reading_by, row_text, stronger, used, with_
 use Rattle.clap.specs.declared.builder.value_parser.Reading.{Reading}
 use Rattle.clap.specs.declared.parser.matches.ValueSource.{ValueSource}
 use Rattle.clap.specs.declared.parser.matches.ValueSource.TheVariants.{CommandLine, DefaultValue}
-use Rattle.words_core.specs.RequestLine.{Switch, capture, is_set, option_named, skip_other, switch_name, switch_word, times}
+use Rattle.words_core.specs.RequestLine.{Switch, capture, is_set, json, option_named, skip_other, switch_name, switch_word, time, times}
 
 abbrev pub once_if : Bool → ℕ
 once_if b = if b then 1 else 0
@@ -159,9 +159,10 @@ not_given rows n o c e = go (n o) (sym (ap is_some (c.at o)) ∙ sym (has_at (sw
 -- options with one name are one
 one_name : (s o : Switch) → bytes_eq (switch_name s) (switch_name o) ≡ true → s ≡ o
 one_name capture capture e = refl
-one_name capture skip_other e = absurd (true≢false (sym e))
-one_name skip_other capture e = absurd (true≢false (sym e))
 one_name skip_other skip_other e = refl
+one_name time time e = refl
+one_name json json e = refl
+one_name _ _ e = absurd (true≢false (sym e))
 
 -- one use more
 abbrev pub one_if : Bool → ℕ → ℕ

@@ -1,5 +1,5 @@
 -- Words lead a walk from one state to another: those of the options, and the mark at the end.
-use Rattle.std.proofs.Common.{◌≡◌, ◌&&◌, ◌||◌, ◌∙◌, ℕ, Bool, true, false, true≢false, List, [], ◌∷◌, ◌++◌, Option, None, refl, sym, ap, subst}
+use Rattle.std.proofs.Common.{◌≡◌, ◌&&◌, ◌∙◌, ℕ, Bool, true, false, List, [], ◌∷◌, ◌++◌, Option, None, refl, sym, ap, subst}
 use Rattle.std.specs.Prelude.{fold}
 use Rattle.std.specs.List.{list_all}
 use Rattle.std.proofs.lemmas.List.Sums.{fold-append}
@@ -8,17 +8,13 @@ use Rattle.clap.specs.Takes.{default_passes, is_valid, level_passes, settle_pass
 use Rattle.clap.specs.Walk.{Held, Waiting, Walk, finished, has_row, idle, nothing_held, option, positional, rows_after, settled_rows, walk, walk_from, walked, with_default}
 use Rattle.clap.proofs.WalkLemmas.{both}
 use Rattle.words_core.specs.CommandLine.{Asked, plain}
-use Rattle.words_core.specs.RequestLine.{Switch, capture, skip_other, switch_name, switch_word}
+use Rattle.words_core.specs.RequestLine.{Switch, capture, switch_name, switch_word}
 use Rattle.words_core.specs.computed.OfferedLine.{offered}
 use Rattle.words_core.proofs.KeptRows.{leaf}
 use Rattle.words_core.proofs.OptionRows.{AtMostOnce, Counted, counted_more, first_new, none_given, one_more, rest_new, use_all, use_switch, words_of}
 
 pub both_true : (a b : Bool) → a ≡ true → b ≡ true → (a && b) ≡ true
 both_true a b e f = rw (e, f) refl
-
-pub both_false : (a b : Bool) → (a || b) ≡ false → (a ≡ false) × (b ≡ false)
-both_false false b e = (refl, e)
-both_false true b e = absurd (true≢false e)
 
 -- the mark behind which no option follows
 abbrev pub dashes : Text
@@ -91,18 +87,18 @@ plain_takes t = record { walks = walks; passes = passes }
     walks capture idle rows pending = refl
     walks capture (option id) rows pending = refl
     walks capture positional rows pending = refl
-    walks skip_other idle rows pending = refl
-    walks skip_other (option id) rows pending = refl
-    walks skip_other positional rows pending = refl
+    walks _ idle rows pending = refl
+    walks _ (option id) rows pending = refl
+    walks _ positional rows pending = refl
 
     passes : (o : Switch) (waiting : Waiting) (rows : List Row) (pending : Pending) → settles (leaf (offered true (plain t).shape)) rows pending ≡ true
         → has_row (switch_name o) (settled_to (leaf (offered true (plain t).shape)) rows pending) ≡ false → turn_passes (leaf (offered true (plain t).shape)) [] (state waiting rows pending) (switch_word o) ≡ true
     passes capture idle rows pending s u = rw (s, u) refl
     passes capture (option id) rows pending s u = rw (s, u) refl
     passes capture positional rows pending s u = rw (s, u) refl
-    passes skip_other idle rows pending s u = rw (s, u) refl
-    passes skip_other (option id) rows pending s u = rw (s, u) refl
-    passes skip_other positional rows pending s u = rw (s, u) refl
+    passes _ idle rows pending s u = rw (s, u) refl
+    passes _ (option id) rows pending s u = rw (s, u) refl
+    passes _ positional rows pending s u = rw (s, u) refl
 
 -- options that were not given before
 pub options_lead : (s : Shape) → TakesOptions s → (os : List Switch) (n : Switch → ℕ) (rows : List Row) (pending : Pending) → settles s rows pending ≡ true

@@ -11,23 +11,20 @@ use Rattle.clap.specs.Faults.{turn_fault, walk_fault}
 use Rattle.clap.specs.Walk.{Walk, arg_by_index, has_row, has_short, idle, rows_after, walked, with_default}
 use Rattle.clap.specs.declared.error.kind.ErrorKind.TheVariants as kind
 use Rattle.words_core.specs.CommandLine.{Asked, plain}
-use Rattle.words_core.specs.RequestLine.{Switch, capture, is_set, skip_other, switch_name, switch_word, switches}
+use Rattle.words_core.specs.RequestLine.{Switch, capture, is_set, switch_name, switch_word, switches}
 use Rattle.words_core.specs.computed.OfferedLine.{offered}
 use Rattle.words_core.proofs.KeptRows.{leaf, no_default}
 use Rattle.words_core.proofs.OptionRows.{AtMostOnce, also_new, once_if, Counted, counted_all, counted_more, default_set, not_given, one_more, set_where_given, switch_flag, times_of, use_all, use_switch, with_times, words_of}
 use Rattle.words_core.proofs.OptionWalks.{Ends, between, dashes, ends, ends_by_mark, options_lead, plain_takes, rows_end}
 use Rattle.words_core.proofs.LoneFlags.{AreFlags, help_flag, is_long_of, names_one, nothing_behind, turn_fails, turn_none}
+use Rattle.words_core.proofs.Switches.{both_false, holds_of}
 
 -- ---- the word of an option by its name
-
-ored : (a b : Bool) → (a || b) ≡ false → (a ≡ false) × (b ≡ false)
-ored false b e = (refl, e)
-ored true b e = absurd (true≢false e)
 
 all_before : (p : ℕ → Bool) (xs : Text) → list_any p xs ≡ false → position_or_len p xs ≡ length xs
 all_before p [] e = refl
 all_before p (x ∷ xs) e =
-    let parts = ored (p x) (list_any p xs) e in
+    let parts = both_false (p x) (list_any p xs) e in
     let rest = all_before p xs parts.1 in
     rw parts.0 (omega (arith, rest))
 
@@ -77,19 +74,18 @@ flag_rules false = []
 abbrev pub plain_leaf : Bool → Asked → Shape
 plain_leaf offers t = leaf (offered offers (plain t).shape)
 
-leaf_flags : (offers : Bool) (t : Asked) → AreFlags (plain_leaf offers t).rules (flag_rules offers)
-leaf_flags false t P none help version test other = go (test help_flag)
+help_behind : (others : List Rule) → AreFlags (others ++ help_flag ∷ []) others
+help_behind [] P none help version test other = go (test help_flag)
   where
     go : (a : Bool) → P (cond a (Some help_flag) None)
     go true = help
     go false = none
-leaf_flags true t P none help version test other = go (test (switch_flag capture)) (test (switch_flag skip_other)) (test help_flag) other
-  where
-    go : (a b c : Bool) → (a || (b || false)) ≡ false → P (cond a (Some (switch_flag capture)) (cond b (Some (switch_flag skip_other)) (cond c (Some help_flag) None)))
-    go true b c e = absurd (true≢false e)
-    go false true c e = absurd (true≢false e)
-    go false false true e = help
-    go false false false e = none
+help_behind (a ∷ others) P none help version test other =
+    let parts = both_false (test a) (list_any test others) other in rw parts.0 (help_behind others P none help version test parts.1)
+
+leaf_flags : (offers : Bool) (t : Asked) → AreFlags (plain_leaf offers t).rules (flag_rules offers)
+leaf_flags false t = help_behind []
+leaf_flags true t = help_behind (map switch_flag switches)
 
 leaf_no_short : (offers : Bool) (x : ℕ) → list_any (λ a. not (is_some a.index) && has_short a x) (flag_rules offers) ≡ false
 leaf_no_short true x = refl
@@ -117,31 +113,31 @@ abbrev Named : Text → Type 0
 Named name = (o : Switch) × (name ≡ switch_name o)
 
 option_by_name : (name : Text) → is_long_of (map switch_flag switches) name ≡ true → Named name
-option_by_name name e = go (bytes_eq (codes "capture") name) (bytes_eq (codes "skip-other") name) refl refl e
+option_by_name name e =
+    let o = holds_of (λ x. bytes_eq (switch_name x) name || false) switches e in
+    (o.0, sym ((bytes_eq-Decides (switch_name o.0) name).0 (alone (bytes_eq (switch_name o.0) name) o.1)))
   where
-    go : (a b : Bool) → bytes_eq (codes "capture") name ≡ a → bytes_eq (codes "skip-other") name ≡ b → ((a || false) || ((b || false) || false)) ≡ true → Named name
-    go true b t u f = (capture, sym ((bytes_eq-Decides (codes "capture") name).0 t))
-    go false true t u f = (skip_other, sym ((bytes_eq-Decides (codes "skip-other") name).0 u))
-    go false false t u f = absurd (true≢false (sym f))
+    alone : (b : Bool) → (b || false) ≡ true → b ≡ true
+    alone true f = refl
+    alone false f = f
 
 -- the turn at the word of an option
 turn_at : (t : Asked) (o : Switch) (rows : List Row) → turn_fault (plain_leaf true t) [] (between rows None) (switch_word o) ≡ [] → has_row (switch_name o) rows ≡ false
-turn_at t capture rows e = go (has_row (codes "capture") rows) refl
+turn_at t o rows e = go (has_row (switch_name o) rows) refl
   where
-    go : (b : Bool) → has_row (codes "capture") rows ≡ b → b ≡ false
-    go true h = let bad : kind.ArgumentConflict ∷ [] ≡ [] = rw h at e in cc
-    go false h = refl
-turn_at t skip_other rows e = go (has_row (codes "skip-other") rows) refl
-  where
-    go : (b : Bool) → has_row (codes "skip-other") rows ≡ b → b ≡ false
-    go true h = let bad : kind.ArgumentConflict ∷ [] ≡ [] = rw h at e in cc
+    again : (x : Switch) → has_row (switch_name x) rows ≡ true → turn_fault (plain_leaf true t) [] (between rows None) (switch_word x) ≡ kind.ArgumentConflict ∷ []
+    again capture h = rw h refl
+    again _ h = rw h refl
+
+    go : (b : Bool) → has_row (switch_name o) rows ≡ b → b ≡ false
+    go true h = let bad : kind.ArgumentConflict ∷ [] ≡ [] = sym (again o h) ∙ e in cc
     go false h = refl
 
 -- an option takes no value
 no_value : (t : Asked) (o : Switch) (value word : Text) (rows : List Row) → long_of word ≡ Some (switch_name o, Some value) → bytes_eq word dashes ≡ false
     → turn_fault (plain_leaf true t) [] (between rows None) word ≡ [] → ⊥
 no_value t capture value word rows l d e = let bad : kind.TooManyValues ∷ [] ≡ [] = rw (d, l) at e in cc
-no_value t skip_other value word rows l d e = let bad : kind.TooManyValues ∷ [] ≡ [] = rw (d, l) at e in cc
+no_value t _ value word rows l d e = let bad : kind.TooManyValues ∷ [] ≡ [] = rw (d, l) at e in cc
 
 leaf_no_index : (offers : Bool) (t : Asked) → arg_by_index (plain_leaf offers t).rules 1 ≡ None
 leaf_no_index true t = refl
@@ -236,13 +232,12 @@ plain_rows t os mark end new =
 
 -- the defaults of the options and of help leave what those of the options leave
 pub options_leave : {X : Type 0} (of : List Row → X) → ((o : Switch) (rows : List Row) → of (with_default rows (switch_flag o)) ≡ of rows)
-    → (rows : List Row) → of (fold with_default rows (switch_flag capture ∷ switch_flag skip_other ∷ help_flag ∷ [])) ≡ of rows
-options_leave of past rows =
-    ap of (no_default help_flag (with_default (with_default rows (switch_flag capture)) (switch_flag skip_other)) refl)
-    ∙ past skip_other (with_default rows (switch_flag capture)) ∙ past capture rows
+    → (os : List Switch) (rows : List Row) → of (fold with_default rows (map switch_flag os ++ help_flag ∷ [])) ≡ of rows
+options_leave of past [] rows = ap of (no_default help_flag rows refl)
+options_leave of past (o ∷ os) rows = options_leave of past os (with_default rows (switch_flag o)) ∙ past o rows
 
 pub plain_defaults : (t : Asked) (o : Switch) (rows : List Row) → is_set (switch_name o) (fold with_default rows (plain_leaf true t).rules) ≡ is_set (switch_name o) rows
-plain_defaults t o rows = options_leave (is_set (switch_name o)) (default_set o) rows
+plain_defaults t o rows = options_leave (is_set (switch_name o)) (default_set o) switches rows
 
 -- each option is set where its word stands
 pub plain_set : (t : Asked) (os : List Switch) (mark : List Text) → IsEnd mark → AtMostOnce (λ o. 0) os → (o : Switch)

@@ -1,5 +1,5 @@
 -- Words that ask for a replay are taken, and the replay is theirs, with the options that stand among the texts.
-use Rattle.std.proofs.Common.{◌≡◌, ◌||◌, ◌+◌, ◌∙◌, ◌≤◌, ℕ, Bool, true, false, true≢false, not, List, [], ◌∷◌, ◌++◌, length, Option, Some, None, Ok, is_some, option_map, option_and_then, unwrap_or, refl, sym, ap, subst, le-leb, append_assoc, length-append, arith}
+use Rattle.std.proofs.Common.{◌≡◌, ◌+◌, ◌∙◌, ◌≤◌, ℕ, Bool, true, false, true≢false, not, List, [], ◌∷◌, ◌++◌, length, map, Option, Some, None, Ok, is_some, option_map, option_and_then, unwrap_or, refl, sym, ap, subst, le-leb, append_assoc, length-append, arith}
 use Rattle.std.specs.Prelude.{codes, filter, fold, if◌then◌else◌}
 use Rattle.std.specs.Global.{Global}
 use Rattle.std.specs.List.{list_all, list_any}
@@ -17,16 +17,17 @@ use Rattle.clap.specs.Walk.{Waiting, Walk, finished, has_row, idle, nothing_held
 use Rattle.block_core.specs.declared.block.Block.{Block}
 use Rattle.words_core.specs.declared.option_words.Options.{Options}
 use Rattle.words_core.specs.CommandLine.{AsksReplay, Meaning, block_rule, is_flag, replay, replay_of, replay_shape}
-use Rattle.words_core.specs.RequestLine.{Switch, capture, is_on, is_option, is_set, request_asked, skip_other, switch_name, switch_word, times}
-use Rattle.words_core.specs.computed.OfferedLine.{offered}
+use Rattle.words_core.specs.RequestLine.{Switch, capture, is_on, is_option, is_set, switch_name, switch_word, switches, times}
+use Rattle.words_core.specs.computed.OfferedLine.{offered, request_by}
 use Rattle.words_core.proofs.KeptRows.{leaf, no_default, no_defaults}
 use Rattle.words_core.proofs.AskingWords.{line, stops}
 use Rattle.words_core.proofs.NamedWords.{IsTaken, at_most, taken_behind, wished}
 use Rattle.words_core.proofs.BlockWords.{all_said}
 use Rattle.words_core.proofs.LoneFlags.{help_flag}
 use Rattle.words_core.proofs.OptionRows.{Counted, counted_more, counted_past, default_other, default_set, more_given, more_other, more_own, none_given, once_if, one_if, one_more, recounted, row_at, set_other, set_where_given, switch_flag, times_first, times_own, use_switch}
-use Rattle.words_core.proofs.OptionWalks.{Pending, TakesOptions, between, both_false, both_true, settled_to, settles, state}
+use Rattle.words_core.proofs.OptionWalks.{Pending, TakesOptions, between, both_true, settled_to, settles, state}
 use Rattle.words_core.proofs.PlainWords.{none_yet, options_leave}
+use Rattle.words_core.proofs.Switches.{an_option, both_false, fails_at, holds_of}
 
 -- the subcommand `replay` as it is built
 abbrev pub replays : Bool → Shape
@@ -44,18 +45,18 @@ replay_takes = record { walks = walks; passes = passes }
     walks capture idle rows pending = refl
     walks capture (option id) rows pending = refl
     walks capture positional rows pending = refl
-    walks skip_other idle rows pending = refl
-    walks skip_other (option id) rows pending = refl
-    walks skip_other positional rows pending = refl
+    walks _ idle rows pending = refl
+    walks _ (option id) rows pending = refl
+    walks _ positional rows pending = refl
 
     passes : (o : Switch) (waiting : Waiting) (rows : List Row) (pending : Pending) → settles (replays true) rows pending ≡ true → has_row (switch_name o) (settled_to (replays true) rows pending) ≡ false
         → turn_passes (replays true) [] (state waiting rows pending) (switch_word o) ≡ true
     passes capture idle rows pending s u = rw (s, u) refl
     passes capture (option id) rows pending s u = rw (s, u) refl
     passes capture positional rows pending s u = rw (s, u) refl
-    passes skip_other idle rows pending s u = rw (s, u) refl
-    passes skip_other (option id) rows pending s u = rw (s, u) refl
-    passes skip_other positional rows pending s u = rw (s, u) refl
+    passes _ idle rows pending s u = rw (s, u) refl
+    passes _ (option id) rows pending s u = rw (s, u) refl
+    passes _ positional rows pending s u = rw (s, u) refl
 
 -- ---- a state between two words
 
@@ -137,11 +138,11 @@ texts_with (some first texts) text = refl
 
 apart_from_block : (o : Switch) → bytes_eq (switch_name o) (codes "BLOCK") ≡ false
 apart_from_block capture = refl
-apart_from_block skip_other = refl
+apart_from_block _ = refl
 
 pub block_apart : (o : Switch) → bytes_eq (codes "BLOCK") (switch_name o) ≡ false
 block_apart capture = refl
-block_apart skip_other = refl
+block_apart _ = refl
 
 option_leaves : (o : Switch) (rows : List Row) → block_texts (use_switch o rows) ≡ block_texts rows
 option_leaves o rows = ap (λ (r : Option Row). unwrap_or (option_map (λ x. x.values) r) []) (set_other (switch_name o) (codes "BLOCK") (apart_from_block o) _ CommandLine _ rows)
@@ -185,25 +186,19 @@ record Replays (offers : Bool) (rows : List Row) (texts : Texts) (n : Switch →
 
 -- an option's word, and one that is none
 pub some_option : (word : Text) → is_option word ≡ true → (o : Switch) × (word ≡ switch_word o)
-some_option word e = go (bytes_eq word (switch_word capture)) (bytes_eq word (switch_word skip_other)) refl refl e
-  where
-    go : (a b : Bool) → bytes_eq word (switch_word capture) ≡ a → bytes_eq word (switch_word skip_other) ≡ b → (a || (b || false)) ≡ true → (o : Switch) × (word ≡ switch_word o)
-    go true b t u f = (capture, (bytes_eq-Decides word (switch_word capture)).0 t)
-    go false true t u f = (skip_other, (bytes_eq-Decides word (switch_word skip_other)).0 u)
-    go false false t u f = absurd (true≢false (sym f))
+some_option word e =
+    let o = holds_of (λ x. bytes_eq word (switch_word x)) switches e in
+    (o.0, (bytes_eq-Decides word (switch_word o.0)).0 o.1)
 
 no_option : (word : Text) → is_option word ≡ false → (o : Switch) → bytes_eq word (switch_word o) ≡ false
-no_option word e capture = go (bytes_eq word (switch_word capture)) e
-  where
-    go : (a : Bool) → (a || (bytes_eq word (switch_word skip_other) || false)) ≡ false → a ≡ false
-    go true f = absurd (true≢false f)
-    go false f = refl
-no_option word e skip_other = go (bytes_eq word (switch_word capture)) (bytes_eq word (switch_word skip_other)) e
-  where
-    go : (a b : Bool) → (a || (b || false)) ≡ false → b ≡ false
-    go true b f = absurd (true≢false f)
-    go false true f = absurd (true≢false f)
-    go false false f = refl
+no_option word e = fails_at (λ o. bytes_eq word (switch_word o)) e
+
+pub no_times : (arguments : List Text) → list_any is_option arguments ≡ false → (o : Switch) → times (switch_word o) arguments ≡ 0
+no_times [] e o = refl
+no_times (word ∷ arguments) e o =
+    let parts = both_false (is_option word) (list_any is_option arguments) e in
+    let other = no_option word parts.0 o in
+    rw other (no_times arguments parts.1 o)
 
 -- what is known before an argument
 record Before (rows : List Row) (texts : Texts) (n : Switch → ℕ) (arguments : List Text) : Type 0 where
@@ -260,10 +255,6 @@ words_shift o p n arguments = go (bytes_eq (switch_name o) (switch_name p)) (tim
     go true more = omega (arith, more)
     go false more = omega (arith, more)
 
-an_option : (o : Switch) → is_option (switch_word o) ≡ true
-an_option capture = refl
-an_option skip_other = refl
-
 at_option : (rows : List Row) (texts : Texts) (n : Switch → ℕ) (o : Switch) (arguments : List Text) → Later true arguments → Before rows texts n (switch_word o ∷ arguments)
     → Replays true rows texts n (switch_word o ∷ arguments)
 unfolding walk_passes
@@ -300,7 +291,7 @@ at_option rows texts n o arguments later b =
   where
     left_out : (x : Switch) (c : List Text) → texts_in (switch_word x ∷ c) ≡ texts_in c
     left_out capture c = refl
-    left_out skip_other c = refl
+    left_out _ c = refl
 
 all_arguments : (offers : Bool) (arguments : List Text) → Later offers arguments
 unfolding walk_passes
@@ -330,15 +321,15 @@ replay_leaves : {X : Type 0} (of : List Row → X) → ((o : Switch) (rows : Lis
     → (offers : Bool) (rows : List Row) → of (fold with_default rows (replays offers).rules) ≡ of rows
 replay_leaves of past false rows = ap of (no_defaults (replays false).rules rows (refl, (refl, tt)))
 replay_leaves of past true rows =
-    ap (λ (l : List Row). of (fold with_default l (switch_flag capture ∷ switch_flag skip_other ∷ help_flag ∷ []))) (no_default block_argument rows refl)
-    ∙ options_leave of past rows
+    ap (λ (l : List Row). of (fold with_default l (map switch_flag switches ++ help_flag ∷ []))) (no_default block_argument rows refl)
+    ∙ options_leave of past switches rows
 
 pub block_default : (offers : Bool) (rows : List Row) → row_at (codes "BLOCK") (fold with_default rows (replays offers).rules) ≡ row_at (codes "BLOCK") rows
 block_default offers = replay_leaves (row_at (codes "BLOCK")) (λ o. default_other o (codes "BLOCK") (apart o)) offers
   where
     apart : (o : Switch) → bytes_eq (switch_name o) (codes "BLOCK") ≡ false
     apart capture = refl
-    apart skip_other = refl
+    apart _ = refl
 
 pub replay_set : (offers : Bool) (o : Switch) (rows : List Row) → is_set (switch_name o) (fold with_default rows (replays offers).rules) ≡ is_set (switch_name o) rows
 replay_set offers o = replay_leaves (is_set (switch_name o)) (default_set o) offers
@@ -392,9 +383,9 @@ replay_asked_for offers called arguments blocks options fits so asks gives = go 
         (both_true _ _ (replay_defaults_pass offers) (subst (λ (l : List Row). is_valid (replays offers) l false ≡ true) (sym rows_are) (replay_valid offers last explicit)))) in
         let asks_so : option_map replay_of (all_of (codes "BLOCK") (rows_after (replays offers).rules [] arguments)) ≡ Some (Ok (replay blocks)) =
         ap (λ (l : List Row). option_map replay_of (all_of (codes "BLOCK") l)) rows_are ∙ ap (option_map replay_of) all ∙ ap (λ (m : Meaning). Some m) (all_said blocks (text ∷ texts) (sym a.2)) in (
-          ap (λ (o : Option (Text × List Text)). option_and_then request_asked (entered (line offers) o)) (stops (codes "replay") (codes "replay") arguments refl)
-              ∙ wished options (rows_after (replays offers).rules [] arguments) (with_words (λ p. 0) arguments) (replay blocks) (option_map replay_of (all_of (codes "BLOCK") (rows_after (replays offers).rules [] arguments))) asks_so sets
-              (λ o. let g = gives o in omega (arith, g)),
+          ap (λ (o : Option (Text × List Text)). option_and_then (request_by offers) (entered (line offers) o)) (stops (codes "replay") (codes "replay") arguments refl)
+              ∙ wished offers options (rows_after (replays offers).rules [] arguments) (with_words (λ p. 0) arguments) (replay blocks) (option_map replay_of (all_of (codes "BLOCK") (rows_after (replays offers).rules [] arguments))) asks_so sets
+              (λ o. let g = gives o in omega (arith, g)) (λ f o. let none = no_times arguments (so f) o in omega (arith, none)),
           taken_behind offers called (codes "replay") arguments refl refl passes,
         )
 
@@ -415,10 +406,3 @@ all_texts [] e = refl
 all_texts (word ∷ arguments) e =
     let parts = both_false (is_option word) (list_any is_option arguments) e in
     rw parts.0 (ap (λ (l : List Text). word ∷ l) (all_texts arguments parts.1))
-
-pub no_times : (arguments : List Text) → list_any is_option arguments ≡ false → (o : Switch) → times (switch_word o) arguments ≡ 0
-no_times [] e o = refl
-no_times (word ∷ arguments) e o =
-    let parts = both_false (is_option word) (list_any is_option arguments) e in
-    let other = no_option word parts.0 o in
-    rw other (no_times arguments parts.1 o)

@@ -11,7 +11,7 @@ use Rattle.clap.specs.Faults.{bundle_step_fault, flag_word_fault, flags_fault, l
 use Rattle.clap.specs.Walk.{Held, Outcome, Step, Waiting, Walk, after_flag, after_step, arg_by_id, arg_by_index, arg_by_long, arg_by_short, attached_value, bundle, bundle_met, bundle_step, done, idle, is_multiple, is_pending, long_met, long_or_other, most_values, next, option, option_met, option_word, pending_count, plain, plain_word, positional, pushed, reacted, refused, settled, settled_rows, short_met, short_or_plain, subcommand, subcommand_met, subcommand_or_other, takes_several, takes_values, to_positional, trailing, used, used_by_id, value, waits, walked, walked_from, word_met}
 use Rattle.words_core.specs.RequestLine.{Switch, names_option, switch_name, switches}
 use Rattle.words_core.proofs.OptionRows.{row_at}
-use Rattle.words_core.proofs.OptionWalks.{both_false}
+use Rattle.words_core.proofs.Switches.{both_false}
 
 -- the name is that of an option
 abbrev pub is_switch_name : Text → Bool

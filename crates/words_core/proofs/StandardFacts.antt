@@ -2,8 +2,11 @@
 use Rattle.std.proofs.Common.{◌≡◌, Bool, true, false, List, [], ◌∷◌, Option, Some, None, Ok, Err, refl}
 use Rattle.std.specs.Prelude.{codes}
 use Rattle.clap.specs.Words.{Text, takes}
+use Rattle.clap.specs.declared.error.kind.ErrorKind.TheVariants as kind
 use Rattle.clap.proofs.OnLiterals.{clap_on_literals}
-use Rattle.words_core.specs.RequestLine.{Wish, request_line, request_of_words}
+use Rattle.words_core.specs.declared.option_words.Writing.{Writing}
+use Rattle.words_core.specs.declared.option_words.Writing.TheVariants.{Lines, Dated, Objects}
+use Rattle.words_core.specs.RequestLine.{Wish, request_faults, request_line, request_of_words}
 use Rattle.words_core.specs.CommandLine.{Asked, block_at, check, command_line, import, list_blocks, publish, replay_of, rewrite, show, task_of_words, watch}
 
 -- each command without arguments asks for its task
@@ -54,21 +57,27 @@ unfolding clap_on_literals
 watches = record { two = refl; most = refl; joined = refl }
 
 -- a request with these options
-abbrev wishes : Asked → Bool → Bool → Option Wish
-wishes t is_capture skips_other = Some (Ok (t, record { is_capture = is_capture; skips_other = skips_other }))
+abbrev wishes : Asked → Bool → Bool → Writing → Option Wish
+wishes t is_capture skips_other writes = Some (Ok (t, record { is_capture = is_capture; skips_other = skips_other; writes = writes }))
 
--- the options are those that stand behind the name, in any order, before the mark, once, and of a command that takes them
+-- the options are those that stand behind the name, in any order, before the mark, once, of a command that takes them, and
+-- none that another excludes
 pub record AreRequests : Type 0 where
-  pub none : request_of_words (codes "goose" ∷ codes "show" ∷ []) ≡ wishes show false false
-  pub one : request_of_words (codes "goose" ∷ codes "show" ∷ codes "--capture" ∷ []) ≡ wishes show true false
-  pub both : request_of_words (codes "goose" ∷ codes "check" ∷ codes "--skip-other" ∷ codes "--capture" ∷ codes "--" ∷ []) ≡ wishes check true true
-  pub between : request_of_words (codes "goose" ∷ codes "watch" ∷ codes "--id=A" ∷ codes "--capture" ∷ codes "--period" ∷ codes "2" ∷ []) ≡ wishes (watch 2 (codes "A")) true false
+  pub none : request_of_words (codes "goose" ∷ codes "show" ∷ []) ≡ wishes show false false Lines
+  pub one : request_of_words (codes "goose" ∷ codes "show" ∷ codes "--capture" ∷ []) ≡ wishes show true false Lines
+  pub both : request_of_words (codes "goose" ∷ codes "check" ∷ codes "--skip-other" ∷ codes "--capture" ∷ codes "--" ∷ []) ≡ wishes check true true Lines
+  pub objects : request_of_words (codes "goose" ∷ codes "show" ∷ codes "--json" ∷ []) ≡ wishes show false false Objects
+  pub dated : request_of_words (codes "goose" ∷ codes "blocks" ∷ codes "--time" ∷ codes "--capture" ∷ []) ≡ wishes list_blocks true false Dated
+  pub between : request_of_words (codes "goose" ∷ codes "watch" ∷ codes "--id=A" ∷ codes "--capture" ∷ codes "--period" ∷ codes "2" ∷ []) ≡ wishes (watch 2 (codes "A")) true false Lines
   pub twice : takes request_line (codes "goose" ∷ codes "show" ∷ codes "--capture" ∷ codes "--capture" ∷ []) ≡ false
   pub with_value : takes request_line (codes "goose" ∷ codes "show" ∷ codes "--capture=1" ∷ []) ≡ false
   pub behind_mark : takes request_line (codes "goose" ∷ codes "show" ∷ codes "--" ∷ codes "--capture" ∷ []) ≡ false
   pub as_text : request_of_words (codes "goose" ∷ codes "replay" ∷ codes "--" ∷ codes "--capture" ∷ []) ≡ Some (Err 0)
   pub before_value : takes request_line (codes "goose" ∷ codes "watch" ∷ codes "--period" ∷ codes "2" ∷ codes "--id" ∷ codes "--capture" ∷ []) ≡ false
   pub of_another : takes request_line (codes "goose" ∷ codes "rewrite" ∷ codes "--capture" ∷ []) ≡ false
+  pub both_forms : request_of_words (codes "goose" ∷ codes "show" ∷ codes "--json" ∷ codes "--time" ∷ []) ≡ None
+  pub conflict : request_faults (codes "goose" ∷ codes "show" ∷ codes "--json" ∷ codes "--time" ∷ []) ≡ kind.ArgumentConflict ∷ []
+  pub no_dates : takes request_line (codes "goose" ∷ codes "publish" ∷ codes "--time" ∷ []) ≡ false
 
 pub requests : AreRequests
 unfolding clap_on_literals
@@ -76,6 +85,8 @@ requests = record {
   none = refl;
   one = refl;
   both = refl;
+  objects = refl;
+  dated = refl;
   between = refl;
   twice = refl;
   with_value = refl;
@@ -83,6 +94,9 @@ requests = record {
   as_text = refl;
   before_value = refl;
   of_another = refl;
+  both_forms = refl;
+  conflict = refl;
+  no_dates = refl;
 }
 
 -- a block has six fields, and the first text that says none counts, from 0

@@ -1,5 +1,5 @@
 -- The rows of a watch's two options: a period in range, and a text.
-use Rattle.std.proofs.Common.{◌≡◌, ◌∙◌, ◌||◌, ◌<◌, ◌^◌, ℕ, Bool, true, false, true≢false, not, List, [], ◌∷◌, Option, Some, None, Result, Ok, Err, length, option_map, option_and_then, refl, sym, ap, subst, arith, if◌then◌else◌}
+use Rattle.std.proofs.Common.{◌≡◌, ◌∙◌, ◌||◌, ◌<◌, ◌^◌, ℕ, Bool, true, false, true≢false, not, List, [], ◌∷◌, ◌++◌, map, Option, Some, None, Result, Ok, Err, length, option_map, option_and_then, refl, sym, ap, subst, arith, if◌then◌else◌}
 use Rattle.std.specs.Prelude.{codes, fold, pos}
 use Rattle.std.specs.Str.Parse.{IsNumeral, ParsesUnsigned, digits_value, without_leading_plus}
 use Rattle.std.specs.Str.{bytes_eq}
@@ -20,7 +20,7 @@ use Rattle.clap.proofs.WalkLemmas.{one_text-rows}
 use Rattle.clap.proofs.CallerReads.{signed_reads}
 use Rattle.clap.proofs.ValueTestLemmas.{Accepts-accepts, accepts-Accepts}
 use Rattle.block_core.specs.Period.{IsPeriod}
-use Rattle.words_core.specs.RequestLine.{Switch, capture, skip_other, switch_name}
+use Rattle.words_core.specs.RequestLine.{Switch, capture, switch_name, switches}
 use Rattle.words_core.specs.computed.OfferedLine.{offered}
 use Rattle.words_core.specs.CommandLine.{Meaning, id_rule, number_said, period_rule, watch, watch_asked, watch_shape}
 use Rattle.words_core.proofs.KeptRows.{EachKeeps, Keeps, Kept, end_keeps, found_keeps, given_value, leaf, level_checked, more_keeps, no_default, no_defaults, set_keeps, single_keeps, then_none, wanted}
@@ -106,11 +106,16 @@ apart o id e same = true≢false (sym (subst (λ (w : Text). bytes_eq w id ≡ t
 
 not_period : (o : Switch) → switch_name o ≡ codes "period" → ⊥
 not_period capture = apart capture (codes "period") refl
-not_period skip_other = apart skip_other (codes "period") refl
+not_period o = apart o (codes "period") refl
 
 not_id : (o : Switch) → switch_name o ≡ codes "id" → ⊥
 not_id capture = apart capture (codes "id") refl
-not_id skip_other = apart skip_other (codes "id") refl
+not_id o = apart o (codes "id") refl
+
+-- the options and the flag for help do, and so
+switches_keep : (a : Rule) → ((o : Switch) → switch_name o ≡ a.id → ⊥) → (os : List Switch) → EachKeeps false (Kept a) (map switch_flag os ++ help_option ∷ [])
+switches_keep a other [] = (help_keeps (Kept a), tt)
+switches_keep a other (o ∷ os) = (switch_keeps a o (other o), switches_keep a other os)
 
 period_kept : (offers : Bool) → EachKeeps false (Kept period_option) (watches offers).rules
 period_kept false = (
@@ -119,10 +124,7 @@ period_kept false = (
 )
 period_kept true = (
   single_keeps false period_option period_option (refl, refl) (λ e. refl),
-  (
-    single_keeps false period_option id_option (refl, refl) (λ e. absurd (two_names e)),
-    (switch_keeps period_option capture (not_period capture), (switch_keeps period_option skip_other (not_period skip_other), (help_keeps (Kept period_option), tt))),
-  ),
+  (single_keeps false period_option id_option (refl, refl) (λ e. absurd (two_names e)), switches_keep period_option not_period switches),
 )
 
 id_kept : (offers : Bool) → EachKeeps false (Kept id_option) (watches offers).rules
@@ -132,10 +134,7 @@ id_kept false = (
 )
 id_kept true = (
   single_keeps false id_option period_option (refl, refl) (λ e. absurd (two_names (sym e))),
-  (
-    single_keeps false id_option id_option (refl, refl) (λ e. refl),
-    (switch_keeps id_option capture (not_id capture), (switch_keeps id_option skip_other (not_id skip_other), (help_keeps (Kept id_option), tt))),
-  ),
+  (single_keeps false id_option id_option (refl, refl) (λ e. refl), switches_keep id_option not_id switches),
 )
 
 -- words of `watch` without a fault
@@ -153,13 +152,15 @@ switch_default_keeps a o other given h = go (has_row (switch_name o) given) refl
     go true f = rw f h
     go false f = rw f (more_keeps a (switch_flag o) DefaultValue (codes "false" ∷ []) given other h)
 
+switch_defaults_keep : (a : Rule) → ((o : Switch) → switch_name o ≡ a.id → ⊥) → (os : List Switch) (given : List Row) → Kept a given → Kept a (fold with_default given (map switch_flag os ++ help_option ∷ []))
+switch_defaults_keep a other [] given h = subst (Kept a) (sym (no_default help_option given refl)) h
+switch_defaults_keep a other (o ∷ os) given h = switch_defaults_keep a other os (with_default given (switch_flag o)) (switch_default_keeps a o (other o) given h)
+
 defaults_keep : (offers : Bool) (a : Rule) → ((o : Switch) → switch_name o ≡ a.id → ⊥) → (given : List Row) → Kept a given → Kept a (fold with_default given (watches offers).rules)
 defaults_keep false a other given h = subst (Kept a) (sym (no_defaults (watches false).rules given (refl, (refl, (refl, tt))))) h
 defaults_keep true a other given h =
     let own = no_defaults (period_option ∷ id_option ∷ []) given (refl, (refl, tt)) in
-    let both = switch_default_keeps a skip_other (other skip_other) (with_default given (switch_flag capture)) (switch_default_keeps a capture (other capture) given h) in
-    subst (λ (l : List Row). Kept a (fold with_default l (switch_flag capture ∷ switch_flag skip_other ∷ help_option ∷ []))) (sym own)
-    (subst (Kept a) (sym (no_default help_option (with_default (with_default given (switch_flag capture)) (switch_flag skip_other)) refl)) both)
+    subst (λ (l : List Row). Kept a (fold with_default l (map switch_flag switches ++ help_option ∷ []))) (sym own) (switch_defaults_keep a other switches given h)
 
 kept_rows : (offers : Bool) (a : Rule) → ((o : Switch) → switch_name o ≡ a.id → ⊥) → EachKeeps false (Kept a) (watches offers).rules → (words : List Text) → IsFaultless offers words → Kept a (rows offers words)
 kept_rows offers a other all words f =

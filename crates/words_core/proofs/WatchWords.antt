@@ -1,5 +1,5 @@
 -- Words that ask for a watch are taken, and the watch is theirs.
-use Rattle.std.proofs.Common.{◌≡◌, ◌∙◌, ◌≤◌, ◌==◌, ℕ, Bool, true, false, List, [], ◌∷◌, ◌++◌, Option, Some, None, is_some, option_and_then, refl, sym, ap, subst, inl, inr, arith, cond, drop, slice_index}
+use Rattle.std.proofs.Common.{◌≡◌, ◌∙◌, ◌≤◌, ◌==◌, ℕ, Bool, true, false, List, [], ◌∷◌, ◌++◌, map, Option, Some, None, is_some, option_and_then, refl, sym, ap, subst, inl, inr, arith, cond, drop, slice_index}
 use Rattle.std.specs.Prelude.{Ok, codes, fold, if◌then◌else◌, pos}
 use Rattle.std.specs.List.{list_all}
 use Rattle.std.specs.Str.{bytes_eq}
@@ -20,7 +20,8 @@ use Rattle.clap.proofs.ValueTestLemmas.{Accepts-accepts}
 use Rattle.block_core.specs.Period.{IsPeriod}
 use Rattle.words_core.specs.declared.option_words.Options.{Options}
 use Rattle.words_core.specs.CommandLine.{AsksWatch, SayBoth, SaysOption, is_flag, number_said, watch, watch_asked}
-use Rattle.words_core.specs.RequestLine.{Switch, capture, is_on, is_set, request_asked, skip_other, switch_name, switch_word}
+use Rattle.words_core.specs.RequestLine.{Switch, capture, is_on, is_set, switch_name, switch_word, switches}
+use Rattle.words_core.specs.computed.OfferedLine.{request_by}
 use Rattle.words_core.proofs.AskingWords.{line, stops}
 use Rattle.words_core.proofs.KeptRows.{no_defaults}
 use Rattle.words_core.proofs.LoneFlags.{help_flag}
@@ -124,22 +125,22 @@ period_argument offers = record { walks = period_walks offers; passes = λ v row
   where
     before : (o : Switch) → bytes_eq (switch_name o) (codes "period") ≡ false
     before capture = refl
-    before skip_other = refl
+    before _ = refl
 
     after : (o : Switch) → bytes_eq (codes "period") (switch_name o) ≡ false
     after capture = refl
-    after skip_other = refl
+    after _ = refl
 
 id_argument : (offers : Bool) → Argument offers id_option (codes "--id")
 id_argument offers = record { walks = id_walks offers; passes = λ v rows p h. rw (h, p) refl; uses = λ v rows. refl; before_option = before; after_option = after }
   where
     before : (o : Switch) → bytes_eq (switch_name o) (codes "id") ≡ false
     before capture = refl
-    before skip_other = refl
+    before _ = refl
 
     after : (o : Switch) → bytes_eq (codes "id") (switch_name o) ≡ false
     after capture = refl
-    after skip_other = refl
+    after _ = refl
 
 -- the row of such an option
 abbrev pub row_of_use : Rule → Text → Row
@@ -154,18 +155,18 @@ watch_takes = record { walks = walks; passes = passes }
     walks capture idle rows pending = refl
     walks capture (option id) rows pending = refl
     walks capture positional rows pending = refl
-    walks skip_other idle rows pending = refl
-    walks skip_other (option id) rows pending = refl
-    walks skip_other positional rows pending = refl
+    walks _ idle rows pending = refl
+    walks _ (option id) rows pending = refl
+    walks _ positional rows pending = refl
 
     passes : (o : Switch) (waiting : Waiting) (rows : List Row) (pending : Pending) → settles (watches true) rows pending ≡ true → has_row (switch_name o) (settled_to (watches true) rows pending) ≡ false
         → turn_passes (watches true) [] (state waiting rows pending) (switch_word o) ≡ true
     passes capture idle rows pending s u = rw (s, u) refl
     passes capture (option id) rows pending s u = rw (s, u) refl
     passes capture positional rows pending s u = rw (s, u) refl
-    passes skip_other idle rows pending s u = rw (s, u) refl
-    passes skip_other (option id) rows pending s u = rw (s, u) refl
-    passes skip_other positional rows pending s u = rw (s, u) refl
+    passes _ idle rows pending s u = rw (s, u) refl
+    passes _ (option id) rows pending s u = rw (s, u) refl
+    passes _ positional rows pending s u = rw (s, u) refl
 
 -- options where they are offered, else none
 watch_options : (offers : Bool) (os : List Switch) → (offers ≡ false → os ≡ []) → (n : Switch → ℕ) (rows : List Row) (pending : Pending) → settles (watches offers) rows pending ≡ true
@@ -280,8 +281,8 @@ watch_leaves : {X : Type 0} (of : List Row → X) → ((o : Switch) (rows : List
     → (offers : Bool) (rows : List Row) → of (fold with_default rows (watches offers).rules) ≡ of rows
 watch_leaves of past false rows = ap of (no_defaults (watches false).rules rows (refl, (refl, (refl, tt))))
 watch_leaves of past true rows =
-    ap (λ (l : List Row). of (fold with_default l (switch_flag capture ∷ switch_flag skip_other ∷ help_flag ∷ []))) (no_defaults (period_option ∷ id_option ∷ []) rows (refl, (refl, tt)))
-    ∙ options_leave of past rows
+    ap (λ (l : List Row). of (fold with_default l (map switch_flag switches ++ help_flag ∷ []))) (no_defaults (period_option ∷ id_option ∷ []) rows (refl, (refl, tt)))
+    ∙ options_leave of past switches rows
 
 pub watch_default : (offers : Bool) (id : Text) → ((o : Switch) → bytes_eq (switch_name o) id ≡ false) → (rows : List Row) → row_at id (fold with_default rows (watches offers).rules) ≡ row_at id rows
 watch_default offers id apart = watch_leaves (row_at id) (λ o. default_other o id (apart o)) offers
@@ -376,7 +377,8 @@ watch_asked_for offers words period id options a before middle after no_before n
     let say = digits_say a.digits a.are_digits period a.number a.range in
     let asks = watch_asks offers a.digits id period pass say a.first a.second a.options before middle after no_before no_middle no_after (λ o. at_most (is_on options o) (in_all before middle after o) (gives o)) in
     let rest = words_of before ++ (a.first ++ (words_of middle ++ (a.second ++ words_of after))) in (
-      ap (λ (o : Option (Text × List Text)). option_and_then request_asked (entered (line offers) o)) (stops (codes "watch") (codes "watch") rest refl)
-          ∙ wished options (rows_after (watches offers).rules [] rest) (in_all before middle after) (watch period id) (watch_asked (rows_after (watches offers).rules [] rest)) asks.watch_is asks.sets gives,
+      ap (λ (o : Option (Text × List Text)). option_and_then (request_by offers) (entered (line offers) o)) (stops (codes "watch") (codes "watch") rest refl)
+          ∙ wished offers options (rows_after (watches offers).rules [] rest) (in_all before middle after) (watch period id) (watch_asked (rows_after (watches offers).rules [] rest)) asks.watch_is asks.sets gives
+          (λ f o. rw (no_before f, no_middle f, no_after f) refl),
       taken_behind offers a.called (codes "watch") rest refl refl asks.passes,
     )

@@ -1,11 +1,11 @@
 -- Words that have no fault name a task, and words that ask for a task are taken.
 use Rattle.std.proofs.Common.{◌≡◌, ◌≢◌, ◌&&◌, ◌||◌, ◌⊎◌, ◌∙◌, ℕ, Bool, true, false, not, true≢false, List, [], ◌∷◌, Option, Some, None, Result, Ok, Err, is_some, option_map, option_and_then, unwrap_or, inl, inr, refl, sym, ap, ap₂, subst}
-use Rattle.std.specs.Prelude.{Box, IfOk, IfErr, codes, find}
+use Rattle.std.specs.Prelude.{Box, IfOk, IfErr, codes, find, if◌then◌else◌}
 use Rattle.std.specs.Option.{option_map_or}
 use Rattle.std.specs.Str.{bytes_eq}
 use Rattle.std.specs.Box.{box_value}
 use Rattle.clap.specs.Words.{App, HasKind, IsAmong, Kinds, Row, Shape, Text, all_of, built, fault_of, is_simple, is_simple_and_free, kind_of, subcommand_name_of, subcommand_of, subcommand_rows, subcommand_rows_of, takes}
-use Rattle.clap.specs.Kinds.{check_kinds}
+use Rattle.clap.specs.Kinds.{check_kinds, or_else}
 use Rattle.clap.specs.Faults.{entered_fault, level_fault, walk_fault}
 use Rattle.clap.specs.Simple.{argument_words, entered, names_of, rows_at}
 use Rattle.clap.specs.Takes.{is_given}
@@ -26,9 +26,9 @@ use Rattle.words_core.proofs.AskingWords.{asked_or}
 use Rattle.words_core.proofs.KeptRows.{first_none, leaf, level_checked, then_none, wanted}
 use Rattle.words_core.proofs.WatchRows.{watch_says}
 use Rattle.words_core.specs.CommandLine.{AnswersBadBlock, AnswersTask, Asked, AsksByName, HasPeriod, IsBlockError, IsNoMistake, MayRefuse, Meaning, blocks_in, check, command_line, first_bad_block, import, is_plain, list_blocks, name_of, plain, publish, replay, replay_of, replay_shape, rewrite, asked_by, show, task_asked, task_of_words, watch, watch_shape}
-use Rattle.words_core.specs.RequestLine.{AnswersRequest, AsksWith, MayRefuseRequest, RefusesBlock, Wish, options_in, request_asked, with_these}
+use Rattle.words_core.specs.RequestLine.{AnswersRequest, AsksWith, MayRefuseRequest, RefusesBlock, Wish, no_options, with_these}
 use Rattle.words_core.specs.computed.PrivateCalls.{MayAnswer}
-use Rattle.words_core.specs.computed.OfferedLine.{MayGrant, MayRefuseBy, faults_by, line_of, offered, task_by, wish_by}
+use Rattle.words_core.specs.computed.OfferedLine.{IsExclusion, MayGrant, MayRefuseBy, agrees_by, faults_by, line_of, mistakes_by, offered, options_by, request_by, task_by, wish_by}
 
 -- where a subcommand is required and the last checks pass, there is one
 checked : (has help required argument : Bool) → required ≡ true → check_kinds (not has && help) (not has && required) argument ≡ [] → has ≡ true
@@ -221,6 +221,38 @@ memory_or_not kind.Io = inr (λ e. cc)
 memory_or_not kind.Format = inr (λ e. cc)
 memory_or_not kind.OutOfMemory = inl refl
 
+-- a kind of the first step that fails is one of all
+among_first : (k : ErrorKind) (first second : Kinds) → IsAmong k first → IsAmong k (or_else first second)
+among_first k [] second among = absurd among
+among_first k (x ∷ xs) second among = among
+
+-- words without a fault that wish for something have no mistake
+wish_no_mistake : (offers : Bool) (words : List Text) (w : Wish) → faults_by offers words ≡ [] → wish_by offers words ≡ Some w → mistakes_by offers words ≡ []
+wish_no_mistake offers words w none e = rw (none, e) refl
+
+-- where no options are offered, none exclude each other
+pub wish_alone : (words : List Text) → wish_by false words ≡ option_map (with_these no_options) (task_by false words)
+wish_alone words = go (subcommand_of (line_of false) words)
+  where
+    go : (met : Option (Text × List Row)) → option_and_then (request_by false) met ≡ option_map (with_these no_options) (option_and_then task_asked met)
+    go None = refl
+    go (Some met) = refl
+
+-- words have the mistakes of `clap` alone where they wish for something if they have none
+pub alike_mistakes : (first second : Kinds) (w : Option Wish) (t : Option Meaning) → first ≡ second → w ≡ option_map (with_these no_options) t → (second ≡ [] → IsAsked t)
+    → or_else first (if is_some w then [] else kind.ArgumentConflict ∷ []) ≡ second
+alike_mistakes first second w t same is asks =
+    ap₂ (λ (f : Kinds) (x : Option Wish). or_else f (if is_some x then [] else kind.ArgumentConflict ∷ [])) same is ∙ go second t asks
+  where
+    go : (k : Kinds) (m : Option Meaning) → (k ≡ [] → IsAsked m) → or_else k (if is_some (option_map (with_these no_options) m) then [] else kind.ArgumentConflict ∷ []) ≡ k
+    go (x ∷ xs) m h = refl
+    go [] None h = absurd (h refl)
+    go [] (Some (Ok u)) h = refl
+    go [] (Some (Err i)) h = refl
+
+pub mistakes_alone : (words : List Text) → mistakes_by false words ≡ faults_by false words
+mistakes_alone words = alike_mistakes (faults_by false words) (faults_by false words) (wish_by false words) (task_by false words) refl (wish_alone words) (faultless_asks false words)
+
 -- an error of the words, told apart from want of memory, is one of their faults
 pub may_refuse : (offers : Bool) (words : List Text) (e : Error) (r : WordsError) → HasKind (faults_by offers words) e → (kind_of e ≡ kind.OutOfMemory → r ≡ refused.Memory)
     → ((kind_of e ≢ kind.OutOfMemory) → r ≡ refused.Words e) → MayRefuseBy offers words r
@@ -228,7 +260,7 @@ may_refuse offers words e r has memory other = elim (memory_or_not (kind_of e)) 
   | inl k ↦ subst (MayRefuseBy offers words) (sym (memory k)) tt
   | inr k ↦ subst (MayRefuseBy offers words) (sym (other k)) (elim has [
     | inl out ↦ absurd (k out)
-    | inr among ↦ among
+    | inr among ↦ among_first (kind_of e) (faults_by offers words) _ among
   ])
 ]
 
@@ -250,6 +282,9 @@ answers_found offers words answer may = go (wish_by offers words) refl answer ma
     go (Some (Err i)) e (Ok r) m = absurd m
     go (Some (Err i)) e (Err u) m = tt
 
+pub granted_faultless : (offers : Bool) (words : List Text) (r : Request) → faults_by offers words ≡ [] → Granted offers words r → mistakes_by offers words ≡ []
+granted_faultless offers words r none granted = wish_no_mistake offers words (Ok (asked_by r.task, r.options)) none granted
+
 pub answers_refused : (offers : Bool) (words : List Text) (answer : Answer) → faults_by offers words ≡ [] → MayGrant (wish_by offers words) (Some answer)
     → IfErr answer (λ e. MayRefuseBy offers words e × IsNoMistake e)
 answers_refused offers words answer none may = go (wish_by offers words) refl answer may
@@ -260,16 +295,31 @@ answers_refused offers words answer none may = go (wish_by offers words) refl an
     go (Some (Ok t)) e (Err u) m = subst (λ (w : WordsError). MayRefuseBy offers words w × IsNoMistake w) (sym m) (tt, tt)
     go (Some (Err i)) e (Ok r) m = absurd m
     go (Some (Err i)) e (Err (refused.Words error)) m = absurd m
-    go (Some (Err i)) e (Err (refused.Block j)) m = ((none, e ∙ ap (λ (k : ℕ). Some (Err k)) (sym m)), tt)
+    go (Some (Err i)) e (Err (refused.Block j)) m = ((wish_no_mistake offers words (Err i) none e, e ∙ ap (λ (k : ℕ). Some (Err k)) (sym m)), tt)
     go (Some (Err i)) e (Err refused.Memory) m = (tt, tt)
 
-pub nothing_answered : (o : Option (Text × List Row)) → IsAsked (option_and_then task_asked o) → MayGrant (option_and_then request_asked o) None → ⊥
-nothing_answered None e m = e
-nothing_answered (Some met) e m = go (task_asked met) e m
+-- where nothing is answered, nothing is wished for
+pub no_wish : (w : Option Wish) → MayGrant w None → w ≡ None
+no_wish None may = refl
+no_wish (Some wish) may = absurd may
+
+-- words without a fault that wish for nothing have options that exclude each other
+pub excluded : (offers : Bool) (words : List Text) (e : WordsError) → faults_by offers words ≡ [] → wish_by offers words ≡ None → IsExclusion e → MayRefuseBy offers words e
+excluded offers words (refused.Words error) none nothing is = rw (none, nothing) (inl is)
+excluded offers words (refused.Block i) none nothing is = absurd is
+excluded offers words refused.Memory none nothing is = tt
+
+nothing_asked : (words : List Text) → wish_by false words ≡ None → IsAsked (task_by false words) → ⊥
+nothing_asked words nothing asks = go (task_by false words) (sym (wish_alone words) ∙ nothing) asks
   where
-    go : (o : Option Meaning) → IsAsked o → MayGrant (option_map (with_these (options_in met.1)) o) None → ⊥
-    go None f n = f
-    go (Some meaning) f n = n
+    go : (m : Option Meaning) → option_map (with_these no_options) m ≡ None → IsAsked m → ⊥
+    go None e a = a
+    go (Some m) e a = cc
+
+-- and there are none such where they agree
+pub agreed : (offers : Bool) (words : List Text) → faults_by offers words ≡ [] → wish_by offers words ≡ None → agrees_by offers words ≡ true → ⊥
+agreed true words none nothing agrees = true≢false (sym agrees ∙ ap is_some nothing)
+agreed false words none nothing agrees = nothing_asked words nothing (faultless_asks false words none)
 
 -- ---- what was answered, told of the task and of the words
 
@@ -282,9 +332,13 @@ task_wished offers words t options e = go (subcommand_of (line_of offers) words)
     wished (Some (Ok u)) o f = ap (λ (w : Option Wish). Some (Ok (task_or u w))) f
     wished (Some (Err i)) o f = cc
 
-    go : (met : Option (Text × List Row)) → option_and_then request_asked met ≡ Some (Ok (t, options)) → option_and_then task_asked met ≡ Some (Ok t)
+    by : (m : Option Meaning) (x : Option Options) → option_and_then (λ o. option_map (with_these o) m) x ≡ Some (Ok (t, options)) → m ≡ Some (Ok t)
+    by m None f = cc
+    by m (Some o) f = wished m o f
+
+    go : (met : Option (Text × List Row)) → option_and_then (request_by offers) met ≡ Some (Ok (t, options)) → option_and_then task_asked met ≡ Some (Ok t)
     go None f = cc
-    go (Some met) f = wished (task_asked met) (options_in met.1) f
+    go (Some met) f = by (task_asked met) (options_by offers met.1) f
 
 pub block_wished : (offers : Bool) (words : List Text) (i : ℕ) → wish_by offers words ≡ Some (Err i) → task_by offers words ≡ Some (Err i)
 block_wished offers words i e = go (subcommand_of (line_of offers) words) e
@@ -294,9 +348,13 @@ block_wished offers words i e = go (subcommand_of (line_of offers) words) e
     wished (Some (Ok u)) o f = cc
     wished (Some (Err j)) o f = ap (λ (w : Option Wish). Some (Err (place_or j w))) f
 
-    go : (met : Option (Text × List Row)) → option_and_then request_asked met ≡ Some (Err i) → option_and_then task_asked met ≡ Some (Err i)
+    by : (m : Option Meaning) (x : Option Options) → option_and_then (λ o. option_map (with_these o) m) x ≡ Some (Err i) → m ≡ Some (Err i)
+    by m None f = cc
+    by m (Some o) f = wished m o f
+
+    go : (met : Option (Text × List Row)) → option_and_then (request_by offers) met ≡ Some (Err i) → option_and_then task_asked met ≡ Some (Err i)
     go None f = cc
-    go (Some met) f = wished (task_asked met) (options_in met.1) f
+    go (Some met) f = by (task_asked met) (options_by offers met.1) f
 
 pub asked_period : (offers : Bool) (words : List Text) (t : Asked) → faults_by offers words ≡ [] → task_by offers words ≡ Some (Ok t) → HasPeriod t
 asked_period offers words t none e = subst IsAsked e (faultless_asks offers words none)
@@ -308,7 +366,7 @@ memory_alone offers words t (refused.Block i) asks may sure = let bad : Some (Ok
 memory_alone offers words t refused.Memory asks may sure = refl
 
 -- words without a fault, of which a text says no block, are refused by that text
-pub block_alone : (offers : Bool) (words : List Text) (i : ℕ) (e : WordsError) → faults_by offers words ≡ [] → task_by offers words ≡ Some (Err i) → MayRefuseBy offers words e → IsBlockError i e
+pub block_alone : (offers : Bool) (words : List Text) (i : ℕ) (e : WordsError) → mistakes_by offers words ≡ [] → task_by offers words ≡ Some (Err i) → MayRefuseBy offers words e → IsBlockError i e
 block_alone offers words i (refused.Words error) none bad may = subst (λ (k : Kinds). IsAmong (kind_of error) k) none may
 block_alone offers words i (refused.Block j) none bad may =
     let same : no_meaning j ≡ Some (Err i) = sym (block_wished offers words j may.1) ∙ bad in ap (λ (m : Option Meaning). block_or j m) same
@@ -322,8 +380,8 @@ one_block t i e = cc
 
 -- what `read_words` says of its refusals
 pub refused_words : (words : List Text) (e : WordsError) → MayRefuseBy false words e → MayRefuse words e
-refused_words words (refused.Words error) may = may
-refused_words words (refused.Block i) may = (may.0, block_wished false words i may.1)
+refused_words words (refused.Words error) may = subst (IsAmong (kind_of error)) (mistakes_alone words) may
+refused_words words (refused.Block i) may = (sym (mistakes_alone words) ∙ may.0, block_wished false words i may.1)
 refused_words words refused.Memory may = tt
 
 -- what `read_request` says of its answers
@@ -333,14 +391,14 @@ request_refused words (Err (refused.Words error)) may = may
 request_refused words (Err (refused.Block i)) may = may
 request_refused words (Err refused.Memory) may = tt
 
-pub answered_plainly : (words : List Text) (answer : Answer) → IfOk answer (λ r. faults_by true words ≡ []) → IfOk answer (Granted true words)
+pub answered_plainly : (words : List Text) (answer : Answer) → IfOk answer (λ r. mistakes_by true words ≡ []) → IfOk answer (Granted true words)
     → ((t : Asked) (options : Options) → faults_by true words ≡ [] → wish_by true words ≡ Some (Ok (t, options)) → is_plain t ≡ true → AsksWith words t options)
     → IfOk answer (λ r. is_plain (asked_by r.task) ≡ true → AsksWith words (asked_by r.task) r.options)
-answered_plainly words (Ok r) none granted asks = asks (asked_by r.task) r.options none granted
+answered_plainly words (Ok r) none granted asks = asks (asked_by r.task) r.options (first_none (faults_by true words) _ none) granted
 answered_plainly words (Err e) none granted asks = tt
 
-pub answered_period : (offers : Bool) (words : List Text) (answer : Answer) → IfOk answer (λ r. faults_by offers words ≡ []) → IfOk answer (Granted offers words) → IfOk answer (λ r. HasPeriod (asked_by r.task))
-answered_period offers words (Ok r) none granted = asked_period offers words (asked_by r.task) none (task_wished offers words (asked_by r.task) r.options granted)
+pub answered_period : (offers : Bool) (words : List Text) (answer : Answer) → IfOk answer (λ r. mistakes_by offers words ≡ []) → IfOk answer (Granted offers words) → IfOk answer (λ r. HasPeriod (asked_by r.task))
+answered_period offers words (Ok r) none granted = asked_period offers words (asked_by r.task) (first_none (faults_by offers words) _ none) (task_wished offers words (asked_by r.task) r.options granted)
 answered_period offers words (Err e) none granted = tt
 
 one_wish : (t u : Asked) (o p : Options) → a_wish t o ≡ Some (Ok (u, p)) → (t ≡ u) × (o ≡ p)
@@ -351,7 +409,7 @@ pub request_granted : (offers : Bool) (words : List Text) (t : Asked) (options :
 request_granted offers words t options (Ok r) granted may sure wish = one_wish (asked_by r.task) t r.options options (sym granted ∙ wish)
 request_granted offers words t options (Err e) granted may sure wish = memory_alone offers words t e (task_wished offers words t options wish) may sure
 
-pub block_refused : (offers : Bool) (words : List Text) (i : ℕ) (answer : Answer) → IfOk answer (Granted offers words) → IfErr answer (MayRefuseBy offers words) → faults_by offers words ≡ []
+pub block_refused : (offers : Bool) (words : List Text) (i : ℕ) (answer : Answer) → IfOk answer (Granted offers words) → IfErr answer (MayRefuseBy offers words) → mistakes_by offers words ≡ []
     → wish_by offers words ≡ Some (Err i) → RefusesBlock i answer
 block_refused offers words i (Ok r) granted may none bad = let other : Some (Ok (asked_by r.task, r.options)) ≡ Some (Err i) = sym granted ∙ bad in cc
 block_refused offers words i (Err e) granted may none bad = block_alone offers words i e none (block_wished offers words i bad) may
@@ -374,6 +432,6 @@ grants None o a r answered refuses may = absurd may
 grants (Some (Ok t)) o a r answered refuses may = answered t may
 grants (Some (Err i)) o a r answered refuses may = refuses i may
 
-pub grants_none : (m : Option Meaning) (rows : List Row) → MayAnswer m None → MayGrant (option_map (with_these (options_in rows)) m) None
-grants_none None rows may = tt
-grants_none (Some meaning) rows may = absurd may
+pub grants_none : (m : Option Meaning) (o : Options) → MayAnswer m None → MayGrant (option_map (with_these o) m) None
+grants_none None o may = tt
+grants_none (Some meaning) o may = absurd may

@@ -1,14 +1,18 @@
 -- The command line with options: the task and the options of its words, and why words may be refused.
-use Rattle.std.specs.Prelude.{◌≡◌, ◌⊎◌, ℕ, true, false, not, Bool, List, [], ◌∷◌, ◌++◌, map, fold, filter, length, drop, Option, Some, Result, Ok, Err, MatchResult, option_and_then, option_map, codes, if◌then◌else◌}
+use Rattle.std.specs.Prelude.{◌≡◌, ◌&&◌, ◌⊎◌, ℕ, true, false, not, Bool, List, [], ◌∷◌, ◌++◌, map, fold, filter, length, drop, Option, Some, None, Result, Ok, Err, MatchResult, is_some, option_and_then, option_map, codes, if◌then◌else◌}
 use Rattle.std.specs.Global.{Global}
 use Rattle.std.specs.List.{list_all, list_any}
 use Rattle.std.specs.Option.{option_map_or}
 use Rattle.std.specs.Str.{bytes_eq}
 use Rattle.clap.specs.Lexer.{long_of}
-use Rattle.clap.specs.Words.{App, IsAmong, Kinds, Row, Rule, Shape, Text, fault_of, kind_of, new_rule, one_of, subcommand_of, with_subcommand}
+use Rattle.clap.specs.Words.{App, IsAmong, Kinds, Row, Rule, Shape, Text, fault_of, kind_of, new_rule, one_of, subcommand_of, takes, with_subcommand}
+use Rattle.clap.specs.Kinds.{or_else}
 use Rattle.clap.specs.declared.builder.action.ArgAction.TheVariants.{SetTrue}
+use Rattle.clap.specs.declared.error.kind.ErrorKind.TheVariants as kind
 use Rattle.block_core.specs.declared.block.Block.{Block}
 use Rattle.words_core.specs.declared.option_words.Options.{Options}
+use Rattle.words_core.specs.declared.option_words.Writing.{Writing}
+use Rattle.words_core.specs.declared.option_words.Writing.TheVariants.{Lines, Dated, Objects}
 use Rattle.words_core.specs.declared.words.Request.{Request}
 use Rattle.words_core.specs.declared.words.WordsError.{WordsError}
 use Rattle.words_core.specs.declared.words.WordsError.TheVariants as refused
@@ -18,19 +22,35 @@ use Rattle.words_core.specs.CommandLine.{Asked, AsksReplay, AsksWatch, IsBlockEr
 pub data Switch : Type 0 where
   capture : Switch
   skip_other : Switch
+  time : Switch
+  json : Switch
 
 abbrev pub switches : List Switch
-switches = capture ∷ skip_other ∷ []
+switches = capture ∷ skip_other ∷ time ∷ json ∷ []
 
 -- the name of an option
 abbrev pub switch_name : Switch → Text
 switch_name capture = codes "capture"
 switch_name skip_other = codes "skip-other"
+switch_name time = codes "time"
+switch_name json = codes "json"
+
+-- each line stands behind the date of its event
+abbrev pub is_dated : Writing → Bool
+is_dated Dated = true
+is_dated _ = false
+
+-- each line is an object
+abbrev pub is_object : Writing → Bool
+is_object Objects = true
+is_object _ = false
 
 -- the option is given
 abbrev pub is_on : Options → Switch → Bool
 is_on options capture = options.is_capture
 is_on options skip_other = options.skips_other
+is_on options time = is_dated options.writes
+is_on options json = is_object options.writes
 
 -- the word that gives an option
 abbrev pub switch_word : Switch → Text
@@ -61,9 +81,17 @@ request_line = fold with_subcommand bare_program (
 abbrev pub is_set : Text → List Row → Bool
 is_set name rows = option_map_or (bytes_eq (codes "true")) (one_of name rows) false
 
--- the options that the matches of a subcommand give
-abbrev pub options_in : List Row → Options
-options_in rows = record { is_capture = is_set (switch_name capture) rows; skips_other = is_set (switch_name skip_other) rows }
+-- how is written what is told, with dates or as objects: both exclude each other
+abbrev pub writing_by : Bool → Bool → Option Writing
+writing_by false false = Some Lines
+writing_by true false = Some Dated
+writing_by false true = Some Objects
+writing_by true true = None
+
+-- the options that the matches of a subcommand give; none where two exclude each other
+abbrev pub options_in : List Row → Option Options
+options_in rows = option_map (λ writes. record { is_capture = is_set (switch_name capture) rows; skips_other = is_set (switch_name skip_other) rows; writes = writes })
+    (writing_by (is_set (switch_name time) rows) (is_set (switch_name json) rows))
 
 -- what the matches of a subcommand ask for: a task with options, or none because of the text at this position
 abbrev pub Wish : Type 0
@@ -73,18 +101,22 @@ abbrev pub with_these : Options → Meaning → Wish
 with_these options (Ok t) = Ok (t, options)
 with_these options (Err i) = Err i
 
--- what the subcommand that was met asks for, from its name and its matches
+-- what the subcommand that was met asks for, from its name and its matches; nothing where options exclude each other
 abbrev pub request_asked : Text × List Row → Option Wish
-request_asked met = option_map (with_these (options_in met.1)) (task_asked met)
+request_asked met = option_and_then (λ options. option_map (with_these options) (task_asked met)) (options_in met.1)
 
 -- what the subcommand that the words name asks for; the first word is the program's name
 abbrev pub request_of_words : List Text → Option Wish
 request_of_words words = option_and_then request_asked (subcommand_of request_line words)
 
 -- what may be wrong with the words, or asked for in place of a task: the kinds of error of the
--- first step that fails; empty where no step fails
+-- first step that fails, or that of options which exclude each other, where no step fails
 abbrev pub request_faults : List Text → Kinds
-request_faults = fault_of request_line
+request_faults words = or_else (fault_of request_line words) (if is_some (request_of_words words) then [] else kind.ArgumentConflict ∷ [])
+
+-- the words are taken, and no options exclude each other
+abbrev pub takes_request : List Text → Bool
+takes_request words = takes request_line words && is_some (request_of_words words)
 
 -- the word gives an option
 abbrev pub is_option : Text → Bool
@@ -92,7 +124,7 @@ is_option word = list_any (λ o. bytes_eq word (switch_word o)) switches
 
 -- no option is given
 abbrev pub no_options : Options
-no_options = record { is_capture = false; skips_other = false }
+no_options = record { is_capture = false; skips_other = false; writes = Lines }
 
 -- the word names an option, alone or with a value behind `=`
 abbrev pub names_option : Text → Bool

@@ -4,5 +4,5 @@
 mod option_words;
 mod words;
 
-pub use option_words::Options;
+pub use option_words::{Options, Writing};
 pub use words::{Request, Task, WordsError, read_request, read_words};

@@ -1,19 +1,32 @@
-//! The options on the input, which some commands take beside words of their own.
-ghost use Rattle.std.specs.Prelude.{◌≡◌, codes, true, false, IfOk};
+//! The options of the commands that read events, beside words of their own: on the input, and on what is written.
+ghost use Rattle.std.specs.Prelude.{◌≡◌, codes, fold, true, false, IfOk};
 ghost use Rattle.clap.specs.Words.{app_of, found_of, rows_of, rule_of, with_rule, with_subcommand};
-ghost use Rattle.words_core.specs.RequestLine.{is_set, options_in, option_named};
-ghost use Rattle.words_core.specs.computed.OfferedLine.{is_local, offering};
+ghost use Rattle.words_core.specs.RequestLine.{is_set, options_in, option_named, writing_by};
+ghost use Rattle.words_core.specs.computed.OfferedLine.{is_local, offered_rules, offering, options_by};
 
 use clap::{Arg, ArgAction, ArgMatches, Command};
 use std::alloc::{AllocError, Global};
 
-/// How a command takes its input.
+/// How a command writes what it tells.
+#[derive(Clone, Copy)]
+pub enum Writing {
+    /// Lines of text.
+    Lines,
+    /// Lines of text, each behind the date of its event.
+    Dated,
+    /// JSON objects, one a line.
+    Objects,
+}
+
+/// How a command takes its input, and how it writes what it tells.
 #[derive(Clone, Copy)]
 pub struct Options {
     /// Standard input is a capture, classic or pcapng, in place of a list.
     pub is_capture: bool,
     /// A frame whose first error is its EtherType tells only that time has passed; such frames are counted.
     pub skips_other: bool,
+    /// How each line is written.
+    pub writes: Writing,
 }
 
 // What the help says of `--capture`.
@@ -22,6 +35,12 @@ const CAPTURE_HELP: &str = "Reads a capture (classic or pcapng) in place of a li
 // What the help says of `--skip-other`.
 const SKIP_OTHER_HELP: &str =
     "Takes frames of other EtherTypes as a sign that time passes, and counts them";
+
+// What the help says of `--time`.
+const TIME_HELP: &str = "Begins each line with the date of its event, in UTC";
+
+// What the help says of `--json`.
+const JSON_HELP: &str = "Writes JSON objects, one a line, in place of text";
 
 // An option without a value.
 fn flag_option<'a>(alloc: Global, name: &'a str, help: &'a str) -> Arg<'a>
@@ -47,16 +66,18 @@ fn with_option<'a>(
     command.arg(flag_option(alloc, name, help))
 }
 
-// The command with the options on its input.
-fn with_both<'a>(alloc: Global, command: Command<'a>) -> Result<Command<'a>, AllocError>
-    ensures app { IfOk result (λ c. app_of c ≡ with_rule (with_rule (app_of command.entry) (option_named (codes "capture"))) (option_named (codes "skip-other"))) }
+// The command with the options.
+fn with_each<'a>(alloc: Global, command: Command<'a>) -> Result<Command<'a>, AllocError>
+    ensures app { IfOk result (λ c. app_of c ≡ fold with_rule (app_of command.entry) (offered_rules true)) }
     ensures local { IfOk result (λ c. is_local c ≡ is_local command.entry) }
 {
     let command = with_option(alloc, command, "capture", CAPTURE_HELP)?;
-    with_option(alloc, command, "skip-other", SKIP_OTHER_HELP)
+    let command = with_option(alloc, command, "skip-other", SKIP_OTHER_HELP)?;
+    let command = with_option(alloc, command, "time", TIME_HELP)?;
+    with_option(alloc, command, "json", JSON_HELP)
 }
 
-// The command with the options on its input, where they are offered.
+// The command with the options, where they are offered.
 fn with_options<'a>(
     alloc: Global,
     command: Command<'a>,
@@ -66,13 +87,13 @@ fn with_options<'a>(
     ensures local { IfOk result (λ c. is_local c ≡ is_local command.entry) }
 {
     if offers {
-        with_both(alloc, command)
+        with_each(alloc, command)
     } else {
         Ok(command)
     }
 }
 
-/// The program with one more subcommand, which takes the options on its input where they are offered.
+/// The program with one more subcommand, which takes the options where they are offered.
 pub fn with_offering<'a>(
     alloc: Global,
     program: Command<'a>,
@@ -93,12 +114,45 @@ fn is_set(matches: &ArgMatches<'_>, name: &str) -> bool
     matches.get_one(name) == Some(true)
 }
 
-/// The options of the matches of a subcommand; one that the subcommand does not offer is not given.
-pub fn options_met(matches: &ArgMatches<'_>) -> Options
+// How is written what is told, with dates or as objects; none where both are asked for.
+fn writing_by(has_dates: bool, has_objects: bool) -> Option<Writing>
+    ensures { result ≡ writing_by has_dates has_objects }
+{
+    match (has_dates, has_objects) {
+        (false, false) => Some(Writing::Lines),
+        (true, false) => Some(Writing::Dated),
+        (false, true) => Some(Writing::Objects),
+        (true, true) => None,
+    }
+}
+
+// The options of the matches of a subcommand, or none where two exclude each other.
+fn options_met(matches: &ArgMatches<'_>) -> Option<Options>
     ensures { result ≡ options_in (rows_of (found_of matches.now)) }
 {
-    Options {
-        is_capture: is_set(matches, "capture"),
-        skips_other: is_set(matches, "skip-other"),
+    let is_capture = is_set(matches, "capture");
+    let skips_other = is_set(matches, "skip-other");
+    match writing_by(is_set(matches, "time"), is_set(matches, "json")) {
+        Some(writes) => Some(Options {
+            is_capture,
+            skips_other,
+            writes,
+        }),
+        None => None,
+    }
+}
+
+/// The options of the matches of a subcommand, where they are offered; none where two exclude each other.
+pub fn options_by(matches: &ArgMatches<'_>, offers: bool) -> Option<Options>
+    ensures { result ≡ options_by offers (rows_of (found_of matches.now)) }
+{
+    if offers {
+        options_met(matches)
+    } else {
+        Some(Options {
+            is_capture: false,
+            skips_other: false,
+            writes: Writing::Lines,
+        })
     }
 }

@@ -5,10 +5,10 @@ ghost use Rattle.clap.specs.Walk.{texts};
 ghost use Rattle.clap.specs.declared.error.kind.ErrorKind.TheVariants.{OutOfMemory};
 ghost use Rattle.words_core.specs.CommandLine.{AnswersBadBlock, AnswersTask, Asked, Asks, HasPeriod, IsNoMistake, MayRefuse, bare_program, block_rule, command_line, faults, id_rule, is_plain, name_of, period_rule, readers, replay_of, replay_shape, asked_by, task_asked, task_of_words, watch, watch_asked, watch_shape};
 ghost use Rattle.words_core.specs.computed.PrivateCalls.{AnswersWords, MayAnswer};
-ghost use Rattle.words_core.specs.RequestLine.{AnsweredAlike, AnswersRequest, AsksWith, MayRefuseRequest, RefusesBlock, request_asked, request_faults, request_line, request_of_words};
-ghost use Rattle.words_core.specs.computed.OfferedLine.{MayGrant, MayRefuseBy, faults_by, line_of, offered, reader_shapes, wish_by};
+ghost use Rattle.words_core.specs.RequestLine.{AnsweredAlike, AnswersRequest, AsksWith, MayRefuseRequest, RefusesBlock, request_faults, request_of_words, takes_request};
+ghost use Rattle.words_core.specs.computed.OfferedLine.{IsExclusion, MayGrant, MayRefuseBy, agrees_by, line_of, mistakes_by, offered, reader_shapes, request_by, wish_by};
 
-use crate::option_words::{Options, options_met, with_offering};
+use crate::option_words::{Options, options_by, with_offering};
 use block_core::{Block, BlockError, read_block};
 use clap::error::ErrorKind;
 use clap::{Arg, ArgMatches, Command, value_parser};
@@ -64,7 +64,7 @@ impl Task {
 pub struct Request {
     /// What to do.
     pub task: Task,
-    /// How to take the input.
+    /// How to take the input, and how to write what is told.
     pub options: Options,
 }
 
@@ -82,6 +82,9 @@ pub enum WordsError {
     #[error("out of memory")]
     Memory,
 }
+
+// What is told of options that exclude each other.
+const EXCLUDED: &str = "the argument '--time' cannot be used with '--json'";
 
 // What the help of `show` and of `blocks` ends with: they find nothing to be told by a status.
 const SHOW_MORE: &str =
@@ -235,7 +238,7 @@ fn with_readers<'a>(
         offers,
         "show",
         "Shows each event on one line: every field of a frame, or its first error",
-        "Example: goose show --capture < examples/two_bays.pcapng",
+        "Example: goose show --capture --time < examples/two_bays.pcapng",
         SHOW_MORE,
     )?;
     let program = with_plain(
@@ -372,27 +375,32 @@ fn with_these(answer: Result<Task, WordsError>, options: Options) -> Result<Requ
     }
 }
 
-// The request of a subcommand's name and its matches.
+// The request of a subcommand's name and its matches; none where options exclude each other.
 fn request_of(
     alloc: Global,
     name: &str,
     matches: &ArgMatches<'_>,
+    offers: bool,
 ) -> Option<Result<Request, WordsError>>
-    ensures { MayGrant (request_asked (name.now, rows_of (found_of matches.now))) result }
+    ensures { MayGrant (request_by offers (name.now, rows_of (found_of matches.now))) result }
 {
-    let options = options_met(matches);
+    let options = options_by(matches, offers)?;
     match task_of(alloc, name, matches) {
         Some(answer) => Some(with_these(answer, options)),
         None => None,
     }
 }
 
-// The request of the subcommand that the words named.
-fn request_met(alloc: Global, matches: &ArgMatches<'_>) -> Option<Result<Request, WordsError>>
-    ensures { MayGrant (option_and_then request_asked (subcommand_rows_of matches.now)) result }
+// The request of the subcommand that the words named; none where options exclude each other.
+fn request_met(
+    alloc: Global,
+    matches: &ArgMatches<'_>,
+    offers: bool,
+) -> Option<Result<Request, WordsError>>
+    ensures { MayGrant (option_and_then (request_by offers) (subcommand_rows_of matches.now)) result }
 {
     match matches.subcommand() {
-        Some((name, inner)) => request_of(alloc, name, inner),
+        Some((name, inner)) => request_of(alloc, name, inner, offers),
         None => None,
     }
 }
@@ -408,21 +416,32 @@ fn refusal(error: clap::Error) -> WordsError
     }
 }
 
+// What is told of options that exclude each other. A rule of `clap` on them would cost what it promises of the other faults.
+fn exclusion(alloc: Global) -> WordsError
+    ensures { IsExclusion result }
+{
+    let mut program = Command::new(alloc, "goose").override_usage("goose <COMMAND> [OPTIONS]");
+    match program.error(ErrorKind::ArgumentConflict, EXCLUDED) {
+        Ok(error) => WordsError::Words(error),
+        Err(_) => WordsError::Memory,
+    }
+}
+
 // The request that the words make where the options are offered or not.
 fn read_by<'a>(alloc: Global, words: &'a [&'a str], offers: bool) -> Result<Request, WordsError>
     ensures wish { IfOk result (λ r. wish_by offers (texts words.now) ≡ Some (Ok (asked_by r.task, r.options))) }
-    ensures faultless { IfOk result (λ r. faults_by offers (texts words.now) ≡ []) }
-    ensures taken { takes (line_of offers) (texts words.now) ≡ true → IfErr result IsNoMistake }
+    ensures faultless { IfOk result (λ r. mistakes_by offers (texts words.now) ≡ []) }
+    ensures taken { takes (line_of offers) (texts words.now) ≡ true → agrees_by offers (texts words.now) ≡ true → IfErr result IsNoMistake }
     ensures refused { IfErr result (MayRefuseBy offers (texts words.now)) }
 {
     let Ok(command) = command(alloc, offers) else {
         return Err(WordsError::Memory);
     };
     match command.try_get_matches_from(words) {
-        Ok(matches) => match request_met(alloc, &matches) {
+        Ok(matches) => match request_met(alloc, &matches, offers) {
             Some(answer) => answer,
             // A subcommand is required, and each has its task.
-            None => unreachable!(),
+            None => Err(exclusion(alloc)),
         },
         Err(error) => Err(refusal(error)),
     }
@@ -450,19 +469,20 @@ pub fn read_words<'a>(alloc: Global, words: &'a [&'a str]) -> Result<Task, Words
     }
 }
 
-/// The task that the words ask for and its options, `--capture` and `--skip-other`, which the commands
-/// `show`, `check`, `blocks`, `replay` and `watch` take. The first word is the program's name.
+/// The task that the words ask for and its options, `--capture`, `--skip-other`, `--time` and `--json`,
+/// which the commands `show`, `check`, `blocks`, `replay` and `watch` take. The first word is the program's name.
 ///
 /// # Errors
 ///
-/// As of [`read_words`]. An option that is given twice is a mistake, and so is one of another command.
+/// As of [`read_words`]. An option that is given twice is a mistake, and so is one of another command, or `--time`
+/// beside `--json`.
 pub fn read_request<'a>(alloc: Global, words: &'a [&'a str]) -> Result<Request, WordsError>
     ensures found { IfOk result (λ r. is_plain (asked_by r.task) ≡ true → AsksWith (texts words.now) (asked_by r.task) r.options) }
     ensures only { (asked : Asked) (options : Options) → AsksWith (texts words.now) asked options → AnswersRequest asked options result }
     ensures period { IfOk result (λ r. HasPeriod (asked_by r.task)) }
     ensures request { IfOk result (λ r. request_of_words (texts words.now) ≡ Some (Ok (asked_by r.task, r.options))) }
     ensures faultless { IfOk result (λ r. request_faults (texts words.now) ≡ []) }
-    ensures taken { takes request_line (texts words.now) ≡ true → IfErr result IsNoMistake }
+    ensures taken { takes_request (texts words.now) ≡ true → IfErr result IsNoMistake }
     ensures refused { IfErr result (MayRefuseRequest (texts words.now)) }
     ensures alike { AnsweredAlike (texts words.now) }
     ensures bad_block { (i : ℕ) → request_faults (texts words.now) ≡ [] → request_of_words (texts words.now) ≡ Some (Err i) → RefusesBlock i result }

@@ -12,36 +12,41 @@ use Rattle.engine_core.specs.declared.running.Next.TheVariants as next
 use Rattle.engine_core.specs.declared.stopped.Halt.{Halt}
 use Rattle.engine_core.specs.declared.stopped.Halt.TheVariants as halt
 use Rattle.engine_core.specs.Ending.{ending_by_fault}
-use Rattle.engine_core.specs.EngineText.{TextTo, step_text_to}
-use Rattle.engine_core.specs.RunOver.{Stops, WantsFor, closes, due}
+use Rattle.engine_core.specs.EngineText.{Allowed, step_text_to}
+use Rattle.engine_core.specs.RunOver.{IsDue, Stops, WantsFor}
 
 -- an engine took an item after others: its text was appended to a line, and the engine stands after this item too
-pub record ItemTaken {X C F : Type 0} (t : TextTo X C F) (stands : List (ℕ × X) → Type 0) (before : List (ℕ × X)) (e : ℕ × X) (found : Bool) (old new : List ℕ) : Type 0 where
+pub record ItemTaken {X C F : Type 0} (t : Allowed X C F) (stands : List (ℕ × X) → Type 0) (before : List (ℕ × X)) (e : ℕ × X) (found : Bool) (old new : List ℕ) : Type 0 where
   pub text : List ℕ
-  pub has_text : t.of_item before e ≡ Ok (text, found)
+  pub has_text : t.of_item before e (Ok (text, found))
   pub appended : new ≡ old ++ text
   pub stands_after : stands (before ++ e ∷ [])
 
--- what an engine answers for an item after others: it was taken; or refused; or memory was wanted, where there is something to write
-abbrev pub Takes : {X C F : Type 0} → (ℕ → C → F) → TextTo X C F → (List (ℕ × X) → Type 0) → List (ℕ × X) → ℕ × X → Result Bool (LineError C) → List ℕ → List ℕ → Type 0
+-- an item after others may be refused for this, and nothing else is allowed
+pub record IsRefused {X C F : Type 0} (t : Allowed X C F) (before : List (ℕ × X)) (e : ℕ × X) (why : C) : Type 0 where
+  pub is_allowed : t.of_item before e (Err why)
+  pub only : (written : Result (List ℕ × Bool) C) → t.of_item before e written → written ≡ Err why
+
+-- what an engine answers for an item after others: it was taken; or refused; or memory was wanted, where whatever may be written is not empty
+abbrev pub Takes : {X C F : Type 0} → (ℕ → C → F) → Allowed X C F → (List (ℕ × X) → Type 0) → List (ℕ × X) → ℕ × X → Result Bool (LineError C) → List ℕ → List ℕ → Type 0
 Takes refused t stands before e (Ok found) old new = ItemTaken t stands before e found old new
-Takes refused t stands before e (Err (line.Cause why)) old new = t.of_item before e ≡ Err why
-Takes refused t stands before e (Err (line.Memory m)) old new = step_text_to refused t e.0 (t.of_item before e) ≡ [] → ⊥
+Takes refused t stands before e (Err (line.Cause why)) old new = IsRefused t before e why
+Takes {C = C} refused t stands before e (Err (line.Memory m)) old new = (written : Result (List ℕ × Bool) C) → t.of_item before e written → step_text_to refused t e.0 written ≡ [] → ⊥
 
 -- an item was answered, and its text was written; the engine stands after this item too
-pub record ItemWritten {X C F : Type 0} (t : TextTo X C F) (stands : List (ℕ × X) → Type 0) (before : List (ℕ × X)) (answer : AnswerOf X F) (found : Bool) (old new : Option (List ℕ)) : Type 0 where
+pub record ItemWritten {X C F : Type 0} (t : Allowed X C F) (stands : List (ℕ × X) → Type 0) (before : List (ℕ × X)) (answer : AnswerOf X F) (found : Bool) (old new : Option (List ℕ)) : Type 0 where
   pub item : ℕ × X
   pub text : List ℕ
   pub answered : answer ≡ Ok (Some item)
-  pub has_text : t.of_item before item ≡ Ok (text, found)
+  pub has_text : t.of_item before item (Ok (text, found))
   pub written : Appends old new text
   pub stands_after : stands (before ++ item ∷ [])
 
 -- what is written after an answer, and how the run goes on: an item was written, the list has ended, or the run stops
-abbrev pub StepWrites : {X C F : Type 0} → (ℕ → C → F) → TextTo X C F → (List (ℕ × X) → Type 0) → List (ℕ × X) → AnswerOf X F → Next F → Option (List ℕ) → Option (List ℕ) → Type 0
+abbrev pub StepWrites : {X C F : Type 0} → (ℕ → C → F) → Allowed X C F → (List (ℕ × X) → Type 0) → List (ℕ × X) → AnswerOf X F → Next F → Option (List ℕ) → Option (List ℕ) → Type 0
 StepWrites refused t stands before answer (next.Wrote found) old new = ItemWritten t stands before answer found old new
 StepWrites refused t stands before answer next.Ended old new = (answer ≡ Ok None) × (new ≡ old)
-StepWrites refused t stands before answer (next.Stop halt) old new = Stops (WantsFor refused t before answer) (due refused t before answer) (closes refused t before answer) halt old new
+StepWrites refused t stands before answer (next.Stop halt) old new = Stops (WantsFor refused t before answer) (IsDue refused t before answer) halt old new
 
 -- whether a run stops because its writer failed
 abbrev pub is_failed_write : {F : Type 0} → Halt F → Bool

@@ -1,5 +1,5 @@
 -- The text of `replay` as it is computed: by what a subscriber keeps after the events before.
-use Rattle.std.specs.Prelude.{ℕ, List, [], ◌∷◌, false}
+use Rattle.std.specs.Prelude.{◌≡◌, ℕ, List, [], ◌∷◌, false}
 use Rattle.list_core.specs.declared.event.Event.{Event}
 use Rattle.list_core.specs.declared.list_fault.ListCause.{ListCause}
 use Rattle.list_core.specs.ListReader.{list_fault_of}
@@ -8,10 +8,14 @@ use Rattle.subscribe_core.specs.computed.Content.{reading_of}
 use Rattle.subscribe_core.specs.State.{State, fresh_state}
 use Rattle.subscribe_core.specs.computed.Steps.{step_entries, step_state}
 use Rattle.engine_core.specs.EngineText.{Text}
-use Rattle.engine_core.specs.EventsText.{EventText, over_events}
+use Rattle.engine_core.specs.EventsText.{EventAllows, EventText, over_events}
+use Rattle.subscribe_core.specs.declared.entry.Entry.{Entry}
+use Rattle.object_core.specs.declared.counted.Form.{Form}
+use Rattle.object_core.specs.declared.counted.Form.TheVariants as forms
+use Rattle.exchange_engines.specs.EntryObject.{AreEntryObjects}
 use Rattle.exchange_engines.specs.EntryText.{entry_lines}
 use Rattle.text_core.specs.LineText.{list_fault_line}
-use Rattle.exchange_engines.specs.ReplayText.{events_of}
+use Rattle.exchange_engines.specs.ReplayText.{Says, entries_in, events_of}
 
 -- what is kept after these events
 abbrev pub state_after_list : {A : Type 0} → State A → List (Event A) → State A
@@ -21,6 +25,19 @@ state_after_list s (e ∷ es) = state_after_list (step_state s (reading_of e)) e
 -- what a subscriber of these blocks keeps after these items
 abbrev pub kept_after : {A : Type 0} → List (Block A) → List (ℕ × Event A) → State A
 kept_after blocks items = state_after_list (fresh_state blocks) (events_of items)
+
+-- the entries of an event
+abbrev pub replay_says : {A : Type 0} → List (Block A) → Says A
+replay_says blocks before e = step_entries (kept_after blocks before) (reading_of e.1)
+
+-- what may be written of an event in a form
+abbrev pub replay_allows : {A : Type 0} → List (Block A) → Form → EventAllows A
+replay_allows blocks form = entries_in blocks (replay_says blocks) form
+
+-- a text of these entries in a form
+abbrev pub IsSaid : {A : Type 0} → Form → ℕ → ℕ → List (Block A) → List (Entry A) → List ℕ → Type 0
+IsSaid forms.Text n moment blocks entries text = text ≡ entry_lines n entries
+IsSaid (forms.Object counted) n moment blocks entries text = AreEntryObjects counted blocks n moment entries text
 
 -- what is written of an event
 abbrev pub replay_event : {A : Type 0} → List (Block A) → EventText A

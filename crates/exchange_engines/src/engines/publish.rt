@@ -9,6 +9,7 @@ ghost use Rattle.script_core.specs.declared.script.ScriptItem.{ScriptItem as Spe
 ghost use Rattle.script_core.specs.declared.script.ScriptLines.TheVariants.{First};
 ghost use Rattle.engine_core.specs.Ending.{is_write_fault};
 ghost use Rattle.list_core.specs.ItemReader.{item_state};
+ghost use Rattle.engine_core.specs.EngineText.{exactly};
 ghost use Rattle.engine_core.specs.Run.{WritesSome, WritesSomeTo};
 ghost use Rattle.exchange_engines.specs.PublishText.{IsPublishText, IsScriptSound, script_cause};
 ghost use Rattle.exchange_engines.specs.computed.PublishStep.{Begins, Holds, Progress, Runs, TakesCall, TakesItem, progress_after, publish_text, setup_cause};
@@ -243,7 +244,7 @@ struct Publishing<A: Allocator> {
 impl<A: Allocator> Engine<A, ItemFault<ScriptCause>> for Publishing<A> {
     type Item = ScriptItem<A>;
 
-    ghost text = { λ _. publish_text };
+    ghost allows = { λ _. exactly publish_text };
 
     ghost stands = { λ s before. Holds s.stage (progress_after before) };
 

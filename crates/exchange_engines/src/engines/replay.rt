@@ -1,18 +1,24 @@
 //! `replay`: the entries of a subscriber, one line an entry.
-ghost use Rattle.std.specs.Prelude.{◌≡◌, ◌++◌, ℕ, List, false, option_map, codes};
+ghost use Rattle.std.specs.Prelude.{◌≡◌, ◌++◌, [], ℕ, List, IsOk, false, option_map, codes};
 ghost use Rattle.std.specs.Fmt.{decimal};
 ghost use Rattle.list_core.specs.declared.device.InputEnd.{InputEnd};
 ghost use Rattle.list_core.specs.Device.{GivesOctets};
 ghost use Rattle.list_core.specs.ItemReader.{item_state};
 ghost use Rattle.engine_core.specs.Ending.{is_write_fault};
+ghost use Rattle.engine_core.specs.EventsText.{line_in};
 ghost use Rattle.text_core.specs.Pieces.{AppendsText};
-ghost use Rattle.exchange_engines.specs.ReplayText.{LeavesTwice, ReplayWrites, ReplayWritesTo, ReplaysOver, twice_fault, twice_stop};
-ghost use Rattle.exchange_engines.specs.computed.ReplayStep.{kept_after, replay_event};
+ghost use Rattle.exchange_engines.specs.ReplayText.{LeavesTwiceIn, ReplayWrites, ReplayWritesTo, ReplaysOver, twice_fault, twice_line, twice_stop};
+ghost use Rattle.object_core.specs.Objects.{AppendsSome};
+ghost use Rattle.exchange_engines.specs.EntryObject.{twice_object};
+ghost use Rattle.exchange_engines.specs.computed.ReplayAgrees.{replay_agrees};
+ghost use Rattle.exchange_engines.specs.computed.ReplayStep.{IsSaid, kept_after, replay_allows};
 
 use crate::texts::entry::put_entries;
-use engine_core::{Ending, EventEngine, OfEvents, Stopped, refuse, run_over, run_to_stop};
+use crate::texts::entry_object::{EntryHeading, put_entry_objects, put_twice_object};
+use engine_core::{Ending, EventEngine, OfEvents, Stopped, Style, refuse, run_over, run_to_stop};
 use frame_core::{Event, EventLines, ItemFault, ItemReader, ListCause, Sink, Source};
 use list_core::{InputFault, ReadItems};
+use object_core::{Form, LastObject};
 use std::alloc::{AllocError, Allocator};
 use subscribe_core::{Block, Entry, SubscribeFault, Subscriber};
 use text_core::LastLine;
@@ -52,20 +58,52 @@ struct Replaying<'a, A: Allocator> {
     heard: &'a mut [bool],
 }
 
+// Appends what is written of the entries of an event in a form.
+#[inline(always)]
+fn put_said<A: Allocator>(
+    line: &mut Vec<u8, A>,
+    form: Form,
+    number: u64,
+    moment: u64,
+    blocks: &[Block<A>],
+    entries: &[Entry<A>],
+) -> Result<(), AllocError>
+    ensures text { AppendsSome result line.old.items line.new.items (IsSaid form number moment blocks.now entries.now) }
+    ensures quiet { entries.now ≡ [] → IsOk result }
+{
+    match form {
+        Form::Text => put_entries(line, number, entries),
+        Form::Object(counted) => {
+            let heading = EntryHeading {
+                counted,
+                number,
+                moment,
+                blocks,
+            };
+            put_entry_objects(line, &heading, entries)
+        }
+    }
+}
+
 impl<A: Allocator + Copy> EventEngine<A> for Replaying<'_, A> {
-    ghost text = { λ s. replay_event s.subscriber.state.blocks };
+    ghost allows = { λ s. replay_allows s.subscriber.state.blocks };
 
     ghost stands = { λ s before. s.subscriber.state ≡ kept_after s.subscriber.state.blocks before };
+
+    ghost agrees = { λ s form. replay_agrees s.subscriber.state.blocks form };
 
     #[inline(always)]
     fn put_event(
         &mut self,
+        form: Form,
         line: &mut Vec<u8, A>,
         number: u64,
         event: &Event<A>,
     ) -> Result<bool, AllocError> {
         self.subscriber.take_into(event, &mut self.entries)?;
-        put_entries(line, number, self.entries.as_slice())?;
+        let blocks = self.subscriber.blocks();
+        let entries = self.entries.as_slice();
+        put_said(line, form, number, event.moment, blocks, entries)?;
         note(self.heard, self.entries.as_slice());
         Ok(false)
     }
@@ -84,20 +122,38 @@ fn put_position<A: Allocator>(
     line.extend_from_slice(b"\n")
 }
 
-// Writes the one line for a block given twice, and answers how that ended. Nothing is read.
+// Appends what is told of a block given twice, in a style.
+fn put_twice<A: Allocator>(
+    line: &mut Vec<u8, A>,
+    style: Style,
+    blocks: &[Block<A>],
+    position: usize,
+) -> Result<(), AllocError>
+    ensures { AppendsText result line.old.items line.new.items (line_in style (twice_line position) (twice_object blocks.now position)) }
+{
+    match style {
+        Style::Lines(Form::Text) => put_position(line, b"blocks SameBlockTwice ", position),
+        Style::Lines(Form::Object(_)) => put_twice_object(line, blocks, position),
+        Style::Dated => put_position(line, b"- blocks SameBlockTwice ", position),
+    }
+}
+
+// Writes what is told of a block given twice, and answers how that ended. Nothing is read.
 fn refuse_twice<A: Allocator, R, W: Sink>(
     alloc: A,
+    style: Style,
+    blocks: &[Block<A>],
     position: usize,
     reader: R,
     writer: &mut W,
 ) -> (Ending, R)
     requires { W.failed writer.old ≡ false }
-    ensures written { LeavesTwice position result.0 (W.contents writer.old) (W.contents writer.new) }
+    ensures written { LeavesTwiceIn style blocks.now position result.0 (W.contents writer.old) (W.contents writer.new) }
     ensures reader { result.1 ≡ reader }
     ensures fault { W.failed writer.new ≡ is_write_fault result.0 }
 {
     let mut line = Vec::new(alloc);
-    match put_position(&mut line, b"blocks SameBlockTwice ", position) {
+    match put_twice(&mut line, style, blocks, position) {
         Ok(()) => refuse(line.as_slice(), reader, writer),
         Err(_) => (Ending::Memory, reader),
     }
@@ -217,7 +273,7 @@ pub fn replay_to_stop<A: Allocator + Copy, R: Source, W: Sink>(
     ensures read_fault { result.ending ≡ Ending.ReadFault → (item_state R.left R.ending result.reader).ending ≡ InputEnd.Failed }
     ensures fault { W.failed writer.new ≡ is_write_fault result.ending }
 {
-    match Subscriber::new(alloc, blocks) {
+    match Subscriber::of_blocks(alloc, blocks) {
         Ok(subscriber) => replayed(run_to_stop(
             alloc,
             EventLines::First,
@@ -227,16 +283,22 @@ pub fn replay_to_stop<A: Allocator + Copy, R: Source, W: Sink>(
                     entries: Vec::new(alloc),
                     heard,
                 },
+                style: Style::Lines(Form::Text),
+                undated: Vec::new(alloc),
             },
             b"",
             reader,
             writer,
         )),
-        Err(SubscribeFault::SameBlockTwice(position)) => {
-            let (ending, reader) = refuse_twice(alloc, position, reader, writer);
-            unread(ending, fault_of_twice(ending, position), reader)
-        }
-        Err(SubscribeFault::Memory(_)) => unread(Ending::Memory, None, reader),
+        Err((fault, blocks)) => match fault {
+            SubscribeFault::SameBlockTwice(position) => {
+                let style = Style::Lines(Form::Text);
+                let blocks = blocks.as_slice();
+                let (ending, reader) = refuse_twice(alloc, style, blocks, position, reader, writer);
+                unread(ending, fault_of_twice(ending, position), reader)
+            }
+            SubscribeFault::Memory(_) => unread(Ending::Memory, None, reader),
+        },
     }
 }
 
@@ -289,36 +351,45 @@ fn unread_over<I, F>(
     }
 }
 
-/// As `replay_to_stop`, over any reader of events: the last line is that of the input's fault.
+/// As `replay_to_stop`, over any reader of events, in a style: the last line is that of the input's fault.
 pub fn replay_over<
     A: Allocator + Copy,
-    F: InputFault + LastLine + Drop,
+    F: InputFault + LastLine + LastObject + Drop,
     I: ReadItems<A, Item = Event<A>, Fault = F>,
     W: Sink,
 >(
     alloc: A,
+    style: Style,
     events: I,
     blocks: Vec<Block<A>, A>,
     heard: &mut [bool],
     writer: &mut W,
 ) -> Stopped<I, ReplayStop<F>>
     requires works { W.failed writer.old ≡ false }
-    ensures text { ReplaysOver blocks.items I.answers F.refused F.failed F.last_line events result.ending result.fault result.reader (W.contents writer.old) (W.contents writer.new) }
+    ensures text { ReplaysOver style blocks.items I.answers F.refused F.failed F.last_line F.last_object events result.ending result.fault result.reader (W.contents writer.old) (W.contents writer.new) }
     ensures fault { W.failed writer.new ≡ is_write_fault result.ending }
 {
-    match Subscriber::new(alloc, blocks) {
+    match Subscriber::of_blocks(alloc, blocks) {
         Ok(subscriber) => {
             let engine = Replaying {
                 subscriber,
                 entries: Vec::new(alloc),
                 heard,
             };
-            replayed_over(run_over(alloc, OfEvents { engine }, b"", events, writer))
+            let engine = OfEvents {
+                engine,
+                style,
+                undated: Vec::new(alloc),
+            };
+            replayed_over(run_over(alloc, engine, b"", events, writer))
         }
-        Err(SubscribeFault::SameBlockTwice(position)) => {
-            let (ending, events) = refuse_twice(alloc, position, events, writer);
-            unread_over(ending, stop_of_twice(ending, position), events)
-        }
-        Err(SubscribeFault::Memory(_)) => unread_over(Ending::Memory, None, events),
+        Err((fault, blocks)) => match fault {
+            SubscribeFault::SameBlockTwice(position) => {
+                let blocks = blocks.as_slice();
+                let (ending, events) = refuse_twice(alloc, style, blocks, position, events, writer);
+                unread_over(ending, stop_of_twice(ending, position), events)
+            }
+            SubscribeFault::Memory(_) => unread_over(Ending::Memory, None, events),
+        },
     }
 }

@@ -9,18 +9,24 @@ ghost use Rattle.block_core.specs.Period.{IsPeriod};
 ghost use Rattle.subscribe_core.specs.computed.WatchAnswers.{seen_all};
 ghost use Rattle.engine_core.specs.Ending.{is_write_fault};
 ghost use Rattle.list_core.specs.ItemReader.{item_state};
-ghost use Rattle.engine_core.specs.EventsText.{RunsSome};
+ghost use Rattle.engine_core.proofs.EventSteps.{exactly_agrees};
+ghost use Rattle.engine_core.specs.EventsText.{RunsSome, exactly_each, exactly_event};
 ghost use Rattle.engine_core.specs.Run.{WritesSome, WritesSomeTo};
-ghost use Rattle.exchange_engines.specs.WatchText.{IsWatchOf, IsWatchText, counts, counts_of, is_unexpected as unexpected, sample_at, samples_from, samples_of, watched};
-ghost use Rattle.exchange_engines.specs.computed.WatchStep.{SamplesAppended, last_of, watch_event};
+ghost use Rattle.text_core.specs.Pieces.{AppendsText};
+ghost use Rattle.exchange_engines.specs.WatchText.{AreWatchTexts, IsWatchText, counts, counts_of, is_unexpected as unexpected, sample_at, samples_from, samples_of, watched};
+ghost use Rattle.exchange_engines.specs.computed.WatchStep.{SamplesAppended, last_of, telling_at, watch_event};
 
+use crate::texts::sample_object::put_sample_object;
 use crate::texts::watched::put_sample;
-use engine_core::{Ending, EventEngine, OfEvents, Stopped, run_over, run_to_stop};
+use ber_core::Fault;
+use engine_core::{Ending, EventEngine, OfEvents, Stopped, Style, run_over, run_to_stop};
 use frame_core::{
     ApduView, Event, EventKind, EventLines, ItemFault, ItemReader, ListCause, Sink, Source,
     view_frame,
 };
 use list_core::{InputFault, ReadItems};
+use object_core::event::put_fault_object;
+use object_core::{Form, Heading, LastObject};
 use pdu_core::{AsduView, SvView};
 use std::alloc::{AllocError, Allocator};
 use subscribe_core::{Seen, Watch};
@@ -37,19 +43,62 @@ fn is_unexpected(seen: Seen) -> bool
     }
 }
 
-// Appends the line of an ASDU's count, if it is of the stream, and answers whether the count is unexpected. Inlined, so that
+// Appends what is told of a sample.
+#[inline(always)]
+fn put_told<A: Allocator>(
+    line: &mut Vec<u8, A>,
+    heading: Heading,
+    position: u64,
+    count: u16,
+    seen: Seen,
+) -> Result<(), AllocError>
+    ensures { AppendsText result line.old.items line.new.items ((telling_at heading).of_sample (record { position = position; count = count }) seen) }
+{
+    let Heading {
+        form,
+        number,
+        moment,
+    } = heading;
+    match form {
+        Form::Text => put_sample(line, number, position, count, seen),
+        Form::Object(counted) => {
+            put_sample_object(line, counted, number, moment, position, count, seen)
+        }
+    }
+}
+
+// Appends what is told of a frame's fault.
+fn put_told_fault<A: Allocator>(
+    line: &mut Vec<u8, A>,
+    heading: Heading,
+    fault: Fault,
+) -> Result<(), AllocError>
+    ensures { AppendsText result line.old.items line.new.items ((telling_at heading).of_fault fault) }
+{
+    let Heading {
+        form,
+        number,
+        moment,
+    } = heading;
+    match form {
+        Form::Text => put_fault_line(line, number, fault),
+        Form::Object(counted) => put_fault_object(line, counted, number, moment, fault),
+    }
+}
+
+// Appends what is told of an ASDU's count, if it is of the stream, and answers whether the count is unexpected. Inlined, so that
 // of an ASDU no more is read than its name and its count.
 #[inline(always)]
 fn put_asdu<A: Allocator>(
     watch: &mut Watch,
     id: &[u8],
     line: &mut Vec<u8, A>,
-    number: u64,
+    heading: Heading,
     position: u64,
     asdu: &AsduView<'_>,
 ) -> Result<bool, AllocError>
     ensures written { MatchResult result
-        (λ found. SamplesAppended watch.old.period number watch.old.last (sample_at position id.now (asdu_of {A = Unit {0}} asdu.now)) line.old.items line.new.items found watch.new.last)
+        (λ found. SamplesAppended watch.old.period (telling_at heading) watch.old.last (sample_at position id.now (asdu_of {A = Unit {0}} asdu.now)) line.old.items line.new.items found watch.new.last)
         (λ _. take (length line.old.items) line.new.items ≡ line.old.items) }
     ensures quiet { sample_at position id.now (asdu_of {A = Unit {0}} asdu.now) ≡ [] → IsOk result }
     ensures period { watch.new.period ≡ watch.old.period }
@@ -58,20 +107,20 @@ fn put_asdu<A: Allocator>(
         return Ok(false);
     }
     let seen = watch.see(asdu.smp_cnt);
-    put_sample(line, number, position, asdu.smp_cnt, seen)?;
+    put_told(line, heading, position, asdu.smp_cnt, seen)?;
     Ok(is_unexpected(seen))
 }
 
-// Appends the lines of the stream's ASDUs, and answers whether one of their counts is unexpected.
+// Appends what is told of the stream's ASDUs, and answers whether one of their counts is unexpected.
 fn put_asdus<A: Allocator>(
     watch: &mut Watch,
     id: &[u8],
     line: &mut Vec<u8, A>,
-    number: u64,
+    heading: Heading,
     sampled: &SvView<'_>,
 ) -> Result<bool, AllocError>
     ensures written { MatchResult result
-        (λ found. SamplesAppended watch.old.period number watch.old.last (samples_from 0 id.now (asdus_left {A = Unit {0}} sampled.now.asdus)) line.old.items line.new.items found watch.new.last)
+        (λ found. SamplesAppended watch.old.period (telling_at heading) watch.old.last (samples_from 0 id.now (asdus_left {A = Unit {0}} sampled.now.asdus)) line.old.items line.new.items found watch.new.last)
         (λ _. take (length line.old.items) line.new.items ≡ line.old.items) }
     ensures quiet { samples_from 0 id.now (asdus_left {A = Unit {0}} sampled.now.asdus) ≡ [] → IsOk result }
     ensures period { watch.new.period ≡ watch.old.period }
@@ -80,7 +129,7 @@ fn put_asdus<A: Allocator>(
     let mut position = 0;
     let mut found = false;
     for asdu in sampled.asdus {
-        found |= put_asdu(watch, id, line, number, position, &asdu)?;
+        found |= put_asdu(watch, id, line, heading, position, &asdu)?;
         position = count.min(position + 1);
     }
     Ok(found)
@@ -91,15 +140,15 @@ fn put_watched<A: Allocator>(
     watch: &mut Watch,
     id: &[u8],
     line: &mut Vec<u8, A>,
-    number: u64,
+    heading: Heading,
     kind: &EventKind<A>,
 ) -> Result<bool, AllocError>
     ensures written { MatchResult result
-        (λ found. (line.new.items ≡ line.old.items ++ (watched number id.now kind.now (seen_all watch.old.period watch.old.last (counts (samples_of id.now kind.now)))).0)
-        × (found ≡ (watched number id.now kind.now (seen_all watch.old.period watch.old.last (counts (samples_of id.now kind.now)))).1)
+        (λ found. (line.new.items ≡ line.old.items ++ (watched (telling_at heading) id.now kind.now (seen_all watch.old.period watch.old.last (counts (samples_of id.now kind.now)))).0)
+        × (found ≡ (watched (telling_at heading) id.now kind.now (seen_all watch.old.period watch.old.last (counts (samples_of id.now kind.now)))).1)
         × (watch.new.last ≡ last_of watch.old.period watch.old.last (counts (samples_of id.now kind.now))))
         (λ _. take (length line.old.items) line.new.items ≡ line.old.items) }
-    ensures quiet { (watched number id.now kind.now (seen_all watch.old.period watch.old.last (counts (samples_of id.now kind.now)))).0 ≡ [] → IsOk result }
+    ensures quiet { (watched (telling_at heading) id.now kind.now (seen_all watch.old.period watch.old.last (counts (samples_of id.now kind.now)))).0 ≡ [] → IsOk result }
     ensures period { watch.new.period ≡ watch.old.period }
 {
     let EventKind::Frame(octets) = kind else {
@@ -107,12 +156,12 @@ fn put_watched<A: Allocator>(
     };
     match view_frame(octets.as_slice()) {
         Err(fault) => {
-            put_fault_line(line, number, fault)?;
+            put_told_fault(line, heading, fault)?;
             Ok(true)
         }
         Ok(view) => match &view.apdu {
             ApduView::Goose(_) => Ok(false),
-            ApduView::Sampled(sampled) => put_asdus(watch, id, line, number, sampled),
+            ApduView::Sampled(sampled) => put_asdus(watch, id, line, heading, sampled),
         },
     }
 }
@@ -125,18 +174,26 @@ struct Watching<'a> {
 }
 
 impl<A: Allocator> EventEngine<A> for Watching<'_> {
-    ghost text = { λ s. watch_event s.watch.period s.id.now };
+    ghost allows = { λ s form. exactly_event (watch_event form s.watch.period s.id.now) };
 
     ghost stands = { λ s before. s.watch.last ≡ last_of s.watch.period None (counts_of s.id.now before) };
+
+    ghost agrees = { λ s form. exactly_agrees (watch_event form s.watch.period s.id.now) };
 
     #[inline(always)]
     fn put_event(
         &mut self,
+        form: Form,
         line: &mut Vec<u8, A>,
         number: u64,
         event: &Event<A>,
     ) -> Result<bool, AllocError> {
-        let found = put_watched(&mut self.watch, self.id, line, number, &event.kind)?;
+        let heading = Heading {
+            form,
+            number,
+            moment: event.moment,
+        };
+        let found = put_watched(&mut self.watch, self.id, line, heading, &event.kind)?;
         Ok(found)
     }
 }
@@ -195,6 +252,8 @@ pub fn watch_to_stop<A: Allocator + Copy, R: Source, W: Sink>(
             EventLines::First,
             OfEvents {
                 engine: Watching { watch, id },
+                style: Style::Lines(Form::Text),
+                undated: Vec::new(alloc),
             },
             b"",
             reader,
@@ -205,23 +264,28 @@ pub fn watch_to_stop<A: Allocator + Copy, R: Source, W: Sink>(
     }
 }
 
-/// As `watch`, over any reader of events: the last line is that of the input's fault. Hands out the fault by which it ended,
-/// and the reader of the events.
+/// As `watch`, over any reader of events, in a style: the last line is that of the input's fault. Hands out the fault by which it
+/// ended, and the reader of the events.
 pub fn watch_over<
     A: Allocator + Copy,
-    F: InputFault + LastLine + Drop,
+    F: InputFault + LastLine + LastObject + Drop,
     I: ReadItems<A, Item = Event<A>, Fault = F>,
     W: Sink,
->(alloc: A, events: I, period: u32, id: &[u8], writer: &mut W) -> Stopped<I, F>
+>(alloc: A, style: Style, events: I, period: u32, id: &[u8], writer: &mut W) -> Stopped<I, F>
     requires works { W.failed writer.old ≡ false }
     requires period { IsPeriod period }
-    ensures text { RunsSome (IsWatchOf {A = A} period id.now) I.answers F.refused F.failed F.last_line events result.ending result.fault result.reader (W.contents writer.old) (W.contents writer.new) }
+    ensures text { RunsSome style (AreWatchTexts {A = A} period id.now) exactly_each I.answers F.refused F.failed F.last_line F.last_object events result.ending result.fault result.reader (W.contents writer.old) (W.contents writer.new) }
     ensures fault { W.failed writer.new ≡ is_write_fault result.ending }
 {
     match Watch::new(period) {
         Ok(watch) => {
             let engine = Watching { watch, id };
-            run_over(alloc, OfEvents { engine }, b"", events, writer)
+            let engine = OfEvents {
+                engine,
+                style,
+                undated: Vec::new(alloc),
+            };
+            run_over(alloc, engine, b"", events, writer)
         }
         // The period is in range.
         Err(_) => unreachable!(),

@@ -1,5 +1,6 @@
 //! `check`: a line for each note on a frame.
-ghost use Rattle.std.specs.Prelude.{◌≡◌, ◌≢◌, ◌++◌, [], ℕ, List, true, false, length, take, ⊤, IsOk, MatchResult, Ok};
+ghost use Rattle.std.specs.Prelude.{◌≡◌, ◌≢◌, ◌++◌, [], ℕ, List, true, false, length, take, ⊤, IsOk, MatchResult, Ok, Err};
+ghost use Rattle.std.specs.Fmt.{decimal};
 ghost use Rattle.list_core.specs.declared.device.InputEnd.{InputEnd};
 ghost use Rattle.list_core.specs.declared.event_lines.EventLines.TheVariants.{First};
 ghost use Rattle.list_core.specs.Device.{GivesOctets};
@@ -8,22 +9,29 @@ ghost use Rattle.frame_core.specs.FrameViews.{frame_of, is_written};
 ghost use Rattle.frame_core.specs.Written.{ApduIsSpellable, written_frame};
 ghost use Rattle.frame_core.specs.computed.WrittenTest.{fits};
 ghost use Rattle.text_core.specs.Pieces.{AppendsText};
-ghost use Rattle.frame_engines.specs.CheckText.{check_event, check_text, goes_where_recommended, has_text, is_form, note_unless, notes, octets_notes};
+ghost use Rattle.frame_engines.specs.CheckObject.{check_event_in, notes_in};
+ghost use Rattle.frame_engines.specs.CheckText.{check_text, goes_where_recommended, has_text, is_form};
+ghost use Rattle.frame_engines.specs.computed.InForm.{frame_notes_in, note_end, note_in, note_kind, octets_notes_in};
 ghost use Rattle.engine_core.specs.Ending.{is_write_fault};
 ghost use Rattle.list_core.specs.ItemReader.{item_state};
-ghost use Rattle.engine_core.specs.EventsText.{over_events};
+ghost use Rattle.engine_core.proofs.EventSteps.{exactly_agrees};
+ghost use Rattle.engine_core.specs.EventsText.{exactly_event, over_in};
 ghost use Rattle.engine_core.specs.Run.{Writes, WritesTo};
 ghost use Rattle.engine_core.specs.RunOver.{RunsOver};
 ghost use Rattle.frame_engines.specs.WrittenForm.{fitting_form};
 
+use crate::texts::event_object::put_note_object;
 use arrayvec::ArrayVec;
+use ber_core::Fault;
 use byteorder::{BigEndian, ByteOrder};
-use engine_core::{Ending, EventEngine, OfEvents, Stopped, run_over, run_to_stop};
+use engine_core::{Ending, EventEngine, OfEvents, Stopped, Style, run_over, run_to_stop};
 use frame_core::{
     ApduView, Event, EventKind, EventLines, FrameView, ItemFault, ItemReader, ListCause, Sink,
     Source, encode_view, see_frame, written_length,
 };
 use list_core::{InputFault, ReadItems};
+use object_core::event::put_fault_object;
+use object_core::{Form, LastObject};
 use std::alloc::{AllocError, Allocator};
 use text_core::LastLine;
 use text_core::line::put_fault_line;
@@ -87,69 +95,143 @@ fn has_recommended_destination(view: &FrameView<'_>) -> bool
     first <= destination && destination <= last
 }
 
-// Appends a line with this word where something does not hold. Inlined, so that where it holds no call is made.
+/// A note on a valid frame.
+#[derive(Clone, Copy)]
+enum Note {
+    /// Its octets are not those of its written form.
+    NotWritten,
+    /// Its destination is not a recommended one.
+    Destination,
+}
+
+// The end of the line of a note.
+fn end_of_line(note: Note) -> &'static [u8]
+    ensures { result.now ≡ note_end note }
+{
+    match note {
+        Note::NotWritten => b" not-written\n",
+        Note::Destination => b" destination\n",
+    }
+}
+
+// The kind of a note.
+fn kind_of(note: Note) -> &'static [u8]
+    ensures { result.now ≡ note_kind note }
+{
+    match note {
+        Note::NotWritten => b"not-written",
+        Note::Destination => b"destination",
+    }
+}
+
+// Appends the line of a note.
+fn put_note_line<A: Allocator>(
+    line: &mut Vec<u8, A>,
+    number: u64,
+    note: Note,
+) -> Result<(), AllocError>
+    ensures { AppendsText result line.old.items line.new.items (decimal number ++ note_end note) }
+{
+    put_decimal(line, number)?;
+    line.extend_from_slice(end_of_line(note))
+}
+
+// Appends a note in a form where something does not hold. Inlined, so that where it holds no call is made.
 #[inline(always)]
 fn put_note<A: Allocator>(
     line: &mut Vec<u8, A>,
-    holds: bool,
+    form: Form,
     number: u64,
-    word: &[u8],
+    moment: u64,
+    note: Note,
+    holds: bool,
 ) -> Result<(), AllocError>
-    ensures text { AppendsText result line.old.items line.new.items (note_unless holds number word.now) }
+    ensures text { AppendsText result line.old.items line.new.items (note_in form number moment note holds) }
     ensures quiet { holds ≡ true → IsOk result }
 {
     if holds {
         return Ok(());
     }
-    put_decimal(line, number)?;
-    line.extend_from_slice(word)
-}
-
-// Appends what is noted of the octets of a frame.
-fn put_notes<A: Allocator>(
-    line: &mut Vec<u8, A>,
-    number: u64,
-    octets: &[u8],
-) -> Result<(), AllocError>
-    ensures text { AppendsText result line.old.items line.new.items (octets_notes number octets.now) }
-    ensures quiet { octets_notes number octets.now ≡ [] → IsOk result }
-{
-    let viewed = see_frame(octets, true);
-    match &viewed {
-        Err(fault) => put_fault_line(line, number, *fault),
-        Ok(view) => {
-            put_note(
-                line,
-                stands_in_written_form(view, octets),
-                number,
-                b" not-written\n",
-            )?;
-            put_note(
-                line,
-                has_recommended_destination(view),
-                number,
-                b" destination\n",
-            )
-        }
+    match form {
+        Form::Text => put_note_line(line, number, note),
+        Form::Object(counted) => put_note_object(line, counted, number, moment, kind_of(note)),
     }
 }
 
-// Appends what is noted of an event, and answers whether something is.
+// Appends what is noted of a valid frame in a form.
+fn put_view_notes<A: Allocator>(
+    line: &mut Vec<u8, A>,
+    form: Form,
+    number: u64,
+    moment: u64,
+    view: &FrameView<'_>,
+    octets: &[u8],
+) -> Result<(), AllocError>
+    requires spellable { ApduIsSpellable (frame_of {A = Unit {0}} view.now).apdu }
+    requires known { is_written view.now.apdu ≡ true → (octets.now ≡ written_frame (frame_of {A = Unit {0}} view.now)) × (fits (frame_of {A = Unit {0}} view.now) ≡ true) }
+    ensures text { AppendsText result line.old.items line.new.items
+        (note_in form number moment Note.NotWritten (is_form (fitting_form (Ok (frame_of {A = Unit {0}} view.now))) octets.now)
+        ++ note_in form number moment Note.Destination (goes_where_recommended (frame_of {A = Unit {0}} view.now))) }
+    ensures quiet { note_in form number moment Note.NotWritten (is_form (fitting_form (Ok (frame_of {A = Unit {0}} view.now))) octets.now)
+        ++ note_in form number moment Note.Destination (goes_where_recommended (frame_of {A = Unit {0}} view.now)) ≡ [] → IsOk result }
+{
+    let written = stands_in_written_form(view, octets);
+    put_note(line, form, number, moment, Note::NotWritten, written)?;
+    let recommended = has_recommended_destination(view);
+    put_note(line, form, number, moment, Note::Destination, recommended)
+}
+
+// Appends the fault of a frame in a form.
+fn put_fault_in<A: Allocator>(
+    line: &mut Vec<u8, A>,
+    form: Form,
+    number: u64,
+    moment: u64,
+    fault: Fault,
+) -> Result<(), AllocError>
+    ensures { AppendsText result line.old.items line.new.items (frame_notes_in {A = Unit {0}} form number moment [] (Err fault)) }
+{
+    match form {
+        Form::Text => put_fault_line(line, number, fault),
+        Form::Object(counted) => put_fault_object(line, counted, number, moment, fault),
+    }
+}
+
+// Appends what is noted of the octets of a frame in a form.
+fn put_notes<A: Allocator>(
+    line: &mut Vec<u8, A>,
+    form: Form,
+    number: u64,
+    moment: u64,
+    octets: &[u8],
+) -> Result<(), AllocError>
+    ensures text { AppendsText result line.old.items line.new.items (octets_notes_in form number moment octets.now) }
+    ensures quiet { octets_notes_in form number moment octets.now ≡ [] → IsOk result }
+{
+    let viewed = see_frame(octets, true);
+    match &viewed {
+        Err(fault) => put_fault_in(line, form, number, moment, *fault),
+        Ok(view) => put_view_notes(line, form, number, moment, view, octets),
+    }
+}
+
+// Appends what is noted of an event in a form, and answers whether something is.
 fn put_event_notes<A: Allocator>(
     line: &mut Vec<u8, A>,
+    form: Form,
     number: u64,
-    kind: &EventKind<A>,
+    event: &Event<A>,
 ) -> Result<bool, AllocError>
     ensures noted { MatchResult result
-        (λ found. (line.new.items ≡ line.old.items ++ notes number kind.now) × (found ≡ has_text (notes number kind.now)))
+        (λ found. (line.new.items ≡ line.old.items ++ notes_in form number event.now.moment event.now.kind) × (found ≡ has_text (notes_in form number event.now.moment event.now.kind)))
         (λ _. take (length line.old.items) line.new.items ≡ line.old.items) }
-    ensures quiet { notes number kind.now ≡ [] → IsOk result }
+    ensures quiet { notes_in form number event.now.moment event.now.kind ≡ [] → IsOk result }
 {
-    let EventKind::Frame(octets) = kind else {
+    let EventKind::Frame(octets) = &event.kind else {
         return Ok(false);
     };
     let before = line.len();
-    put_notes(line, number, octets.as_slice())?;
+    put_notes(line, form, number, event.moment, octets.as_slice())?;
     Ok(line.len() > before)
 }
 
@@ -158,18 +240,21 @@ fn put_event_notes<A: Allocator>(
 struct CheckText;
 
 impl<A: Allocator> EventEngine<A> for CheckText {
-    ghost text = { λ _. check_event };
+    ghost allows = { λ _ form. exactly_event (check_event_in form) };
 
     ghost stands = { λ _ _. ⊤ };
+
+    ghost agrees = { λ _ form. exactly_agrees (check_event_in form) };
 
     #[inline(always)]
     fn put_event(
         &mut self,
+        form: Form,
         line: &mut Vec<u8, A>,
         number: u64,
         event: &Event<A>,
     ) -> Result<bool, AllocError> {
-        let found = put_event_notes(line, number, &event.kind)?;
+        let found = put_event_notes(line, form, number, event)?;
         Ok(found)
     }
 }
@@ -217,22 +302,30 @@ pub fn check_to_stop<A: Allocator + Copy, R: Source, W: Sink>(
     ensures read_fault { result.ending ≡ Ending.ReadFault → (item_state R.left R.ending result.reader).ending ≡ InputEnd.Failed }
     ensures fault { W.failed writer.new ≡ is_write_fault result.ending }
 {
-    let engine = OfEvents { engine: CheckText };
+    let engine = OfEvents {
+        engine: CheckText,
+        style: Style::Lines(Form::Text),
+        undated: Vec::new(alloc),
+    };
     run_to_stop(alloc, EventLines::First, engine, b"", reader, writer)
 }
 
-/// As `check`, over any reader of events: the last line is that of the input's fault. Hands out the fault by which it ended,
-/// and the reader of the events.
+/// As `check`, over any reader of events, in a style: the last line is that of the input's fault. Hands out the fault by which it
+/// ended, and the reader of the events.
 pub fn check_over<
     A: Allocator + Copy,
-    F: InputFault + LastLine + Drop,
+    F: InputFault + LastLine + LastObject + Drop,
     I: ReadItems<A, Item = Event<A>, Fault = F>,
     W: Sink,
->(alloc: A, events: I, writer: &mut W) -> Stopped<I, F>
+>(alloc: A, style: Style, events: I, writer: &mut W) -> Stopped<I, F>
     requires works { W.failed writer.old ≡ false }
-    ensures text { RunsOver I.answers F.refused F.failed (over_events (check_event {A = A}) F.last_line) events result.ending result.fault result.reader (W.contents writer.old) (W.contents writer.new) }
+    ensures text { RunsOver I.answers F.refused F.failed (over_in style (λ form. exactly_event (check_event_in {A = A} form)) F.last_line F.last_object) events result.ending result.fault result.reader (W.contents writer.old) (W.contents writer.new) }
     ensures fault { W.failed writer.new ≡ is_write_fault result.ending }
 {
-    let engine = OfEvents { engine: CheckText };
+    let engine = OfEvents {
+        engine: CheckText,
+        style,
+        undated: Vec::new(alloc),
+    };
     run_over(alloc, engine, b"", events, writer)
 }

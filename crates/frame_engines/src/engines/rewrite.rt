@@ -13,6 +13,7 @@ ghost use Rattle.list_core.specs.EventText.{kind_text, mode_text};
 ghost use Rattle.list_core.specs.declared.event_lines.EventLines.TheVariants.{First};
 ghost use Rattle.engine_core.specs.Ending.{is_write_fault};
 ghost use Rattle.list_core.specs.ItemReader.{item_state};
+ghost use Rattle.engine_core.specs.EngineText.{exactly};
 ghost use Rattle.engine_core.specs.Run.{Writes, WritesTo};
 ghost use Rattle.text_core.specs.Pieces.{AppendsText};
 ghost use Rattle.frame_engines.specs.RewriteText.{form_or, is_kept, rewritten, rewrite_text};
@@ -137,7 +138,7 @@ struct RewriteText;
 impl<A: Allocator> Engine<A, ItemFault<ListCause>> for RewriteText {
     type Item = Event<A>;
 
-    ghost text = { λ _. rewrite_text };
+    ghost allows = { λ _. exactly rewrite_text };
 
     ghost stands = { λ _ _. ⊤ };
 

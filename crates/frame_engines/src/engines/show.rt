@@ -1,32 +1,44 @@
 //! `show`: one line an event.
-ghost use Rattle.std.specs.Prelude.{◌≡◌, ◌++◌, ℕ, List, false, ⊤, codes};
+ghost use Rattle.std.specs.Prelude.{◌≡◌, ◌++◌, ℕ, List, Err, false, ⊤, codes};
 ghost use Rattle.std.specs.Fmt.{decimal};
 ghost use Rattle.list_core.specs.EventLine.{event_rules};
 ghost use Rattle.list_core.specs.EventText.{mode_text};
+ghost use Rattle.list_core.specs.declared.event.EventKind.TheVariants.{Clock, Mode};
 ghost use Rattle.list_core.specs.declared.event_lines.EventLines.TheVariants.{First};
 ghost use Rattle.list_core.specs.declared.device.InputEnd.{InputEnd};
 ghost use Rattle.list_core.specs.Device.{GivesOctets};
 ghost use Rattle.engine_core.specs.Ending.{is_write_fault};
 ghost use Rattle.list_core.specs.ItemReader.{item_state};
-ghost use Rattle.engine_core.specs.EventsText.{over_events};
+ghost use Rattle.engine_core.specs.EventsText.{exactly_event, over_in};
 ghost use Rattle.engine_core.specs.Run.{Writes, WritesTo};
 ghost use Rattle.engine_core.specs.RunOver.{RunsOver};
 ghost use Rattle.text_core.specs.Pieces.{AppendsText};
-ghost use Rattle.frame_engines.specs.ShowText.{kind_line, octets_line, show_event, show_text};
+ghost use Rattle.frame_core.specs.computed.FrameReading.{frame_at};
+ghost use Rattle.object_core.specs.Objects.{AppendsSome};
+ghost use Rattle.frame_engines.specs.ShowObject.{IsAnswerObject, show_allows};
+ghost use Rattle.frame_engines.specs.ShowText.{octets_line, show_text};
+ghost use Rattle.frame_engines.specs.computed.ShownObjects.{shown_agrees};
+ghost use Rattle.frame_engines.specs.computed.InForm.{IsAnswerIn, IsKindIn};
 
+use crate::texts::event_object::{put_clock_object, put_mode_object};
 use crate::texts::frame::put_frame;
-use engine_core::{Ending, EventEngine, OfEvents, Stopped, run_over, run_to_stop};
+use crate::texts::frame_object::put_frame_object;
+use ber_core::Fault;
+use engine_core::{Ending, EventEngine, OfEvents, Stopped, Style, run_over, run_to_stop};
 use frame_core::{
     Event, EventKind, EventLines, ItemFault, ItemReader, ListCause, Sink, Source, view_frame,
 };
 use list_core::{InputFault, ReadItems};
+use object_core::event::put_fault_object;
+use object_core::{Counted, Form, LastObject};
 use std::alloc::{AllocError, Allocator};
 use text_core::LastLine;
 use text_core::line::{put_clock_line, put_fault_line, put_mode_word};
 use text_core::pieces::put_decimal;
 
 // Appends the line of the octets of a frame.
-fn put_octets<A: Allocator>(
+#[inline(always)]
+fn put_octets_line<A: Allocator>(
     line: &mut Vec<u8, A>,
     number: u64,
     octets: &[u8],
@@ -40,8 +52,71 @@ fn put_octets<A: Allocator>(
     }
 }
 
+// Appends the object of the fault of a frame.
+fn put_fault_answer<A: Allocator>(
+    line: &mut Vec<u8, A>,
+    counted: Counted,
+    number: u64,
+    moment: u64,
+    fault: Fault,
+) -> Result<(), AllocError>
+    ensures { AppendsSome result line.old.items line.new.items (IsAnswerObject {A = Unit {0}} counted number moment (Err fault)) }
+{
+    put_fault_object(line, counted, number, moment, fault)
+}
+
+// Appends the object of the octets of a frame. Never inlined, so that lines of text keep their registers.
+#[inline(never)]
+fn put_octets_object<A: Allocator>(
+    line: &mut Vec<u8, A>,
+    counted: Counted,
+    number: u64,
+    moment: u64,
+    octets: &[u8],
+) -> Result<(), AllocError>
+    ensures { AppendsSome result line.old.items line.new.items (IsAnswerObject {A = Unit {0}} counted number moment (frame_at octets.now)) }
+{
+    let viewed = view_frame(octets);
+    match &viewed {
+        Ok(frame) => put_frame_object(line, counted, number, moment, frame),
+        Err(fault) => put_fault_answer(line, counted, number, moment, *fault),
+    }
+}
+
+// Appends the octets of a frame in a form.
+#[inline(always)]
+fn put_octets<A: Allocator>(
+    line: &mut Vec<u8, A>,
+    form: Form,
+    number: u64,
+    moment: u64,
+    octets: &[u8],
+) -> Result<(), AllocError>
+    ensures { AppendsSome result line.old.items line.new.items (IsAnswerIn {A = Unit {0}} form number moment (frame_at octets.now)) }
+{
+    match form {
+        Form::Text => put_octets_line(line, number, octets),
+        Form::Object(counted) => put_octets_object(line, counted, number, moment, octets),
+    }
+}
+
+// Appends a clock moment in a form.
+fn put_clock<A: Allocator>(
+    line: &mut Vec<u8, A>,
+    form: Form,
+    number: u64,
+    moment: u64,
+) -> Result<(), AllocError>
+    ensures { AppendsSome result line.old.items line.new.items (IsKindIn {A = Unit {0}} form number moment Clock) }
+{
+    match form {
+        Form::Text => put_clock_line(line, number, moment),
+        Form::Object(counted) => put_clock_object(line, counted, number, moment),
+    }
+}
+
 // Appends the line of a mode.
-fn put_mode<A: Allocator>(
+fn put_mode_line<A: Allocator>(
     line: &mut Vec<u8, A>,
     number: u64,
     moment: u64,
@@ -58,18 +133,36 @@ fn put_mode<A: Allocator>(
     line.extend_from_slice(b"\n")
 }
 
-// Appends the line of an event.
+// Appends a mode in a form.
+fn put_mode<A: Allocator>(
+    line: &mut Vec<u8, A>,
+    form: Form,
+    number: u64,
+    moment: u64,
+    on: bool,
+) -> Result<(), AllocError>
+    ensures { AppendsSome result line.old.items line.new.items (IsKindIn {A = Unit {0}} form number moment (Mode on)) }
+{
+    match form {
+        Form::Text => put_mode_line(line, number, moment, on),
+        Form::Object(counted) => put_mode_object(line, counted, number, moment, on),
+    }
+}
+
+// Appends an event in a form.
 fn put_shown<A: Allocator>(
     line: &mut Vec<u8, A>,
+    form: Form,
     number: u64,
     event: &Event<A>,
 ) -> Result<(), AllocError>
-    ensures { AppendsText result line.old.items line.new.items (kind_line number event.now.moment event.now.kind) }
+    ensures { AppendsSome result line.old.items line.new.items (IsKindIn form number event.now.moment event.now.kind) }
 {
+    let moment = event.moment;
     match &event.kind {
-        EventKind::Clock => put_clock_line(line, number, event.moment),
-        EventKind::Frame(octets) => put_octets(line, number, octets.as_slice()),
-        EventKind::Mode(on) => put_mode(line, number, event.moment, *on),
+        EventKind::Clock => put_clock(line, form, number, moment),
+        EventKind::Frame(octets) => put_octets(line, form, number, moment, octets.as_slice()),
+        EventKind::Mode(on) => put_mode(line, form, number, moment, *on),
     }
 }
 
@@ -78,18 +171,21 @@ fn put_shown<A: Allocator>(
 struct ShowText;
 
 impl<A: Allocator> EventEngine<A> for ShowText {
-    ghost text = { λ _. show_event };
+    ghost allows = { λ _. show_allows };
 
     ghost stands = { λ _ _. ⊤ };
+
+    ghost agrees = { λ _. shown_agrees };
 
     #[inline(always)]
     fn put_event(
         &mut self,
+        form: Form,
         line: &mut Vec<u8, A>,
         number: u64,
         event: &Event<A>,
     ) -> Result<bool, AllocError> {
-        put_shown(line, number, event)?;
+        put_shown(line, form, number, event)?;
         Ok(false)
     }
 }
@@ -132,22 +228,30 @@ pub fn show_to_stop<A: Allocator + Copy, R: Source, W: Sink>(
     ensures read_fault { result.ending ≡ Ending.ReadFault → (item_state R.left R.ending result.reader).ending ≡ InputEnd.Failed }
     ensures fault { W.failed writer.new ≡ is_write_fault result.ending }
 {
-    let engine = OfEvents { engine: ShowText };
+    let engine = OfEvents {
+        engine: ShowText,
+        style: Style::Lines(Form::Text),
+        undated: Vec::new(alloc),
+    };
     run_to_stop(alloc, EventLines::First, engine, b"", reader, writer)
 }
 
-/// As `show`, over any reader of events: the last line is that of the input's fault. Hands out the fault by which it ended,
-/// and the reader of the events.
+/// As `show`, over any reader of events, in a style, as text or as objects: the last line is that of the input's fault. Hands out the fault by which it
+/// ended, and the reader of the events.
 pub fn show_over<
     A: Allocator + Copy,
-    F: InputFault + LastLine + Drop,
+    F: InputFault + LastLine + LastObject + Drop,
     I: ReadItems<A, Item = Event<A>, Fault = F>,
     W: Sink,
->(alloc: A, events: I, writer: &mut W) -> Stopped<I, F>
+>(alloc: A, style: Style, events: I, writer: &mut W) -> Stopped<I, F>
     requires works { W.failed writer.old ≡ false }
-    ensures text { RunsOver I.answers F.refused F.failed (over_events (show_event {A = A}) F.last_line) events result.ending result.fault result.reader (W.contents writer.old) (W.contents writer.new) }
+    ensures text { RunsOver I.answers F.refused F.failed (over_in style (show_allows {A = A}) F.last_line F.last_object) events result.ending result.fault result.reader (W.contents writer.old) (W.contents writer.new) }
     ensures fault { W.failed writer.new ≡ is_write_fault result.ending }
 {
-    let engine = OfEvents { engine: ShowText };
+    let engine = OfEvents {
+        engine: ShowText,
+        style,
+        undated: Vec::new(alloc),
+    };
     run_over(alloc, engine, b"", events, writer)
 }

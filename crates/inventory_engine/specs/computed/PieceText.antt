@@ -1,9 +1,10 @@
 -- The text of a piece, and what follows a text at the start of another.
 use Rattle.std.specs.Prelude.{◌≡◌, ℕ, List, [], ◌∷◌, ◌++◌, Option, Some, None}
 use Rattle.std.specs.Borrow.{Bor}
+use Rattle.std.specs.List.{flat_map}
 use Rattle.std.specs.Fmt.{decimal}
 use Rattle.pdu_core.specs.Views.{octets_if}
-use Rattle.text_core.specs.Pieces.{four_digits, quoted, quoted_or_dash}
+use Rattle.text_core.specs.Pieces.{escaped, four_digits, quoted, quoted_or_dash}
 use Rattle.inventory_engine.specs.declared.pieces.Piece.{Piece}
 use Rattle.inventory_engine.specs.declared.pieces.Piece.TheVariants as piece
 
@@ -20,3 +21,11 @@ piece_text (piece.Decimal number) = decimal number
 abbrev pub IsAfter : List ℕ → List ℕ → Option (Bor (List ℕ)) → Type 0
 IsAfter text front None = (rest : List ℕ) → text ≡ front ++ rest → ⊥
 IsAfter text front (Some rest) = text ≡ front ++ rest.now
+
+-- an octet of a text as it stands in a text that is written between quotation marks twice
+abbrev pub escaped_twice : ℕ → List ℕ
+escaped_twice c = flat_map escaped (escaped c)
+
+-- the text of a piece as it stands between quotation marks
+abbrev pub escaped_piece : Piece → List ℕ
+escaped_piece p = flat_map escaped (piece_text p)

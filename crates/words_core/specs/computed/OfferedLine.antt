@@ -1,13 +1,16 @@
 -- The command line with the options offered or not, of which both public calls are cases.
-use Rattle.std.specs.Prelude.{◌≡◌, Bool, true, false, not, List, [], ◌∷◌, ◌++◌, map, fold, Option, Some, None, Result, Ok, Err, option_and_then}
-use Rattle.clap.specs.Words.{App, IsAmong, Kinds, Rule, Shape, Text, fault_of, kind_of, subcommand_of, with_subcommand}
+use Rattle.std.specs.Prelude.{◌≡◌, ◌||◌, Bool, true, false, not, List, [], ◌∷◌, ◌++◌, map, fold, Option, Some, None, Result, Ok, Err, is_some, option_and_then, option_map, if◌then◌else◌}
+use Rattle.clap.specs.Words.{App, IsAmong, Kinds, Row, Rule, Shape, Text, fault_of, kind_of, subcommand_of, with_subcommand}
+use Rattle.clap.specs.Kinds.{or_else}
+use Rattle.clap.specs.declared.error.kind.ErrorKind.TheVariants as kind
 use Rattle.clap.specs.declared.builder.command.Command.{Command}
 use Rattle.clap.specs.declared.builder.command.Command.TheViews.{out-Command}
 use Rattle.words_core.specs.declared.words.Request.{Request}
 use Rattle.words_core.specs.declared.words.WordsError.{WordsError}
 use Rattle.words_core.specs.declared.words.WordsError.TheVariants as refused
 use Rattle.words_core.specs.CommandLine.{Meaning, bare_program, check, import, list_blocks, plain, publish, replay_shape, rewrite, show, task_asked, watch_shape}
-use Rattle.words_core.specs.RequestLine.{AnswersRequest, RefusesBlock, Wish, option_named, request_asked, switch_name, switches}
+use Rattle.words_core.specs.declared.option_words.Options.{Options}
+use Rattle.words_core.specs.RequestLine.{AnswersRequest, RefusesBlock, Wish, no_options, option_named, options_in, switch_name, switches, with_these}
 
 -- the options' rules, where they are offered
 abbrev pub offered_rules : Bool → List Rule
@@ -40,14 +43,36 @@ faults_by offers = fault_of (line_of offers)
 abbrev pub task_by : Bool → List Text → Option Meaning
 task_by offers words = option_and_then task_asked (subcommand_of (line_of offers) words)
 
+-- the options that the matches give, where they are offered
+abbrev pub options_by : Bool → List Row → Option Options
+options_by true rows = options_in rows
+options_by false rows = Some no_options
+
+abbrev pub request_by : Bool → Text × List Row → Option Wish
+request_by offers met = option_and_then (λ options. option_map (with_these options) (task_asked met)) (options_by offers met.1)
+
 abbrev pub wish_by : Bool → List Text → Option Wish
-wish_by offers words = option_and_then request_asked (subcommand_of (line_of offers) words)
+wish_by offers words = option_and_then (request_by offers) (subcommand_of (line_of offers) words)
+
+-- no options exclude each other
+abbrev pub agrees_by : Bool → List Text → Bool
+agrees_by offers words = not offers || is_some (wish_by offers words)
+
+-- the faults, also that of options which exclude each other
+abbrev pub mistakes_by : Bool → List Text → Kinds
+mistakes_by offers words = or_else (faults_by offers words) (if is_some (wish_by offers words) then [] else kind.ArgumentConflict ∷ [])
 
 -- the words may be refused so
 abbrev pub MayRefuseBy : Bool → List Text → WordsError → Type 0
-MayRefuseBy offers words (refused.Words error) = IsAmong (kind_of error) (faults_by offers words)
-MayRefuseBy offers words (refused.Block i) = (faults_by offers words ≡ []) × (wish_by offers words ≡ Some (Err i))
+MayRefuseBy offers words (refused.Words error) = IsAmong (kind_of error) (mistakes_by offers words)
+MayRefuseBy offers words (refused.Block i) = (mistakes_by offers words ≡ []) × (wish_by offers words ≡ Some (Err i))
 MayRefuseBy offers words refused.Memory = Unit {0}
+
+-- options exclude each other, or memory was refused
+abbrev pub IsExclusion : WordsError → Type 0
+IsExclusion (refused.Words error) = kind_of error ≡ kind.ArgumentConflict
+IsExclusion (refused.Block i) = ⊥
+IsExclusion refused.Memory = Unit {0}
 
 -- what is wished for is answered, refused memory aside
 abbrev pub AnswersWish : Wish → Result Request WordsError → Type 0

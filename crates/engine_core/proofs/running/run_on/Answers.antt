@@ -1,4 +1,5 @@
-use Rattle.std.proofs.Common.{rules, refl, [], ◌++◌, ◌∷◌, ◌∙◌}
+use Rattle.std.proofs.Common.{rules, [], ◌++◌, ◌∷◌}
+use Rattle.engine_core.proofs.EngineSteps.{alike_back, alike_self, alike_then, stops_alike, wrote_alike}
 use Rattle.engine_core.proofs.ReaderRuns.{go_on, ran_none, ended, stopped, not_begun}
 use Rattle.engine_core.proofs.running.run_on.Goals as goal
 
@@ -10,18 +11,18 @@ returns-in-Err-clause-text g c =
 pub answers-init : goal.answers-init
 answers-init g c = record {
   works = search rules;
-  same = refl;
+  same = alike_self _;
   so_far = ([], c.requires.fresh, ran_none _ _ _ _);
 }
 
 pub answers-preserved : goal.answers-preserved
 answers-preserved g c = record {
   works = search rules;
-  same = c.in-Wrote.ensures.same ∙ c.answers.invariant.same;
+  same = alike_then _ _ _ (alike_back _ _ c.in-Wrote.ensures.same) c.answers.invariant.same;
   so_far =
       let p = c.answers.invariant.so_far in
       let s = c.in-Wrote.ensures.step in
-      let w = rw c.answers.invariant.same at (s.2 p.0 p.1) in
+      let w = wrote_alike _ _ c.answers.invariant.same p.0 s.0 _ _ _ _ (s.2 p.0 p.1) in
       let q = rw w.answered at s.1 in
       (p.0 ++ w.item ∷ [], w.stands_after, go_on _ _ _ _ _ p.0 _ _ _ _ p.2 w.item q w.text _ w.has_text w.written);
 }
@@ -39,6 +40,6 @@ pub returns-in-Stop-clause-text : goal.returns-in-Stop-clause-text
 returns-in-Stop-clause-text g c =
     let p = c.answers.invariant.so_far in
     let s = c.in-Stop.ensures.step in
-    let w = rw c.answers.invariant.same at (s.2 p.0 p.1) in
+    let w = stops_alike g.F.InputFault.refused _ _ c.answers.invariant.same p.0 s.0 c.in-Stop.halt _ _ (s.2 p.0 p.1) in
     let r = stopped _ _ _ _ _ _ _ p.0 _ _ _ _ _ (rw c.requires.first at c.in-Ok.ensures.written) p.2 s.0 s.1 _ w in
     rw (c.stopped-in-Stop.ensures.ending, c.stopped-in-Stop.ensures.fault) r

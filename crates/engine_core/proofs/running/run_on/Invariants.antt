@@ -1,13 +1,14 @@
 use Rattle.std.proofs.Common.{◌≡◌, List, ℕ, false}
+use Rattle.engine_core.specs.EngineText.{Alike}
 use Rattle.engine_core.proofs.ReaderRuns.{Ran}
 use Rattle.engine_core.proofs.running.run_on.Given as goal
 
 abbrev pub invariant-answers : goal.invariant-answers
 invariant-answers g l = record {
   works : g.W.Sink.failed l.writer ≡ false;
-  same : g.E.Engine.text l.engine ≡ g.E.Engine.text l.initial.engine;
+  same : Alike (g.E.Engine.allows l.engine) (g.E.Engine.allows l.initial.engine);
   so_far : (items : List (ℕ × g.row.I-Item.Denot)) × g.E.Engine.stands l.engine items
-      × Ran g.I.ReadItems.answers (g.E.Engine.text l.initial.engine) l.initial.items l.items items (g.W.Sink.contents l.initial.writer) (g.W.Sink.contents l.writer) l.found;
+      × Ran g.I.ReadItems.answers (g.E.Engine.allows l.initial.engine) l.initial.items l.items items (g.W.Sink.contents l.initial.writer) (g.W.Sink.contents l.writer) l.found;
 }
 
 abbrev pub decreases-answers : goal.decreases-answers

@@ -1,5 +1,5 @@
 use Rattle.std.proofs.Common.{ap, sym, ◌∙◌}
-use Rattle.goose.proofs.EventTaskLemmas.{passed_list_leaves}
+use Rattle.goose.proofs.EventTaskLemmas.{passed_list_leaves, passed_list_reads}
 use Rattle.list_core.specs.ItemReader.{item_state}
 use Rattle.goose.proofs.over_events.over_passed_list.Goals as goal
 
@@ -7,7 +7,17 @@ pub returns-clause-text : goal.returns-clause-text
 returns-clause-text g c =
     let same = c.new-events.ensures.beneath in
     rw (c.of_passed_events.ensures.ending, c.of_passed_events.ensures.left, c.of_passed_events.ensures.source, sym (ap (λ r. (item_state g.R.Source.left g.R.Source.ending r).left) same ∙ c.new.ensures.left))
-    (passed_list_leaves g.R.Source.left g.R.Source.ending (g.T.EventTask.asked c.args.task) c.over.result.ending _ _ c.new-events.result c.over.result.reader c.over.result.fault
+    (passed_list_leaves g.R.Source.left g.R.Source.ending c.args.style (g.T.EventTask.asked c.args.task) c.over.result.ending _ _ c.new-events.result c.over.result.reader c.over.result.fault
+    (ap (λ r. (item_state g.R.Source.left g.R.Source.ending r).ending) same ∙ c.new.ensures.ending ∙ c.requires.open)
+    (ap (λ r. (item_state g.R.Source.left g.R.Source.ending r).taken) same ∙ c.new.ensures.taken)
+    (ap (λ r. (item_state g.R.Source.left g.R.Source.ending r).held) same ∙ c.new.ensures.held)
+    (ap (λ r. (item_state g.R.Source.left g.R.Source.ending r).settled) same ∙ c.new.ensures.settled) c.over.ensures.text)
+
+pub returns-clause-read_fault : goal.returns-clause-read_fault
+returns-clause-read_fault g c =
+    let same = c.new-events.ensures.beneath in
+    rw (c.of_passed_events.ensures.ending, c.of_passed_events.ensures.source)
+    (passed_list_reads g.R.Source.left g.R.Source.ending c.args.style (g.T.EventTask.asked c.args.task) c.over.result.ending _ _ c.new-events.result c.over.result.reader c.over.result.fault
     (ap (λ r. (item_state g.R.Source.left g.R.Source.ending r).ending) same ∙ c.new.ensures.ending ∙ c.requires.open)
     (ap (λ r. (item_state g.R.Source.left g.R.Source.ending r).taken) same ∙ c.new.ensures.taken)
     (ap (λ r. (item_state g.R.Source.left g.R.Source.ending r).held) same ∙ c.new.ensures.held)

@@ -5,6 +5,7 @@ use Rattle.frame_core.specs.computed.FrameReading.{frame_at}
 use Rattle.frame_core.specs.FrameViews.{apdu_of}
 use Rattle.frame_core.specs.declared.frame_view.ApduView.{ApduView}
 use Rattle.inventory_engine.specs.Sightings.{block_sighting, sightings_of, sightings_read, sightings_with, stream_sightings}
+use Rattle.inventory_engine.specs.computed.BlocksStep.{telling_at}
 use Rattle.inventory_engine.proofs.Appending.{appends_as, wanted_as}
 use Rattle.inventory_engine.proofs.sighting.put_event.Goals as goal
 
@@ -14,7 +15,7 @@ returns-in-Goose-clause-written g c =
     let shown : sightings_of c.args.kind.now ≡ block_sighting view.app_id (pdu_of {A = Unit {0}} c.in-Goose.goose) ∷ [] =
     ap sightings_of c.in-Frame.is ∙ ap (λ (o : List ℕ). sightings_read {A = Unit {0}} (frame_at o)) (sym c.as_slice.ensures)
     ∙ ap (sightings_read {A = Unit {0}}) c.in-Ok.ensures.exact ∙ ap (λ (a : ApduView). sightings_with view.app_id (apdu_of {A = Unit {0}} a)) c.in-Goose.is in
-    appends_as c.put_block.result c.args.number _ (sightings_of c.args.kind.now) c.args.known.now c.put_block.new.known c.args.line.now.items c.put_block.new.line.items (sym shown) c.put_block.ensures.written
+    appends_as c.put_block.result (telling_at c.args.heading) _ (sightings_of c.args.kind.now) c.args.known.now c.put_block.new.known c.args.line.now.items c.put_block.new.line.items (sym shown) c.put_block.ensures.written
 
 pub returns-in-Goose-clause-wants : goal.returns-in-Goose-clause-wants
 returns-in-Goose-clause-wants g c =
@@ -22,7 +23,7 @@ returns-in-Goose-clause-wants g c =
     let shown : sightings_of c.args.kind.now ≡ block_sighting view.app_id (pdu_of {A = Unit {0}} c.in-Goose.goose) ∷ [] =
     ap sightings_of c.in-Frame.is ∙ ap (λ (o : List ℕ). sightings_read {A = Unit {0}} (frame_at o)) (sym c.as_slice.ensures)
     ∙ ap (sightings_read {A = Unit {0}}) c.in-Ok.ensures.exact ∙ ap (λ (a : ApduView). sightings_with view.app_id (apdu_of {A = Unit {0}} a)) c.in-Goose.is in
-    wanted_as c.put_block.result c.args.number _ (sightings_of c.args.kind.now) c.args.known.now (sym shown) c.put_block.ensures.wants
+    wanted_as c.put_block.result (telling_at c.args.heading) _ (sightings_of c.args.kind.now) c.args.known.now (sym shown) c.put_block.ensures.wants
 
 pub returns-in-Sampled-clause-written : goal.returns-in-Sampled-clause-written
 returns-in-Sampled-clause-written g c =
@@ -30,7 +31,7 @@ returns-in-Sampled-clause-written g c =
     let shown : sightings_of c.args.kind.now ≡ stream_sightings (asdus_left {A = Unit {0}} c.in-Sampled.sampled.asdus) =
     ap sightings_of c.in-Frame.is ∙ ap (λ (o : List ℕ). sightings_read {A = Unit {0}} (frame_at o)) (sym c.as_slice.ensures)
     ∙ ap (sightings_read {A = Unit {0}}) c.in-Ok.ensures.exact ∙ ap (λ (a : ApduView). sightings_with view.app_id (apdu_of {A = Unit {0}} a)) c.in-Sampled.is in
-    appends_as c.put_streams.result c.args.number _ (sightings_of c.args.kind.now) c.args.known.now c.put_streams.new.known c.args.line.now.items c.put_streams.new.line.items (sym shown) c.put_streams.ensures.written
+    appends_as c.put_streams.result (telling_at c.args.heading) _ (sightings_of c.args.kind.now) c.args.known.now c.put_streams.new.known c.args.line.now.items c.put_streams.new.line.items (sym shown) c.put_streams.ensures.written
 
 pub returns-in-Sampled-clause-wants : goal.returns-in-Sampled-clause-wants
 returns-in-Sampled-clause-wants g c =
@@ -38,4 +39,4 @@ returns-in-Sampled-clause-wants g c =
     let shown : sightings_of c.args.kind.now ≡ stream_sightings (asdus_left {A = Unit {0}} c.in-Sampled.sampled.asdus) =
     ap sightings_of c.in-Frame.is ∙ ap (λ (o : List ℕ). sightings_read {A = Unit {0}} (frame_at o)) (sym c.as_slice.ensures)
     ∙ ap (sightings_read {A = Unit {0}}) c.in-Ok.ensures.exact ∙ ap (λ (a : ApduView). sightings_with view.app_id (apdu_of {A = Unit {0}} a)) c.in-Sampled.is in
-    wanted_as c.put_streams.result c.args.number _ (sightings_of c.args.kind.now) c.args.known.now (sym shown) c.put_streams.ensures.wants
+    wanted_as c.put_streams.result (telling_at c.args.heading) _ (sightings_of c.args.kind.now) c.args.known.now (sym shown) c.put_streams.ensures.wants

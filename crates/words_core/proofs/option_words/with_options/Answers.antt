@@ -1,22 +1,23 @@
-use Rattle.std.proofs.Common.{◌≡◌, ◌∙◌, Bool, true, false, List, [], ◌∷◌, sym, ap, append_assoc}
-use Rattle.std.specs.Prelude.{codes}
+use Rattle.std.proofs.Common.{◌≡◌, ◌∙◌, Bool, true, List, [], ◌∷◌, ◌++◌, sym, ap, append_assoc}
+use Rattle.std.specs.Prelude.{fold}
 use Rattle.std.proofs.lemmas.List.{append-nil}
 use Rattle.std.proofs.lemmas.Result.{IfOk-weaker}
 use Rattle.clap.specs.Words.{App, Rule, app_of, with_rule}
-use Rattle.words_core.specs.RequestLine.{option_named}
-use Rattle.words_core.specs.computed.OfferedLine.{offering}
+use Rattle.words_core.specs.computed.OfferedLine.{offered_rules, offering}
 use Rattle.words_core.proofs.option_words.with_options.Goals as goal
 
-both_added : (a : App) → with_rule (with_rule a (option_named (codes "capture"))) (option_named (codes "skip-other")) ≡ offering true a
-both_added a = ap (λ (rules : List Rule). record a { top = record a.top { rules = rules } }) (append_assoc a.top.rules (option_named (codes "capture") ∷ []) (option_named (codes "skip-other") ∷ []))
+-- the command with these rules
+abbrev with_rules : App → List Rule → App
+with_rules a rules = record a { top = record a.top { rules = rules } }
 
-none_added : (a : App) → a ≡ offering false a
-none_added a = ap (λ (rules : List Rule). record a { top = record a.top { rules = rules } }) (sym (append-nil a.top.rules))
+each_added : (rules : List Rule) (a : App) → fold with_rule a rules ≡ with_rules a (a.top.rules ++ rules)
+each_added [] a = ap (with_rules a) (sym (append-nil a.top.rules))
+each_added (r ∷ rules) a = each_added rules (with_rule a r) ∙ ap (with_rules a) (append_assoc a.top.rules (r ∷ []) rules)
 
 pub returns-then-offers-clause-app : goal.returns-then-offers-clause-app
 returns-then-offers-clause-app c =
     let a = app_of c.args.command in
-    IfOk-weaker c.with_both.result _ _ (λ r h. h ∙ both_added a ∙ ap (λ (b : Bool). offering b a) (sym c.if-offers.true)) c.with_both.ensures.app
+    IfOk-weaker c.with_each.result _ _ (λ r h. h ∙ each_added (offered_rules true) a ∙ ap (λ (b : Bool). offering b a) (sym c.if-offers.true)) c.with_each.ensures.app
 
 pub returns-else-offers-clause-app : goal.returns-else-offers-clause-app
-returns-else-offers-clause-app c = let a = app_of c.args.command in none_added a ∙ ap (λ (b : Bool). offering b a) (sym c.if-offers.false)
+returns-else-offers-clause-app c = let a = app_of c.args.command in each_added [] a ∙ ap (λ (b : Bool). offering b a) (sym c.if-offers.false)

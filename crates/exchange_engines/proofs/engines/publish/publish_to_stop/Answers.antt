@@ -1,6 +1,7 @@
+use Rattle.engine_core.proofs.EngineSteps.{alike_self}
 use Rattle.exchange_engines.specs.computed.PublishStep.{publish_text}
 use Rattle.exchange_engines.proofs.PublishLemmas.{publish_is}
 use Rattle.exchange_engines.proofs.engines.publish.publish_to_stop.Goals as goal
 
 pub returns-clause-text : goal.returns-clause-text
-returns-clause-text g c = let r = c.run_to_stop.ensures.text in (r.0, r.1, (record { text = publish_text; is_text = publish_is; run = r.2.0 }, r.2.1))
+returns-clause-text g c = let r = c.run_to_stop.ensures.text publish_text (alike_self _) in (r.0, r.1, (record { text = publish_text; is_text = publish_is; run = r.2.0 }, r.2.1))

@@ -8,13 +8,14 @@ use Rattle.block_core.specs.declared.block.Block.{Block}
 use Rattle.subscribe_core.specs.State.{State}
 use Rattle.engine_core.specs.Run.{WritesTo}
 use Rattle.exchange_engines.specs.declared.engines.replay.ReplayFault.TheVariants as of
-use Rattle.exchange_engines.specs.computed.ReplayStep.{replay_text}
+use Rattle.engine_core.proofs.EventSteps.{exactly_over}
+use Rattle.exchange_engines.specs.computed.ReplayStep.{replay_event, replay_text}
 use Rattle.exchange_engines.proofs.ReplayLemmas.{replay_is}
 use Rattle.exchange_engines.proofs.engines.replay.replay_to_stop.Goals as goal
 
 pub returns-in-Ok-clause-text : goal.returns-in-Ok-clause-text
 returns-in-Ok-clause-text g c =
-    let r = c.run_to_stop.ensures.text in
+    let r = c.run_to_stop.ensures.text _ (exactly_over (replay_event c.in-Ok.subscriber.state.blocks) _) in
     let stopped = c.run_to_stop.result in
     let same = ap (λ (s : State g.row.A.Denot). s.blocks) c.in-Ok.ensures.fresh in
     let w = subst (λ (bs : List (Block g.row.A.Denot)). WritesTo event_rules First (replay_text bs) stopped.ending (item_state g.R.Source.left g.R.Source.ending stopped.reader).ending r.0 (g.W.Sink.contents c.args.writer.now) (g.W.Sink.contents c.run_to_stop.new.writer) stopped.fault) same r.2 in
@@ -30,15 +31,15 @@ returns-in-Ok-clause-text g c =
       ),
     )
 
-pub returns-in-Err-SameBlockTwice-clause-text : goal.returns-in-Err-SameBlockTwice-clause-text
-returns-in-Err-SameBlockTwice-clause-text g c =
-    let twice = rw c.in-Err-SameBlockTwice.field-0-is at c.in-Err-SameBlockTwice.ensures.fault in
+pub returns-in-SameBlockTwice-clause-text : goal.returns-in-SameBlockTwice-clause-text
+returns-in-SameBlockTwice-clause-text g c =
+    let twice = rw c.in-SameBlockTwice.is at c.in-Err.ensures.fault in
     rw (c.unread.ensures.ending, c.unread.ensures.fault, c.unread.ensures.left, c.unread.ensures.source) (
       [],
       rw c.refuse_twice-ending.ensures.reader (Gives-from_Consumes _ _ [] (Consumes-none (g.R.Source.left c.args.reader))),
       (
         inl (record {
-          position = c.in-Err-SameBlockTwice.position;
+          position = c.in-SameBlockTwice.position;
           is_twice = twice;
           untouched = (rw c.refuse_twice-ending.ensures.reader c.requires.open, refl);
           written = c.refuse_twice-ending.ensures.written;
@@ -47,10 +48,10 @@ returns-in-Err-SameBlockTwice-clause-text g c =
       ),
     )
 
-pub returns-in-Err-Memory-clause-text : goal.returns-in-Err-Memory-clause-text
-returns-in-Err-Memory-clause-text g c =
-    let some = rw c.in-Err-Memory.field-0-is at c.in-Err-Memory.ensures.fault in
-    rw (c.unread-in-Err-Memory.ensures.ending, c.unread-in-Err-Memory.ensures.fault, c.unread-in-Err-Memory.ensures.left, c.unread-in-Err-Memory.ensures.source) (
+pub returns-clause-text : goal.returns-clause-text
+returns-clause-text g c =
+    let some = rw c.in-Memory.is at c.in-Err.ensures.fault in
+    rw (c.unread-in-Memory.ensures.ending, c.unread-in-Memory.ensures.fault, c.unread-in-Memory.ensures.left, c.unread-in-Memory.ensures.source) (
       [],
       Gives-from_Consumes _ _ [] (Consumes-none (g.R.Source.left c.args.reader)),
       (inr (inl (record { wants_memory = refl; are_apart = some.0; are_some = some.1; untouched = (c.requires.open, refl); none_written = refl })), refl),

@@ -1,25 +1,35 @@
-use Rattle.std.proofs.Common.{◌++◌, ap, ◌∙◌, List}
+use Rattle.std.proofs.Common.{◌≡◌, ◌∙◌, List, subst}
 use Rattle.std.proofs.lemmas.Bool.{false≢true}
 use Rattle.std.proofs.lemmas.Result.{err_from_is_err_and}
+use Rattle.block_core.specs.declared.block.Block.{Block}
 use Rattle.subscribe_core.specs.declared.entry.Entry.{Entry}
-use Rattle.exchange_engines.specs.EntryText.{entry_lines}
+use Rattle.exchange_engines.specs.computed.ReplayStep.{IsSaid}
 use Rattle.exchange_engines.proofs.ReplayLemmas.{no_entries, replays}
 use Rattle.exchange_engines.proofs.engines.replay.ReplayingEventEngine.put_event.Goals as goal
 
 pub returns-clause-step : goal.returns-clause-step
 returns-clause-step g c = λ before stands.
-    replays c.args.self.now.subscriber.state c.take_into.new.self.state before c.args.number c.args.event.now c.take_into.new.entries.items c.args.line.now.items c.put_entries.new.out.items
-    stands c.in_ok-take_into.ensures.step c.in_ok-take_into.ensures.state
-    (c.in_ok-put_entries.ensures.text ∙ ap (λ (es : List (Entry g.row.A.Denot)). c.args.line.now.items ++ entry_lines c.args.number es) c.as_slice.ensures.value)
+    let form = c.args.form in
+    let n = c.args.number in
+    let event = c.args.event.now in
+    let s = c.args.self.now.subscriber.state in
+    let entries = c.take_into.new.entries.items in
+    let given = c.blocks-blocks.result.now in
+    let w = c.in_ok-put_said.ensures.text in
+    let blocks : given ≡ s.blocks = c.blocks-blocks.ensures ∙ c.in_ok-take_into.ensures.blocks in
+    replays form s c.take_into.new.self.state before n event entries w.0 c.args.line.now.items c.put_said.new.line.items stands c.in_ok-take_into.ensures.step c.in_ok-take_into.ensures.state
+    (subst (λ (bs : List (Block g.row.A.Denot)). IsSaid form n event.moment bs entries w.0) blocks
+    (subst (λ (es : List (Entry g.row.A.Denot)). IsSaid form n event.moment given es w.0) c.as_slice-entries.ensures.value w.2)) w.1
 
 pub returns-in_err-take_into-clause-step : goal.returns-in_err-take_into-clause-step
 returns-in_err-take_into-clause-step g c = λ before stands.
     let s = c.args.self.now.subscriber.state in
     let p = err_from_is_err_and c.from_residual.result c.from_residual.ensures.1 in
-    rw p.1 (λ none. false≢true (c.in_err-take_into.ensures.quiet_step (no_entries s s.blocks before c.args.number c.args.event.now stands none)))
+    rw p.1 (λ written is none. false≢true (c.in_err-take_into.ensures.quiet_step (no_entries c.args.form s before c.args.number c.args.event.now written stands is none)))
 
-pub returns-in_err-put_entries-clause-step : goal.returns-in_err-put_entries-clause-step
-returns-in_err-put_entries-clause-step g c = λ before stands.
+pub returns-in_err-put_said-clause-step : goal.returns-in_err-put_said-clause-step
+returns-in_err-put_said-clause-step g c = λ before stands.
     let s = c.args.self.now.subscriber.state in
-    let p = err_from_is_err_and c.from_residual-in_err-put_entries.result c.from_residual-in_err-put_entries.ensures.1 in
-    rw p.1 (λ none. false≢true (c.in_err-put_entries.ensures.quiet (c.as_slice.ensures.value ∙ c.in_ok-take_into.ensures.step ∙ no_entries s s.blocks before c.args.number c.args.event.now stands none)))
+    let p = err_from_is_err_and c.from_residual-in_err-put_said.result c.from_residual-in_err-put_said.ensures.1 in
+    rw p.1 (λ written is none. false≢true (c.in_err-put_said.ensures.quiet
+    (c.as_slice-entries.ensures.value ∙ c.in_ok-take_into.ensures.step ∙ no_entries c.args.form s before c.args.number c.args.event.now written stands is none)))

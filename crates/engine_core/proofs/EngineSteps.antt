@@ -1,0 +1,86 @@
+-- What an engine owes for an answer, by what its own answer says; and engines that may write the same owe the same.
+use Rattle.std.proofs.Common.{Option, Some, None, Ok, Err, Result, ◌≡◌, ℕ, Bool, List, [], inl, inr, ap, sym, ◌∙◌, refl, subst}
+use Rattle.list_core.specs.ReadItems.{AnswerOf}
+use Rattle.engine_core.specs.declared.stopped.Halt.{Halt}
+use Rattle.engine_core.specs.declared.stopped.Halt.TheVariants as halt
+use Rattle.engine_core.specs.EngineText.{Alike, Allowed, step_text_to}
+use Rattle.engine_core.specs.RunOver.{HasText, IsDue, Stops, WantsFor, step_fault}
+use Rattle.engine_core.specs.computed.EngineStep.{IsRefused, ItemWritten}
+
+module _ {X C F : Type 0} (refused : ℕ → C → F) (t : Allowed X C F) (before : List (ℕ × X)) (e : ℕ × X) where
+  -- a step that is allowed is due
+  pub step_due : (written : Result (List ℕ × Bool) C) → t.of_item before e written → IsDue refused t before (Ok (Some e)) (step_text_to refused t e.0 written) (step_fault refused e.0 written)
+  step_due written is = record { written = written; is_allowed = is; has_text = refl; has_fault = refl }
+
+  -- memory was wanted for an item
+  pub step_wanted : ((written : Result (List ℕ × Bool) C) → t.of_item before e written → step_text_to refused t e.0 written ≡ [] → ⊥) → WantsFor refused t before (Ok (Some e))
+  step_wanted some = inr (λ text closing is none. some is.written is.is_allowed (sym is.has_text ∙ none))
+
+  -- an item was refused, and the run stopped with the last text on that
+  pub refused_stops : (why : C) → IsRefused t before e why → (f : F) → f ≡ refused e.0 why → (last : List ℕ) → last ≡ t.last f → (h : Halt F) (old new : Option (List ℕ)) →
+      Stops (last ≡ [] → ⊥) (λ text closing. (text ≡ last) × (closing ≡ Some f)) h old new → Stops (WantsFor refused t before (Ok (Some e))) (IsDue refused t before (Ok (Some e))) h old new
+  refused_stops why is f by last told (halt.Fault g) old new s =
+      (s.0, record { written = Err why; is_allowed = is.is_allowed; has_text = s.1.0 ∙ told ∙ ap t.last by; has_fault = s.1.1 ∙ ap Some by }, s.2)
+  refused_stops why is f by last told halt.WriteFault old new s =
+      (s.0, s.1, record { written = Err why; is_allowed = is.is_allowed; has_text = s.2.0 ∙ told ∙ ap t.last by; has_fault = s.2.1 ∙ ap Some by }, s.3)
+  refused_stops why is f by last told halt.Memory old new s = (
+    inr (λ text closing due none. s.0 (told ∙ ap t.last by ∙ sym (due.has_text ∙ ap (step_text_to refused t e.0) (is.only due.written due.is_allowed)) ∙ none)),
+    s.1,
+  )
+
+-- the input has a fault, and the run stopped with the last text on that
+pub faulty_stops : {X C F : Type 0} (refused : ℕ → C → F) (t : Allowed X C F) (before : List (ℕ × X)) (f : F) (h : Halt F) (old new : Option (List ℕ)) →
+    Stops (t.last f ≡ [] → ⊥) (λ text closing. (text ≡ t.last f) × (closing ≡ Some f)) h old new → Stops (WantsFor refused t before (Err (Some f))) (IsDue refused t before (Err (Some f))) h old new
+faulty_stops refused t before f (halt.Fault g) old new s = s
+faulty_stops refused t before f halt.WriteFault old new s = s
+faulty_stops refused t before f halt.Memory old new s = (inr (λ text closing due none. s.0 (sym due.0 ∙ none)), s.1)
+
+-- ---- engines that may write the same
+
+pub alike_self : {X C F : Type 0} (a : Allowed X C F) → Alike a a
+alike_self a = record { first = refl; there = λ before e written is. is; back = λ before e written is. is; last = λ f. refl }
+
+pub alike_back : {X C F : Type 0} (a b : Allowed X C F) → Alike a b → Alike b a
+alike_back a b same = record { first = sym same.first; there = same.back; back = same.there; last = λ f. sym (same.last f) }
+
+pub alike_then : {X C F : Type 0} (a b c : Allowed X C F) → Alike a b → Alike b c → Alike a c
+alike_then a b c p q = record {
+  first = p.first ∙ q.first;
+  there = λ before e written is. q.there before e written (p.there before e written is);
+  back = λ before e written is. p.back before e written (q.back before e written is);
+  last = λ f. p.last f ∙ q.last f;
+}
+
+module _ {X C F : Type 0} (refused : ℕ → C → F) (a b : Allowed X C F) (same : Alike a b) where
+  step_alike : (n : ℕ) (written : Result (List ℕ × Bool) C) → step_text_to refused a n written ≡ step_text_to refused b n written
+  step_alike n (Ok w) = refl
+  step_alike n (Err why) = same.last (refused n why)
+
+  pub due_alike : (before : List (ℕ × X)) (answer : AnswerOf X F) (text : List ℕ) (closing : Option F) → IsDue refused a before answer text closing → IsDue refused b before answer text closing
+  due_alike before (Ok (Some e)) text closing is =
+      record { written = is.written; is_allowed = same.there before e is.written is.is_allowed; has_text = is.has_text ∙ step_alike e.0 is.written; has_fault = is.has_fault }
+  due_alike before (Ok None) text closing is = is
+  due_alike before (Err (Some f)) text closing is = (is.0 ∙ same.last f, is.1)
+  due_alike before (Err None) text closing is = is
+
+module _ {X C F : Type 0} (refused : ℕ → C → F) (a b : Allowed X C F) (same : Alike a b) (before : List (ℕ × X)) (answer : AnswerOf X F) where
+  pub wants_alike : WantsFor refused a before answer → WantsFor refused b before answer
+  wants_alike (inl e) = inl e
+  wants_alike (inr some) = inr (λ text closing is none. some text closing (due_alike refused b a (alike_back a b same) before answer text closing is) none)
+
+  pub stops_alike : (h : Halt F) (old new : Option (List ℕ)) → Stops (WantsFor refused a before answer) (IsDue refused a before answer) h old new → Stops (WantsFor refused b before answer) (IsDue refused b before answer) h old new
+  stops_alike (halt.Fault f) old new s = (s.0, due_alike refused a b same before answer s.0 (Some f) s.1, s.2)
+  stops_alike halt.WriteFault old new s = (s.0, s.1, due_alike refused a b same before answer s.0 s.1 s.2, s.3)
+  stops_alike halt.Memory old new s = (wants_alike s.0, s.1)
+
+-- an item was written by both
+pub wrote_alike : {X C F : Type 0} (a b : Allowed X C F) → Alike a b → (before : List (ℕ × X)) (answer : AnswerOf X F) (stands : List (ℕ × X) → Type 0) (found : Bool) (old new : Option (List ℕ)) →
+    ItemWritten a stands before answer found old new → ItemWritten b stands before answer found old new
+wrote_alike a b same before answer stands found old new w = record {
+  item = w.item;
+  text = w.text;
+  answered = w.answered;
+  has_text = same.there before w.item (Ok (w.text, found)) w.has_text;
+  written = w.written;
+  stands_after = w.stands_after;
+}

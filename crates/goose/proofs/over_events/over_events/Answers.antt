@@ -1,0 +1,23 @@
+use Rattle.std.proofs.Common.{true, false}
+use Rattle.goose.proofs.EventTaskLemmas.{by_options}
+use Rattle.goose.proofs.over_events.over_events.Goals as goal
+
+pub returns-in-true-true-clause-text : goal.returns-in-true-true-clause-text
+returns-in-true-true-clause-text g c =
+    let left = c.over_passed_capture.ensures.text in
+    (left.0, left.1, by_options c.args.options c.style_of-style.result true true _ _ _ _ _ _ c.style_of-style.ensures c.in-true-true.is-0 c.in-true-true.is-1 left.2)
+
+pub returns-in-true-false-clause-text : goal.returns-in-true-false-clause-text
+returns-in-true-false-clause-text g c =
+    let left = c.over_capture.ensures.text in
+    (left.0, left.1, by_options c.args.options c.style_of-style.result true false _ _ _ _ _ _ c.style_of-style.ensures c.in-true-false.is-0 c.in-true-false.is-1 left.2)
+
+pub returns-in-false-true-clause-text : goal.returns-in-false-true-clause-text
+returns-in-false-true-clause-text g c =
+    let left = c.over_passed_list.ensures.text in
+    (left.0, left.1, by_options c.args.options c.style_of-style.result false true _ _ _ _ _ _ c.style_of-style.ensures c.in-false-true.is-0 c.in-false-true.is-1 left.2)
+
+pub returns-in-false-false-clause-text : goal.returns-in-false-false-clause-text
+returns-in-false-false-clause-text g c =
+    let left = c.over_list.ensures.text in
+    (left.0, left.1, by_options c.args.options c.style_of-style.result false false _ _ _ _ _ _ c.style_of-style.ensures c.in-false-false.is-0 c.in-false-false.is-1 left.2)
