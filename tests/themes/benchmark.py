@@ -22,9 +22,7 @@ class Beside:
         self.name, self.other, self.same = name, other, same
 
     def why_wrong(self, program):
-        own = shlex.join(program)
-        words = [TOP / "bench" / "run", "--frames", "20", "--repeat", "1", "--program", own, "--beside", self.other or own]
-        ran = subprocess.run(words, stdin=subprocess.DEVNULL, stdout=subprocess.PIPE, stderr=subprocess.PIPE, timeout=SECONDS, text=True)
+        ran = measured(program, 20, "--beside", self.other or shlex.join(program))
         rows = ROW.findall(ran.stdout)
         why = [] if ran.returncode == 0 else [f"status {ran.returncode}: {ran.stderr}"]
         lists = [kind for kind, _ in rows]
@@ -33,17 +31,37 @@ class Beside:
         return why + ([] if {same for _, same in rows} == {self.same} else [f"another column Same text in {ran.stdout}"])
 
 
+def measured(program, frames, *words):
+    """What the benchmark of so many frames says of a program, run once."""
+    words = [TOP / "bench" / "run", "--frames", str(frames), "--repeat", "1", "--program", shlex.join(program), *words]
+    return subprocess.run(words, stdin=subprocess.DEVNULL, stdout=subprocess.PIPE, stderr=subprocess.PIPE, timeout=SECONDS, text=True)
+
+
 class Growth:
     """Each thing that can grow has its row."""
 
     name = "what grows"
 
     def why_wrong(self, program):
-        words = [TOP / "bench" / "run", "--frames", "40", "--repeat", "1", "--program", shlex.join(program), "--growth"]
-        ran = subprocess.run(words, stdin=subprocess.DEVNULL, stdout=subprocess.PIPE, stderr=subprocess.PIPE, timeout=SECONDS, text=True)
+        ran = measured(program, 40, "--growth")
         rows = re.findall(r"(?m)^\| (lines|members|control|octets)[^|]*(?:\| \d+ ){4}\| \d+\.\d\d \|$", ran.stdout)
         why = [] if ran.returncode == 0 else [f"status {ran.returncode}: {ran.stderr}"]
         return why + ([] if rows == ["lines", "members", "control", "octets"] else [f"other rows: {ran.stdout}"])
+
+
+class Captures:
+    """Captures of both forms stand beside the list that `import` makes, for a replay and for a watch."""
+
+    name = "captures as they are, and as lists"
+
+    def why_wrong(self, program):
+        ran = measured(program, 300, "--captures")
+        rows = re.findall(r"(?m)^\| (goose|samples) \| 300 \| ((?:[^|\\]|\\\|)+) \| \d+\.\d{3} \| \d+\.\d{3} \|$", ran.stdout)
+        wanted = [(traffic, row) for traffic, name in (("goose", "replay"), ("samples", "watch"))
+                  for row in (f"{name} --capture, pcapng", f"{name} --capture, classic", f"import \\| {name}")]
+        rest = {row for _, row in rows} - {row for _, row in wanted}
+        is_well = ran.returncode == 0 and [it for it in rows if it in wanted] == wanted and rest <= {"tshark -T fields"}
+        return [] if is_well else [f"status {ran.returncode}: {ran.stdout}{ran.stderr}"]
 
 
 # A valgrind that says another number of instructions for other words.
@@ -54,8 +72,8 @@ exec "${@:3}"
 
 
 class ByTurns:
-    """Two checkouts have a row for each workload, and are told apart where they print different text or fail. valgrind runs a
-    workload with one list of a tenth of the lines."""
+    """Two checkouts have a row for each workload that the old one has, and are told apart where they print different text or fail.
+    valgrind runs a workload with one list of a tenth of the lines."""
 
     name = "two checkouts by turns"
 
@@ -69,6 +87,9 @@ class ByTurns:
             for wrong, at in ((other, "two: "), (failing, "one: ")):
                 ran = self.run(old, wrong, "3")
                 why += [] if ran.returncode == 1 and ran.stderr.startswith(at) else [f"{wrong.name}: {ran.stderr}"]
+            ran = self.run(self.checkout(pathlib.Path(folder, "older"), '[ "$1" = b ] || echo "$@" bench'), new, "3")
+            is_left_out = re.findall(rf"(?m)^\| (\w+){TIMES * 2} \|$", ran.stdout) == ["one"] and "two: the old checkout has no" in ran.stderr
+            why += [] if ran.returncode == 0 and is_left_out else [f"a workload that the old one has not: {ran.stdout}{ran.stderr}"]
             ran = self.run(old, new, "three")
             why += [] if ran.returncode == 2 else [f"status {ran.returncode} of a seed that is no number"]
             return [*why, *self.why_count_wrong(pathlib.Path(folder), old, new)]
@@ -105,5 +126,6 @@ class ByTurns:
 def cases():
     yield ByTurns()
     yield Growth()
+    yield Captures()
     yield Beside("the program beside itself", None, "yes")
     yield Beside("the program beside one that writes another text", "echo", "no")

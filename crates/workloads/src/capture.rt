@@ -39,10 +39,13 @@ pub struct Records {
     left: u64,
 }
 
-// The record of a sender's line.
-fn record_of(alloc: Global, sender: &Sender) -> Result<Record, AllocError> {
-    let mut octets = Vec::new(alloc);
-    octets.extend_from_slice(&[0; RECORD_HEAD])?;
+/// The place in a frame of a place in the digits of its line.
+pub fn place_in_frame(place: usize) -> usize {
+    place.saturating_sub(LINE_HEAD) / 2
+}
+
+/// Appends the frame of a sender's line.
+pub fn put_frame(octets: &mut Vec<u8, Global>, sender: &Sender) -> Result<(), AllocError> {
     let digits = match sender.line.get(LINE_HEAD..) {
         Some(digits) => digits,
         None => &[],
@@ -58,6 +61,14 @@ fn record_of(alloc: Global, sender: &Sender) -> Result<Record, AllocError> {
         }
         octets.push(octet)?;
     }
+    Ok(())
+}
+
+// The record of a sender's line.
+fn record_of(alloc: Global, sender: &Sender) -> Result<Record, AllocError> {
+    let mut octets = Vec::new(alloc);
+    octets.extend_from_slice(&[0; RECORD_HEAD])?;
+    put_frame(&mut octets, sender)?;
     let size = octets.len().saturating_sub(RECORD_HEAD) as u64;
     for from in [8usize, 12] {
         put_quad(&mut octets, from, size);
@@ -66,13 +77,13 @@ fn record_of(alloc: Global, sender: &Sender) -> Result<Record, AllocError> {
         octets,
         at: sender
             .place_of_sequence()
-            .map(|place| place.saturating_sub(LINE_HEAD) / 2 + RECORD_HEAD),
+            .map(|place| place_in_frame(place).saturating_add(RECORD_HEAD)),
         number: 0x0100,
     })
 }
 
-// Writes a number of four octets at a place.
-fn put_quad(octets: &mut [u8], from: usize, number: u64) {
+/// Writes a number of four octets at a place, the least significant first.
+pub fn put_quad(octets: &mut [u8], from: usize, number: u64) {
     if let Some(quad) = behind(octets, from).first_chunk_mut::<4>() {
         *quad = ((number % 0x1_0000_0000) as u32).to_le_bytes();
     }

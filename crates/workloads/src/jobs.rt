@@ -6,14 +6,19 @@ use crate::capture::Records;
 use crate::chance::Chance;
 use crate::digest::{Digest, folded};
 use crate::feed::{Feed, feed_of};
+use crate::packets::Packets;
 use crate::script::Script;
 use crate::sender::{Sender, behind};
-use crate::shapes::{BAY, FLAGS, LOOSE, NESTS, QUOTES, SAMPLE, SAMPLES, SMALL, Shape};
+use crate::shapes::{
+    ARP, BAY, FLAGS, LLDP, LOOSE, MMS, NESTS, PTP, QUOTES, SAMPLE, SAMPLES, SMALL, Shape, TREE,
+};
 use crate::traffic::{Habits, Traffic, USUAL, few};
 use ber_core::Octets;
 use block_core::Block;
-use engine_core::{Ending, status};
-use exchange_engines::{publish, replay, watch};
+use capture_core::PacketReader;
+use engine_core::{Ending, Form, Stopped, Style, status};
+use exchange_engines::{publish, replay, replay_over, watch, watch_over};
+use frame_core::SkipOther;
 use frame_engines::{check, import, rewrite, show};
 use inventory_engine::blocks;
 use std::alloc::{AllocError, Global};
@@ -26,6 +31,9 @@ pub struct Work {
     pub lines: u64,
     pub told: u64,
 }
+
+/// The events of a capture, of which frames of other protocols are passed over.
+type Passed = SkipOther<PacketReader<Feed<Packets>, Global>, Global>;
 
 /// So many senders of lines of this shape, numbered from this number on.
 #[derive(Clone, Copy)]
@@ -187,6 +195,56 @@ impl Work {
         self.watch(&[so_many(SAMPLE, 0, 1)], 500)?;
         self.watch(&[so_many(SAMPLE, 0, 6)], 80)?;
         self.watch(&[so_many(SAMPLES, 0, 2)], 2000)
+    }
+
+    // The events of a capture of what these senders send, with packets of other protocols between, which are passed over.
+    fn packets(&mut self, groups: &[Group], longest_wait: u32) -> Result<Passed, AllocError> {
+        let senders = self.senders(groups)?;
+        let others = self.senders(&[
+            so_many(ARP, 0, 1),
+            so_many(LLDP, 0, 1),
+            so_many(PTP, 0, 1),
+            so_many(TREE, 0, 1),
+            so_many(MMS, 0, 1),
+        ])?;
+        let chance = Chance::new(self.chance.bits());
+        let packets = Packets::new(
+            self.alloc,
+            &senders,
+            &others,
+            chance,
+            longest_wait,
+            self.lines,
+        )?;
+        let capture = feed_of(self.alloc, packets);
+        Ok(SkipOther::new(PacketReader::new(self.alloc, capture)))
+    }
+
+    /// Replays a capture of a station by its control blocks, and watches one of two streams of eight ASDUs a frame in a capture.
+    pub fn capture(&mut self) -> Result<(), AllocError> {
+        let events = self.packets(&[so_many(BAY, 0, 200)], 8_000_000)?;
+        let bays = bays(self.alloc, 200)?;
+        let mut digest = Digest::new(self.alloc)?;
+        let Stopped { ending, .. } = replay_over(
+            self.alloc,
+            Style::Lines(Form::Text),
+            events,
+            bays,
+            &mut [],
+            &mut digest,
+        );
+        self.note(ending, digest)?;
+        let events = self.packets(&[so_many(SAMPLES, 0, 2)], 2_000_000)?;
+        let mut digest = Digest::new(self.alloc)?;
+        let Stopped { ending, .. } = watch_over(
+            self.alloc,
+            Style::Lines(Form::Text),
+            events,
+            4000,
+            b"MU00000",
+            &mut digest,
+        );
+        self.note(ending, digest)
     }
 
     /// Publishes a long script.

@@ -7,6 +7,7 @@ mod chance;
 mod digest;
 mod feed;
 mod jobs;
+mod packets;
 mod script;
 mod sender;
 mod shapes;
@@ -19,7 +20,9 @@ use std::env;
 use std::process::ExitCode;
 
 /// The jobs, in the order in which `all` does them.
-const JOBS: [&str; 6] = ["show", "accept", "station", "samples", "publish", "unknown"];
+const JOBS: [&str; 7] = [
+    "show", "accept", "station", "samples", "publish", "unknown", "capture",
+];
 
 // Does a job once.
 fn once(work: &mut Work, job: &str) -> Result<(), AllocError> {
@@ -29,7 +32,8 @@ fn once(work: &mut Work, job: &str) -> Result<(), AllocError> {
         "station" => work.station(),
         "samples" => work.samples(),
         "publish" => work.publish(),
-        _ => work.unknown(),
+        "unknown" => work.unknown(),
+        _ => work.capture(),
     }
 }
 

@@ -18,12 +18,12 @@ const HALF_UNITS: u64 = 100_000_000;
 const NAME_DIGITS: usize = 5;
 
 /// How many hexadecimal digits a number of two octets has.
-const WORD_DIGITS: usize = 4;
+pub const WORD_DIGITS: usize = 4;
 
 /// The least and the greatest stNum and sqNum: those of two octets.
-const FIRST: u16 = 0x0100;
+pub const FIRST: u16 = 0x0100;
 
-const LAST: u16 = 0x7F00;
+pub const LAST: u16 = 0x7F00;
 
 /// The digit of a number below 16.
 pub fn digit(number: u64) -> u8 {
@@ -147,9 +147,19 @@ impl Sender {
         }
     }
 
+    /// The first place of stNum.
+    pub fn place_of_state(&self) -> Option<usize> {
+        self.state.first().copied()
+    }
+
     /// The first place of sqNum.
     pub fn place_of_sequence(&self) -> Option<usize> {
         self.sequence.first().copied()
+    }
+
+    /// The places of the digits of each smpCnt, four by four.
+    pub fn places_of_counts(&self) -> &[usize] {
+        self.counts.as_slice()
     }
 
     /// Marks the frames as simulated, or as real.
