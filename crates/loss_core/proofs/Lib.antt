@@ -1,0 +1,9 @@
+mod Places
+mod Order
+mod Known
+mod Losses
+mod Nearest
+mod Samples
+mod AddUp
+mod Totals
+mod SampleTotals

@@ -1,0 +1,9 @@
+pub mod Sender
+pub mod Missing
+pub mod SenderLaws
+pub mod SenderTotals
+pub mod Advance
+pub mod Stream
+pub mod StreamLaws
+pub mod StreamTotals
+pub mod computed

@@ -1,0 +1,5 @@
+pub mod SenderSteps
+pub mod SenderTotalSteps
+pub mod AdvanceSteps
+pub mod StreamSteps
+pub mod StreamTotalSteps

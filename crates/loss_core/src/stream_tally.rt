@@ -1,0 +1,137 @@
+// A stream, and what its samples come to.
+
+ghost use Rattle.std.specs.Prelude.{◌≡◌, ◌+◌, ◌<◌, ◌≤◌, ◌++◌, ◌∷◌, [], List, max};
+ghost use Rattle.loss_core.specs.SenderTotals.{kept, one_if};
+ghost use Rattle.loss_core.specs.Stream.{IsSampleToldLast};
+ghost use Rattle.loss_core.specs.StreamTotals.{missing_before};
+ghost use Rattle.loss_core.specs.computed.StreamSteps.{came_after, kept_after};
+ghost use Rattle.loss_core.specs.computed.StreamTotalSteps.{AddsSample, StreamTallyStandsAfter};
+
+use crate::stream::{Came, Sample, Stream};
+use std::marker::Model;
+
+/// What the samples of a stream come to. A sum that would not fit stays at the greatest number.
+#[derive(Clone, Copy, Debug, PartialEq, Eq)]
+pub struct StreamTotals {
+    /// How many samples came.
+    pub samples: u64,
+    /// How many are missing.
+    pub missing: u64,
+    /// How many were late.
+    pub late: u64,
+    /// How many came again.
+    pub repeated: u64,
+    /// How many had a count out of range.
+    pub out_of_range: u64,
+    /// How often samples are missing.
+    pub outages: u64,
+    /// The most that are missing at once.
+    pub longest: u64,
+}
+
+/// A stream, and what its samples come to.
+#[derive(Drop)]
+pub struct StreamTally {
+    stream: Stream,
+    totals: StreamTotals,
+}
+
+impl Model for StreamTally {
+    ghost use Rattle.loss_core.specs.computed.StreamTotalSteps.{StreamTallyState};
+
+    ghost Value = { StreamTallyState };
+
+    ghost view = { λ s. record { stream = s.stream; totals = s.totals } };
+}
+
+// How many samples are missing before one.
+fn missing_samples(came: Came) -> u64
+    ensures { result ≡ missing_before came }
+{
+    match came {
+        Came::Missing(count) => count,
+        Came::First | Came::Next | Came::Repeated | Came::Late | Came::OutOfRange => 0,
+    }
+}
+
+// One more where it is so.
+fn counted(count: u64, is_so: bool) -> u64
+    ensures { result ≡ kept (count + one_if is_so) }
+{
+    if is_so {
+        count.saturating_add(1)
+    } else {
+        count
+    }
+}
+
+impl StreamTotals {
+    // Adds a sample that tells this.
+    fn add(&mut self, came: Came)
+        ensures { AddsSample came self.old self.new }
+    {
+        let missing = missing_samples(came);
+        self.samples = self.samples.saturating_add(1);
+        self.missing = self.missing.saturating_add(missing);
+        self.late = counted(self.late, came == Came::Late);
+        self.repeated = counted(self.repeated, came == Came::Repeated);
+        self.out_of_range = counted(self.out_of_range, came == Came::OutOfRange);
+        self.outages = counted(self.outages, came.is_behind_outage());
+        self.longest = self.longest.max(missing);
+    }
+}
+
+impl StreamTally {
+    /// The tally of a stream with this many samples a second, 1 to 65,536, of which none came.
+    pub fn new(period: u32) -> StreamTally
+        requires some { 0 < period }
+        requires most { period ≤ 65536 }
+        ensures period { result.stream.period ≡ period }
+        ensures stands { StreamTallyStandsAfter [] result }
+    {
+        StreamTally {
+            stream: Stream::new(period),
+            totals: StreamTotals {
+                samples: 0,
+                missing: 0,
+                late: 0,
+                repeated: 0,
+                out_of_range: 0,
+                outages: 0,
+                longest: 0,
+            },
+        }
+    }
+
+    /// What the samples come to.
+    pub fn totals(&self) -> StreamTotals
+        ensures { result ≡ self.now.totals }
+    {
+        self.totals
+    }
+
+    // Takes the next sample, and answers what it tells.
+    fn step(&mut self, sample: Sample) -> Came
+        ensures some { 0 < self.old.stream.period }
+        ensures most { self.old.stream.period ≤ 65536 }
+        ensures told { result ≡ came_after self.old.stream.period self.old.stream.newest sample }
+        ensures period { self.new.stream.period ≡ self.old.stream.period }
+        ensures newest { self.new.stream.newest ≡ kept_after self.old.stream.newest sample result }
+        ensures adds { AddsSample result self.old.totals self.new.totals }
+    {
+        let came = self.stream.take(sample);
+        self.totals.add(came);
+        came
+    }
+
+    /// Takes the next sample, and answers what it tells.
+    pub fn take(&mut self, sample: Sample) -> Came
+        // For all samples after which the tally stands: the answer is what this one tells after them, and the tally then
+        // stands after it too.
+        ensures told { (samples : List Sample) → StreamTallyStandsAfter samples self.old → IsSampleToldLast self.old.stream.period samples sample result }
+        ensures stands { (samples : List Sample) → StreamTallyStandsAfter samples self.old → StreamTallyStandsAfter (samples ++ sample ∷ []) self.new }
+        ensures period { self.new.stream.period ≡ self.old.stream.period }
+    {
+        self.step(sample)
+    }
+}
