@@ -20,7 +20,7 @@ use Rattle.engine_core.specs.declared.ending.Ending.{Ending}
 use Rattle.engine_core.specs.RunOver.{RunsOver}
 use Rattle.engine_core.specs.CaptureRun.{CaptureText, CaptureWrites, KeepsOfCapture, fault_of}
 use Rattle.engine_core.specs.MadeRun.{with_each}
-use Rattle.engine_core.proofs.InputRuns.{TellsOnward, input_run}
+use Rattle.engine_core.proofs.InputRuns.{ReadOf, TellsOnward, input_run}
 use Rattle.engine_core.proofs.MadeAnswers.{each_put, made, made_none, made_some, made_tells}
 
 -- the octets of an answer were given
@@ -84,23 +84,31 @@ module _ {I A : Type 0} (make : Event A → Event A) (state : I → PacketState)
       | inr (inr gone) ↦ absurd (not_given_up (state end).ending (λ more y f. capture_before more y f ∙ ap (λ (l : Numbered Packet CaptureFault). put_items raw (events_of l)) (gone more y f)))
     ]
 
+  -- what it gave and then answered
+  pub capture_read : (start before end : I) (items : List (ℕ × Event A)) (answer : AnswerOf (Event A) CaptureFault) → (state start).stage ≡ at_start → Gave answers start items before → answers before answer end →
+      ReadOf (λ given. with_each make (captured_events (state end).ending given)) (λ given. KeepsOfCapture make (state end).ending given) items answer (state start).left (state end).left
+  unfolding taken_then
+  capture_read start before end items answer fresh gave answered =
+      let p = gave_made start items before gave in
+      let q = through before end answer answered in
+      let ran = taken_then (state start) (state before) (state end) p.0 q.0 p.2 q.1 in
+      let reads = ran.reads [] (state end).ending (CanFollow-none (state end).ending) in
+      let whole : captured_events {A = A} (state end).ending ran.given ≡ put_items p.0 reads.0 = sym (behind_start (state start) (state end).ending ran.given fresh) ∙ ap (events_behind (state start) (state end).ending) (sym (append-nil ran.given)) ∙ reads.1 in
+      record {
+        given = ran.given;
+        gives = gives_packet q.0 _ _ ran.given ran.took;
+        onward = with_each make reads.0;
+        says = ap (with_each make) whole ∙ each_put make p.0 reads.0 ∙ ap (λ es. put_items es (with_each make reads.0)) (sym p.1);
+        tells = subst (λ o. TellsOnward o (with_each make reads.0)) (sym q.2) (made_tells make q.0 reads.0 (first_told q.0 reads.0 _ reads.2));
+        keeps = λ none. capture_keeps start before end answer fresh items p.0 p.1 p.2 q.0 q.1 (made_none make q.0 (sym none ∙ q.2));
+      }
+
   -- a run over it
   pub capture_run : (t : CaptureText A) (start end : I) (ending : Ending) (fault : Option CaptureFault) (old new : Option (List ℕ)) →
       (state start).stage ≡ at_start → (state start).ending ≡ Open → RunsOver answers fault_of is_failed_read t start ending fault end old new →
       (given : List ℕ) × GivesOctets (state start).left (state end).left given × CaptureWrites make t ending (state end).ending given fault old new
-  unfolding taken_then
   capture_run t start end ending fault old new fresh is (inl w) =
       ([], rw w.untouched (Gives-from_Consumes _ _ [] (Consumes-none _)), inl (record { has_ending = w.write_fault; by_none = w.by_none; is_open = rw w.untouched is; read_none = refl; written = w.written }))
   capture_run t start end ending fault old new fresh is (inr run) =
-      let p = gave_made start run.items run.before run.gave in
-      let q = through run.before end run.answer run.answered in
-      let ran = taken_then (state start) (state run.before) (state end) p.0 q.0 p.2 q.1 in
-      let reads = ran.reads [] (state end).ending (CanFollow-none (state end).ending) in
-      let whole : captured_events {A = A} (state end).ending ran.given ≡ put_items p.0 reads.0 = sym (behind_start (state start) (state end).ending ran.given fresh) ∙ ap (events_behind (state start) (state end).ending) (sym (append-nil ran.given)) ∙ reads.1 in (
-        ran.given,
-        gives_packet q.0 _ _ ran.given ran.took,
-        inr (input_run (KeepsOfCapture make (state end).ending ran.given) answers fault_of is_failed_read t start end ending fault old new run _ (with_each make reads.0)
-            (ap (with_each make) whole ∙ each_put make p.0 reads.0 ∙ ap (λ es. put_items es (with_each make reads.0)) (sym p.1))
-            (subst (λ o. TellsOnward o (with_each make reads.0)) (sym q.2) (made_tells make q.0 reads.0 (first_told q.0 reads.0 _ reads.2)))
-            (λ none. capture_keeps start run.before end run.answer fresh run.items p.0 p.1 p.2 q.0 q.1 (made_none make q.0 (sym none ∙ q.2)))),
-      )
+      let r = capture_read start run.before end run.items run.answer fresh run.gave run.answered in
+      (r.given, r.gives, inr (input_run (KeepsOfCapture make (state end).ending r.given) answers fault_of is_failed_read t start end ending fault old new run _ r.onward r.says r.tells r.keeps))

@@ -2,6 +2,7 @@
 use Rattle.std.proofs.Common.{Option, Some, None, Ok, Err, Result, ◌≡◌, ◌⊎◌, ℕ, Bool, List, [], inl, inr, ap, sym, ◌∙◌, refl, subst}
 use Rattle.std.specs.Prelude.{⊤}
 use Rattle.std.specs.Io.KnownBytes.{Appends}
+use Rattle.list_core.specs.Device.{GivesOctets}
 use Rattle.list_core.specs.Items.{Numbered, put_item, put_items, stops}
 use Rattle.list_core.specs.Lines.{finished, faulty}
 use Rattle.list_core.specs.ReadItems.{AnswerOf}
@@ -19,6 +20,15 @@ TellsOnward {X = X} {F = F} (Ok (Some e)) l = (others : Numbered X F) × (l ≡ 
 TellsOnward (Ok None) l = l ≡ stops finished
 TellsOnward (Err (Some f)) l = l ≡ stops (faulty f)
 TellsOnward (Err None) l = ⊤
+
+-- What a reader gave and then answered, by what its input says where these octets are given.
+pub record ReadOf {X F : Type 0} (said : List ℕ → Numbered X F) (Keeps : List ℕ → List (ℕ × X) → Type 0) (items : List (ℕ × X)) (answer : AnswerOf X F) (old new : Option (List ℕ)) : Type 0 where
+  pub given : List ℕ
+  pub gives : GivesOctets old new given
+  pub onward : Numbered X F
+  pub says : said given ≡ put_items items onward
+  pub tells : TellsOnward answer onward
+  pub keeps : answer ≡ Err None → Keeps given items
 
 module _ {X C F : Type 0} (refused : ℕ → C → F) (failed : F → Bool) (t : Allowed X C F) (items : List (ℕ × X)) where
   -- an item that is refused

@@ -14,3 +14,4 @@ pub mod ReaderRuns
 pub mod ReadFaults
 pub mod InputFaults
 pub mod WholeTexts
+pub mod WholeRuns

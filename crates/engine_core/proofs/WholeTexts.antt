@@ -92,7 +92,7 @@ module _ {S X C : Type 0} (r : Rules S X C) (s : S) (t : Text X C) (ending : End
       appends_front (rw next.1 (AppendsPrefix-more run.held new _ next.0 w))
 
 -- nothing is a prefix of any text
-front_none : (a : Option (List ℕ)) (text : List ℕ) → AppendsPrefix a a text
+pub front_none : (a : Option (List ℕ)) (text : List ℕ) → AppendsPrefix a a text
 front_none None text = tt
 front_none (Some os) text = ([], text, refl, sym (append-nil os))
 

@@ -9,4 +9,5 @@ pub mod MadeRun
 pub mod CaptureRun
 pub mod computed
 pub mod Laws
+pub mod WholeRun
 pub mod DatedLaws

@@ -22,7 +22,7 @@ fn put_marked<A: Allocator>(
     ensures { AppendsText result out.old.items out.new.items (lines_as (λ line. mark.now ++ line) (cut_at 10 text.now)) }
 {
     let mut others = text;
-    'lines: loop {
+    'lines: while !others.is_empty() {
         let (line, rest) = cut_first(others, b'\n');
         let Some(rest) = rest else {
             return out.extend_from_slice(line);
@@ -32,6 +32,7 @@ fn put_marked<A: Allocator>(
         out.push(b'\n')?;
         others = rest;
     }
+    Ok(())
 }
 
 // The date of a moment and a space, where it has a date.
@@ -47,7 +48,7 @@ fn mark_of(moment: u64) -> Option<[u8; DATE]>
 }
 
 /// Appends a text, each line of it behind the date of a moment and a space. Memory is wanted for a text alone.
-pub(crate) fn put_dated<A: Allocator>(
+pub fn put_dated<A: Allocator>(
     out: &mut Vec<u8, A>,
     moment: u64,
     text: &[u8],

@@ -1,8 +1,8 @@
 //! Engines over events, whatever input the events come from: a list, or a capture.
-ghost use Rattle.std.specs.Prelude.{◌≡◌, ℕ, List, OnErr, length, take};
+ghost use Rattle.std.specs.Prelude.{◌≡◌, ◌++◌, ℕ, List, [], IsOk, OnErr, OnOk, length, take};
 ghost use Rattle.list_core.specs.declared.event.Event.{Event};
 ghost use Rattle.object_core.specs.declared.counted.Form.{Form};
-ghost use Rattle.engine_core.specs.EventsText.{AgreesOnNothing, AlikeEvents, EventAllows, in_style, over_in};
+ghost use Rattle.engine_core.specs.EventsText.{AgreesOnNothing, AlikeEvents, EventAllows, in_style, line_in, over_in};
 ghost use Rattle.engine_core.specs.computed.EventStep.{TakesEvent};
 
 use crate::dated::put_dated;
@@ -81,6 +81,26 @@ fn put_in_style<A: Allocator, E: EventEngine<A>>(
     }
 }
 
+/// Appends the last line, of a fault of the input, in a style. Where memory is refused, the line's earlier text remains.
+pub fn put_fault_in<A: Allocator, F: LastLine + LastObject>(
+    style: Style,
+    line: &mut Vec<u8, A>,
+    fault: &F,
+) -> Result<(), AllocError>
+    ensures text { OnOk result (line.new.items ≡ line.old.items ++ line_in style (F.last_line fault.now) (F.last_object fault.now)) }
+    ensures kept { OnErr result (take (length line.old.items) line.new.items ≡ line.old.items) }
+    ensures quiet { line_in style (F.last_line fault.now) (F.last_object fault.now) ≡ [] → IsOk result }
+{
+    match style {
+        Style::Lines(Form::Text) => fault.put_last_line(line),
+        Style::Lines(Form::Object(_)) => fault.put_last_object(line),
+        Style::Dated => {
+            line.extend_from_slice(b"- ")?;
+            fault.put_last_line(line)
+        }
+    }
+}
+
 /// Such an engine over one input of events, the fault of which the last line tells.
 #[derive(Drop)]
 pub struct OfEvents<E, A: Allocator> {
@@ -124,13 +144,6 @@ impl<A: Allocator, F: InputFault + LastLine + LastObject, E: EventEngine<A>> Eng
     }
 
     fn put_last(&self, line: &mut Vec<u8, A>, fault: &F) -> Result<(), AllocError> {
-        match self.style {
-            Style::Lines(Form::Text) => fault.put_last_line(line),
-            Style::Lines(Form::Object(_)) => fault.put_last_object(line),
-            Style::Dated => {
-                line.extend_from_slice(b"- ")?;
-                fault.put_last_line(line)
-            }
-        }
+        put_fault_in(self.style, line, fault)
     }
 }
