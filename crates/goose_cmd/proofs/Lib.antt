@@ -13,6 +13,7 @@ pub mod WorkedExamples
 pub mod ListedItems
 pub mod BlockTexts
 pub mod ReplayLines
+pub mod CaptureReplays
 pub mod ListedTexts
 pub mod ListedBlocks
 pub mod WorkedListing

@@ -4,13 +4,17 @@ ghost use Rattle.std.specs.List.{flat_map, list_any};
 ghost use Rattle.list_core.specs.Items.{Listing};
 ghost use Rattle.engine_core.specs.EngineText.{IsPlain, Text, last_text};
 ghost use Rattle.engine_core.specs.computed.WholeText.{whole_text, told};
+ghost use Rattle.goose_cmd.specs.CaptureReplay.{CapturesAreReplayed};
 ghost use Rattle.goose_cmd.specs.ListLaws.{PublishedListsReplay, WrittenListsReplay};
 ghost use Rattle.goose_cmd.specs.ListedBlocks.{ListedBlocksAreApart, ListedBlocksFit, ReplaysWriteEntries};
 ghost use Rattle.goose_cmd.specs.OneTextLaws.{BlocksTextsAreOne, PublishTextsAreOne, ReplayTextsAreOne, WatchTextsAreOne};
 ghost use Rattle.exchange_engines.specs.ScriptLaws.{ScriptsAreInOrder};
 ghost use Rattle.goose_cmd.specs.PublishedLaws.{PublishedTextsReplay, ScriptsGiveLists, ScriptsSayRuns};
 
-pub use engine_core::laws::runs_write_whole_texts;
+pub use engine_core::laws::{
+    captures_are_written_whole, inputs_are_written_whole, lists_are_written_whole,
+    runs_write_whole_texts,
+};
 pub use exchange_laws::laws::{
     actions_carry_what_was_published, changes_are_acted_on_in_order,
     what_is_published_is_of_the_run, whole_runs_replay,
@@ -67,6 +71,15 @@ pub fn publish_texts_are_one<A: Allocator>()
 /// one.
 pub fn replays_write_entries<A: Allocator>()
     ensures { ReplaysWriteEntries A }
+{}
+
+/// Of a capture of any length a replay writes the lines of the entries that its events have, each with the number of its packet,
+/// and the line of its fault, if it has one: all where the run ended with the capture or by that fault, and else a prefix. The
+/// actions among these entries are exactly those of the blocks of which a frame is a good one with a status number above those of
+/// all good ones before it in their epoch, with the frame's own numbers, time and members. So too of what is left of the
+/// events where frames of other protocols are passed over.
+pub fn captures_are_replayed<A: Allocator>()
+    ensures { CapturesAreReplayed A }
 {}
 
 /// The BLOCKs of the lines `block` that `blocks` writes of a list say blocks of different names, so that a replay can have

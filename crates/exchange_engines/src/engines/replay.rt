@@ -312,8 +312,8 @@ fn stop_of_twice<F>(ending: Ending, position: usize) -> Option<ReplayStop<F>>
     }
 }
 
-// What a replay hands out that ran over its input.
-fn replayed_over<I, F>(stopped: Stopped<I, F>) -> Stopped<I, ReplayStop<F>>
+/// What a run hands out that stops by no other reason than its input's fault.
+pub fn of_input<I, F>(stopped: Stopped<I, F>) -> Stopped<I, ReplayStop<F>>
     ensures ending { result.ending ≡ stopped.ending }
     ensures fault { result.fault ≡ option_map ReplayStop.Input stopped.fault }
     ensures reader { result.reader ≡ stopped.reader }
@@ -381,7 +381,7 @@ pub fn replay_over<
                 style,
                 undated: Vec::new(alloc),
             };
-            replayed_over(run_over(alloc, engine, b"", events, writer))
+            of_input(run_over(alloc, engine, b"", events, writer))
         }
         Err((fault, blocks)) => match fault {
             SubscribeFault::SameBlockTwice(position) => {

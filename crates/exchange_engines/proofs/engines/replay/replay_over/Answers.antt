@@ -13,7 +13,7 @@ returns-in-Ok-clause-text g c =
     let stopped = c.run_over.result in
     let same = ap (λ (s : State g.row.A.Denot). s.blocks) c.in-Ok.ensures.fresh in
     let run = subst (λ (bs : List (Block g.row.A.Denot)). RunsOver g.I.ReadItems.answers g.F.InputFault.refused g.F.InputFault.failed (over_in c.args.style (replay_allows bs) g.F.LastLine.last_line g.F.LastObject.last_object) c.args.events stopped.ending stopped.fault stopped.reader (g.W.Sink.contents c.args.writer.now) (g.W.Sink.contents c.run_over.new.writer)) same c.run_over.ensures.text in
-    rw (c.replayed_over.ensures.ending, c.replayed_over.ensures.fault, c.replayed_over.ensures.reader) (inr (inr (record {
+    rw (c.of_input.ensures.ending, c.of_input.ensures.fault, c.of_input.ensures.reader) (inr (inr (record {
       are_apart = c.in-Ok.ensures.apart;
       fault = stopped.fault;
       by = refl;
