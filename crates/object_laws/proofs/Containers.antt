@@ -11,9 +11,11 @@ use Rattle.json.proofs.Printed.Tokens.{print_from-append}
 use Rattle.object_core.specs.MemberObject.{behind_comma}
 use Rattle.object_core.specs.Objects as objects
 use Rattle.object_core.specs.Objects.{Field, field_text}
+use Rattle.object_core.specs.Onward.{next_field}
 use Rattle.object_core.proofs.ObjectParts.{array_parts, object_parts}
 use Rattle.object_laws.proofs.PlainTexts.{ArePlain, escape_plain}
-use Rattle.object_laws.proofs.Values.{IsValue}
+use Rattle.object_laws.proofs.Signs.{AreSigns, plain_signs, signs_append}
+use Rattle.object_laws.proofs.Values.{IsTextOf}
 
 -- behind the tokens of a value a comma is wanted
 abbrev after : Bool → List Token → Bool
@@ -59,101 +61,126 @@ then_tokens_too j ts =
     print_from-append true (json_tokens j) ts ∙ ap (λ c. print_from true (json_tokens j) ++ print_from c ts) (after_value j true) ∙ ap (λ (l : List ℕ). l ++ print_from true ts) (with_comma j)
 
 -- ---- arrays
+-- ---- arrays
 
-abbrev pub AreValues : ℕ → List (List ℕ) → Type 0
-AreValues n [] = Unit {0}
-AreValues n (text ∷ texts) = IsValue n text × AreValues n texts
+-- each text is that of the value in its place
+abbrev pub AreTextsOf : ℕ → Items → List (List ℕ) → Type 0
+AreTextsOf n no_items [] = Unit {0}
+AreTextsOf n no_items (text ∷ texts) = ⊥
+AreTextsOf n (item j js) [] = ⊥
+AreTextsOf n (item j js) (text ∷ texts) = IsTextOf n j text × AreTextsOf n js texts
 
-items_in : (n : ℕ) (texts : List (List ℕ)) → AreValues n texts → Items
-items_in n [] vs = no_items
-items_in n (text ∷ texts) vs = item vs.0.json (items_in n texts vs.1)
-
-more_items : (n : ℕ) (texts : List (List ℕ)) (vs : AreValues n texts) → print_from true (items_tokens (items_in n texts vs)) ≡ flat_map behind_comma texts ++ 93 ∷ []
-unfolding items_in print_from
-more_items n [] vs = refl
-more_items n (text ∷ texts) vs =
-    then_tokens_too vs.0.json (items_tokens (items_in n texts vs.1))
-    ∙ ap (λ (l : List ℕ). (44 ∷ print (json_tokens vs.0.json)) ++ l) (more_items n texts vs.1)
+more_items : (n : ℕ) (js : Items) (texts : List (List ℕ)) → AreTextsOf n js texts → print_from true (items_tokens js) ≡ flat_map behind_comma texts ++ 93 ∷ []
+unfolding print_from
+more_items n no_items [] vs = refl
+more_items n no_items (text ∷ texts) vs = absurd vs
+more_items n (item j js) [] vs = absurd vs
+more_items n (item j js) (text ∷ texts) vs =
+    then_tokens_too j (items_tokens js)
+    ∙ ap (λ (l : List ℕ). (44 ∷ print (json_tokens j)) ++ l) (more_items n js texts vs.1)
     ∙ ap (λ (l : List ℕ). (44 ∷ l) ++ (flat_map behind_comma texts ++ 93 ∷ [])) vs.0.printed
     ∙ sym (append_assoc (44 ∷ text) (flat_map behind_comma texts) (93 ∷ []))
 
-array_printed : (n : ℕ) (texts : List (List ℕ)) (vs : AreValues n texts) → print (json_tokens (array (items_in n texts vs))) ≡ objects.array texts
-unfolding items_in print_from
-array_printed n [] vs = refl
-array_printed n (text ∷ texts) vs =
-    ap (λ (l : List ℕ). 91 ∷ l) (then_tokens vs.0.json (items_tokens (items_in n texts vs.1))
-    ∙ ap (λ (l : List ℕ). print (json_tokens vs.0.json) ++ l) (more_items n texts vs.1)
+array_printed : (n : ℕ) (js : Items) (texts : List (List ℕ)) → AreTextsOf n js texts → print (json_tokens (array js)) ≡ objects.array texts
+unfolding print_from
+array_printed n no_items [] vs = refl
+array_printed n no_items (text ∷ texts) vs = absurd vs
+array_printed n (item j js) [] vs = absurd vs
+array_printed n (item j js) (text ∷ texts) vs =
+    ap (λ (l : List ℕ). 91 ∷ l) (then_tokens j (items_tokens js)
+    ∙ ap (λ (l : List ℕ). print (json_tokens j) ++ l) (more_items n js texts vs.1)
     ∙ ap (λ (l : List ℕ). l ++ (flat_map behind_comma texts ++ 93 ∷ [])) vs.0.printed)
     ∙ sym (append_assoc (91 ∷ text) (flat_map behind_comma texts) (93 ∷ []))
     ∙ sym (array_parts text texts)
 
-items_good : (n : ℕ) (texts : List (List ℕ)) (vs : AreValues n texts)
-    → ItemsHaveNumbers (items_in n texts vs) × ItemsHaveUniqueKeys (items_in n texts vs) × (items_depth (items_in n texts vs) ≤ n)
-unfolding items_in
-items_good n [] vs = (tt, tt, omega arith)
-items_good n (text ∷ texts) vs =
-    let rest = items_good n texts vs.1 in
-    ((vs.0.numbers, rest.0), (vs.0.unique, rest.1), omega (arith, vs.0.nests, rest.2))
+items_good : (n : ℕ) (js : Items) (texts : List (List ℕ)) → AreTextsOf n js texts → ItemsHaveNumbers js × ItemsHaveUniqueKeys js × (items_depth js ≤ n) × AreSigns (flat_map behind_comma texts)
+items_good n no_items [] vs = (tt, tt, omega arith, tt)
+items_good n no_items (text ∷ texts) vs = absurd vs
+items_good n (item j js) [] vs = absurd vs
+items_good n (item j js) (text ∷ texts) vs =
+    let rest = items_good n js texts vs.1 in
+    ((vs.0.numbers, rest.0), (vs.0.unique, rest.1), omega (arith, vs.0.nests, rest.2), (omega arith, signs_append text (flat_map behind_comma texts) vs.0.signs rest.3))
 
-pub array_value : (n : ℕ) (texts : List (List ℕ)) → AreValues n texts → IsValue (suc n) (objects.array texts)
-array_value n texts vs =
-    let good = items_good n texts vs in
-    record { json = array (items_in n texts vs); printed = array_printed n texts vs; numbers = good.0; unique = good.1; nests = omega (arith, good.2) }
+array_signs : (n : ℕ) (js : Items) (texts : List (List ℕ)) → AreTextsOf n js texts → AreSigns (objects.array texts)
+array_signs n js [] vs = (omega arith, (omega arith, tt))
+array_signs n no_items (text ∷ texts) vs = absurd vs
+array_signs n (item j js) (text ∷ texts) vs =
+    let others = (items_good n js texts vs.1).3 in
+    let end : AreSigns (93 ∷ []) = (omega arith, tt) in
+    subst AreSigns (sym (array_parts text texts)) (omega arith, signs_append (text ++ flat_map behind_comma texts) (93 ∷ []) (signs_append text (flat_map behind_comma texts) vs.0.signs others) end)
+
+pub array_is : (n : ℕ) (js : Items) (texts : List (List ℕ)) → AreTextsOf n js texts → IsTextOf (suc n) (array js) (objects.array texts)
+array_is n js texts vs =
+    let good = items_good n js texts vs in
+    record { printed = array_printed n js texts vs; numbers = good.0; unique = good.1; nests = omega (arith, good.2); signs = array_signs n js texts vs }
 
 -- ---- objects
 
--- a field behind a comma
-abbrev onward : Field → List ℕ
-onward f = 44 ∷ field_text f
+-- a name of which nothing is escaped, and a text of a value
+pub record Named (n : ℕ) : Type 0 where
+  pub name : List ℕ
+  pub text : List ℕ
+  pub json : Json
+  pub is_plain : ArePlain name
+  pub is_text : IsTextOf n json text
 
--- names of which nothing is escaped, and values
-abbrev pub AreFields : ℕ → List Field → Type 0
-AreFields n [] = Unit {0}
-AreFields n (f ∷ fs) = ArePlain f.0 × IsValue n f.1 × AreFields n fs
+abbrev pub names_of : {n : ℕ} → List (Named n) → List (List ℕ)
+names_of [] = []
+names_of (v ∷ vs) = v.name ∷ names_of vs
 
-members_in : (n : ℕ) (fs : List Field) → AreFields n fs → Members
-members_in n [] vs = no_members
-members_in n (f ∷ fs) vs = member f.0 vs.1.json (members_in n fs vs.2)
+-- their names and texts
+abbrev pub fields_of : {n : ℕ} → List (Named n) → List Field
+fields_of [] = []
+fields_of (v ∷ vs) = (v.name, v.text) ∷ fields_of vs
+
+-- their names and values
+abbrev pub members_of : {n : ℕ} → List (Named n) → Members
+members_of [] = no_members
+members_of (v ∷ vs) = member v.name v.json (members_of vs)
 
 -- a name and its value
-named : (n : ℕ) (f : Field) (ts : List Token) (plain : ArePlain f.0) (v : IsValue n f.1)
-    → (34 ∷ (escape f.0 ++ 34 ∷ []) ++ 58 ∷ []) ++ print_from false (json_tokens v.json ++ ts) ≡ field_text f ++ print_from true ts
-named n f ts plain v =
-    ap (λ (l : List ℕ). (34 ∷ (l ++ 34 ∷ []) ++ 58 ∷ []) ++ print_from false (json_tokens v.json ++ ts)) (escape_plain f.0 plain)
-    ∙ ap (λ (l : List ℕ). (34 ∷ (f.0 ++ 34 ∷ []) ++ 58 ∷ []) ++ l) (then_tokens v.json ts ∙ ap (λ (l : List ℕ). l ++ print_from true ts) v.printed)
+named : {n : ℕ} (v : Named n) (ts : List Token) → (34 ∷ (escape v.name ++ 34 ∷ []) ++ 58 ∷ []) ++ print_from false (json_tokens v.json ++ ts) ≡ field_text (v.name, v.text) ++ print_from true ts
+named v ts =
+    ap (λ (l : List ℕ). (34 ∷ (l ++ 34 ∷ []) ++ 58 ∷ []) ++ print_from false (json_tokens v.json ++ ts)) (escape_plain v.name v.is_plain)
+    ∙ ap (λ (l : List ℕ). (34 ∷ (v.name ++ 34 ∷ []) ++ 58 ∷ []) ++ l) (then_tokens v.json ts ∙ ap (λ (l : List ℕ). l ++ print_from true ts) v.is_text.printed)
     ∙ simp append_assoc
 
-more_members : (n : ℕ) (fs : List Field) (vs : AreFields n fs) → print_from true (members_tokens (members_in n fs vs)) ≡ concat (map onward fs ++ (125 ∷ []) ∷ [])
-unfolding members_in print_from
-more_members n [] vs = refl
-more_members n (f ∷ fs) vs =
-    ap (λ (l : List ℕ). 44 ∷ l) (named n f (members_tokens (members_in n fs vs.2)) vs.0 vs.1) ∙ ap (λ (l : List ℕ). onward f ++ l) (more_members n fs vs.2)
+more_members : {n : ℕ} (vs : List (Named n)) → print_from true (members_tokens (members_of vs)) ≡ concat (map next_field (fields_of vs) ++ (125 ∷ []) ∷ [])
+unfolding print_from
+more_members [] = refl
+more_members (v ∷ vs) = ap (λ (l : List ℕ). 44 ∷ l) (named v (members_tokens (members_of vs))) ∙ ap (λ (l : List ℕ). next_field (v.name, v.text) ++ l) (more_members vs)
 
-object_printed : (n : ℕ) (f : Field) (fs : List Field) (vs : AreFields n (f ∷ fs)) → print (json_tokens (object (members_in n (f ∷ fs) vs))) ≡ objects.object (f ∷ fs)
-unfolding members_in print_from
-object_printed n f fs vs =
-    ap (λ (l : List ℕ). 123 ∷ l) (named n f (members_tokens (members_in n fs vs.2)) vs.0 vs.1) ∙ ap (λ (l : List ℕ). (123 ∷ field_text f) ++ l) (more_members n fs vs.2)
-    ∙ sym (object_parts f fs)
+object_printed : {n : ℕ} (v : Named n) (vs : List (Named n)) → print (json_tokens (object (members_of (v ∷ vs)))) ≡ objects.object (fields_of (v ∷ vs))
+unfolding print_from
+object_printed v vs =
+    ap (λ (l : List ℕ). 123 ∷ l) (named v (members_tokens (members_of vs))) ∙ ap (λ (l : List ℕ). (123 ∷ field_text (v.name, v.text)) ++ l) (more_members vs)
+    ∙ sym (object_parts (v.name, v.text) (fields_of vs))
 
-members_good : (n : ℕ) (fs : List Field) (vs : AreFields n fs)
-    → MembersHaveNumbers (members_in n fs vs) × MembersHaveUniqueKeys (members_in n fs vs) × (members_depth (members_in n fs vs) ≤ n) × (keys (members_in n fs vs) ≡ map (λ (f : Field). f.0) fs)
-unfolding members_in
-members_good n [] vs = (tt, tt, omega arith, refl)
-members_good n (f ∷ fs) vs =
-    let rest = members_good n fs vs.2 in
-    ((vs.1.numbers, rest.0), (vs.1.unique, rest.1), omega (arith, vs.1.nests, rest.2), ap (λ (l : List (List ℕ)). f.0 ∷ l) rest.3)
+members_good : {n : ℕ} (vs : List (Named n))
+    → MembersHaveNumbers (members_of vs) × MembersHaveUniqueKeys (members_of vs) × (members_depth (members_of vs) ≤ n) × (keys (members_of vs) ≡ names_of vs)
+members_good [] = (tt, tt, omega arith, refl)
+members_good (v ∷ vs) =
+    let rest = members_good vs in
+    ((v.is_text.numbers, rest.0), (v.is_text.unique, rest.1), omega (arith, v.is_text.nests, rest.2), ap (λ (l : List (List ℕ)). v.name ∷ l) rest.3)
 
-pub object_value : (n : ℕ) (f : Field) (fs : List Field) → AreFields n (f ∷ fs) → AreDistinct (map (λ (g : Field). g.0) (f ∷ fs)) → IsValue (suc n) (objects.object (f ∷ fs))
-object_value n f fs vs distinct =
-    let good = members_good n (f ∷ fs) vs in
+field_signs : {n : ℕ} (v : Named n) → AreSigns (field_text (v.name, v.text))
+field_signs v = (omega arith, signs_append v.name (34 ∷ 58 ∷ v.text) (plain_signs v.name v.is_plain) (omega arith, (omega arith, v.is_text.signs)))
+
+fields_signs : {n : ℕ} (vs : List (Named n)) → AreSigns (concat (map next_field (fields_of vs) ++ (125 ∷ []) ∷ []))
+fields_signs [] = (omega arith, tt)
+fields_signs (v ∷ vs) = (omega arith, signs_append (field_text (v.name, v.text)) _ (field_signs v) (fields_signs vs))
+
+object_signs : {n : ℕ} (v : Named n) (vs : List (Named n)) → AreSigns (objects.object (fields_of (v ∷ vs)))
+object_signs v vs =
+    subst AreSigns (sym (object_parts (v.name, v.text) (fields_of vs))) (omega arith, signs_append (field_text (v.name, v.text)) _ (field_signs v) (fields_signs vs))
+
+pub object_is : (n : ℕ) (v : Named n) (vs : List (Named n)) → AreDistinct (names_of (v ∷ vs)) → IsTextOf (suc n) (object (members_of (v ∷ vs))) (objects.object (fields_of (v ∷ vs)))
+object_is n v vs distinct =
+    let good = members_good (v ∷ vs) in
     record {
-      json = object (members_in n (f ∷ fs) vs);
-      printed = object_printed n f fs vs;
+      printed = object_printed v vs;
       numbers = good.0;
       unique = (subst AreDistinct (sym good.3) distinct, good.1);
       nests = omega (arith, good.2);
+      signs = object_signs v vs;
     }
-
--- names of which the first is none of the others
-pub one_name : (k : List ℕ) → AreDistinct (k ∷ [])
-one_name k i j d h within = absurd (omega (arith, h, within))

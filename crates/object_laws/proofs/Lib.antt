@@ -1,6 +1,11 @@
 pub mod PlainTexts
+pub mod Signs
 pub mod Values
 pub mod Containers
 pub mod Names
+pub mod Fields
+pub mod Spoken
 pub mod MemberValues
+pub mod CauseNames
+pub mod Lines
 pub mod FaultLines

@@ -1,12 +1,14 @@
 -- Names of which no two are the same.
 use Rattle.std.proofs.Common.{◌≡◌, ◌≢◌, ℕ, zero, suc, ◌<◌, Bool, true, true≢false, ◌&&◌, List, [], ◌∷◌, length, get_or, ap, sym, ◌∙◌, arith}
-use Rattle.std.specs.Prelude.{not, ◌==◌}
-use Rattle.std.proofs.lemmas.Bool.{and_from, and_parts, eq-eqb}
+use Rattle.std.specs.Prelude.{not}
+use Rattle.std.specs.Str.{bytes_eq}
+use Rattle.std.proofs.lemmas.Bool.{and_parts}
+use Rattle.std.proofs.lemmas.Slice.Eq.{bytes_eq-Decides}
 use Rattle.json.specs.Strict.{AreDistinct}
 
--- two names differ in their first letter or in their length
+-- two names differ
 abbrev differs : List ℕ → List ℕ → Bool
-differs k l = not ((get_or k 0 0 == get_or l 0 0) && (length k == length l))
+differs k l = not (bytes_eq k l)
 
 abbrev is_none : List ℕ → List (List ℕ) → Bool
 is_none k [] = true
@@ -18,8 +20,7 @@ all_differ [] = true
 all_differ (k ∷ ks) = is_none k ks && all_differ ks
 
 others : (k l : List ℕ) → differs k l ≡ true → k ≢ l
-others k l h e =
-    true≢false (sym h ∙ ap not (and_from _ _ (eq-eqb (get_or k 0 0) (get_or l 0 0) (ap (λ (t : List ℕ). get_or t 0 0) e)) (eq-eqb (length k) (length l) (ap (λ (t : List ℕ). length t) e))))
+others k l h e = true≢false (sym h ∙ ap not ((bytes_eq-Decides k l).1 e))
 
 none_at : (k : List ℕ) (ls : List (List ℕ)) (j : ℕ) (x : List ℕ) → is_none k ls ≡ true → j < length ls → k ≢ get_or ls j x
 none_at k [] j x h within = absurd (omega arith)

@@ -4,6 +4,7 @@ use Rattle.json.specs.Json.{Json, document}
 use Rattle.json.specs.Strict.{HasUniqueKeys}
 use Rattle.ber_core.specs.Length.{AreOctets}
 use Rattle.ber_core.specs.declared.fault.Fault.{Fault}
+use Rattle.list_core.specs.Cuts.{HasNo}
 use Rattle.list_core.specs.declared.list_fault.ListFault.{ListFault}
 use Rattle.capture_core.specs.declared.capture_fault.CaptureFault.{CaptureFault}
 use Rattle.mms_data.specs.Data.{Data}
@@ -16,9 +17,9 @@ use Rattle.object_core.specs.MemberObject.{AreMembers}
 abbrev pub IsJsonText : List ℕ → Type 0
 IsJsonText text = (j : Json) × (document text ≡ Some j) × HasUniqueKeys j
 
--- the line is one value of JSON
+-- the line is one value of JSON, and no line feed stands in it but the last
 abbrev pub IsJsonLine : List ℕ → Type 0
-IsJsonLine line = (text : List ℕ) × (line ≡ text ++ codes "\n") × IsJsonText text
+IsJsonLine line = (text : List ℕ) × (line ≡ text ++ codes "\n") × HasNo 10 text × IsJsonText text
 
 -- each text that is allowed for members which octets spell is JSON
 abbrev pub MembersAreJson : Type 0

@@ -1,0 +1,15 @@
+pub mod LineSaid
+pub mod SpokenLines
+pub mod FaultPlaces
+pub mod Visible
+pub mod Spelled
+pub mod Optional
+pub mod Told
+pub mod CheckSaid
+pub mod WatchSaid
+pub mod BlocksSaid
+pub mod EntrySaid
+pub mod ReplaySaid
+pub mod AsduSaid
+pub mod ShowSaid
+pub mod AllSaid

@@ -1,0 +1,25 @@
+use Rattle.line_laws.proofs.BlocksSaid.{blocks_is_json}
+use Rattle.line_laws.proofs.CheckSaid.{check_is_json}
+use Rattle.line_laws.proofs.EntrySaid.{twice_is_json}
+use Rattle.line_laws.proofs.ReplaySaid.{replay_is_json}
+use Rattle.line_laws.proofs.ShowSaid.{show_is_json}
+use Rattle.line_laws.proofs.WatchSaid.{watch_is_json}
+use Rattle.line_laws.proofs.laws.objects_are_json.Goals as goal
+
+pub returns-clause-show : goal.returns-clause-show
+returns-clause-show g c = show_is_json
+
+pub returns-clause-check : goal.returns-clause-check
+returns-clause-check g c = check_is_json
+
+pub returns-clause-replay : goal.returns-clause-replay
+returns-clause-replay g c = replay_is_json
+
+pub returns-clause-twice : goal.returns-clause-twice
+returns-clause-twice g c = twice_is_json
+
+pub returns-clause-watch : goal.returns-clause-watch
+returns-clause-watch g c = watch_is_json
+
+pub returns-clause-blocks : goal.returns-clause-blocks
+returns-clause-blocks g c = blocks_is_json
