@@ -21,18 +21,18 @@ use Rattle.object_core.specs.declared.counted.Form.TheVariants.{Text as Lines, O
 use Rattle.object_core.specs.EventObject.{event_fields}
 use Rattle.object_core.specs.Objects.{Field, object}
 use Rattle.inventory_engine.specs.SightingObject.{sighting_object}
-use Rattle.inventory_engine.specs.declared.inventory.Inventory.{Inventory}
-use Rattle.inventory_engine.specs.declared.inventory.Place.{Place}
+use Rattle.known_core.specs.declared.runs.Place.{Place}
+use Rattle.known_core.specs.computed.Held.{InOrderFor, IsAt, IsCompact, IsGap, NoneEmpty, PutsOne, held, position_of}
+use Rattle.known_core.proofs.OrderLemmas.{ascends_insert, ascends_set, in_order_for, none_at_gap, none_before}
+use Rattle.known_core.proofs.SearchLemmas.{none_empty}
 use Rattle.inventory_engine.specs.declared.known.Known.{Known}
 use Rattle.inventory_engine.specs.Sightings.{Sighting, key_of, sightings_in, sightings_of, stream_sighting, stream_sightings}
 use Rattle.inventory_engine.specs.BlocksText.{Telling, changed_kind, first_kind, line_after, sighting_line, spaced_word, telling}
 use Rattle.inventory_engine.specs.computed.BlocksStep.{Keeps, Tells, AppendsLines, HasLines, blocks_event, lines_by, newest, written_of}
-use Rattle.inventory_engine.specs.computed.KnownTexts.{InOrder, IsAt, IsGap, known_key, known_text, same_key, text_by}
-use Rattle.inventory_engine.specs.computed.Runs.{AreRuns, NoneEmpty, PutsOne, WritesText, held, in_runs, position_of}
-use Rattle.std.specs.declared.vec.Vec.{Vec}
-use Rattle.inventory_engine.proofs.KnownLemmas.{Updates, absent, none_at_gap, none_before, order_insert, order_set, present, updates_insert, updates_same, updates_set}
+use Rattle.inventory_engine.specs.computed.KnownTexts.{InOrder, Inventory, WritesText, by_key, key_cmp, known_key, known_text, same_key, text_by}
+use Rattle.inventory_engine.proofs.KnownLemmas.{Updates, absent, has_key, present, updates_insert, updates_same, updates_set}
+use Rattle.inventory_engine.proofs.KeyLemmas.{key_total}
 use Rattle.inventory_engine.proofs.Newest.{newest-push}
-use Rattle.inventory_engine.proofs.RunLemmas.{none_empty}
 
 concat-append : (xs ys : List (List ℕ)) → concat (xs ++ ys) ≡ concat xs ++ concat ys
 concat-append [] ys = refl
@@ -96,14 +96,14 @@ module _ {A : Type 0} (how : Telling) (s : Sighting) (known : Inventory A) where
   written_of_one : (e : List Sighting) → written_of how e (s ∷ []) ≡ line_after how s (newest e (key_of s))
   written_of_one e = append-nil (line_after how s (newest e (key_of s)))
 
-  newest_at : (e : List Sighting) (at : ℕ) (d : Known A) → Keeps known e → IsAt (held known) (key_of s) at → newest e (key_of s) ≡ Some (known_text (get_or (held known) at d))
+  newest_at : (e : List Sighting) (at : ℕ) (d : Known A) → Keeps known e → IsAt (by_key (key_of s)) (held known) at → newest e (key_of s) ≡ Some (known_text (get_or (held known) at d))
   newest_at e at d k is =
-      sym (k.same (key_of s)) ∙ present known_key known_text (held known) (key_of s) at d is.within (is.has d) (none_before (held known) k.order (key_of s) at is d)
+      sym (k.same (key_of s)) ∙ present known_key known_text (held known) (key_of s) at d is.within (has_key (held known) (key_of s) at is d) (none_before key_cmp key_total known_key (held known) k.order (key_of s) at is d)
 
-  newest_gap : (e : List Sighting) (at : ℕ) → Keeps known e → IsGap (held known) (key_of s) at → newest e (key_of s) ≡ None
-  newest_gap e at k gap = sym (k.same (key_of s)) ∙ absent known_key known_text (held known) (key_of s) (none_at_gap (held known) k.order (key_of s) at gap)
+  newest_gap : (e : List Sighting) (at : ℕ) → Keeps known e → IsGap (by_key (key_of s)) (held known) at → newest e (key_of s) ≡ None
+  newest_gap e at k gap = sym (k.same (key_of s)) ∙ absent known_key known_text (held known) (key_of s) (none_at_gap key_cmp key_total known_key (held known) (key_of s) at gap)
 
-  keeps_on : (e : List Sighting) (after : Inventory A) → Keeps known e → AreRuns after.runs.items → InOrder (held after) → Updates known_key known_text (held known) (held after) (key_of s) s.text → Keeps after (e ++ s ∷ [])
+  keeps_on : (e : List Sighting) (after : Inventory A) → Keeps known e → IsCompact after → InOrder (held after) → Updates known_key known_text (held known) (held after) (key_of s) s.text → Keeps after (e ++ s ∷ [])
   keeps_on e after k some order up = record {
     runs = some;
     order = order;
@@ -114,7 +114,7 @@ module _ {A : Type 0} (how : Telling) (s : Sighting) (known : Inventory A) where
   line_same : (t : List ℕ) → bytes_eq t s.text ≡ true → line_after how s (Some t) ≡ []
   line_same t it_is = rw it_is refl
 
-  pub said_same : (at : ℕ) (d : Known A) (old : List ℕ) → IsAt (held known) (key_of s) at → bytes_eq (known_text (get_or (held known) at d)) s.text ≡ true
+  pub said_same : (at : ℕ) (d : Known A) (old : List ℕ) → IsAt (by_key (key_of s)) (held known) at → bytes_eq (known_text (get_or (held known) at d)) s.text ≡ true
       → AppendsLines how (s ∷ []) known known old old
   said_same at d old is it_is = λ e k.
       let same : known_text (get_or (held known) at d) ≡ s.text = (bytes_eq-Decides (known_text (get_or (held known) at d)) s.text).0 it_is in
@@ -128,45 +128,45 @@ module _ {A : Type 0} (how : Telling) (s : Sighting) (known : Inventory A) where
   line_other t differs = rw differs refl
 
   -- it is known with another text
-  pub said_changed : (place : Place) (after : Inventory A) (old new : List ℕ) → IsAt (held known) (key_of s) (position_of known place) → ((d : Known A) → bytes_eq (known_text (get_or (held known) (position_of known place) d)) s.text ≡ false)
+  pub said_changed : (place : Place) (after : Inventory A) (old new : List ℕ) → IsAt (by_key (key_of s)) (held known) (position_of known place) → ((d : Known A) → bytes_eq (known_text (get_or (held known) (position_of known place) d)) s.text ≡ false)
       → WritesText known after place s.text → new ≡ old ++ how.of_changed s → AppendsLines how (s ∷ []) known after old new
   said_changed place after old new is differs writes wrote = λ e k.
       let at = position_of known place in
       let y = writes.one in
-      let same : known_key y ≡ key_of s = writes.same_key y ∙ is.has y in
+      let same : known_key y ≡ key_of s = writes.same_key y ∙ has_key (held known) (key_of s) at is y in
       let one : written_of how e (s ∷ []) ≡ how.of_changed s = written_of_one e ∙ ap (line_after how s) (newest_at e at y k is) ∙ line_other _ (differs y) in (
         wrote ∙ ap (λ (l : List ℕ). old ++ l) (sym one),
         keeps_on e after k (writes.runs k.runs)
-            (subst (λ (l : List (Known A)). InOrder l) (sym writes.written) (order_set (held known) k.order (key_of s) at is y same))
+            (subst (λ (l : List (Known A)). InOrder l) (sym writes.written) (ascends_set key_cmp key_total known_key (held known) k.order at y is.within (λ d. same ∙ sym (has_key (held known) (key_of s) at is d))))
             (subst (λ (l : List (Known A)). Updates known_key known_text (held known) l (key_of s) s.text) (sym writes.written)
             (subst (λ (t : List ℕ). Updates known_key known_text (held known) (set (held known) at y) (key_of s) t) writes.has_text
-            (updates_set known_key known_text (held known) (key_of s) at y y is.within (is.has y) (none_before (held known) k.order (key_of s) at is y) same))),
+            (updates_set known_key known_text (held known) (key_of s) at y y is.within (has_key (held known) (key_of s) at is y) (none_before key_cmp key_total known_key (held known) k.order (key_of s) at is y) same))),
       )
 
   -- it is not known
-  pub said_first : (place : Place) (y : Known A) (after : Inventory A) (old new : List ℕ) → (NoneEmpty known.runs.items → InOrder (held known) → IsGap (held known) (key_of s) (position_of known place))
+  pub said_first : (place : Place) (y : Known A) (after : Inventory A) (old new : List ℕ) → (NoneEmpty known → InOrderFor (by_key (key_of s)) (held known) → IsGap (by_key (key_of s)) (held known) (position_of known place))
       → known_key y ≡ key_of s → known_text y ≡ s.text → PutsOne known after place y → new ≡ old ++ how.of_first s → AppendsLines how (s ∷ []) known after old new
   said_first place y after old new gap same text puts wrote = λ e k.
       let at = position_of known place in
-      let g = gap (none_empty k.runs) k.order in
+      let g = gap (none_empty known k.runs) (in_order_for key_cmp key_total known_key (held known) k.order (key_of s)) in
       let one : written_of how e (s ∷ []) ≡ how.of_first s = written_of_one e ∙ ap (line_after how s) (newest_gap e at k g) in (
         wrote ∙ ap (λ (l : List ℕ). old ++ l) (sym one),
         keeps_on e after k (puts.runs k.runs)
-            (subst (λ (l : List (Known A)). InOrder l) (sym puts.put) (order_insert (held known) k.order (key_of s) at g y same))
+            (subst (λ (l : List (Known A)). InOrder l) (sym puts.put) (ascends_insert key_cmp key_total known_key (held known) k.order (key_of s) at g y same))
             (subst (λ (l : List (Known A)). Updates known_key known_text (held known) l (key_of s) s.text) (sym puts.put)
             (subst (λ (t : List ℕ). Updates known_key known_text (held known) (insert (held known) at y) (key_of s) t) text
-            (updates_insert known_key known_text (held known) (key_of s) at y y g.within (λ j lt. none_at_gap (held known) k.order (key_of s) at g j y (within j at lt g.within)) same))),
+            (updates_insert known_key known_text (held known) (key_of s) at y y g.within (λ j lt. none_at_gap key_cmp key_total known_key (held known) (key_of s) at g j y (within j at lt g.within)) same))),
       )
     where
       within : (j at : ℕ) → j < at → at ≤ length (held known) → j < length (held known)
       within j at lt le = omega arith
 
   -- there is something to write
-  pub wanted_changed : Tells how → (at : ℕ) (d : Known A) → IsAt (held known) (key_of s) at → bytes_eq (known_text (get_or (held known) at d)) s.text ≡ false → HasLines how (s ∷ []) known
+  pub wanted_changed : Tells how → (at : ℕ) (d : Known A) → IsAt (by_key (key_of s)) (held known) at → bytes_eq (known_text (get_or (held known) at d)) s.text ≡ false → HasLines how (s ∷ []) known
   wanted_changed tells at d is differs = λ e k none. tells.of_changed s (sym (written_of_one e ∙ ap (line_after how s) (newest_at e at d k is) ∙ line_other _ differs) ∙ none)
 
-  pub wanted_first : Tells how → (at : ℕ) → (NoneEmpty known.runs.items → InOrder (held known) → IsGap (held known) (key_of s) at) → HasLines how (s ∷ []) known
-  wanted_first tells at gap = λ e k none. tells.of_first s (sym (written_of_one e ∙ ap (line_after how s) (newest_gap e at k (gap (none_empty k.runs) k.order))) ∙ none)
+  pub wanted_first : Tells how → (at : ℕ) → (NoneEmpty known → InOrderFor (by_key (key_of s)) (held known) → IsGap (by_key (key_of s)) (held known) at) → HasLines how (s ∷ []) known
+  wanted_first tells at gap = λ e k none. tells.of_first s (sym (written_of_one e ∙ ap (line_after how s) (newest_gap e at k (gap (none_empty known k.runs) (in_order_for key_cmp key_total known_key (held known) k.order (key_of s))))) ∙ none)
 
 map-push : {X Y : Type 0} (f : X → Y) (xs : List X) (x : X) → map f (xs ++ x ∷ []) ≡ map f xs ++ f x ∷ []
 map-push f xs x = map-append f xs (x ∷ [])
@@ -229,14 +229,11 @@ takes_event {A} form n before event known after old new wrote k =
     }
 
 -- nothing is held at first
-pub keeps_none : {A : Type 0} (known : Inventory A) → known.runs.items ≡ [] → Keeps known []
-keeps_none {A} known none = record {
-  runs = subst (λ (runs : List (Vec (Known A) A)). AreRuns runs) (sym none) (record {
-    each = λ i d within. absurd (none_below within);
-    many = λ i d within. absurd (none_below within);
-  });
-  order = subst (λ (runs : List (Vec (Known A) A)). InOrder (in_runs runs)) (sym none) (λ i j d lt within. absurd (none_below within));
-  same = λ key. ap (λ (runs : List (Vec (Known A) A)). text_by known_key known_text (in_runs runs) key) none;
+pub keeps_none : {A : Type 0} (known : Inventory A) → held known ≡ [] → IsCompact known → Keeps known []
+keeps_none {A} known none compact = record {
+  runs = compact;
+  order = subst (λ (l : List (Known A)). InOrder l) (sym none) (λ i j d lt within. absurd (none_below within));
+  same = λ key. ap (λ (l : List (Known A)). text_by known_key known_text l key) none;
 }
   where
     none_below : {j : ℕ} → j < 0 → ⊥

@@ -2,7 +2,7 @@
 use Rattle.std.proofs.Common.{◌≡◌, ℕ, true, false, Option, Some, None, ap, sym, ◌∙◌, refl, arith}
 use Rattle.std.specs.Cmp.{IsTotalOrder}
 use Rattle.std.specs.Cmp.Lexicographic.{slice_cmp}
-use Rattle.std.specs.Ordering.{nat_cmp, is_eq, ordering_reverse}
+use Rattle.std.specs.Ordering.{nat_cmp, is_eq}
 use Rattle.std.specs.declared.cmp.Ordering.{Ordering}
 use Rattle.std.specs.declared.cmp.Ordering.TheVariants.{Less, Equal, Greater}
 use Rattle.std.proofs.lemmas.Bool.{false_from_ne_true}
@@ -37,22 +37,3 @@ same_yes x y e = ap is_eq (ap (λ (k : Key). key_cmp k y) e ∙ tied_itself key_
 
 pub same_no : (x y : Key) → (x ≡ y → ⊥) → same_key x y ≡ false
 same_no x y h = false_from_ne_true _ (λ yes. h (same_is x y yes))
-
-less_equal : Less ≡ Equal → ⊥
-less_equal e = cc
-
-greater_equal : Greater ≡ Equal → ⊥
-greater_equal e = cc
-
-pub less_differs : (x y : Key) → key_cmp x y ≡ Less → x ≡ y → ⊥
-less_differs x y less e = less_equal (sym less ∙ ap (λ (k : Key). key_cmp k y) e ∙ tied_itself key_total y)
-
-pub greater_differs : (x y : Key) → key_cmp x y ≡ Greater → x ≡ y → ⊥
-greater_differs x y more e = greater_equal (sym more ∙ ap (λ (k : Key). key_cmp k y) e ∙ tied_itself key_total y)
-
-pub turned : (x y : Key) → key_cmp x y ≡ Greater → key_cmp y x ≡ Less
-turned x y more = key_total.antisymm y x ∙ ap ordering_reverse more
-
--- keys that are others by equations stand as those do
-pub stand_as : (a b c d : Key) → a ≡ c → b ≡ d → key_cmp c d ≡ Less → key_cmp a b ≡ Less
-stand_as a b c d e f less = ap (λ (k : Key). key_cmp k b) e ∙ ap (key_cmp c) f ∙ less

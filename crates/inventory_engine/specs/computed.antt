@@ -2,6 +2,5 @@
 -- ties each to the definitions beside this folder, so nobody has to believe it.
 pub mod PieceText
 pub mod KnownTexts
-pub mod Runs
 pub mod ShownFields
 pub mod BlocksStep

@@ -18,6 +18,7 @@ use crate::inventory::Inventory;
 use crate::sighting::put_event;
 use engine_core::{Ending, EventEngine, OfEvents, Stopped, Style, run_over, run_to_stop};
 use frame_core::{Event, EventLines, ItemFault, ItemReader, ListCause, Sink, Source};
+use known_core::Runs;
 use list_core::{InputFault, ReadItems};
 use object_core::{Form, Heading, LastObject};
 use std::alloc::{AllocError, Allocator};
@@ -99,7 +100,7 @@ pub fn blocks_to_stop<A: Allocator + Copy, R: Source, W: Sink>(
 {
     let listing = Listing {
         alloc,
-        known: Inventory::new(alloc),
+        known: Runs::new(alloc),
     };
     let engine = OfEvents {
         engine: listing,
@@ -123,7 +124,7 @@ pub fn blocks_over<
 {
     let listing = Listing {
         alloc,
-        known: Inventory::new(alloc),
+        known: Runs::new(alloc),
     };
     let engine = OfEvents {
         engine: listing,

@@ -2,7 +2,7 @@
 
 ghost use Rattle.std.specs.Prelude.{◌≡◌, IfOk};
 ghost use Rattle.std.specs.List.{flat_map};
-ghost use Rattle.inventory_engine.specs.computed.KnownTexts.{AnswersSearch, InOrder, key_cmp, known_key, known_name, known_text, rank};
+ghost use Rattle.inventory_engine.specs.computed.KnownTexts.{key_cmp, known_key, known_name, known_text, rank};
 ghost use Rattle.inventory_engine.specs.computed.PieceText.{piece_text};
 
 use crate::pieces::{Piece, put_pieces};
@@ -97,15 +97,4 @@ pub fn compare<A: Allocator>(known: &Known<A>, app_id: Option<u16>, name: &[u8])
         Ordering::Equal => known.name().cmp(name),
         other => other,
     }
-}
-
-/// The position of one that is known, or that which it would have.
-pub fn find<A: Allocator>(
-    known: &[Known<A>],
-    app_id: Option<u16>,
-    name: &[u8],
-) -> Result<usize, usize>
-    ensures { AnswersSearch known.now (app_id, name.now) result }
-{
-    known.binary_search_by(|one| compare(one, app_id, name))
 }

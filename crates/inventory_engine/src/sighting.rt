@@ -8,14 +8,14 @@ ghost use Rattle.pdu_core.specs.Views.{octets_if, pdu_of};
 ghost use Rattle.list_core.specs.declared.event.EventKind.{EventKind as SpecKind};
 ghost use Rattle.text_core.specs.Pieces.{AppendsText};
 ghost use Rattle.object_core.specs.Onward.{onward};
-ghost use Rattle.inventory_engine.specs.SightingObject.{block_fields, fields_of_stream, name_fields, sighting_object};
-ghost use Rattle.inventory_engine.specs.computed.ShownFields.{shown_fields, sighting_by};
+ghost use Rattle.inventory_engine.specs.SightingObject.{fields_of_stream, name_fields, sighting_object};
+ghost use Rattle.inventory_engine.specs.computed.ShownFields.{shown_block, shown_fields, shown_names, sighting_by};
 ghost use Rattle.inventory_engine.specs.computed.PieceText.{piece_text};
 ghost use Rattle.inventory_engine.specs.Sightings.{block_parts, block_sighting, has_fields as fields_have, is_field as field_is, is_field_octet as octet_is, named_parts, sightings_of, stream_parts, stream_sighting, stream_sightings, text_or_none};
 ghost use Rattle.inventory_engine.specs.BlocksText.{changed_kind, first_kind, sighting_line, spaced_word, told_by};
 ghost use Rattle.inventory_engine.specs.computed.BlocksStep.{AppendsLines, HasLines, telling_at};
 
-use crate::inventory::Inventory;
+use crate::inventory::{Inventory, Sought, set_text};
 use crate::known::Known;
 use crate::pieces::{Piece, is_text, put_pieces, put_quoted_pieces, text_size};
 use frame_core::{ApduView, EventKind, view_frame};
@@ -79,11 +79,28 @@ fn put_line<A: Allocator>(
     Ok(size)
 }
 
+/// What a frame says of its control block: not its view, so that of this no more is kept at hand.
+#[derive(Clone, Copy)]
+pub struct ShownBlock<'a> {
+    /// The APPID.
+    pub app_id: u16,
+    /// The gocbRef.
+    pub gocb_ref: &'a [u8],
+    /// The datSet.
+    pub dat_set: &'a [u8],
+    /// The goID, which may be absent.
+    pub go_id: Option<&'a [u8]>,
+    /// The confRev.
+    pub conf_rev: u32,
+    /// How many members there are.
+    pub entries: usize,
+}
+
 /// What a sighting is of.
 #[derive(Clone, Copy)]
 pub enum Shown<'a> {
-    /// The control block of a frame with this APPID and APDU.
-    Block(u16, &'a GooseView<'a>),
+    /// A control block.
+    Block(ShownBlock<'a>),
     /// The stream with this confRev and svID: not its ASDU, so that of this no more is read.
     Stream(u32, &'a [u8]),
 }
@@ -91,33 +108,31 @@ pub enum Shown<'a> {
 // Appends the fields of a control block, behind its text.
 fn put_name_fields<A: Allocator>(
     line: &mut Vec<u8, A>,
-    app_id: u16,
-    goose: &GooseView<'_>,
+    block: &ShownBlock<'_>,
 ) -> Result<(), AllocError>
-    ensures { AppendsText result line.old.items line.new.items (onward (name_fields app_id (pdu_of {A = Unit {0}} goose.now))) }
+    ensures { AppendsText result line.old.items line.new.items (onward (shown_names block.now)) }
 {
-    let octets = [(app_id / 256) as u8, (app_id % 256) as u8];
+    let octets = [(block.app_id / 256) as u8, (block.app_id % 256) as u8];
     put_field_octets(line, b",\"appid\":", &octets)?;
-    put_text(line, b",\"gocbRef\":", goose.gocb_ref)?;
-    put_text(line, b",\"datSet\":", goose.dat_set)?;
-    put_field_text_if(line, b",\"goID\":", goose.go_id)?;
-    put_number(line, b",\"confRev\":", goose.conf_rev)?;
+    put_text(line, b",\"gocbRef\":", block.gocb_ref)?;
+    put_text(line, b",\"datSet\":", block.dat_set)?;
+    put_field_text_if(line, b",\"goID\":", block.go_id)?;
+    put_number(line, b",\"confRev\":", block.conf_rev)?;
     line.extend_from_slice(b",\"entries\":")?;
-    put_decimal(line, goose.entries as u64)
+    put_decimal(line, block.entries as u64)
 }
 
 // Appends the fields of a control block, of which the text is of these pieces.
 fn put_block_fields<A: Allocator>(
     line: &mut Vec<u8, A>,
-    app_id: u16,
-    goose: &GooseView<'_>,
+    block: &ShownBlock<'_>,
     pieces: &[Piece<'_>],
 ) -> Result<(), AllocError>
-    ensures { AppendsText result line.old.items line.new.items (onward (block_fields (flat_map piece_text pieces.now) app_id (pdu_of {A = Unit {0}} goose.now))) }
+    ensures { AppendsText result line.old.items line.new.items (onward (shown_block (flat_map piece_text pieces.now) block.now)) }
 {
     line.extend_from_slice(b",\"text\":")?;
     put_quoted_pieces(line, pieces)?;
-    put_name_fields(line, app_id, goose)
+    put_name_fields(line, block)
 }
 
 // Appends the fields of a stream.
@@ -141,7 +156,7 @@ fn put_fields<A: Allocator>(
     ensures { AppendsText result line.old.items line.new.items (onward (shown_fields shown.entry (flat_map piece_text pieces.now))) }
 {
     match shown {
-        Shown::Block(app_id, goose) => put_block_fields(line, app_id, goose, pieces),
+        Shown::Block(block) => put_block_fields(line, &block, pieces),
         Shown::Stream(conf_rev, sv_id) => put_stream_fields(line, conf_rev, sv_id),
     }
 }
@@ -220,13 +235,13 @@ fn put_sighting<A: Allocator + Copy>(
     ensures wants { OnErr result (HasLines (telling_at heading) (sighting_by app_id name.now shown.entry (flat_map piece_text pieces.now) ∷ []) known.old) }
     ensures kept { take (length line.old.items) line.new.items ≡ line.old.items }
 {
-    match known.find(app_id, name) {
+    match known.find(&Sought { app_id, name }) {
         Ok(place) => {
-            if is_text(known.text(place), pieces) {
+            if is_text(known.get(place).text(), pieces) {
                 return Ok(());
             }
             let size = put_told(line, heading, changed(app_id), shown, pieces)?;
-            known.set_text(alloc, place, pieces, size)
+            set_text(alloc, known, place, pieces, size)
         }
         Err(place) => {
             let size = put_told(line, heading, first(app_id), shown, pieces)?;
@@ -344,6 +359,20 @@ fn stream_pieces<'a>(asdu: &AsduView<'a>) -> [Piece<'a>; 4]
     ]
 }
 
+// What a frame with this APPID and APDU says of its control block.
+fn block_shown<'a>(app_id: u16, goose: &GooseView<'a>) -> ShownBlock<'a>
+    ensures { shown_names result ≡ name_fields app_id (pdu_of {A = Unit {0}} goose.now) }
+{
+    ShownBlock {
+        app_id,
+        gocb_ref: goose.gocb_ref,
+        dat_set: goose.dat_set,
+        go_id: goose.go_id,
+        conf_rev: goose.conf_rev,
+        entries: goose.entries,
+    }
+}
+
 // Appends what is written of the control block of a frame.
 fn put_block<A: Allocator + Copy>(
     alloc: A,
@@ -358,7 +387,7 @@ fn put_block<A: Allocator + Copy>(
     ensures kept { take (length line.old.items) line.new.items ≡ line.old.items }
 {
     let name = goose.gocb_ref;
-    let shown = Shown::Block(app_id, goose);
+    let shown = Shown::Block(block_shown(app_id, goose));
     if has_fields(goose) {
         let pieces = block_pieces(app_id, goose);
         put_sighting(

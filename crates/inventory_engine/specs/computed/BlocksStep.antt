@@ -10,11 +10,10 @@ use Rattle.text_core.specs.LineText.{list_fault_line}
 use Rattle.object_core.specs.declared.counted.Form.{Form}
 use Rattle.object_core.specs.declared.counted.Form.TheVariants.{Text as Lines}
 use Rattle.object_core.specs.declared.counted.Heading.{Heading}
-use Rattle.inventory_engine.specs.declared.inventory.Inventory.{Inventory}
+use Rattle.known_core.specs.computed.Held.{IsCompact, held}
 use Rattle.inventory_engine.specs.Sightings.{Key, Sighting, key_of, sightings_in, sightings_of}
 use Rattle.inventory_engine.specs.BlocksText.{Telling, line_after, telling}
-use Rattle.inventory_engine.specs.computed.KnownTexts.{InOrder, known_key, known_text, text_by}
-use Rattle.inventory_engine.specs.computed.Runs.{AreRuns, held}
+use Rattle.inventory_engine.specs.computed.KnownTexts.{InOrder, Inventory, known_key, known_text, text_by}
 
 -- the text of a sighting
 abbrev pub text_seen : Sighting → List ℕ
@@ -52,7 +51,7 @@ pub record Tells (how : Telling) : Type 0 where
 
 -- what is held is the newest text of each key
 pub record Keeps {A : Type 0} (known : Inventory A) (seen : List Sighting) : Type 0 where
-  pub runs : AreRuns known.runs.items
+  pub runs : IsCompact known
   pub order : InOrder (held known)
   pub same : (key : Key) → text_by known_key known_text (held known) key ≡ newest seen key
 

@@ -1,9 +1,12 @@
 -- What is held of each control block and stream that was seen, in order.
-use Rattle.std.specs.Prelude.{◌≡◌, ℕ, ◌+◌, ◌<◌, ◌≤◌, min, List, [], ◌∷◌, length, take, drop, slice_index_or, Bool, Option, Some, None, Result, Ok, Err, if◌then◌else◌}
+use Rattle.std.specs.Prelude.{◌≡◌, ℕ, ◌+◌, min, List, [], ◌∷◌, length, take, drop, slice_index_or, slice_set, Bool, Option, Some, None, if◌then◌else◌}
 use Rattle.std.specs.Ordering.{nat_cmp, is_eq, ordering_then}
 use Rattle.std.specs.Cmp.Lexicographic.{slice_cmp}
 use Rattle.std.specs.declared.cmp.Ordering.{Ordering}
-use Rattle.std.specs.declared.cmp.Ordering.TheVariants.{Less, Greater}
+use Rattle.known_core.specs.declared.runs.Place.{Place}
+use Rattle.known_core.specs.declared.runs.Runs.{Runs}
+use Rattle.known_core.specs.computed.Held.{IsCompact, held, position_of}
+use Rattle.known_core.specs.computed.Order.{Ascends}
 use Rattle.inventory_engine.specs.declared.known.Known.{Known}
 use Rattle.inventory_engine.specs.Sightings.{Key}
 
@@ -32,6 +35,10 @@ known_name k = take (text_start k) k.octets
 abbrev pub known_key : {A : Type 0} → Known A → Key
 known_key k = (k.app_id, known_name k)
 
+-- how what is held stands to a key
+abbrev pub by_key : {A : Type 0} → Key → Known A → Ordering
+by_key key k = key_cmp (known_key k) key
+
 -- the text that was written of it last
 abbrev pub known_text : {A : Type 0} → Known A → List ℕ
 known_text k = drop (text_start k) k.octets
@@ -43,20 +50,16 @@ text_by key text (x ∷ xs) k = if same_key (key x) k then Some (text x) else te
 
 -- each stands before those behind it
 abbrev pub InOrder : {A : Type 0} → List (Known A) → Type 0
-InOrder {A} known = (i j : ℕ) (d : Known A) → i < j → j < length known → key_cmp (known_key (slice_index_or known i d)) (known_key (slice_index_or known j d)) ≡ Less
+InOrder known = Ascends key_cmp known_key known
 
--- the one at this position has the key
-pub record IsAt {A : Type 0} (known : List (Known A)) (key : Key) (at : ℕ) : Type 0 where
-  pub within : at < length known
-  pub has : (d : Known A) → known_key (slice_index_or known at d) ≡ key
+-- what is held of all that was seen
+abbrev pub Inventory : Type 0 → Type 0
+Inventory A = Runs (Known A) A
 
--- those before this position stand before the key, and the others behind it
-pub record IsGap {A : Type 0} (known : List (Known A)) (key : Key) (at : ℕ) : Type 0 where
-  pub within : at ≤ length known
-  pub below : (i : ℕ) (d : Known A) → i < at → key_cmp (known_key (slice_index_or known i d)) key ≡ Less
-  pub above : (i : ℕ) (d : Known A) → at ≤ i → i < length known → key_cmp (known_key (slice_index_or known i d)) key ≡ Greater
-
--- a search finds the key, or its gap where they stand in order
-abbrev pub AnswersSearch : {A : Type 0} → List (Known A) → Key → Result ℕ ℕ → Type 0
-AnswersSearch known key (Ok at) = IsAt known key at
-AnswersSearch known key (Err at) = (at ≤ length known) × (InOrder known → IsGap known key at)
+-- the one at the place has this text then, and all else stays
+pub record WritesText {A : Type 0} (old new : Inventory A) (place : Place) (text : List ℕ) : Type 0 where
+  pub one : Known A
+  pub written : held new ≡ slice_set (held old) (position_of old place) one
+  pub same_key : (d : Known A) → known_key one ≡ known_key (slice_index_or (held old) (position_of old place) d)
+  pub has_text : known_text one ≡ text
+  pub runs : IsCompact old → IsCompact new

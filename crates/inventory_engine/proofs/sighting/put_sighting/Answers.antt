@@ -2,7 +2,8 @@ use Rattle.std.proofs.Common.{◌∙◌, ◌++◌, [], ◌∷◌, List, ℕ, tru
 use Rattle.std.specs.List.{flat_map}
 use Rattle.inventory_engine.specs.declared.known.Known.{Known}
 use Rattle.inventory_engine.specs.computed.PieceText.{piece_text}
-use Rattle.inventory_engine.specs.computed.Runs.{PutsOne, WritesText, position_of}
+use Rattle.known_core.specs.computed.Held.{PutsOne, position_of}
+use Rattle.inventory_engine.specs.computed.KnownTexts.{WritesText, known_text}
 use Rattle.inventory_engine.specs.computed.BlocksStep.{AppendsLines, telling_at}
 use Rattle.inventory_engine.specs.Sightings.{Sighting}
 use Rattle.inventory_engine.specs.BlocksText.{told_by}
@@ -16,7 +17,7 @@ returns-then-is_text-clause-written g c =
     let at = position_of c.args.known.now c.in-Ok.place in
     let one : Known g.row.A.Denot = record { app_id = c.args.app_id; octets = []; text_at = 0 } in
     said_same (telling_at c.args.heading) s c.args.known.now at one c.args.line.now.items c.in-Ok.ensures.1
-    (compared c.args.known.now at one c.text.result.now s.text c.is_text.result true (c.text.ensures one) c.is_text.ensures c.if-is_text.true)
+    (compared c.args.known.now at one c.text.result.now s.text c.is_text.result true (c.text.ensures ∙ ap known_text (c.get.ensures one)) c.is_text.ensures c.if-is_text.true)
 
 pub returns-in_err-size-in-Ok-clause-wants : goal.returns-in_err-size-in-Ok-clause-wants
 returns-in_err-size-in-Ok-clause-wants g c =
@@ -24,7 +25,7 @@ returns-in_err-size-in-Ok-clause-wants g c =
     let at = position_of c.args.known.now c.in-Ok.place in
     let one : Known g.row.A.Denot = record { app_id = c.args.app_id; octets = []; text_at = 0 } in
     on_error _ _ (wanted_changed (telling_at c.args.heading) s c.args.known.now (each_told c.args.heading.form c.args.heading.number c.args.heading.moment) at one c.in-Ok.ensures.1
-    (compared c.args.known.now at one c.text.result.now s.text c.is_text.result false (c.text.ensures one) c.is_text.ensures c.if-is_text.false))
+    (compared c.args.known.now at one c.text.result.now s.text c.is_text.result false (c.text.ensures ∙ ap known_text (c.get.ensures one)) c.is_text.ensures c.if-is_text.false))
 
 pub returns-in_ok-size-in-Ok-clause-wants : goal.returns-in_ok-size-in-Ok-clause-wants
 returns-in_ok-size-in-Ok-clause-wants g c =
@@ -32,17 +33,17 @@ returns-in_ok-size-in-Ok-clause-wants g c =
     let at = position_of c.args.known.now c.in-Ok.place in
     let one : Known g.row.A.Denot = record { app_id = c.args.app_id; octets = []; text_at = 0 } in
     on_error _ _ (wanted_changed (telling_at c.args.heading) s c.args.known.now (each_told c.args.heading.form c.args.heading.number c.args.heading.moment) at one c.in-Ok.ensures.1
-    (compared c.args.known.now at one c.text.result.now s.text c.is_text.result false (c.text.ensures one) c.is_text.ensures c.if-is_text.false))
+    (compared c.args.known.now at one c.text.result.now s.text c.is_text.result false (c.text.ensures ∙ ap known_text (c.get.ensures one)) c.is_text.ensures c.if-is_text.false))
 
 pub returns-in_ok-size-in-Ok-clause-written : goal.returns-in_ok-size-in-Ok-clause-written
 returns-in_ok-size-in-Ok-clause-written g c =
     let known = c.args.known.now in
-    let after = c.set_text.new.self in
+    let after = c.set_text.new.known in
     let place = c.in-Ok.place in
     let s : Sighting = sighting_by c.args.app_id c.args.name.now c.args.shown (flat_map piece_text c.args.pieces.now) in
     on_success c.set_text.result (WritesText known after place s.text) (AppendsLines (telling_at c.args.heading) (s ∷ []) known after c.args.line.now.items c.put_told.new.line.items)
     (λ writes. said_changed (telling_at c.args.heading) s known place after c.args.line.now.items c.put_told.new.line.items c.in-Ok.ensures.1
-    (λ d. compared known (position_of known place) d c.text.result.now s.text c.is_text.result false (c.text.ensures d) c.is_text.ensures c.if-is_text.false) writes
+    (λ d. compared known (position_of known place) d c.text.result.now s.text c.is_text.result false (c.text.ensures ∙ ap known_text (c.get.ensures d)) c.is_text.ensures c.if-is_text.false) writes
     (c.in_ok-size-in-Ok.ensures.text ∙ ap (λ (w : List ℕ). c.args.line.now.items ++ told_by c.args.heading.form c.args.heading.number c.args.heading.moment w s.text s.fields) c.changed.ensures))
     c.set_text.ensures.written
 
