@@ -1,15 +1,15 @@
 -- What samples tell is one, and over samples that keep time it adds up.
-use Rattle.std.proofs.Common.{◌≡◌, ◌⊎◌, ℕ, zero, suc, ◌+◌, ◌-◌, ◌*◌, ◌/◌, ◌%◌, ◌<◌, ◌≤◌, ◌==◌, ◌||◌, nat_lt, Bool, true, false, Option, Some, None, List, [], ◌∷◌, ◌++◌, add-zero, append_assoc, drop, filter, length, map, slice_get, take, if◌then◌else◌, sym, refl, ap, ap₂, ◌∙◌, subst, arith, inl, inr}
+use Rattle.std.proofs.Common.{◌≡◌, ℕ, ◌+◌, ◌-◌, ◌*◌, ◌/◌, ◌%◌, ◌<◌, ◌≤◌, ◌==◌, ◌||◌, nat_lt, Bool, true, false, Option, Some, None, List, [], ◌∷◌, ◌++◌, append_assoc, drop, filter, length, map, slice_get, take, if◌then◌else◌, sym, refl, ap, ◌∙◌, subst, arith, inl, inr}
 use Rattle.std.proofs.lemmas.Bool.{cases_Bool, cases_lt, cases_order, eq-eqb, false≢true, le-ltb, lt-ltb, ne_eqb}
 use Rattle.std.proofs.lemmas.List.{length-append, length_push}
-use Rattle.std.proofs.lemmas.Option.{none-some, same_Some}
-use Rattle.std.proofs.Math.Nat.{add-mod_left, div-add-mod, mod-add-mod, mod-eq_of_lt, mod-lt, mul-add-mod_self_left}
+use Rattle.std.proofs.lemmas.Option.{same_Some}
+use Rattle.std.proofs.Math.Nat.{div-add-mod, mod-add-mod, mod-lt, mul-add-mod_self_left}
 use Rattle.loss_core.specs.declared.advance.Advance.{Advance}
 use Rattle.loss_core.specs.declared.advance.Advance.TheVariants.{Ahead, Back}
 use Rattle.loss_core.specs.declared.stream.Sample.{Sample}
 use Rattle.loss_core.specs.declared.stream.Came.{Came}
 use Rattle.loss_core.specs.declared.stream.Came.TheVariants as came
-use Rattle.loss_core.specs.Advance.{IsAdvance, IsNearest, advance_of, distance, due, way_round}
+use Rattle.loss_core.specs.Advance.{IsNearest, advance_of, distance, way_round}
 use Rattle.loss_core.specs.Stream.{AreSamplesTold, IsKnownOf, IsNewestSample, IsRun, Known, Tells, begins, by_advance, moves}
 use Rattle.loss_core.specs.StreamLaws.{KeepTime, SamplesAddUp, Taken, go_on, goes_on, greatest_index, later, sample_of}
 use Rattle.loss_core.proofs.Nearest.{nearest_once, nearest_within}
@@ -36,7 +36,7 @@ run_once told i r s u v =
       | inr (inr gt) ↦ absurd (false≢true (sym (v.none_later u.at u.answer gt u.before u.said) ∙ u.begun))
     ]
 
-known_once : (samples : List Sample) (told : List Came) (i : ℕ) (a b : Option Known) → IsKnownOf samples told i a → IsKnownOf samples told i b → a ≡ b
+pub known_once : (samples : List Sample) (told : List Came) (i : ℕ) (a b : Option Known) → IsKnownOf samples told i a → IsKnownOf samples told i b → a ≡ b
 known_once samples told i None None u v = refl
 known_once samples told i None (Some k) u v = absurd (false≢true (sym (u v.0.at v.0.answer v.0.before v.0.said) ∙ v.0.moved))
 known_once samples told i (Some k) None u v = absurd (false≢true (sym (v u.0.at u.0.answer u.0.before u.0.said) ∙ u.0.moved))

@@ -1,5 +1,5 @@
 -- What is known before a position, and one frame more.
-use Rattle.std.proofs.Common.{◌≡◌, ◌⊎◌, ℕ, zero, suc, ◌+◌, ◌<◌, ◌≤◌, ◌||◌, Bool, true, false, is_some, Option, Some, None, List, [], ◌∷◌, ◌++◌, length, slice_get, if◌then◌else◌, sym, refl, ap, ap₂, ◌∙◌, subst, arith, inl, inr}
+use Rattle.std.proofs.Common.{◌≡◌, ◌⊎◌, ℕ, ◌+◌, ◌<◌, ◌≤◌, ◌||◌, Bool, true, false, Option, Some, None, List, [], ◌∷◌, ◌++◌, length, slice_get, if◌then◌else◌, sym, refl, ap, ap₂, ◌∙◌, subst, arith, inl, inr}
 use Rattle.std.proofs.lemmas.Bool.{cases_Bool, false≢true}
 use Rattle.std.proofs.lemmas.List.{length_push}
 use Rattle.std.proofs.lemmas.Option.{none-some, same_Some}
@@ -9,7 +9,7 @@ use Rattle.loss_core.specs.declared.sender.Standing.{Standing}
 use Rattle.loss_core.specs.declared.sender.Standing.TheVariants as standing
 use Rattle.loss_core.specs.declared.sender.Told.{Told}
 use Rattle.loss_core.specs.declared.sender.Sender.{Sender}
-use Rattle.loss_core.specs.Sender.{AreTold, IsDeadline, IsKnown, IsNewest, IsToldLast, NoneRestarts, StandsAfter, deadline_of, is_above, is_below, is_newer, restarts, sets, standing_by, told_after, was_silent}
+use Rattle.loss_core.specs.Sender.{AreTold, IsDeadline, IsKnown, IsNewest, IsToldLast, NoneRestarts, StandsAfter, deadline_of, is_above, is_newer, restarts, sets, standing_by, told_after}
 use Rattle.loss_core.specs.computed.SenderSteps.{deadline_by, newest_by}
 use Rattle.loss_core.proofs.Order.{not_above_itself, not_above_more}
 use Rattle.loss_core.proofs.Places.{get_back, get_front, get_pushed, place}
@@ -247,3 +247,14 @@ stands_first a s newest deadline =
         subst (λ q. IsDeadline (a ∷ []) (t ∷ []) 1 q) (sym deadline) (deadline_taken [] [] a t refl refl),
       ),
     )
+
+-- a first frame, by itself
+
+pub first_told : (a : Arrival) → AreTold (a ∷ []) (told_after None a ∷ [])
+first_told a = told_push [] [] None a none_told refl
+
+pub first_known : (a : Arrival) → IsKnown (a ∷ []) (told_after None a ∷ []) 1 (Some (record { newest = a.pair; deadline = deadline_of a }))
+first_known a = (newest_taken [] [] a (told_after None a) refl (λ k f lt e rest. absurd (omega arith)), deadline_taken [] [] a (told_after None a) refl refl)
+
+pub told_first : (a : Arrival) → IsToldLast [] a (told_after None a)
+told_first a = ([], first_told a)

@@ -1,9 +1,10 @@
-mod Places
+pub mod Places
 mod Order
-mod Known
+pub mod Known
 mod Losses
 mod Nearest
-mod Samples
-mod AddUp
-mod Totals
-mod SampleTotals
+pub mod Samples
+pub mod AddUp
+pub mod Totals
+pub mod SampleTotals
+pub mod Once

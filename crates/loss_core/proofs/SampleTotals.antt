@@ -1,6 +1,7 @@
 -- What samples come to, and one sample more.
-use Rattle.std.proofs.Common.{◌≡◌, ℕ, ◌+◌, ◌<◌, ◌≤◌, max, min, Option, Some, List, [], ◌∷◌, ◌++◌, length, sym, ap, ◌∙◌, subst, arith}
+use Rattle.std.proofs.Common.{◌≡◌, ℕ, ◌+◌, ◌<◌, ◌≤◌, max, None, List, [], ◌∷◌, ◌++◌, length, refl, ◌∙◌, arith}
 use Rattle.std.proofs.lemmas.List.{length_push}
+use Rattle.std.proofs.lemmas.Option.{none-some}
 use Rattle.loss_core.specs.declared.stream.Sample.{Sample}
 use Rattle.loss_core.specs.declared.stream.Came.{Came}
 use Rattle.loss_core.specs.declared.stream_tally.StreamTotals.{StreamTotals}
@@ -8,7 +9,7 @@ use Rattle.loss_core.specs.SenderTotals.{kept, one_if}
 use Rattle.loss_core.specs.Stream.{IsSampleToldLast}
 use Rattle.loss_core.specs.StreamTotals.{AreStreamTotals, count_told, is_behind_outage, is_late_sample, is_out_of_range, is_repeated_sample, missing_before, most_missing, sum_told}
 use Rattle.loss_core.specs.computed.StreamSteps.{came_after, kept_after}
-use Rattle.loss_core.specs.computed.StreamTotalSteps.{AddsSample, StreamTallyStandsAfter, StreamTallyState}
+use Rattle.loss_core.specs.computed.StreamTotalSteps.{AddsSample, StreamTallyStandsAfter, StreamTallyState, fresh_tally, stream_tally_after}
 use Rattle.loss_core.proofs.Samples.{stands_on, told_last}
 use Rattle.loss_core.proofs.Totals.{kept_more}
 
@@ -46,3 +47,17 @@ unfolding stands_on
 tally_on samples u v s c some most by period newest adds stands =
     let on = stands_on samples u.stream v.stream s c some most by period newest (stands.0, stands.1, stands.2.0) in
     (stands.0 ++ c ∷ [], on.1, (on.2, totals_push stands.0 u.totals v.totals c adds stands.2.1))
+
+-- a tally after one more sample, and that of none
+
+pub tally_next : (samples : List Sample) (u : StreamTallyState) (s : Sample) → 0 < u.stream.period → u.stream.period ≤ 65536 → StreamTallyStandsAfter samples u → StreamTallyStandsAfter (samples ++ s ∷ []) (stream_tally_after u s)
+tally_next samples u s some most stands =
+    tally_on samples u (stream_tally_after u s) s (came_after u.stream.period u.stream.newest s) some most refl refl refl
+    (record { samples = refl; missing = refl; late = refl; repeated = refl; out_of_range = refl; outages = refl; longest = refl }) stands
+
+pub tally_fresh : (period : ℕ) → StreamTallyStandsAfter [] (fresh_tally period)
+tally_fresh period = (
+  [],
+  record { sizes = refl; each = λ i s c p q. absurd (none-some s p) },
+  ((None, (λ k c lt e. absurd (none-some c e)), tt), record { samples = refl; missing = refl; late = refl; repeated = refl; out_of_range = refl; outages = refl; longest = refl }),
+)

@@ -1,16 +1,15 @@
 -- What frames come to, and one frame more.
-use Rattle.std.proofs.Common.{◌≡◌, ℕ, zero, suc, ◌+◌, ◌-◌, ◌<◌, ◌≤◌, max, min, Bool, true, false, Option, Some, None, List, [], ◌∷◌, ◌++◌, length, if◌then◌else◌, sym, refl, ap, ap₂, ◌∙◌, subst, arith}
+use Rattle.std.proofs.Common.{◌≡◌, ℕ, ◌+◌, ◌-◌, max, Some, None, List, [], ◌∷◌, ◌++◌, length, if◌then◌else◌, sym, refl, ap, ap₂, ◌∙◌, subst, arith}
 use Rattle.std.proofs.lemmas.List.{length_push}
 use Rattle.loss_core.specs.declared.sender.Arrival.{Arrival}
 use Rattle.loss_core.specs.declared.sender.Told.{Told}
-use Rattle.loss_core.specs.declared.sender.Sender.{Sender}
 use Rattle.loss_core.specs.declared.sender_tally.SenderTotals.{SenderTotals}
 use Rattle.loss_core.specs.declared.sender_tally.SenderTally.{SenderTally}
-use Rattle.loss_core.specs.Sender.{AreTold, IsKnown, IsToldLast, StandsAfter, restarts, sets, told_after, was_silent}
+use Rattle.loss_core.specs.Sender.{AreTold, IsToldLast, restarts, sets, told_after, was_silent}
 use Rattle.loss_core.specs.SenderTotals.{AreSenderTotals, TallyStandsAfter, count_of, frames_missing_at, is_late, is_repeated, kept, last_set, longest_between, one_if, states_missing_at, sum_of}
 use Rattle.loss_core.specs.computed.SenderSteps.{deadline_by, newest_by}
-use Rattle.loss_core.specs.computed.SenderTotalSteps.{AddsFrame}
-use Rattle.loss_core.proofs.Known.{known_push, stands_first, told_last, told_push}
+use Rattle.loss_core.specs.computed.SenderTotalSteps.{AddsFrame, first_tally, tally_after}
+use Rattle.loss_core.proofs.Known.{first_known, first_told, known_push, told_last, told_push}
 
 -- sums over one frame more
 
@@ -79,3 +78,19 @@ tally_on (first ∷ rest) s u a t is newest deadline adds set stands =
         ),
       ),
     )
+
+-- a tally after one more frame, and that of a first one
+
+pub tally_next : (frames : List Arrival) (s : SenderTally) (a : Arrival) → TallyStandsAfter frames s → TallyStandsAfter (frames ++ a ∷ []) (tally_after s a)
+tally_next frames s a stands =
+    tally_on frames s (tally_after s a) a (told_after (Some s.sender) a) refl refl refl (record { frames = refl; states_missing = refl; frames_missing = refl; late = refl; repeated = refl; restarted = refl; silent = refl; longest = refl }) refl stands
+
+pub tally_first : (a : Arrival) → TallyStandsAfter (a ∷ []) (first_tally a)
+tally_first a = (
+  told_after None a ∷ [],
+  first_told a,
+  (
+    first_known a,
+    (record { frames_are = refl; states_missing = refl; frames_missing = refl; late = refl; repeated = refl; restarted = refl; silent = refl; longest = omega arith }, refl),
+  ),
+)

@@ -4,7 +4,7 @@ ghost use Rattle.std.specs.Prelude.{◌≡◌, ◌+◌, ◌-◌, ◌++◌, ◌�
 ghost use Rattle.loss_core.specs.Sender.{IsToldLast, StandsAfter, sets, told_after};
 ghost use Rattle.loss_core.specs.SenderTotals.{TallyStandsAfter, frames_missing_at, is_late, is_repeated, kept, missing_at, one_if, size, states_missing_at};
 ghost use Rattle.loss_core.specs.computed.SenderSteps.{deadline_by, newest_by};
-ghost use Rattle.loss_core.specs.computed.SenderTotalSteps.{AddsFrame};
+ghost use Rattle.loss_core.specs.computed.SenderTotalSteps.{AddsFrame, first_tally, tally_after};
 
 use crate::missing::{Missing, Span, find_missing};
 use crate::sender::{Arrival, Sender, Standing, Told};
@@ -101,7 +101,8 @@ impl SenderTotals {
 impl SenderTally {
     /// The tally of a sender's first frame.
     pub fn of_first(first: Arrival) -> SenderTally
-        ensures { TallyStandsAfter (first ∷ []) result }
+        ensures stands { TallyStandsAfter (first ∷ []) result }
+        ensures first { result ≡ first_tally first }
     {
         SenderTally {
             sender: Sender::of_first(first),
@@ -141,6 +142,10 @@ impl SenderTally {
         // stands after it too.
         ensures told { (frames : List Arrival) → TallyStandsAfter frames self.old → IsToldLast frames frame result }
         ensures stands { (frames : List Arrival) → TallyStandsAfter frames self.old → TallyStandsAfter (frames ++ frame ∷ []) self.new }
+
+        // For callers: the same by what is kept.
+        ensures step { result ≡ told_after (Some self.old.sender) frame }
+        ensures after { self.new ≡ tally_after self.old frame }
     {
         self.step(frame)
     }

@@ -99,11 +99,19 @@ impl Stream {
         requires most { period ≤ 65536 }
         ensures period { result.period ≡ period }
         ensures stands { StreamStandsAfter [] result }
+        ensures fresh { result.newest ≡ None }
     {
         Stream {
             period,
             newest: None,
         }
+    }
+
+    /// The newest sample, and how many came one by one up to it.
+    pub fn newest(&self) -> Option<Newest>
+        ensures { result ≡ self.now.newest }
+    {
+        self.newest
     }
 
     // What a sample tells, by what is kept.

@@ -5,9 +5,9 @@ ghost use Rattle.loss_core.specs.SenderTotals.{kept, one_if};
 ghost use Rattle.loss_core.specs.Stream.{IsSampleToldLast};
 ghost use Rattle.loss_core.specs.StreamTotals.{missing_before};
 ghost use Rattle.loss_core.specs.computed.StreamSteps.{came_after, kept_after};
-ghost use Rattle.loss_core.specs.computed.StreamTotalSteps.{AddsSample, StreamTallyStandsAfter};
+ghost use Rattle.loss_core.specs.computed.StreamTotalSteps.{AddsSample, StreamTallyStandsAfter, fresh_tally, stream_tally_after};
 
-use crate::stream::{Came, Sample, Stream};
+use crate::stream::{Came, Newest, Sample, Stream};
 use std::marker::Model;
 
 /// What the samples of a stream come to. A sum that would not fit stays at the greatest number.
@@ -88,6 +88,7 @@ impl StreamTally {
         requires most { period ≤ 65536 }
         ensures period { result.stream.period ≡ period }
         ensures stands { StreamTallyStandsAfter [] result }
+        ensures fresh { result ≡ fresh_tally period }
     {
         StreamTally {
             stream: Stream::new(period),
@@ -108,6 +109,13 @@ impl StreamTally {
         ensures { result ≡ self.now.totals }
     {
         self.totals
+    }
+
+    /// The newest sample, and how many came one by one up to it.
+    pub fn newest(&self) -> Option<Newest>
+        ensures { result ≡ self.now.stream.newest }
+    {
+        self.stream.newest()
     }
 
     // Takes the next sample, and answers what it tells.
@@ -131,6 +139,10 @@ impl StreamTally {
         ensures told { (samples : List Sample) → StreamTallyStandsAfter samples self.old → IsSampleToldLast self.old.stream.period samples sample result }
         ensures stands { (samples : List Sample) → StreamTallyStandsAfter samples self.old → StreamTallyStandsAfter (samples ++ sample ∷ []) self.new }
         ensures period { self.new.stream.period ≡ self.old.stream.period }
+
+        // For callers: the same by what is kept.
+        ensures step { result ≡ came_after self.old.stream.period self.old.stream.newest sample }
+        ensures after { self.new ≡ stream_tally_after self.old sample }
     {
         self.step(sample)
     }
