@@ -4,20 +4,22 @@ use Rattle.std.specs.Prelude.{Ok, codes, find, fold, if◌then◌else◌, slice_
 use Rattle.std.specs.List.{list_any}
 use Rattle.std.specs.Option.{option_map_or}
 use Rattle.std.specs.Str.{bytes_eq}
+use Rattle.std.proofs.lemmas.Slice.Eq.{bytes_eq-Decides}
 use Rattle.clap.specs.Facts.{explicit_source}
 use Rattle.clap.specs.Words.{Kinds, Row, Rule, Shape, Text, all_of}
 use Rattle.clap.specs.Kinds.{check_kinds, or_else}
 use Rattle.clap.specs.Faults.{check_fault, default_fault, defaults_fault, entered_fault, level_fault, settle_fault}
 use Rattle.clap.specs.Simple.{entered, label_of, rows_at}
-use Rattle.clap.specs.Walk.{Held, Step, Walk, after_step, answers_to, arg_by_id, arg_by_index, arg_by_long, arg_by_short, has_long, has_row, next, nothing_held, row_text, rows_after, settled, stop_after, subcommand, to_positional, trailing, value, walk, walk_from, walked, walked_from, with_default, word_met}
+use Rattle.clap.specs.Walk.{Held, Step, Walk, after_step, answers_to, arg_by_id, arg_by_index, arg_by_long, arg_by_short, has_long, has_row, next, nothing_held, row_text, rows_after, settled, subcommand, to_positional, trailing, value, walk, walk_from, walked, walked_from, with_default, word_met}
 use Rattle.clap.specs.declared.parser.matches.ValueSource.TheVariants.{CommandLine}
 use Rattle.words_core.specs.declared.option_words.Options.{Options}
 use Rattle.words_core.specs.CommandLine.{Asked, Meaning, check, import, list_blocks, name_of, number_said, publish, replay_of, rewrite, show, task_asked, task_of_words, watch, watch_asked}
-use Rattle.words_core.specs.RequestLine.{AnsweredAlike, Switch, capture, is_set, names_option, no_options, options_in, request_asked, request_of_words, switch_name, switches, with_these}
+use Rattle.words_core.specs.RequestLine.{AnsweredAlike, Switch, capture, asked_beside, is_set, names_option, no_options, options_in, request_asked, request_of_words, switch_name, switches, with_these}
 use Rattle.words_core.specs.computed.OfferedLine.{faults_by}
 use Rattle.words_core.proofs.AskingWords.{line, names, top}
 use Rattle.words_core.proofs.KeptRows.{no_default}
 use Rattle.words_core.proofs.LoneFlags.{help_flag}
+use Rattle.words_core.proofs.NamesAlike.{Elsewhere, lines_alike}
 use Rattle.words_core.proofs.OptionRows.{more_other, row_at, set_other, switch_flag}
 use Rattle.words_core.proofs.PlainWords.{plain_defaults, plain_leaf}
 use Rattle.words_core.proofs.ReplayWords.{block_apart, block_argument, block_default, replay_set, replays}
@@ -195,13 +197,18 @@ unfolding defaults_fault
 plain_pass true t rows = switches_pass switches rows
 plain_pass false t rows = ap₂ or_else (no_fault help_flag rows refl) refl
 
-plain_wish : (t : Asked) (rows other : List Row) → ((r : List Row) → task_asked (name_of t, r) ≡ Some (Ok t)) → ((o : Switch) → is_set (switch_name o) rows ≡ false)
+-- the task's subcommand asks for it, whatever its rows
+record AsksAlone (t : Asked) : Type 0 where
+  alone : (r : List Row) → task_asked (name_of t, r) ≡ Some (Ok t)
+  beside : (r : List Row) → asked_beside (name_of t, r) ≡ Some (Ok t)
+
+plain_wish : (t : Asked) (rows other : List Row) → AsksAlone t → ((o : Switch) → is_set (switch_name o) rows ≡ false)
     → request_asked (name_of t, rows) ≡ option_map (with_these no_options) (task_asked (name_of t, other))
 plain_wish t rows other asks off =
-    ap (option_and_then (λ (o : Options). option_map (with_these o) (task_asked (name_of t, rows)))) (none_set rows off)
-    ∙ ap (option_map (with_these no_options)) (asks rows) ∙ sym (ap (option_map (with_these no_options)) (asks other))
+    ap (option_and_then (λ (o : Options). option_map (with_these o) (asked_beside (name_of t, rows)))) (none_set rows off)
+    ∙ ap (option_map (with_these no_options)) (asks.beside rows) ∙ sym (ap (option_map (with_these no_options)) (asks.alone other))
 
-plain_sub : (t : Asked) → ((r : List Row) → task_asked (name_of t, r) ≡ Some (Ok t)) → SameSub (plain_leaf true t) (plain_leaf false t)
+plain_sub : (t : Asked) → AsksAlone t → SameSub (plain_leaf true t) (plain_leaf false t)
 plain_sub t asks = record {
   label = refl;
   fault = λ words n. (level words n).fault;
@@ -212,7 +219,7 @@ plain_sub t asks = record {
     level : (words : List Text) → NameNone words → Level (plain_leaf false t) (plain_leaf true t).rules words
     level words n = level_alike (plain_leaf false t) (plain_leaf true t).rules (plain_offered t) (plain_pass true t) (plain_pass false t) (λ rows. refl) words n
 
-lone_sub : (t : Asked) → ((r : List Row) → task_asked (name_of t, r) ≡ Some (Ok t)) → SameSub (plain_leaf false t) (plain_leaf false t)
+lone_sub : (t : Asked) → AsksAlone t → SameSub (plain_leaf false t) (plain_leaf false t)
 lone_sub t asks = record {
   label = refl;
   fault = λ words n. refl;
@@ -305,14 +312,29 @@ SameSubs [] [] = Unit {0}
 SameSubs (x ∷ xs) (y ∷ ys) = SameSub x y × SameSubs xs ys
 SameSubs _ _ = ⊥
 
-all_same : SameSubs (line true).subs (line false).subs
+-- the subcommands that both lines have, with the options
+abbrev shared : List Shape
+shared =
+    plain_leaf true show ∷ plain_leaf true check ∷ plain_leaf false rewrite ∷ plain_leaf true list_blocks ∷ replays true ∷ plain_leaf false publish ∷ watches true ∷ plain_leaf false import ∷ []
+
+all_same : SameSubs shared (line false).subs
 all_same = (
-  plain_sub show (λ r. refl),
+  plain_sub show (record { alone = λ r. refl; beside = λ r. refl }),
   (
-    plain_sub check (λ r. refl),
-    (lone_sub rewrite (λ r. refl), (plain_sub list_blocks (λ r. refl), (replay_sub, (lone_sub publish (λ r. refl), (watch_sub, (lone_sub import (λ r. refl), tt)))))),
+    plain_sub check (record { alone = λ r. refl; beside = λ r. refl }),
+    (
+      lone_sub rewrite (record { alone = λ r. refl; beside = λ r. refl }),
+      (
+        plain_sub list_blocks (record { alone = λ r. refl; beside = λ r. refl }),
+        (replay_sub, (lone_sub publish (record { alone = λ r. refl; beside = λ r. refl }), (watch_sub, (lone_sub import (record { alone = λ r. refl; beside = λ r. refl }), tt)))),
+      ),
+    ),
   ),
 )
+
+-- another name than `losses` is that of one of them, or of none
+find_shared : (name : Text) → bytes_eq (codes "losses") name ≡ false → find (λ s. answers_to name (label_of s)) (line true).subs ≡ find (λ s. answers_to name (label_of s)) shared
+find_shared name e = rw e refl
 
 -- what is found of a subcommand's name
 record SameFound (x y : Option Shape) (words : List Text) : Type 0 where
@@ -357,33 +379,69 @@ step_clear word w h (trailing position) e = rw e refl
 step_clear word w h (subcommand name) e = refl
 step_clear word w h value e = to_clear (arg_by_index top.rules w.position) word w h e
 
-turn_clear : (o : Option (Text × List Text)) (w : Walk) (word : Text) → w.stopped ≡ o → StopsClear o → names_option word ≡ false → StopsClear (walked_from top.rules names o w word).stopped
+turn_clear : (o : Option (Text × List Text)) (w : Walk) (word : Text) → w.stopped ≡ o → StopsClear o → names_option word ≡ false → StopsClear (walked_from top.rules (names false) o w word).stopped
 turn_clear None w word e k n =
-    let met = word_met top.rules names w.is_trailing w.waiting w.position word w.held in step_clear word w met.0 met.1 e
+    let met = word_met top.rules (names false) w.is_trailing w.waiting w.position word w.held in step_clear word w met.0 met.1 e
 turn_clear (Some p) w word e k n = any_append p.1 word k n
 
-walk_clear : (words : List Text) (w : Walk) → NameNone words → StopsClear w.stopped → StopsClear (fold (walked top.rules names) w words).stopped
+walk_clear : (words : List Text) (w : Walk) → NameNone words → StopsClear w.stopped → StopsClear (fold (walked top.rules (names false)) w words).stopped
 unfolding walked
 walk_clear [] w n k = k
-walk_clear (word ∷ words) w n k = go (names_option word) refl n (walk_clear words (walked top.rules names w word))
+walk_clear (word ∷ words) w n k = go (names_option word) refl n (walk_clear words (walked top.rules (names false) w word))
   where
     go : (b : Bool) → names_option word ≡ b → (b || list_any names_option words) ≡ false
-        → (NameNone words → StopsClear (walked top.rules names w word).stopped → StopsClear (fold (walked top.rules names) (walked top.rules names w word) words).stopped)
-        → StopsClear (fold (walked top.rules names) (walked top.rules names w word) words).stopped
+        → (NameNone words → StopsClear (walked top.rules (names false) w word).stopped → StopsClear (fold (walked top.rules (names false)) (walked top.rules (names false) w word) words).stopped)
+        → StopsClear (fold (walked top.rules (names false)) (walked top.rules (names false) w word) words).stopped
     go true t f later = absurd (true≢false f)
     go false t f later = later f (turn_clear w.stopped w word refl k t)
 
 -- ---- the whole line
 
-pub answered_alike : (words : List Text) → AnsweredAlike words
-answered_alike words n =
-    let both = go (stop_after top.rules names (drop 1 words)) (walk_clear (drop 1 words) (walk_from nothing_held) n refl) in
-    (alike_mistakes (faults_by true words) (faults_by false words) (request_of_words words) (task_of_words words) both.0 both.1 (faultless_asks false words), both.1)
+-- what is met where a walk stopped, in both lines
+record SameMet (o : Option (Text × List Text)) : Type 0 where
+  there : is_some (entered (line true) o) ≡ is_some (entered (line false) o)
+  fault : entered_fault (line true) o ≡ entered_fault (line false) o
+  wish : option_and_then request_asked (entered (line true) o) ≡ option_map (with_these no_options) (option_and_then task_asked (entered (line false) o))
+
+same_met : (o : Option (Text × List Text)) → StopsClear o → Elsewhere o → SameMet o
+same_met None clear elsewhere = record { there = refl; fault = refl; wish = refl }
+same_met (Some p) clear elsewhere =
+    let f = found_same shared (line false).subs all_same p.0 p.1 clear in
+    let same = find_shared p.0 elsewhere in
+    record {
+      there = ap (λ (s : Option Shape). is_some (option_map (λ x. rows_at x p.1) s)) same ∙ f.there;
+      fault = ap (λ (s : Option Shape). option_map_or (λ x. level_fault x [] nothing_held p.1 false []) s []) same ∙ f.fault;
+      wish = ap (λ (s : Option Shape). option_and_then request_asked (option_map (λ x. rows_at x p.1) s)) same ∙ f.wish;
+    }
+
+-- where the walk stops at `losses`, the words name it
+stops_elsewhere : (o : Option (Text × List Text)) → option_map_or (λ met. bytes_eq (codes "losses") met.0) (entered (line true) o) false ≡ false → Elsewhere o
+stops_elsewhere None e = refl
+stops_elsewhere (Some p) e = go (bytes_eq (codes "losses") p.0) refl
   where
-    go : (o : Option (Text × List Text)) → StopsClear o
-        → (level_fault top names nothing_held (drop 1 words) (is_some (entered (line true) o)) (entered_fault (line true) o) ≡ level_fault top names nothing_held (drop 1 words) (is_some (entered (line false) o)) (entered_fault (line false) o))
-        × (option_and_then request_asked (entered (line true) o) ≡ option_map (with_these no_options) (option_and_then task_asked (entered (line false) o)))
-    go None k = (refl, refl)
-    go (Some p) k =
-        let f = found_same (line true).subs (line false).subs all_same p.0 p.1 k in
-        (ap₂ (λ (b : Bool) (x : Kinds). level_fault top names nothing_held (drop 1 words) b x) f.there f.fault, f.wish)
+    named : p.0 ≡ codes "losses" → ⊥
+    named n = true≢false (subst (λ (name : Text). option_map_or (λ met. bytes_eq (codes "losses") met.0) (entered (line true) (Some (name, p.1))) false ≡ false) n e)
+
+    go : (b : Bool) → bytes_eq (codes "losses") p.0 ≡ b → b ≡ false
+    go true t = absurd (named (sym ((bytes_eq-Decides (codes "losses") p.0).0 t)))
+    go false t = refl
+
+pub answered_alike : (words : List Text) → AnsweredAlike words
+answered_alike words n other =
+    let rest = drop 1 words in
+    let elsewhere = stops_elsewhere (walk top.rules (names true) nothing_held rest).stopped other in
+    let lines = lines_alike rest elsewhere in
+    let stop = (walk top.rules (names false) nothing_held rest).stopped in
+    let met = same_met stop (walk_clear rest (walk_from nothing_held) n refl) (subst Elsewhere lines.stops elsewhere) in
+    let fault : request_faults_of rest ≡ level_fault top (names false) nothing_held rest (is_some (entered (line false) stop)) (entered_fault (line false) stop) =
+    ap (λ (o : Option (Text × List Text)). level_fault top (names true) nothing_held rest (is_some (entered (line true) o)) (entered_fault (line true) o)) lines.stops
+    ∙ lines.fails (is_some (entered (line true) stop)) (entered_fault (line true) stop)
+    ∙ ap₂ (λ (b : Bool) (x : Kinds). level_fault top (names false) nothing_held rest b x) met.there met.fault in
+    let wish : request_of_words words ≡ option_map (with_these no_options) (task_of_words words) =
+    ap (λ (o : Option (Text × List Text)). option_and_then request_asked (entered (line true) o)) lines.stops ∙ met.wish in
+    (alike_mistakes (faults_by true words) (faults_by false words) (request_of_words words) (task_of_words words) fault wish (faultless_asks false words), wish)
+  where
+    request_faults_of : List Text → Kinds
+    request_faults_of rest =
+        let o = (walk top.rules (names true) nothing_held rest).stopped in
+        level_fault top (names true) nothing_held rest (is_some (entered (line true) o)) (entered_fault (line true) o)

@@ -13,10 +13,11 @@ use Rattle.clap.specs.Walk.{idle, nothing_held, rows_after, subcommand_met}
 use Rattle.clap.proofs.OnLiterals.{clap_on_literals}
 use Rattle.block_core.specs.declared.block.Block.{Block}
 use Rattle.words_core.specs.declared.option_words.Options.{Options}
-use Rattle.words_core.specs.CommandLine.{Asked, Asks, AsksReplay, AsksWatch, check, import, list_blocks, name_of, publish, replay, rewrite, show, task_asked, watch}
-use Rattle.words_core.specs.RequestLine.{AsksByNameWith, AsksReplayWith, AsksWatchWith, AsksWith, Switch, is_on, is_option, no_options, switch_word, takes_options, times}
+use Rattle.words_core.specs.CommandLine.{Asked, Asks, AsksReplay, AsksWatch, check, import, list_blocks, losses, name_of, publish, replay, rewrite, show, watch}
+use Rattle.words_core.specs.RequestLine.{AsksByNameWith, AsksLossesWith, AsksReplayWith, AsksWatchWith, AsksWith, Switch, asked_beside, is_on, is_option, no_options, switch_word, takes_options, times}
 use Rattle.words_core.specs.computed.OfferedLine.{line_of, request_by, task_by}
 use Rattle.words_core.proofs.AskingWords.{line, names, stops}
+use Rattle.words_core.proofs.LossesWords.{in_both, losses_asked_for}
 use Rattle.words_core.proofs.NamedWords.{IsTaken, all_off, at_most, taken_behind, wished}
 use Rattle.words_core.proofs.OptionRows.{AtMostOnce, once_if, times_of, use_all, words_of}
 use Rattle.words_core.proofs.OptionWalks.{dashes, level_ends}
@@ -65,6 +66,7 @@ asked words publish fits a = asked_by_name words publish refl a
 asked words import fits a = asked_by_name words import refl a
 asked words (replay blocks) fits a = replay_asked words blocks fits a
 asked words (watch period id) fits a = watch_asked words period id a
+asked words (losses period) fits a = absurd a
 
 -- ---- where they are
 
@@ -101,9 +103,9 @@ times_append word (x ∷ first) second = go (bytes_eq x word) refl (times_append
 
 -- a task whose subcommand takes options alone
 record TakesThem (t : Asked) : Type 0 where
-  met : subcommand_met names idle (name_of t) ≡ Some (name_of t)
+  met : subcommand_met (names true) idle (name_of t) ≡ Some (name_of t)
   enters : (rest : List Text) → entered (line true) (Some (name_of t, rest)) ≡ Some (name_of t, rows_after (plain_leaf true t).rules [] rest)
-  asks : (rows : List Row) → task_asked (name_of t, rows) ≡ Some (Ok t)
+  asks : (rows : List Row) → asked_beside (name_of t, rows) ≡ Some (Ok t)
   passes : (rest : List Text) → level_passes (plain_leaf true t) [] nothing_held rest false ≡ true → entered_passes (line true) (Some (name_of t, rest)) ≡ true
 
 show_takes : TakesThem show
@@ -127,8 +129,8 @@ options_asked t k called os mark options end gives =
     let new : AtMostOnce (λ o. 0) os = λ o. let m = at_most (is_on options o) (times_of o os) (gives o) in omega (arith, m) in
     let ended = plain_rows t os mark end new in
     let level = level_ends (plain_leaf true t) (use_all os) rest ended refl refl refl in (
-      ap (λ (o : Option (Text × List Text)). option_and_then (request_by true) (entered (line true) o)) (stops (name_of t) (name_of t) rest k.met) ∙ ap (option_and_then (request_by true)) (k.enters rest)
-          ∙ wished true options rows (λ o. times_of o os) t (task_asked (name_of t, rows)) (k.asks rows) (plain_set t os mark end new) gives (λ f. absurd (true≢false f)),
+      ap (λ (o : Option (Text × List Text)). option_and_then (request_by true) (entered (line true) o)) (stops true (name_of t) (name_of t) rest k.met) ∙ ap (option_and_then (request_by true)) (k.enters rest)
+          ∙ wished true options rows (λ o. times_of o os) t (asked_beside (name_of t, rows)) (k.asks rows) (plain_set t os mark end new) gives (λ f. absurd (true≢false f)),
       taken_behind true called (name_of t) rest k.met (there_is t rest (entered (line true) (Some (name_of t, rest))) (k.enters rest)) (k.passes rest level),
     )
 
@@ -150,6 +152,7 @@ name_alone called check e = absurd (true≢false e)
 name_alone called list_blocks e = absurd (true≢false e)
 name_alone called (replay blocks) e = absurd (true≢false e)
 name_alone called (watch period id) e = absurd (true≢false e)
+name_alone called (losses period) e = absurd (true≢false e)
 
 without_options_asked : (words : List Text) (t : Asked) (options : Options) → takes_options t ≡ false → AsksByNameWith words t options → IsTaken true words t options
 without_options_asked words t options none a =
@@ -190,6 +193,22 @@ watch_with_asked words period id options a =
     ∙ ap₂ (λ (m l : List Text). a.asks.called ∷ codes "watch" ∷ (a.before ++ (a.asks.first ++ (m ++ (a.asks.second ++ l))))) (sym middle.1) (sym after.1) ∙ sym a.behind in
     subst (λ (w : List Text). IsTaken true w (watch period id) options) same taken
 
+losses_with_asked : (words : List Text) (period : Option ℕ) (options : Options) → AsksLossesWith words period options → IsTaken true words (losses period) options
+losses_with_asked words period options a =
+    let parts = all_append a.before a.after a.are_options in
+    let before = as_switches a.before parts.0 in
+    let after = as_switches a.after parts.1 in
+    let gives : (o : Switch) → in_both before.0 after.0 o ≡ (if is_on options o then 1 else 0) = λ o.
+    let all = times_append (switch_word o) a.before a.after in
+    let give = a.give o in
+    let b : times (switch_word o) a.before ≡ times_of o before.0 = ap (times (switch_word o)) before.1 in
+    let l : times (switch_word o) a.after ≡ times_of o after.0 = ap (times (switch_word o)) after.1 in
+    omega (arith, all, give, b, l) in
+    let taken = losses_asked_for a.called period a.said options a.says before.0 after.0 a.mark a.end gives in
+    let same : a.called ∷ codes "losses" ∷ ((words_of before.0 ++ (a.said ++ words_of after.0)) ++ a.mark) ≡ words =
+    ap₂ (λ (b l : List Text). a.called ∷ codes "losses" ∷ ((b ++ (a.said ++ l)) ++ a.mark)) (sym before.1) (sym after.1) ∙ sym a.behind in
+    subst (λ (w : List Text). IsTaken true w (losses period) options) same taken
+
 pub asked_with : (words : List Text) (t : Asked) (options : Options) → length words ≤ usize_max → AsksWith words t options → IsTaken true words t options
 asked_with words show options fits a = with_options_asked words show options show_takes a
 asked_with words check options fits a = with_options_asked words check options check_takes a
@@ -199,3 +218,4 @@ asked_with words publish options fits a = without_options_asked words publish op
 asked_with words import options fits a = without_options_asked words import options refl a
 asked_with words (replay blocks) options fits a = replay_with_asked words blocks options fits a
 asked_with words (watch period id) options fits a = watch_with_asked words period id options a
+asked_with words (losses period) options fits a = losses_with_asked words period options a

@@ -14,11 +14,11 @@ use Rattle.clap.specs.Walk.{Names, Walk, answers_to, idle, nothing_held, rows_af
 use Rattle.clap.proofs.OnLiterals.{clap_on_literals}
 use Rattle.clap.proofs.WalkLemmas.{find-map}
 use Rattle.block_core.specs.declared.block.Block.{Block}
-use Rattle.words_core.specs.CommandLine.{Asked, Asks, AsksByName, Meaning, Subcommand, blocks_in, check, first_bad_block, import, is_plain, list_blocks, name_of, number_said, plain, publish, replay, replay_of, replay_shape, replaying, rewrite, show, subcommands, task_asked, watch, watch_shape, watching}
-use Rattle.words_core.proofs.KeptRows.{first_none, leaf, then_none}
+use Rattle.words_core.specs.CommandLine.{Asked, Asks, AsksByName, Meaning, Subcommand, blocks_in, check, first_bad_block, import, is_plain, list_blocks, losses, name_of, number_said, plain, publish, replay, replay_of, replay_shape, replaying, rewrite, show, subcommands, task_asked, watch, watch_shape, watching}
+use Rattle.words_core.proofs.KeptRows.{first_none, last_subs, leaf, then_none}
 use Rattle.words_core.specs.declared.option_words.Options.{Options}
-use Rattle.words_core.specs.RequestLine.{AsksByNameWith, AsksWith, Switch, Wish, is_on, is_option, is_set, no_options, switch_name, takes_options, with_these}
-use Rattle.words_core.specs.computed.OfferedLine.{faults_by, line_of, offered, options_by, request_by, wish_by}
+use Rattle.words_core.specs.RequestLine.{AsksByNameWith, AsksWith, Switch, Wish, is_on, is_option, is_set, losses_asked, losses_shape, no_options, switch_name, takes_options, with_these}
+use Rattle.words_core.specs.computed.OfferedLine.{asked_for, faults_by, line_of, offered, options_by, request_by, wish_by}
 use Rattle.words_core.proofs.LoneFlags.{AreFlags, help_flag, lone_mark, version_flag}
 use Rattle.words_core.proofs.OptionRows.{once_if, times_of, words_of}
 use Rattle.words_core.proofs.OptionWalks.{dashes}
@@ -32,8 +32,16 @@ line offers = built (line_of offers)
 abbrev pub top : Shape
 top = (line false).top
 
-abbrev pub names : Names
-names = names_of (line false)
+abbrev pub names : Bool → Names
+names offers = names_of (line offers)
+
+abbrev has_none : {X : Type 0} → List X → Bool
+has_none [] = true
+has_none (x ∷ xs) = false
+
+no_aliases : (offers : Bool) → list_all (λ s. has_none s.1) (names offers) ≡ true
+no_aliases true = refl
+no_aliases false = refl
 
 abbrev wish_or : Asked × Options → Option Wish → Asked × Options
 wish_or d (Some (Ok wish)) = wish
@@ -51,10 +59,6 @@ all_options (o ∷ os) = rw (an_option o) (all_options os)
 
 -- ---- a subcommand is met by its name
 
-abbrev has_none : {X : Type 0} → List X → Bool
-has_none [] = true
-has_none (x ∷ xs) = false
-
 met_name : (word name : Text) (xs : Names) → list_all (λ s. has_none s.1) xs ≡ true → option_map (λ s. s.0) (find (answers_to word) xs) ≡ Some name → name ≡ word
 met_name word name [] all e = cc
 met_name word name ((n, a ∷ more) ∷ xs) all e = absurd (true≢false (sym all))
@@ -71,9 +75,9 @@ entered_name offers name words r e = go (find (λ s. answers_to name (label_of s
     go None f = let bad : None ≡ Some r = rw f at e in cc
     go (Some s) f =
         let same : Some (rows_at s words) ≡ Some r = rw f at e in
-        let found : option_map (λ l. l.0) (find (answers_to name) names) ≡ Some s.name =
+        let found : option_map (λ l. l.0) (find (answers_to name) (names offers)) ≡ Some s.name =
         ap (λ (o : Option (Text × List Text)). option_map (λ l. l.0) o) (sym (find-map (answers_to name) label_of (line offers).subs) ∙ ap (option_map label_of) f) in
-        sym (ap (λ (o : Option (Text × List Row)). (unwrap_or o r).0) same) ∙ met_name name s.name names refl found
+        sym (ap (λ (o : Option (Text × List Row)). (unwrap_or o r).0) same) ∙ met_name name s.name (names offers) (no_aliases offers) found
 
 -- ---- a task has the name of its subcommand
 
@@ -125,16 +129,33 @@ asked_name (c ∷ cs) h name rows t e = go (bytes_eq c.shape.name name) refl (as
     go true u rest = h.0 rows t (rw u at e) ∙ (bytes_eq-Decides c.shape.name name).0 u
     go false u rest = rest (rw u at e)
 
+-- with the options offered as without, another name asks for the same
+pub asked_other : (offers : Bool) (met : Text × List Row) → bytes_eq (codes "losses") met.0 ≡ false → asked_for offers met ≡ task_asked met
+asked_other true met e = rw e refl
+asked_other false met e = refl
+
+-- a request has the name of its subcommand too
+pub for_name : (offers : Bool) (r : Text × List Row) (t : Asked) → asked_for offers r ≡ Some (Ok t) → name_of t ≡ r.0
+for_name false r t e = asked_name subcommands all_named r.0 r.1 t e
+for_name true r t e = go (bytes_eq (codes "losses") r.0) refl
+  where
+    go : (b : Bool) → bytes_eq (codes "losses") r.0 ≡ b → name_of t ≡ r.0
+    go true u =
+        let same : losses_asked r.1 ≡ Some (Ok t) = rw u at e in
+        sym (ap (λ (o : Option Meaning). name_of (asked_or t o)) same) ∙ (bytes_eq-Decides (codes "losses") r.0).0 u
+    go false u = let same : task_asked r ≡ Some (Ok t) = rw u at e in asked_name subcommands all_named r.0 r.1 t same
+
 -- ---- the words behind a subcommand are its own
 
-follow : (w : Walk) (p : Text × List Text) (words : List Text) → w.stopped ≡ Some p → (fold (walked top.rules names) w words).stopped ≡ Some (p.0, p.1 ++ words)
+pub follow : (offers : Bool) (w : Walk) (p : Text × List Text) (words : List Text) → w.stopped ≡ Some p → (fold (walked top.rules (names offers)) w words).stopped ≡ Some (p.0, p.1 ++ words)
 unfolding walked
-follow w p [] e = e ∙ ap (λ (l : List Text). Some (p.0, l)) (sym (append-nil p.1))
-follow w p (x ∷ xs) e = follow (walked top.rules names w x) (p.0, p.1 ++ x ∷ []) xs (rw e refl) ∙ ap (λ (l : List Text). Some (p.0, l)) (append_assoc p.1 (x ∷ []) xs)
+follow offers w p [] e = e ∙ ap (λ (l : List Text). Some (p.0, l)) (sym (append-nil p.1))
+follow offers w p (x ∷ xs) e =
+    follow offers (walked top.rules (names offers) w x) (p.0, p.1 ++ x ∷ []) xs (rw e refl) ∙ ap (λ (l : List Text). Some (p.0, l)) (append_assoc p.1 (x ∷ []) xs)
 
-pub stops : (word name : Text) (words : List Text) → subcommand_met names idle word ≡ Some name → stop_after top.rules names (word ∷ words) ≡ Some (name, words)
+pub stops : (offers : Bool) (word name : Text) (words : List Text) → subcommand_met (names offers) idle word ≡ Some name → stop_after top.rules (names offers) (word ∷ words) ≡ Some (name, words)
 unfolding walked
-stops word name words m = follow (walked top.rules names (walk_from nothing_held) word) (name, []) words (rw m refl)
+stops offers word name words m = follow offers (walked top.rules (names offers) (walk_from nothing_held) word) (name, []) words (rw m refl)
 
 -- the flags of the program
 program_flags : AreFlags top.rules []
@@ -205,9 +226,14 @@ other_name publish name e other n = true≢false (subst (λ (w : Text). is_plain
 other_name import name e other n = true≢false (subst (λ (w : Text). is_plain_name w ≡ false) (sym n) other)
 other_name (replay blocks) name e other n = true≢false (sym e)
 other_name (watch period id) name e other n = true≢false (sym e)
+other_name (losses period) name e other n = true≢false (sym e)
 
 other_has_none : (offers : Bool) (s : Shape) → is_plain_name s.name ≡ false → HasOptions offers s
 other_has_none offers s other t e n words f = absurd (other_name t s.name e other n)
+
+last_have : (offers : Bool) → EachHasOptions offers (last_subs offers)
+last_have true = (other_has_none true (leaf (offered true losses_shape)) refl, (plain_has_none true import, tt))
+last_have false = (plain_has_none false import, tt)
 
 all_have : (offers : Bool) → EachHasOptions offers (line offers).subs
 all_have offers = (
@@ -220,7 +246,7 @@ all_have offers = (
         plain_has offers list_blocks refl,
         (
           other_has_none offers (leaf (offered offers replay_shape)) refl,
-          (plain_has_none offers publish, (other_has_none offers (leaf (offered offers watch_shape)) refl, (plain_has_none offers import, tt))),
+          (plain_has_none offers publish, (other_has_none offers (leaf (offered offers watch_shape)) refl, last_have offers)),
         ),
       ),
     ),
@@ -277,14 +303,14 @@ below offers name words r t plainly named e f = go (find (λ s. answers_to name 
 
 -- ---- the words that ask for a task
 
-abbrev stop : List Text → Option (Text × List Text)
-stop words = stop_after top.rules names words
+abbrev stop : Bool → List Text → Option (Text × List Text)
+stop offers words = stop_after top.rules (names offers) words
 
 -- what fails neither in the walk nor below it
-parts_none : (offers : Bool) (p : Text) (words : List Text) → faults_by offers (p ∷ words) ≡ [] → (walk_fault top names (walk_from nothing_held) words ≡ []) × (entered_fault (line offers) (stop words) ≡ [])
+parts_none : (offers : Bool) (p : Text) (words : List Text) → faults_by offers (p ∷ words) ≡ [] → (walk_fault top (names offers) (walk_from nothing_held) words ≡ []) × (entered_fault (line offers) (stop offers words) ≡ [])
 parts_none offers p words f =
-    let rest = then_none (walk_fault top names (walk_from nothing_held) words) _ f in
-    (first_none (walk_fault top names (walk_from nothing_held) words) _ f, first_none (entered_fault (line offers) (stop words)) _ rest)
+    let rest = then_none (walk_fault top (names offers) (walk_from nothing_held) words) _ f in
+    (first_none (walk_fault top (names offers) (walk_from nothing_held) words) _ f, first_none (entered_fault (line offers) (stop offers words)) _ rest)
 
 -- a wish is a task and the options of the rows
 wish_parts : (m : Option Meaning) (o : Option Options) (t : Asked) (options : Options) → option_and_then (λ x. option_map (with_these x) m) o ≡ Some (Ok (t, options)) → (m ≡ Some (Ok t)) × (o ≡ Some options)
@@ -303,22 +329,22 @@ gives_by true os rows options e sets none o = sets o ∙ ap once_if (is_on_in ro
 gives_by false os rows options e sets none o =
     ap (times_of o) (none refl) ∙ ap once_if (sym (is_off o) ∙ ap (λ (x : Option Options). is_on (unwrap_or x no_options) o) e)
 
-subcommand_asks : (offers : Bool) (p word name : Text) (words : List Text) (t : Asked) (options : Options) → is_plain t ≡ true → subcommand_met names idle word ≡ Some name → faults_by offers (p ∷ word ∷ words) ≡ []
+subcommand_asks : (offers : Bool) (p word name : Text) (words : List Text) (t : Asked) (options : Options) → is_plain t ≡ true → subcommand_met (names offers) idle word ≡ Some name → faults_by offers (p ∷ word ∷ words) ≡ []
     → wish_by offers (p ∷ word ∷ words) ≡ Some (Ok (t, options)) → NamesPlainly offers (p ∷ word ∷ words) t options
 subcommand_asks offers p word name words t options plainly m f e = go (entered (line offers) (Some (name, words))) refl
   where
     met : option_and_then (request_by offers) (entered (line offers) (Some (name, words))) ≡ Some (Ok (t, options))
-    met = subst (λ (o : Option (Text × List Text)). option_and_then (request_by offers) (entered (line offers) o) ≡ Some (Ok (t, options))) (stops word name words m) e
+    met = subst (λ (o : Option (Text × List Text)). option_and_then (request_by offers) (entered (line offers) o) ≡ Some (Ok (t, options))) (stops offers word name words m) e
 
     fault : entered_fault (line offers) (Some (name, words)) ≡ []
-    fault = subst (λ (o : Option (Text × List Text)). entered_fault (line offers) o ≡ []) (stops word name words m) (parts_none offers p (word ∷ words) f).1
+    fault = subst (λ (o : Option (Text × List Text)). entered_fault (line offers) o ≡ []) (stops offers word name words m) (parts_none offers p (word ∷ words) f).1
 
     go : (o : Option (Text × List Row)) → entered (line offers) (Some (name, words)) ≡ o → NamesPlainly offers (p ∷ word ∷ words) t options
     go None n = absurd (no_wish (Ok (t, options)) (rw n at met))
     go (Some r) n =
-        let both = wish_parts (task_asked r) (options_by offers r.1) t options (rw n at met) in
-        let named : name_of t ≡ r.0 = asked_name subcommands all_named r.0 r.1 t both.0 in
-        let is : word ≡ name_of t = sym (named ∙ (entered_name offers name words r n ∙ met_name word name names refl m)) in
+        let both = wish_parts (asked_for offers r) (options_by offers r.1) t options (rw n at met) in
+        let named : name_of t ≡ r.0 = for_name offers r t both.0 in
+        let is : word ≡ name_of t = sym (named ∙ (entered_name offers name words r n ∙ met_name word name (names offers) (no_aliases offers) m)) in
         let b = below offers name words r t plainly named n fault in
         record {
           called = p;
@@ -332,12 +358,13 @@ subcommand_asks offers p word name words t options plainly m f e = go (entered (
 
 mark_asks_nothing : (offers : Bool) (p : Text) (t : Asked) (options : Options) → wish_by offers (p ∷ dashes ∷ []) ≡ Some (Ok (t, options)) → ⊥
 unfolding clap_on_literals
-mark_asks_nothing offers p t options e = cc
+mark_asks_nothing true p t options e = cc
+mark_asks_nothing false p t options e = cc
 
-no_task : (offers : Bool) (p word : Text) (words : List Text) (t : Asked) (options : Options) → subcommand_met names idle word ≡ None → faults_by offers (p ∷ word ∷ words) ≡ []
+no_task : (offers : Bool) (p word : Text) (words : List Text) (t : Asked) (options : Options) → subcommand_met (names offers) idle word ≡ None → faults_by offers (p ∷ word ∷ words) ≡ []
     → wish_by offers (p ∷ word ∷ words) ≡ Some (Ok (t, options)) → ⊥
 no_task offers p word words t options m f e =
-    let lone = lone_mark top names program_flags refl word words m (parts_none offers p (word ∷ words) f).0 in
+    let lone = lone_mark top (names offers) program_flags refl word words m (parts_none offers p (word ∷ words) f).0 in
     mark_asks_nothing offers p t options
     (subst (λ (rest : List Text). wish_by offers (p ∷ dashes ∷ rest) ≡ Some (Ok (t, options))) lone.1 (subst (λ (w : Text). wish_by offers (p ∷ w ∷ words) ≡ Some (Ok (t, options))) lone.0 e))
 
@@ -345,9 +372,9 @@ no_task offers p word words t options m f e =
 pub words_name : (offers : Bool) (words : List Text) (t : Asked) (options : Options) → faults_by offers words ≡ [] → wish_by offers words ≡ Some (Ok (t, options)) → is_plain t ≡ true → NamesPlainly offers words t options
 words_name offers [] t options f e plainly = cc
 words_name offers (p ∷ []) t options f e plainly = cc
-words_name offers (p ∷ word ∷ words) t options f e plainly = go (subcommand_met names idle word) refl
+words_name offers (p ∷ word ∷ words) t options f e plainly = go (subcommand_met (names offers) idle word) refl
   where
-    go : (o : Option Text) → subcommand_met names idle word ≡ o → NamesPlainly offers (p ∷ word ∷ words) t options
+    go : (o : Option Text) → subcommand_met (names offers) idle word ≡ o → NamesPlainly offers (p ∷ word ∷ words) t options
     go (Some name) m = subcommand_asks offers p word name words t options plainly m f e
     go None m = absurd (no_task offers p word words t options m f e)
 
@@ -362,6 +389,7 @@ asks_plainly words publish e a = a
 asks_plainly words import e a = a
 asks_plainly words (replay blocks) e a = absurd (true≢false (sym e))
 asks_plainly words (watch period id) e a = absurd (true≢false (sym e))
+asks_plainly words (losses period) e a = absurd (true≢false (sym e))
 
 by_name : (called name : Text) (mark : List Text) → IsEnd mark → AsksByName (called ∷ name ∷ mark) name
 by_name called name mark end = elim end [
@@ -385,6 +413,7 @@ asks_with words publish options e a = a
 asks_with words import options e a = a
 asks_with words (replay blocks) options e a = absurd (true≢false (sym e))
 asks_with words (watch period id) options e a = absurd (true≢false (sym e))
+asks_with words (losses period) options e a = absurd (true≢false (sym e))
 
 takes_none : (t : Asked) → is_plain t ≡ true → takes_options t ≡ false → takes_by_name (name_of t) ≡ false
 takes_none show e f = absurd (true≢false f)
@@ -395,6 +424,7 @@ takes_none publish e f = refl
 takes_none import e f = refl
 takes_none (replay blocks) e f = absurd (true≢false f)
 takes_none (watch period id) e f = absurd (true≢false f)
+takes_none (losses period) e f = absurd (true≢false f)
 
 -- where they are
 pub words_ask_with : (words : List Text) (t : Asked) (options : Options) → faults_by true words ≡ [] → wish_by true words ≡ Some (Ok (t, options)) → is_plain t ≡ true → AsksWith words t options

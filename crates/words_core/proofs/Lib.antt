@@ -3,6 +3,7 @@ pub mod OptionRows
 pub mod KeptRows
 pub mod OptionWalks
 pub mod WatchRows
+pub mod LossesRows
 pub mod WordLemmas
 pub mod LoneFlags
 pub mod PlainWords
@@ -12,6 +13,8 @@ pub mod BlockWords
 pub mod NamedWords
 pub mod ReplayWords
 pub mod WatchWords
+pub mod LossesWords
 pub mod AskedWords
+pub mod NamesAlike
 pub mod AlikeWords
 pub mod StandardFacts

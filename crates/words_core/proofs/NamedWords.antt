@@ -21,43 +21,43 @@ use Rattle.words_core.proofs.WordLemmas.{simple_line}
 abbrev stopped_at : Text → List Text → Walk
 stopped_at name words = record (walk_from nothing_held) { stopped = Some (name, words) }
 
-behind_name : (name : Text) (before words : List Text) → fold (walked top.rules names) (stopped_at name before) words ≡ stopped_at name (before ++ words)
+behind_name : (offers : Bool) (name : Text) (before words : List Text) → fold (walked top.rules (names offers)) (stopped_at name before) words ≡ stopped_at name (before ++ words)
 unfolding walked
-behind_name name before [] = ap (stopped_at name) (sym (append-nil before))
-behind_name name before (word ∷ words) = behind_name name (before ++ word ∷ []) words ∙ ap (stopped_at name) (append_assoc before (word ∷ []) words)
+behind_name offers name before [] = ap (stopped_at name) (sym (append-nil before))
+behind_name offers name before (word ∷ words) = behind_name offers name (before ++ word ∷ []) words ∙ ap (stopped_at name) (append_assoc before (word ∷ []) words)
 
-behind_passes : (name : Text) (before words : List Text) → walk_passes top names (stopped_at name before) words ≡ true
+behind_passes : (offers : Bool) (name : Text) (before words : List Text) → walk_passes top (names offers) (stopped_at name before) words ≡ true
 unfolding walk_passes walked
-behind_passes name before [] = refl
-behind_passes name before (word ∷ words) = behind_passes name (before ++ word ∷ []) words
+behind_passes offers name before [] = refl
+behind_passes offers name before (word ∷ words) = behind_passes offers name (before ++ word ∷ []) words
 
 not_help : (b : Bool) → (not b || true) ≡ true
 not_help true = refl
 not_help false = refl
 
-module _ (name : Text) (words : List Text) (met : subcommand_met names idle name ≡ Some name) where
-  named_walk : walk top.rules names nothing_held (name ∷ words) ≡ stopped_at name words
+module _ (offers : Bool) (name : Text) (words : List Text) (met : subcommand_met (names offers) idle name ≡ Some name) where
+  named_walk : walk top.rules (names offers) nothing_held (name ∷ words) ≡ stopped_at name words
   unfolding walked
-  named_walk = rw met (behind_name name [] words)
+  named_walk = rw met (behind_name offers name [] words)
 
-  named_passes : walk_passes top names (walk_from nothing_held) (name ∷ words) ≡ true
+  named_passes : walk_passes top (names offers) (walk_from nothing_held) (name ∷ words) ≡ true
   unfolding walk_passes walked
-  named_passes = rw (met, not_help (bytes_eq name (codes "help"))) (behind_passes name [] words)
+  named_passes = rw (met, not_help (bytes_eq name (codes "help"))) (behind_passes offers name [] words)
 
-  top_passes : level_passes top names nothing_held (name ∷ words) true ≡ true
+  top_passes : level_passes top (names offers) nothing_held (name ∷ words) true ≡ true
   top_passes =
       both_true _ _ named_passes
       (subst (λ (w : Walk). (settle_passes top.rules top.args_override_self w.held && (list_all default_passes top.rules && is_valid top (finished top.rules w.held) true)) ≡ true)
       (sym named_walk) refl)
 
 -- the words are taken where those behind the name are
-pub taken_behind : (offers : Bool) (called name : Text) (words : List Text) → subcommand_met names idle name ≡ Some name → is_some (entered (line offers) (Some (name, words))) ≡ true
+pub taken_behind : (offers : Bool) (called name : Text) (words : List Text) → subcommand_met (names offers) idle name ≡ Some name → is_some (entered (line offers) (Some (name, words))) ≡ true
     → entered_passes (line offers) (Some (name, words)) ≡ true → takes (line_of offers) (called ∷ name ∷ words) ≡ true
 taken_behind offers called name words met there below =
     both_true (is_simple (line_of offers)) _ (simple_line offers)
-    (subst (λ (w : Walk). (entered_passes (line offers) w.stopped && level_passes top names nothing_held (name ∷ words) (is_some (entered (line offers) w.stopped))) ≡ true)
-    (sym (named_walk name words met))
-    (both_true _ _ below (rw there (top_passes name words met))))
+    (subst (λ (w : Walk). (entered_passes (line offers) w.stopped && level_passes top (names offers) nothing_held (name ∷ words) (is_some (entered (line offers) w.stopped))) ≡ true)
+    (sym (named_walk offers name words met))
+    (both_true _ _ below (rw there (top_passes offers name words met))))
 
 -- words that ask for a task with these options are taken, and it is theirs
 abbrev pub IsTaken : Bool → List Text → Asked → Options → Type 0

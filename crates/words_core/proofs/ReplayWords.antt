@@ -18,9 +18,9 @@ use Rattle.block_core.specs.declared.block.Block.{Block}
 use Rattle.words_core.specs.declared.option_words.Options.{Options}
 use Rattle.words_core.specs.CommandLine.{AsksReplay, Meaning, block_rule, is_flag, replay, replay_of, replay_shape}
 use Rattle.words_core.specs.RequestLine.{Switch, capture, is_on, is_option, is_set, switch_name, switch_word, switches, times}
-use Rattle.words_core.specs.computed.OfferedLine.{offered, request_by}
+use Rattle.words_core.specs.computed.OfferedLine.{asked_for, offered, request_by}
 use Rattle.words_core.proofs.KeptRows.{leaf, no_default, no_defaults}
-use Rattle.words_core.proofs.AskingWords.{line, stops}
+use Rattle.words_core.proofs.AskingWords.{asked_other, line, stops}
 use Rattle.words_core.proofs.NamedWords.{IsTaken, at_most, taken_behind, wished}
 use Rattle.words_core.proofs.BlockWords.{all_said}
 use Rattle.words_core.proofs.LoneFlags.{help_flag}
@@ -383,8 +383,9 @@ replay_asked_for offers called arguments blocks options fits so asks gives = go 
         (both_true _ _ (replay_defaults_pass offers) (subst (λ (l : List Row). is_valid (replays offers) l false ≡ true) (sym rows_are) (replay_valid offers last explicit)))) in
         let asks_so : option_map replay_of (all_of (codes "BLOCK") (rows_after (replays offers).rules [] arguments)) ≡ Some (Ok (replay blocks)) =
         ap (λ (l : List Row). option_map replay_of (all_of (codes "BLOCK") l)) rows_are ∙ ap (option_map replay_of) all ∙ ap (λ (m : Meaning). Some m) (all_said blocks (text ∷ texts) (sym a.2)) in (
-          ap (λ (o : Option (Text × List Text)). option_and_then (request_by offers) (entered (line offers) o)) (stops (codes "replay") (codes "replay") arguments refl)
-              ∙ wished offers options (rows_after (replays offers).rules [] arguments) (with_words (λ p. 0) arguments) (replay blocks) (option_map replay_of (all_of (codes "BLOCK") (rows_after (replays offers).rules [] arguments))) asks_so sets
+          ap (λ (o : Option (Text × List Text)). option_and_then (request_by offers) (entered (line offers) o)) (stops offers (codes "replay") (codes "replay") arguments refl)
+              ∙ wished offers options (rows_after (replays offers).rules [] arguments) (with_words (λ p. 0) arguments) (replay blocks) (asked_for offers (codes "replay", rows_after (replays offers).rules [] arguments))
+              (asked_other offers (codes "replay", rows_after (replays offers).rules [] arguments) refl ∙ asks_so) sets
               (λ o. let g = gives o in omega (arith, g)) (λ f o. let none = no_times arguments (so f) o in omega (arith, none)),
           taken_behind offers called (codes "replay") arguments refl refl passes,
         )

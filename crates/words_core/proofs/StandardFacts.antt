@@ -7,7 +7,7 @@ use Rattle.clap.proofs.OnLiterals.{clap_on_literals}
 use Rattle.words_core.specs.declared.option_words.Writing.{Writing}
 use Rattle.words_core.specs.declared.option_words.Writing.TheVariants.{Lines, Dated, Objects}
 use Rattle.words_core.specs.RequestLine.{Wish, request_faults, request_line, request_of_words}
-use Rattle.words_core.specs.CommandLine.{Asked, block_at, check, command_line, import, list_blocks, publish, replay_of, rewrite, show, task_of_words, watch}
+use Rattle.words_core.specs.CommandLine.{Asked, block_at, check, command_line, import, list_blocks, losses, publish, replay_of, rewrite, show, task_of_words, watch}
 
 -- each command without arguments asks for its task
 pub record AreNames : Type 0 where
@@ -98,6 +98,21 @@ requests = record {
   conflict = refl;
   no_dates = refl;
 }
+
+-- what is missing is asked for with a period in range, or with none, and beside the options alone
+pub record AreLosses : Type 0 where
+  pub none : request_of_words (codes "goose" ∷ codes "losses" ∷ []) ≡ wishes (losses None) false false Lines
+  pub two : request_of_words (codes "goose" ∷ codes "losses" ∷ codes "--capture" ∷ codes "--period" ∷ codes "2" ∷ []) ≡ wishes (losses (Some 2)) true false Lines
+  pub most : request_of_words (codes "goose" ∷ codes "losses" ∷ codes "--period=65536" ∷ codes "--json" ∷ codes "--" ∷ []) ≡ wishes (losses (Some 65536)) false false Objects
+  pub one : takes request_line (codes "goose" ∷ codes "losses" ∷ codes "--period" ∷ codes "1" ∷ []) ≡ false
+  pub more : takes request_line (codes "goose" ∷ codes "losses" ∷ codes "--period=65537" ∷ []) ≡ false
+  pub no_block : takes request_line (codes "goose" ∷ codes "losses" ∷ codes "0001,G,D,,1,1" ∷ []) ≡ false
+  pub conflict : request_faults (codes "goose" ∷ codes "losses" ∷ codes "--json" ∷ codes "--time" ∷ []) ≡ kind.ArgumentConflict ∷ []
+  pub alone : takes command_line (codes "goose" ∷ codes "losses" ∷ []) ≡ false
+
+pub missing : AreLosses
+unfolding clap_on_literals
+missing = record { none = refl; two = refl; most = refl; one = refl; more = refl; no_block = refl; conflict = refl; alone = refl }
 
 -- a block has six fields, and the first text that says none counts, from 0
 pub record AreNoBlocks : Type 0 where

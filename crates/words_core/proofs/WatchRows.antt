@@ -1,8 +1,9 @@
 -- The rows of a watch's two options: a period in range, and a text.
 use Rattle.std.proofs.Common.{◌≡◌, ◌∙◌, ◌||◌, ◌<◌, ◌^◌, ℕ, Bool, true, false, true≢false, not, List, [], ◌∷◌, ◌++◌, map, Option, Some, None, Result, Ok, Err, length, option_map, option_and_then, refl, sym, ap, subst, arith, if◌then◌else◌}
 use Rattle.std.specs.Prelude.{codes, fold, pos}
-use Rattle.std.specs.Str.Parse.{IsNumeral, ParsesUnsigned, digits_value, without_leading_plus}
+use Rattle.std.specs.Str.Parse.{ExplainsUnsignedError, HasUnsignedDigitsIfOk, IsNumeral, ParsesUnsigned, digits_value, without_leading_plus}
 use Rattle.std.specs.Str.{bytes_eq}
+use Rattle.std.specs.declared.num.ParseIntError.{ParseIntError}
 use Rattle.clap.specs.Lexer.{without_minus}
 use Rattle.clap.specs.Words.{ReadsOne, Row, Rule, Shape, Text, one_of, one_text, rows_of}
 use Rattle.clap.specs.ValueTests.{is_unsigned_in}
@@ -55,7 +56,7 @@ said_is_parsed text = go (is_unsigned_in 0 4294967295 text) refl
     go false e = (tt, λ f. true≢false (sym (fits_back text f) ∙ e))
 
 -- a text that passes as a period says one
-says_period : (text : Text) → Accepts false (parses.Signed (pos 2) (pos 65536)) text → (n : ℕ) × (number_said (without_minus text) ≡ Some n) × IsPeriod n
+pub says_period : (text : Text) → Accepts false (parses.Signed (pos 2) (pos 65536)) text → (n : ℕ) × (number_said (without_minus text) ≡ Some n) × IsPeriod n
 says_period text p =
     let n = signed_reads (Unit {0}) (ParsesUnsigned 32 10) 32 2 65536 text (number_said (without_minus text)) (said_is_parsed (without_minus text)) (λ u x g. g) (omega arith) p in
     (n.0, n.1, (n.2, n.3))
@@ -70,11 +71,19 @@ read_said E G only (Some t) r none value = parsed_is_said E t r (go r (value t r
     go (Some n) g = only t (Ok n) g
     go None g = (g.0, only t (Err g.0) g.1)
 
-pub period_read : (E : Type 0) (G : List ℕ → Result ℕ E → Type 0) → ((u : List ℕ) (x : Result ℕ E) → G u x → ParsesUnsigned 32 10 u x) → (f : Found) (r : Option ℕ)
+period_read : (E : Type 0) (G : List ℕ → Result ℕ E → Type 0) → ((u : List ℕ) (x : Result ℕ E) → G u x → ParsesUnsigned 32 10 u x) → (f : Found) (r : Option ℕ)
     → (one_text f (codes "period") ≡ None → r ≡ None) → ((t : Text) → one_text f (codes "period") ≡ Some t → ReadsOne {E = E} G t r)
     → r ≡ option_and_then number_said (one_of (codes "period") (rows_of f))
 period_read E G only f r none value =
     read_said E G only (one_text f (codes "period")) r none value ∙ ap (option_and_then number_said) (one_text-rows f (codes "period"))
+
+-- how a number is parsed
+abbrev IsParsed : List ℕ → Result ℕ ParseIntError → Type 0
+IsParsed bs r = ParsesUnsigned 32 10 bs r × ExplainsUnsignedError 10 bs r × HasUnsignedDigitsIfOk bs r
+
+pub period_parsed : (f : Found) (r : Option ℕ) → (one_text f (codes "period") ≡ None → r ≡ None) → ((t : Text) → one_text f (codes "period") ≡ Some t → ReadsOne {E = ParseIntError} IsParsed t r)
+    → r ≡ option_and_then number_said (one_of (codes "period") (rows_of f))
+period_parsed = period_read ParseIntError IsParsed (λ u x g. g.0)
 
 -- ---- the options as they are built
 
@@ -87,7 +96,7 @@ period_option = with_index 1 (filled period_rule)
 abbrev pub id_option : Rule
 id_option = with_index 1 (filled id_rule)
 
-abbrev help_option : Rule
+abbrev pub help_option : Rule
 help_option = with_index 1 (filled help_rule)
 
 -- a request for help is a fault
@@ -104,7 +113,7 @@ switch_keeps a o other values rows h e = set_keeps a (switch_flag o) (values_or_
 apart : (o : Switch) (id : Text) → bytes_eq (switch_name o) id ≡ false → switch_name o ≡ id → ⊥
 apart o id e same = true≢false (sym (subst (λ (w : Text). bytes_eq w id ≡ true) (sym same) (self_eq id)) ∙ e)
 
-not_period : (o : Switch) → switch_name o ≡ codes "period" → ⊥
+pub not_period : (o : Switch) → switch_name o ≡ codes "period" → ⊥
 not_period capture = apart capture (codes "period") refl
 not_period o = apart o (codes "period") refl
 
@@ -113,7 +122,7 @@ not_id capture = apart capture (codes "id") refl
 not_id o = apart o (codes "id") refl
 
 -- the options and the flag for help do, and so
-switches_keep : (a : Rule) → ((o : Switch) → switch_name o ≡ a.id → ⊥) → (os : List Switch) → EachKeeps false (Kept a) (map switch_flag os ++ help_option ∷ [])
+pub switches_keep : (a : Rule) → ((o : Switch) → switch_name o ≡ a.id → ⊥) → (os : List Switch) → EachKeeps false (Kept a) (map switch_flag os ++ help_option ∷ [])
 switches_keep a other [] = (help_keeps (Kept a), tt)
 switches_keep a other (o ∷ os) = (switch_keeps a o (other o), switches_keep a other os)
 
@@ -152,7 +161,7 @@ switch_default_keeps a o other given h = go (has_row (switch_name o) given) refl
     go true f = rw f h
     go false f = rw f (more_keeps a (switch_flag o) DefaultValue (codes "false" ∷ []) given other h)
 
-switch_defaults_keep : (a : Rule) → ((o : Switch) → switch_name o ≡ a.id → ⊥) → (os : List Switch) (given : List Row) → Kept a given → Kept a (fold with_default given (map switch_flag os ++ help_option ∷ []))
+pub switch_defaults_keep : (a : Rule) → ((o : Switch) → switch_name o ≡ a.id → ⊥) → (os : List Switch) (given : List Row) → Kept a given → Kept a (fold with_default given (map switch_flag os ++ help_option ∷ []))
 switch_defaults_keep a other [] given h = subst (Kept a) (sym (no_default help_option given refl)) h
 switch_defaults_keep a other (o ∷ os) given h = switch_defaults_keep a other os (with_default given (switch_flag o)) (switch_default_keeps a o (other o) given h)
 

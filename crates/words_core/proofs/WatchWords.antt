@@ -10,7 +10,7 @@ use Rattle.std.proofs.lemmas.Int.{ints}
 use Rattle.std.proofs.lemmas.Str.Parse.{digit_from_value}
 use Rattle.clap.specs.Lexer.{without_minus}
 use Rattle.clap.specs.ValueTests.{accepts}
-use Rattle.clap.specs.Words.{Row, Rule, Text}
+use Rattle.clap.specs.Words.{Row, Rule, Shape, Text}
 use Rattle.clap.specs.Simple.{entered}
 use Rattle.clap.specs.Takes.{default_passes, is_valid, level_passes, turn_passes, use_passes, value_passes, walk_passes}
 use Rattle.clap.specs.Walk.{Waiting, has_row, idle, nothing_held, option, positional, reading_by, rows_after, used, walked, with_default, with_values, without}
@@ -21,8 +21,8 @@ use Rattle.block_core.specs.Period.{IsPeriod}
 use Rattle.words_core.specs.declared.option_words.Options.{Options}
 use Rattle.words_core.specs.CommandLine.{AsksWatch, SayBoth, SaysOption, is_flag, number_said, watch, watch_asked}
 use Rattle.words_core.specs.RequestLine.{Switch, capture, is_on, is_set, switch_name, switch_word, switches}
-use Rattle.words_core.specs.computed.OfferedLine.{request_by}
-use Rattle.words_core.proofs.AskingWords.{line, stops}
+use Rattle.words_core.specs.computed.OfferedLine.{asked_for, request_by}
+use Rattle.words_core.proofs.AskingWords.{asked_other, line, stops}
 use Rattle.words_core.proofs.KeptRows.{no_defaults}
 use Rattle.words_core.proofs.LoneFlags.{help_flag}
 use Rattle.words_core.proofs.NamedWords.{IsTaken, at_most, taken_behind, wished}
@@ -34,18 +34,18 @@ use Rattle.words_core.proofs.WatchRows.{fits_back, id_option, period_option, wat
 -- ---- one option and its value
 
 -- what a walk makes of an option by its name and a value
-pub record Walks (offers : Bool) (a : Rule) (name : Text) : Type 0 where
-  pub joined : (rows : List Row) (pending : Pending) (v : Text) → walked (watches offers).rules [] (between rows pending) (name ++ (61 ∷ v)) ≡ between (used a (v ∷ []) (settled_to (watches offers) rows pending)) None
+pub record Walks (s : Shape) (a : Rule) (name : Text) : Type 0 where
+  pub joined : (rows : List Row) (pending : Pending) (v : Text) → walked s.rules [] (between rows pending) (name ++ (61 ∷ v)) ≡ between (used a (v ∷ []) (settled_to s rows pending)) None
   pub named : (rows : List Row) (pending : Pending) (v : Text) → is_flag v ≡ false
-      → walked (watches offers).rules [] (walked (watches offers).rules [] (between rows pending) name) v ≡ between (settled_to (watches offers) rows pending) (Some (a.id, v ∷ []))
-  pub settled : (rows : List Row) (v : Text) → settled_to (watches offers) rows (Some (a.id, v ∷ [])) ≡ used a (v ∷ []) rows
-  pub joined_passes : (rows : List Row) (pending : Pending) (v : Text) → settles (watches offers) rows pending ≡ true → use_passes false a (v ∷ []) (settled_to (watches offers) rows pending) ≡ true
-      → walk_passes (watches offers) [] (between rows pending) ((name ++ (61 ∷ v)) ∷ []) ≡ true
-  pub named_passes : (rows : List Row) (pending : Pending) (v : Text) → is_flag v ≡ false → settles (watches offers) rows pending ≡ true
-      → walk_passes (watches offers) [] (between rows pending) (name ∷ v ∷ []) ≡ true
-  pub settle_passes : (rows : List Row) (v : Text) → use_passes false a (v ∷ []) rows ≡ true → settles (watches offers) rows (Some (a.id, v ∷ [])) ≡ true
+      → walked s.rules [] (walked s.rules [] (between rows pending) name) v ≡ between (settled_to s rows pending) (Some (a.id, v ∷ []))
+  pub settled : (rows : List Row) (v : Text) → settled_to s rows (Some (a.id, v ∷ [])) ≡ used a (v ∷ []) rows
+  pub joined_passes : (rows : List Row) (pending : Pending) (v : Text) → settles s rows pending ≡ true → use_passes false a (v ∷ []) (settled_to s rows pending) ≡ true
+      → walk_passes s [] (between rows pending) ((name ++ (61 ∷ v)) ∷ []) ≡ true
+  pub named_passes : (rows : List Row) (pending : Pending) (v : Text) → is_flag v ≡ false → settles s rows pending ≡ true
+      → walk_passes s [] (between rows pending) (name ∷ v ∷ []) ≡ true
+  pub settle_passes : (rows : List Row) (v : Text) → use_passes false a (v ∷ []) rows ≡ true → settles s rows (Some (a.id, v ∷ [])) ≡ true
 
-period_walks : (offers : Bool) → Walks offers period_option (codes "--period")
+period_walks : (offers : Bool) → Walks (watches offers) period_option (codes "--period")
 unfolding walked walk_passes
 period_walks offers = record {
   joined = λ rows pending v. refl;
@@ -65,7 +65,7 @@ period_walks offers = record {
     passes rows pending [] e s = rw s refl
     passes rows pending (c ∷ cs) e s = rw (s, e) (rw e refl)
 
-id_walks : (offers : Bool) → Walks offers id_option (codes "--id")
+id_walks : (offers : Bool) → Walks (watches offers) id_option (codes "--id")
 unfolding walked walk_passes
 id_walks offers = record {
   joined = λ rows pending v. refl;
@@ -86,41 +86,41 @@ id_walks offers = record {
     passes rows pending (c ∷ cs) e s = rw (s, e) (rw e refl)
 
 -- the words of an option, in either form, lead to rows that have its value too
-leads : (offers : Bool) (a : Rule) (name v : Text) → Walks offers a name → (words : List Text) → SaysOption name v words → (rows : List Row) (pending : Pending)
-    → settles (watches offers) rows pending ≡ true → use_passes false a (v ∷ []) (settled_to (watches offers) rows pending) ≡ true → Leads (watches offers) (used a (v ∷ [])) words rows pending
-leads offers a name v w [] says rows pending s u = absurd says
-leads offers a name v w (word ∷ []) says rows pending s u =
-    subst (λ (x : Text). Leads (watches offers) (used a (v ∷ [])) (x ∷ []) rows pending) (sym says) (record {
-      to_rows = used a (v ∷ []) (settled_to (watches offers) rows pending);
+pub leads : (s : Shape) (a : Rule) (name v : Text) → Walks s a name → (words : List Text) → SaysOption name v words → (rows : List Row) (pending : Pending)
+    → settles s rows pending ≡ true → use_passes false a (v ∷ []) (settled_to s rows pending) ≡ true → Leads s (used a (v ∷ [])) words rows pending
+leads s a name v w [] says rows pending k u = absurd says
+leads s a name v w (word ∷ []) says rows pending k u =
+    subst (λ (x : Text). Leads s (used a (v ∷ [])) (x ∷ []) rows pending) (sym says) (record {
+      to_rows = used a (v ∷ []) (settled_to s rows pending);
       to_pending = None;
       walks = w.joined rows pending v;
       settled = refl;
-      passes = w.joined_passes rows pending v s u;
+      passes = w.joined_passes rows pending v k u;
       settling = refl;
     })
-leads offers a name v w (word ∷ text ∷ []) says rows pending s u =
-    subst (λ (x : Text). Leads (watches offers) (used a (v ∷ [])) (x ∷ text ∷ []) rows pending) (sym says.0)
-    (subst (λ (x : Text). Leads (watches offers) (used a (v ∷ [])) (name ∷ x ∷ []) rows pending) (sym says.1) (record {
-      to_rows = settled_to (watches offers) rows pending;
+leads s a name v w (word ∷ text ∷ []) says rows pending k u =
+    subst (λ (x : Text). Leads s (used a (v ∷ [])) (x ∷ text ∷ []) rows pending) (sym says.0)
+    (subst (λ (x : Text). Leads s (used a (v ∷ [])) (name ∷ x ∷ []) rows pending) (sym says.1) (record {
+      to_rows = settled_to s rows pending;
       to_pending = Some (a.id, v ∷ []);
       walks = w.named rows pending v says.2;
-      settled = w.settled (settled_to (watches offers) rows pending) v;
-      passes = w.named_passes rows pending v says.2 s;
-      settling = w.settle_passes (settled_to (watches offers) rows pending) v u;
+      settled = w.settled (settled_to s rows pending) v;
+      passes = w.named_passes rows pending v says.2 k;
+      settling = w.settle_passes (settled_to s rows pending) v u;
     }))
-leads offers a name v w (word ∷ text ∷ x ∷ more) says rows pending s u = absurd says
+leads s a name v w (word ∷ text ∷ x ∷ more) says rows pending k u = absurd says
 
 -- ---- both options of a watch, and those on the input before, between and behind them
 
--- an option of a watch by its name
-pub record Argument (offers : Bool) (a : Rule) (name : Text) : Type 0 where
-  pub walks : Walks offers a name
+-- an option with a value by its name
+pub record Argument (s : Shape) (a : Rule) (name : Text) : Type 0 where
+  pub walks : Walks s a name
   pub passes : (v : Text) (rows : List Row) → value_passes a v ≡ true → has_row a.id rows ≡ false → use_passes false a (v ∷ []) rows ≡ true
   pub uses : (v : Text) (rows : List Row) → used a (v ∷ []) rows ≡ with_values a.id (reading_by a) CommandLine (v ∷ []) (without a.id rows)
   pub before_option : (o : Switch) → bytes_eq (switch_name o) a.id ≡ false
   pub after_option : (o : Switch) → bytes_eq a.id (switch_name o) ≡ false
 
-period_argument : (offers : Bool) → Argument offers period_option (codes "--period")
+period_argument : (offers : Bool) → Argument (watches offers) period_option (codes "--period")
 period_argument offers = record { walks = period_walks offers; passes = λ v rows p h. rw (h, p) refl; uses = λ v rows. refl; before_option = before; after_option = after }
   where
     before : (o : Switch) → bytes_eq (switch_name o) (codes "period") ≡ false
@@ -131,7 +131,7 @@ period_argument offers = record { walks = period_walks offers; passes = λ v row
     after capture = refl
     after _ = refl
 
-id_argument : (offers : Bool) → Argument offers id_option (codes "--id")
+id_argument : (offers : Bool) → Argument (watches offers) id_option (codes "--id")
 id_argument offers = record { walks = id_walks offers; passes = λ v rows p h. rw (h, p) refl; uses = λ v rows. refl; before_option = before; after_option = after }
   where
     before : (o : Switch) → bytes_eq (switch_name o) (codes "id") ≡ false
@@ -181,7 +181,7 @@ watch_options false os none n rows pending settling c new =
 abbrev pub in_all : List Switch → List Switch → List Switch → Switch → ℕ
 in_all before middle after = with_times (with_times (with_times (λ o. 0) before) middle) after
 
-module _ (offers : Bool) (a b : Rule) (name other : Text) (v u : Text) (x : Argument offers a name) (y : Argument offers b other) (apart : bytes_eq a.id b.id ≡ false) (also : bytes_eq b.id a.id ≡ false)
+module _ (offers : Bool) (a b : Rule) (name other : Text) (v u : Text) (x : Argument (watches offers) a name) (y : Argument (watches offers) b other) (apart : bytes_eq a.id b.id ≡ false) (also : bytes_eq b.id a.id ≡ false)
     (pass : value_passes a v ≡ true) (also_pass : value_passes b u ≡ true) (first second : List Text) (says : SaysOption name v first) (also_says : SaysOption other u second)
     (before middle after : List Switch) (no_before : offers ≡ false → before ≡ []) (no_middle : offers ≡ false → middle ≡ []) (no_after : offers ≡ false → after ≡ [])
     (most : (o : Switch) → in_all before middle after o ≤ 1) where
@@ -241,7 +241,7 @@ module _ (offers : Bool) (a b : Rule) (name other : Text) (v u : Text) (x : Argu
 
   lead_2 : Leads (watches offers) (used a (v ∷ [])) first lead_1.to_rows lead_1.to_pending
   lead_2 =
-      leads offers a name v x.walks first says lead_1.to_rows lead_1.to_pending lead_1.settling
+      leads (watches offers) a name v x.walks first says lead_1.to_rows lead_1.to_pending lead_1.settling
       (subst (λ (rows : List Row). use_passes false a (v ∷ []) rows ≡ true) (sym lead_1.settled) (x.passes v rows_1 pass (has_none a.id rows_1 (none_at_1 a.id x.before_option))))
 
   settled_2 : settled_to (watches offers) lead_2.to_rows lead_2.to_pending ≡ rows_2
@@ -257,7 +257,7 @@ module _ (offers : Bool) (a b : Rule) (name other : Text) (v u : Text) (x : Argu
 
   lead_4 : Leads (watches offers) (used b (u ∷ [])) second lead_3.to_rows lead_3.to_pending
   lead_4 =
-      leads offers b other u y.walks second also_says lead_3.to_rows lead_3.to_pending lead_3.settling
+      leads (watches offers) b other u y.walks second also_says lead_3.to_rows lead_3.to_pending lead_3.settling
       (subst (λ (rows : List Row). use_passes false b (u ∷ []) rows ≡ true) (sym settled_3) (y.passes u rows_3 also_pass (has_none b.id rows_3 none_at_3)))
 
   settled_4 : settled_to (watches offers) lead_4.to_rows lead_4.to_pending ≡ rows_4
@@ -377,8 +377,9 @@ watch_asked_for offers words period id options a before middle after no_before n
     let say = digits_say a.digits a.are_digits period a.number a.range in
     let asks = watch_asks offers a.digits id period pass say a.first a.second a.options before middle after no_before no_middle no_after (λ o. at_most (is_on options o) (in_all before middle after o) (gives o)) in
     let rest = words_of before ++ (a.first ++ (words_of middle ++ (a.second ++ words_of after))) in (
-      ap (λ (o : Option (Text × List Text)). option_and_then (request_by offers) (entered (line offers) o)) (stops (codes "watch") (codes "watch") rest refl)
-          ∙ wished offers options (rows_after (watches offers).rules [] rest) (in_all before middle after) (watch period id) (watch_asked (rows_after (watches offers).rules [] rest)) asks.watch_is asks.sets gives
+      ap (λ (o : Option (Text × List Text)). option_and_then (request_by offers) (entered (line offers) o)) (stops offers (codes "watch") (codes "watch") rest refl)
+          ∙ wished offers options (rows_after (watches offers).rules [] rest) (in_all before middle after) (watch period id) (asked_for offers (codes "watch", rows_after (watches offers).rules [] rest))
+          (asked_other offers (codes "watch", rows_after (watches offers).rules [] rest) refl ∙ asks.watch_is) asks.sets gives
           (λ f o. rw (no_before f, no_middle f, no_after f) refl),
       taken_behind offers a.called (codes "watch") rest refl refl asks.passes,
     )

@@ -22,13 +22,14 @@ use Rattle.words_core.specs.declared.words.Request.{Request}
 use Rattle.words_core.specs.declared.words.Task.{Task}
 use Rattle.words_core.specs.declared.words.WordsError.{WordsError}
 use Rattle.words_core.specs.declared.words.WordsError.TheVariants as refused
-use Rattle.words_core.proofs.AskingWords.{asked_or}
-use Rattle.words_core.proofs.KeptRows.{first_none, leaf, level_checked, then_none, wanted}
+use Rattle.words_core.proofs.AskingWords.{asked_or, asked_other}
+use Rattle.words_core.proofs.KeptRows.{first_none, last_subs, leaf, level_checked, then_none, wanted}
 use Rattle.words_core.proofs.WatchRows.{watch_says}
-use Rattle.words_core.specs.CommandLine.{AnswersBadBlock, AnswersTask, Asked, AsksByName, HasPeriod, IsBlockError, IsNoMistake, MayRefuse, Meaning, blocks_in, check, command_line, first_bad_block, import, is_plain, list_blocks, name_of, plain, publish, replay, replay_of, replay_shape, rewrite, asked_by, show, task_asked, task_of_words, watch, watch_shape}
-use Rattle.words_core.specs.RequestLine.{AnswersRequest, AsksWith, MayRefuseRequest, RefusesBlock, Wish, no_options, with_these}
+use Rattle.words_core.proofs.LossesRows.{losses_say}
+use Rattle.words_core.specs.CommandLine.{AnswersBadBlock, AnswersTask, Asked, AsksByName, HasPeriod, IsBlockError, IsNoMistake, MayRefuse, Meaning, blocks_in, check, command_line, first_bad_block, import, is_plain, list_blocks, losses, name_of, plain, publish, replay, replay_of, replay_shape, rewrite, asked_by, show, task_asked, task_of_words, watch, watch_shape}
+use Rattle.words_core.specs.RequestLine.{AnswersRequest, AsksWith, MayRefuseRequest, RefusesBlock, Wish, losses_shape, no_options, with_these}
 use Rattle.words_core.specs.computed.PrivateCalls.{MayAnswer}
-use Rattle.words_core.specs.computed.OfferedLine.{IsExclusion, MayGrant, MayRefuseBy, agrees_by, faults_by, line_of, mistakes_by, offered, options_by, request_by, task_by, wish_by}
+use Rattle.words_core.specs.computed.OfferedLine.{IsExclusion, MayGrant, MayRefuseBy, agrees_by, asked_for, faults_by, line_of, mistakes_by, offered, options_by, request_by, task_by, wish_by}
 
 -- where a subcommand is required and the last checks pass, there is one
 checked : (has help required argument : Bool) → required ≡ true → check_kinds (not has && help) (not has && required) argument ≡ [] → has ≡ true
@@ -77,31 +78,31 @@ IsAsked (Some (Ok t)) = HasPeriod t
 IsAsked (Some (Err i)) = Unit {0}
 
 -- the matches of a subcommand whose words have no fault ask for something
-abbrev AsksForSomething : Shape → Type 0
-AsksForSomething s = (words : List Text) → level_fault s [] nothing_held words false [] ≡ [] → IsAsked (task_asked (rows_at s words))
+abbrev AsksForSomething : Bool → Shape → Type 0
+AsksForSomething offers s = (words : List Text) → level_fault s [] nothing_held words false [] ≡ [] → IsAsked (asked_for offers (rows_at s words))
 
-abbrev EachAsks : List Shape → Type 0
-EachAsks [] = Unit {0}
-EachAsks (s ∷ rest) = AsksForSomething s × EachAsks rest
+abbrev EachAsks : Bool → List Shape → Type 0
+EachAsks offers [] = Unit {0}
+EachAsks offers (s ∷ rest) = AsksForSomething offers s × EachAsks offers rest
 
-found_asks : (p : Shape → Bool) (words : List Text) (xs : List Shape) → EachAsks xs
+found_asks : (offers : Bool) (p : Shape → Bool) (words : List Text) (xs : List Shape) → EachAsks offers xs
     → is_some (option_map (λ s. rows_at s words) (find p xs)) ≡ true
     → option_map_or (λ s. level_fault s [] nothing_held words false []) (find p xs) [] ≡ []
-    → IsAsked (option_and_then task_asked (option_map (λ s. rows_at s words) (find p xs)))
-found_asks p words [] all e f = cc
-found_asks p words (x ∷ xs) all e f = go (p x) refl (found_asks p words xs all.1)
+    → IsAsked (option_and_then (asked_for offers) (option_map (λ s. rows_at s words) (find p xs)))
+found_asks offers p words [] all e f = cc
+found_asks offers p words (x ∷ xs) all e f = go (p x) refl (found_asks offers p words xs all.1)
   where
     go : (b : Bool) → p x ≡ b
         → (is_some (option_map (λ s. rows_at s words) (find p xs)) ≡ true → option_map_or (λ s. level_fault s [] nothing_held words false []) (find p xs) [] ≡ []
-        → IsAsked (option_and_then task_asked (option_map (λ s. rows_at s words) (find p xs))))
-        → IsAsked (option_and_then task_asked (option_map (λ s. rows_at s words) (find p (x ∷ xs))))
+        → IsAsked (option_and_then (asked_for offers) (option_map (λ s. rows_at s words) (find p xs))))
+        → IsAsked (option_and_then (asked_for offers) (option_map (λ s. rows_at s words) (find p (x ∷ xs))))
     go true t rest = rw t (all.0 words (rw t at f))
     go false t rest = rw t (rest (rw t at e) (rw t at f))
 
-entered_gives : (a : App) (stop : Option (Text × List Text)) → EachAsks a.subs → is_some (entered a stop) ≡ true → entered_fault a stop ≡ []
-    → IsAsked (option_and_then task_asked (entered a stop))
-entered_gives a None all e f = cc
-entered_gives a (Some p) all e f = found_asks _ p.1 a.subs all e f
+entered_gives : (offers : Bool) (a : App) (stop : Option (Text × List Text)) → EachAsks offers a.subs → is_some (entered a stop) ≡ true → entered_fault a stop ≡ []
+    → IsAsked (option_and_then (asked_for offers) (entered a stop))
+entered_gives offers a None all e f = cc
+entered_gives offers a (Some p) all e f = found_asks offers _ p.1 a.subs all e f
 
 -- the name and the rows of the subcommand that was met
 met_rows : {Z : Type 0} (o : Option (Box SubCommand Z)) (name : Text) (rows : List Row) → option_map (λ b. (out-SubCommand (box_value b)).name.now) o ≡ Some name
@@ -130,17 +131,23 @@ replay_asked (Some texts) e = go (first_bad_block texts)
     go None = tt
     go (Some i) = tt
 
-plain_gives : (offers : Bool) (t : Asked) → is_plain t ≡ true → AsksForSomething (leaf (offered offers (plain t).shape))
-plain_gives offers show e words f = tt
-plain_gives offers check e words f = tt
-plain_gives offers rewrite e words f = tt
-plain_gives offers list_blocks e words f = tt
-plain_gives offers publish e words f = tt
-plain_gives offers import e words f = tt
-plain_gives offers (replay blocks) e words f = absurd (true≢false (sym e))
-plain_gives offers (watch period id) e words f = absurd (true≢false (sym e))
+-- the subcommand of another name than `losses`
+asks_other : (offers : Bool) (s : Shape) → bytes_eq (codes "losses") s.name ≡ false → ((words : List Text) → level_fault s [] nothing_held words false [] ≡ [] → IsAsked (task_asked (rows_at s words)))
+    → AsksForSomething offers s
+asks_other offers s other asks words f = subst IsAsked (sym (asked_other offers (rows_at s words) other)) (asks words f)
 
-replay_gives : (offers : Bool) → AsksForSomething (leaf (offered offers replay_shape))
+plain_gives : (offers offered_so : Bool) (t : Asked) → is_plain t ≡ true → AsksForSomething offers (leaf (offered offered_so (plain t).shape))
+plain_gives offers so show e = asks_other offers (leaf (offered so (plain show).shape)) refl (λ words f. tt)
+plain_gives offers so check e = asks_other offers (leaf (offered so (plain check).shape)) refl (λ words f. tt)
+plain_gives offers so rewrite e = asks_other offers (leaf (offered so (plain rewrite).shape)) refl (λ words f. tt)
+plain_gives offers so list_blocks e = asks_other offers (leaf (offered so (plain list_blocks).shape)) refl (λ words f. tt)
+plain_gives offers so publish e = asks_other offers (leaf (offered so (plain publish).shape)) refl (λ words f. tt)
+plain_gives offers so import e = asks_other offers (leaf (offered so (plain import).shape)) refl (λ words f. tt)
+plain_gives offers so (replay blocks) e = absurd (true≢false (sym e))
+plain_gives offers so (watch period id) e = absurd (true≢false (sym e))
+plain_gives offers so (losses period) e = absurd (true≢false (sym e))
+
+replay_gives : (offers : Bool) → AsksForSomething offers (leaf (offered offers replay_shape))
 replay_gives false words f =
     let rows = rows_after (leaf (offered false replay_shape)).rules [] words in
     replay_asked (all_of (codes "BLOCK") rows) (a_row (codes "BLOCK") rows (wanted false false _ (level_checked (leaf (offered false replay_shape)) [] nothing_held words false [] f)))
@@ -148,13 +155,23 @@ replay_gives true words f =
     let rows = rows_after (leaf (offered true replay_shape)).rules [] words in
     replay_asked (all_of (codes "BLOCK") rows) (a_row (codes "BLOCK") rows (wanted false false _ (level_checked (leaf (offered true replay_shape)) [] nothing_held words false [] f)))
 
-watch_gives : (offers : Bool) → AsksForSomething (leaf (offered offers watch_shape))
-watch_gives offers words f = let says = watch_says offers words f in rw says.2 says.3
+watch_gives : (offers : Bool) → AsksForSomething offers (leaf (offered offers watch_shape))
+watch_gives offers = asks_other offers (leaf (offered offers watch_shape)) refl (λ words f. let says = watch_says offers words f in rw says.2 says.3)
 
-all_give : (offers : Bool) → EachAsks (built (line_of offers)).subs
+losses_gives : AsksForSomething true (leaf (offered true losses_shape))
+losses_gives words f = losses_say words f
+
+last_give : (offers : Bool) → EachAsks offers (last_subs offers)
+last_give true = (losses_gives, (plain_gives true false import refl, tt))
+last_give false = (plain_gives false false import refl, tt)
+
+all_give : (offers : Bool) → EachAsks offers (built (line_of offers)).subs
 all_give offers = (
-  plain_gives offers show refl,
-  (plain_gives offers check refl, (plain_gives false rewrite refl, (plain_gives offers list_blocks refl, (replay_gives offers, (plain_gives false publish refl, (watch_gives offers, (plain_gives false import refl, tt))))))),
+  plain_gives offers offers show refl,
+  (
+    plain_gives offers offers check refl,
+    (plain_gives offers false rewrite refl, (plain_gives offers offers list_blocks refl, (replay_gives offers, (plain_gives offers false publish refl, (watch_gives offers, last_give offers))))),
+  ),
 )
 
 -- words without a fault ask for something
@@ -163,7 +180,7 @@ faultless_asks offers words e =
     let line = line_of offers in
     let stop = stop_after (built line).top.rules (names_of (built line)) (argument_words line words) in
     let below = then_none (walk_fault (built line).top (names_of (built line)) (walk_from nothing_held) (argument_words line words)) _ e in
-    entered_gives (built line) stop (all_give offers) (subcommand_given line words refl e) (first_none (entered_fault (built line) stop) _ below)
+    entered_gives offers (built line) stop (all_give offers) (subcommand_given line words refl e) (first_none (entered_fault (built line) stop) _ below)
 
 -- a task's name asks for that task and is taken, also before the mark behind which no flag follows
 abbrev IsTaken : List Text → Asked → Type 0
@@ -179,6 +196,7 @@ name_asks program publish e = (refl, refl)
 name_asks program import e = (refl, refl)
 name_asks program (replay blocks) e = absurd (true≢false (sym e))
 name_asks program (watch period id) e = absurd (true≢false (sym e))
+name_asks program (losses period) e = absurd (true≢false (sym e))
 
 name_and_mark_ask : (program : Text) (t : Asked) → is_plain t ≡ true → IsTaken (program ∷ name_of t ∷ codes "--" ∷ []) t
 unfolding clap_on_literals
@@ -190,6 +208,7 @@ name_and_mark_ask program publish e = (refl, refl)
 name_and_mark_ask program import e = (refl, refl)
 name_and_mark_ask program (replay blocks) e = absurd (true≢false (sym e))
 name_and_mark_ask program (watch period id) e = absurd (true≢false (sym e))
+name_and_mark_ask program (losses period) e = absurd (true≢false (sym e))
 
 -- words that ask for a task by its name are taken, and that task is theirs
 pub asked_by_name : (words : List Text) (t : Asked) → is_plain t ≡ true → AsksByName words (name_of t) → IsTaken words t
@@ -336,9 +355,9 @@ task_wished offers words t options e = go (subcommand_of (line_of offers) words)
     by m None f = cc
     by m (Some o) f = wished m o f
 
-    go : (met : Option (Text × List Row)) → option_and_then (request_by offers) met ≡ Some (Ok (t, options)) → option_and_then task_asked met ≡ Some (Ok t)
+    go : (met : Option (Text × List Row)) → option_and_then (request_by offers) met ≡ Some (Ok (t, options)) → option_and_then (asked_for offers) met ≡ Some (Ok t)
     go None f = cc
-    go (Some met) f = by (task_asked met) (options_by offers met.1) f
+    go (Some met) f = by (asked_for offers met) (options_by offers met.1) f
 
 pub block_wished : (offers : Bool) (words : List Text) (i : ℕ) → wish_by offers words ≡ Some (Err i) → task_by offers words ≡ Some (Err i)
 block_wished offers words i e = go (subcommand_of (line_of offers) words) e
@@ -352,9 +371,9 @@ block_wished offers words i e = go (subcommand_of (line_of offers) words) e
     by m None f = cc
     by m (Some o) f = wished m o f
 
-    go : (met : Option (Text × List Row)) → option_and_then (request_by offers) met ≡ Some (Err i) → option_and_then task_asked met ≡ Some (Err i)
+    go : (met : Option (Text × List Row)) → option_and_then (request_by offers) met ≡ Some (Err i) → option_and_then (asked_for offers) met ≡ Some (Err i)
     go None f = cc
-    go (Some met) f = by (task_asked met) (options_by offers met.1) f
+    go (Some met) f = by (asked_for offers met) (options_by offers met.1) f
 
 pub asked_period : (offers : Bool) (words : List Text) (t : Asked) → faults_by offers words ≡ [] → task_by offers words ≡ Some (Ok t) → HasPeriod t
 asked_period offers words t none e = subst IsAsked e (faultless_asks offers words none)

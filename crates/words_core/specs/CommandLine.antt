@@ -12,13 +12,13 @@ use Rattle.clap.specs.declared.builder.value_parser.ValueParser.TheVariants as p
 use Rattle.block_core.specs.declared.block.Block.{Block}
 use Rattle.block_core.specs.Period.{IsPeriod}
 use Rattle.words_core.specs.declared.words.Task.{Task}
-use Rattle.words_core.specs.declared.words.Task.TheVariants.{Show, Check, Rewrite, Blocks, Publish, Import, Replay, Watch}
+use Rattle.words_core.specs.declared.words.Task.TheVariants.{Show, Check, Rewrite, Blocks, Publish, Import, Replay, Watch, Losses}
 use Rattle.words_core.specs.declared.words.WordsError.{WordsError}
 use Rattle.words_core.specs.declared.words.WordsError.TheVariants as refused
 use Rattle.block_core.specs.BlockText.{block_in}
 
 -- what words may ask for; a replay of these control blocks, in this order; a watch over the stream with this
--- svID, whose counter has this period
+-- svID, whose counter has this period; what is missing, of streams where this period of their counters is given
 pub data Asked : Type 0 where
   show : Asked
   check : Asked
@@ -28,6 +28,7 @@ pub data Asked : Type 0 where
   import : Asked
   replay : List (Block Global) → Asked
   watch : ℕ → Text → Asked
+  losses : Option ℕ → Asked
 
 -- what is asked for by a task, wherever its blocks and its svID stand in memory
 abbrev pub asked_by : Task → Asked
@@ -39,6 +40,7 @@ asked_by Publish = publish
 asked_by Import = import
 asked_by (Replay blocks) = replay blocks.items
 asked_by (Watch period id) = watch period id.items
+asked_by (Losses period) = losses period
 
 -- the name of the subcommand that asks for a task
 abbrev pub name_of : Asked → Text
@@ -50,16 +52,19 @@ name_of publish = codes "publish"
 name_of import = codes "import"
 name_of (replay blocks) = codes "replay"
 name_of (watch period id) = codes "watch"
+name_of (losses period) = codes "losses"
 
 -- the task's subcommand has no words of its own
 abbrev pub is_plain : Asked → Bool
 is_plain (replay blocks) = false
 is_plain (watch period id) = false
+is_plain (losses period) = false
 is_plain _ = true
 
--- the period of a watch is one that a watch may have
+-- the period of a watch is one that a watch may have, and so is one that is given for losses
 abbrev pub HasPeriod : Asked → Type 0
 HasPeriod (watch period id) = IsPeriod period
+HasPeriod (losses (Some period)) = IsPeriod period
 HasPeriod _ = Unit {0}
 
 -- what the matches of a subcommand ask for: a task, or none because at this position, from 0, of the
@@ -206,10 +211,11 @@ pub record AsksWatch (words : List Text) (period : ℕ) (id : Text) : Type 0 whe
   pub range : IsPeriod period
 
 -- the words ask for this task: a task without words of its own by its name, a replay by the texts of
--- its control blocks, a watch by its two options
+-- its control blocks, a watch by its two options; what is missing is asked for beside the other options alone
 abbrev pub Asks : List Text → Asked → Type 0
 Asks words (replay blocks) = AsksReplay words blocks
 Asks words (watch period id) = AsksWatch words period id
+Asks words (losses period) = ⊥
 Asks words t = AsksByName words (name_of t)
 
 -- what may be wrong with the words, or asked for in place of a task: the kinds of error of the

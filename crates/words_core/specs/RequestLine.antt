@@ -4,8 +4,9 @@ use Rattle.std.specs.Global.{Global}
 use Rattle.std.specs.List.{list_all, list_any}
 use Rattle.std.specs.Option.{option_map_or}
 use Rattle.std.specs.Str.{bytes_eq}
+use Rattle.std.specs.Str.Parse.{IsNumeral, digits_value}
 use Rattle.clap.specs.Lexer.{long_of}
-use Rattle.clap.specs.Words.{App, IsAmong, Kinds, Row, Rule, Shape, Text, fault_of, kind_of, new_rule, one_of, subcommand_of, takes, with_subcommand}
+use Rattle.clap.specs.Words.{App, IsAmong, Kinds, Row, Rule, Shape, Text, fault_of, kind_of, new_app, new_rule, one_of, subcommand_of, takes, with_rule, with_subcommand}
 use Rattle.clap.specs.Kinds.{or_else}
 use Rattle.clap.specs.declared.builder.action.ArgAction.TheVariants.{SetTrue}
 use Rattle.clap.specs.declared.error.kind.ErrorKind.TheVariants as kind
@@ -16,7 +17,8 @@ use Rattle.words_core.specs.declared.option_words.Writing.TheVariants.{Lines, Da
 use Rattle.words_core.specs.declared.words.Request.{Request}
 use Rattle.words_core.specs.declared.words.WordsError.{WordsError}
 use Rattle.words_core.specs.declared.words.WordsError.TheVariants as refused
-use Rattle.words_core.specs.CommandLine.{Asked, AsksReplay, AsksWatch, IsBlockError, Meaning, asked_by, bare_program, check, faults, import, list_blocks, name_of, plain, publish, replay, replay_shape, rewrite, show, task_asked, task_of_words, watch, watch_shape}
+use Rattle.words_core.specs.CommandLine.{Asked, AsksReplay, AsksWatch, IsBlockError, Meaning, SaysOption, asked_by, bare_program, check, faults, import, list_blocks, losses, name_of, number_said, period_rule, plain, publish, replay, replay_shape, rewrite, show, task_asked, task_of_words, watch, watch_shape}
+use Rattle.block_core.specs.Period.{IsPeriod}
 
 -- the options, which are given or not; a further one is one more constructor, name and line below
 pub data Switch : Type 0 where
@@ -64,6 +66,18 @@ option_named name = record (new_rule name) { long = Some name; action = Some Set
 abbrev pub with_switches : Shape → Shape
 with_switches s = record s { rules = s.rules ++ map (λ o. option_named (switch_name o)) switches }
 
+-- the option --period of `losses`: as that of a watch, but it may be left out
+abbrev pub stream_period_rule : Rule
+stream_period_rule = record period_rule { required = false }
+
+-- the words of `losses`: its name, and its option
+abbrev pub losses_shape : Shape
+losses_shape = (with_rule (new_app (codes "losses")) stream_period_rule).top
+
+-- the losses that the option says
+abbrev pub losses_asked : List Row → Option Meaning
+losses_asked rows = Some (Ok (losses (option_and_then number_said (one_of (codes "period") rows))))
+
 -- the subcommand of this task takes the options
 abbrev pub takes_options : Asked → Bool
 takes_options rewrite = false
@@ -71,11 +85,11 @@ takes_options publish = false
 takes_options import = false
 takes_options _ = true
 
--- the program with its subcommands, of which those that read events take the options
+-- the program with its subcommands, of which those that read events take the options, and `losses`
 abbrev pub request_line : App
 request_line = fold with_subcommand bare_program (
     with_switches (plain show).shape ∷ with_switches (plain check).shape ∷ (plain rewrite).shape ∷ with_switches (plain list_blocks).shape
-    ∷ with_switches replay_shape ∷ (plain publish).shape ∷ with_switches watch_shape ∷ (plain import).shape ∷ [])
+    ∷ with_switches replay_shape ∷ (plain publish).shape ∷ with_switches watch_shape ∷ with_switches losses_shape ∷ (plain import).shape ∷ [])
 
 -- an option of this name is given by the matches of a subcommand
 abbrev pub is_set : Text → List Row → Bool
@@ -93,6 +107,10 @@ abbrev pub options_in : List Row → Option Options
 options_in rows = option_map (λ writes. record { is_capture = is_set (switch_name capture) rows; skips_other = is_set (switch_name skip_other) rows; writes = writes })
     (writing_by (is_set (switch_name time) rows) (is_set (switch_name json) rows))
 
+-- what the subcommand that was met asks for, `losses` among them
+abbrev pub asked_beside : Text × List Row → Option Meaning
+asked_beside met = if bytes_eq (codes "losses") met.0 then losses_asked met.1 else task_asked met
+
 -- what the matches of a subcommand ask for: a task with options, or none because of the text at this position
 abbrev pub Wish : Type 0
 Wish = Result (Asked × Options) ℕ
@@ -103,7 +121,7 @@ with_these options (Err i) = Err i
 
 -- what the subcommand that was met asks for, from its name and its matches; nothing where options exclude each other
 abbrev pub request_asked : Text × List Row → Option Wish
-request_asked met = option_and_then (λ options. option_map (with_these options) (task_asked met)) (options_in met.1)
+request_asked met = option_and_then (λ options. option_map (with_these options) (asked_beside met)) (options_in met.1)
 
 -- what the subcommand that the words name asks for; the first word is the program's name
 abbrev pub request_of_words : List Text → Option Wish
@@ -169,16 +187,48 @@ pub record AsksWatchWith (words : List Text) (period : ℕ) (id : Text) (options
   pub are_options : list_all is_option (before ++ (between ++ after)) ≡ true
   pub give : Give (before ++ (between ++ after)) options
 
+-- an option --period whose decimal digits say this number, which is one that a watch may have
+pub record SaysPeriod (period : ℕ) (words : List Text) : Type 0 where
+  pub digits : Text
+  pub says : SaysOption (codes "--period") digits words
+  pub are_digits : IsNumeral 10 digits
+  pub number : digits_value 10 digits ≡ period
+  pub range : IsPeriod period
+
+-- the option says this period, or it is left out
+abbrev pub MaySayPeriod : Option ℕ → List Text → Type 0
+MaySayPeriod None words = words ≡ []
+MaySayPeriod (Some period) words = SaysPeriod period words
+
+-- the program's name, `losses`, the option --period or none, the words of the other options before and behind it, and then
+-- nothing, or the mark behind which no option follows
+pub record AsksLossesWith (words : List Text) (period : Option ℕ) (options : Options) : Type 0 where
+  pub called : Text
+  pub before : List Text
+  pub said : List Text
+  pub after : List Text
+  pub mark : List Text
+  pub behind : words ≡ called ∷ codes "losses" ∷ ((before ++ (said ++ after)) ++ mark)
+  pub are_options : list_all is_option (before ++ after) ≡ true
+  pub give : Give (before ++ after) options
+  pub says : MaySayPeriod period said
+  pub end : (mark ≡ []) ⊎ (mark ≡ codes "--" ∷ [])
+
 -- the words ask for this task with these options
 abbrev pub AsksWith : List Text → Asked → Options → Type 0
 AsksWith words (replay blocks) options = AsksReplayWith words blocks options
 AsksWith words (watch period id) options = AsksWatchWith words period id options
+AsksWith words (losses period) options = AsksLossesWith words period options
 AsksWith words t options = AsksByNameWith words t options
 
--- words none of which names an option, the program's name aside, are the same with the options offered as without: they have
--- the same faults, and ask for the same with no options
+-- the subcommand that the words name is `losses`, which stands beside the options alone
+abbrev pub names_losses : List Text → Bool
+names_losses words = option_map_or (λ met. bytes_eq (codes "losses") met.0) (subcommand_of request_line words) false
+
+-- words none of which names an option, the program's name aside, and which do not name `losses`, are the same with the options
+-- offered as without: they have the same faults, and ask for the same with no options
 abbrev pub AnsweredAlike : List Text → Type 0
-AnsweredAlike words = list_any names_option (drop 1 words) ≡ false
+AnsweredAlike words = list_any names_option (drop 1 words) ≡ false → names_losses words ≡ false
     → (request_faults words ≡ faults words) × (request_of_words words ≡ option_map (with_these no_options) (task_of_words words))
 
 -- the words may be refused so: by one of their faults, by the first text that says no control block

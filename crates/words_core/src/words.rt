@@ -5,8 +5,8 @@ ghost use Rattle.clap.specs.Walk.{texts};
 ghost use Rattle.clap.specs.declared.error.kind.ErrorKind.TheVariants.{OutOfMemory};
 ghost use Rattle.words_core.specs.CommandLine.{AnswersBadBlock, AnswersTask, Asked, Asks, HasPeriod, IsNoMistake, MayRefuse, bare_program, block_rule, command_line, faults, id_rule, is_plain, name_of, period_rule, readers, replay_of, replay_shape, asked_by, task_asked, task_of_words, watch, watch_asked, watch_shape};
 ghost use Rattle.words_core.specs.computed.PrivateCalls.{AnswersWords, MayAnswer};
-ghost use Rattle.words_core.specs.RequestLine.{AnsweredAlike, AnswersRequest, AsksWith, MayRefuseRequest, RefusesBlock, request_faults, request_of_words, takes_request};
-ghost use Rattle.words_core.specs.computed.OfferedLine.{IsExclusion, MayGrant, MayRefuseBy, agrees_by, line_of, mistakes_by, offered, reader_shapes, request_by, wish_by};
+ghost use Rattle.words_core.specs.RequestLine.{AnsweredAlike, AnswersRequest, AsksWith, MayRefuseRequest, RefusesBlock, losses_asked, request_faults, request_of_words, stream_period_rule, takes_request};
+ghost use Rattle.words_core.specs.computed.OfferedLine.{IsExclusion, MayGrant, MayRefuseBy, agrees_by, asked_for, line_of, mistakes_by, offered, reader_shapes, request_by, wish_by, with_losses};
 
 use crate::option_words::{Options, options_by, with_offering};
 use block_core::{Block, BlockError, read_block};
@@ -39,6 +39,11 @@ pub enum Task {
     },
     /// A capture as a list.
     Import,
+    /// What is missing of each control block and stream, and when.
+    Losses {
+        /// After how many samples the counters begin at 0 again, 2 to 65,536; none where streams are counted alone.
+        period: Option<u32>,
+    },
 }
 
 impl Task {
@@ -55,6 +60,7 @@ impl Task {
             Task::Publish => "publish",
             Task::Watch { .. } => "watch",
             Task::Import => "import",
+            Task::Losses { .. } => "losses",
         }
     }
 }
@@ -109,6 +115,10 @@ const REPLAY_MORE: &str =
 // What the help of `watch` ends with.
 const WATCH_MORE: &str =
     "Times in a list are microseconds where its first line is V2, else milliseconds.\nExit status: 0 each line says first or next, 1 some line says another word, 2 wrong arguments, 3 an error in the input, 4 reading or writing failed, 5 out of memory.\nMore: man goose";
+
+// What the help of `losses` ends with.
+const LOSSES_MORE: &str =
+    "Times in a list are microseconds where its first line is V2, else milliseconds.\nExit status: 0 nothing is missing, 1 something is missing, late, silent, restarted or out of range, 2 wrong arguments, 3 an error in the input, 4 reading or writing failed, 5 out of memory.\nMore: man goose";
 
 // What the help of `import` ends with: a capture has a unit of its own.
 const IMPORT_MORE: &str =
@@ -180,19 +190,32 @@ fn with_replay<'a>(
     with_offering(alloc, program, replay, offers)
 }
 
+// What the help of `watch` says of `--period`.
+const PERIOD_HELP: &str =
+    "How many samples smpCnt counts before it begins at 0 again, from 2 to 65536: those of one second, so 4000 for 80 samples a cycle at 50 Hz";
+
+// What the help of `losses` says of it.
+const STREAM_PERIOD_HELP: &str =
+    "How many samples smpCnt counts before it begins at 0 again, from 2 to 65536: those of one second, so 4000 for 80 samples a cycle at 50 Hz. Without it the samples of a stream are counted, and nothing else is said of them";
+
+// The option `--period`, which may be left out.
+fn stream_period_option<'a>(alloc: Global, help: &'a str) -> Arg<'a>
+    ensures rule { rule_of result ≡ stream_period_rule }
+    ensures local { result.global ≡ false }
+{
+    Arg::new(alloc, "period")
+        .long("period")
+        .value_name("N")
+        .value_parser(value_parser!(u32).range(2..=65536))
+        .help(help)
+}
+
 // The option `--period` of `watch`.
 fn period_option<'a>(alloc: Global) -> Arg<'a>
     ensures rule { rule_of result ≡ period_rule }
     ensures local { result.global ≡ false }
 {
-    Arg::new(alloc, "period")
-        .long("period")
-        .required(true)
-        .value_name("N")
-        .value_parser(value_parser!(u32).range(2..=65536))
-        .help(
-            "How many samples smpCnt counts before it begins at 0 again, from 2 to 65536: those of one second, so 4000 for 80 samples a cycle at 50 Hz",
-        )
+    stream_period_option(alloc, PERIOD_HELP).required(true)
 }
 
 // The option `--id` of `watch`.
@@ -222,6 +245,25 @@ fn with_watch<'a>(
         .arg(period_option(alloc))?
         .arg(id_option(alloc))?;
     with_offering(alloc, program, watch, offers)
+}
+
+// The program with the subcommand `losses`, where options are offered.
+fn with_losses<'a>(
+    alloc: Global,
+    program: Command<'a>,
+    offers: bool,
+) -> Result<Command<'a>, AllocError>
+    ensures { IfOk result (λ c. app_of c ≡ with_losses offers (app_of program.entry)) }
+{
+    if !offers {
+        return Ok(program);
+    }
+    let losses = Command::new(alloc, "losses")
+        .before_help("Example: goose losses --capture < examples/two_bays.pcapng")
+        .after_help(LOSSES_MORE)
+        .about("Shows what is missing of each control block and stream, and when")
+        .arg(stream_period_option(alloc, STREAM_PERIOD_HELP))?;
+    with_offering(alloc, program, losses, true)
 }
 
 // The program with the subcommands that read a list and take no words of their own.
@@ -287,6 +329,7 @@ fn command<'a>(alloc: Global, offers: bool) -> Result<Command<'a>, AllocError>
         PUBLISH_MORE,
     )?;
     let program = with_watch(alloc, program, offers)?;
+    let program = with_losses(alloc, program, offers)?;
     with_plain(
         alloc,
         program,
@@ -364,6 +407,31 @@ fn task_of(alloc: Global, name: &str, matches: &ArgMatches<'_>) -> Option<Result
     }
 }
 
+// The task of the matches of `losses`.
+fn losses_met(matches: &ArgMatches<'_>) -> Task
+    ensures { Some (Ok (asked_by result)) ≡ losses_asked (rows_of (found_of matches.now)) }
+{
+    Task::Losses {
+        period: matches.get_one::<u32>("period"),
+    }
+}
+
+// The task of a subcommand's name and its matches, with `losses` where options are offered.
+fn asked_of(
+    alloc: Global,
+    name: &str,
+    matches: &ArgMatches<'_>,
+    offers: bool,
+) -> Option<Result<Task, WordsError>>
+    ensures { MayAnswer (asked_for offers (name.now, rows_of (found_of matches.now))) result }
+{
+    if offers && name == "losses" {
+        Some(Ok(losses_met(matches)))
+    } else {
+        task_of(alloc, name, matches)
+    }
+}
+
 // The request of a task, where there is one.
 fn with_these(answer: Result<Task, WordsError>, options: Options) -> Result<Request, WordsError>
     ensures answered { (asked : Asked) → AnswersTask asked answer → AnswersRequest asked options result }
@@ -385,7 +453,7 @@ fn request_of(
     ensures { MayGrant (request_by offers (name.now, rows_of (found_of matches.now))) result }
 {
     let options = options_by(matches, offers)?;
-    match task_of(alloc, name, matches) {
+    match asked_of(alloc, name, matches, offers) {
         Some(answer) => Some(with_these(answer, options)),
         None => None,
     }
@@ -447,7 +515,8 @@ fn read_by<'a>(alloc: Global, words: &'a [&'a str], offers: bool) -> Result<Requ
     }
 }
 
-/// The task that the words ask for. The first word is the program's name.
+/// The task that the words ask for. The first word is the program's name. The command `losses` stands beside the options,
+/// and [`read_request`] reads it.
 ///
 /// # Errors
 ///
@@ -470,7 +539,7 @@ pub fn read_words<'a>(alloc: Global, words: &'a [&'a str]) -> Result<Task, Words
 }
 
 /// The task that the words ask for and its options, `--capture`, `--skip-other`, `--time` and `--json`,
-/// which the commands `show`, `check`, `blocks`, `replay` and `watch` take. The first word is the program's name.
+/// which the commands `show`, `check`, `blocks`, `replay`, `watch` and `losses` take. The first word is the program's name.
 ///
 /// # Errors
 ///

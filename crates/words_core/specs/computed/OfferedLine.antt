@@ -10,7 +10,7 @@ use Rattle.words_core.specs.declared.words.WordsError.{WordsError}
 use Rattle.words_core.specs.declared.words.WordsError.TheVariants as refused
 use Rattle.words_core.specs.CommandLine.{Meaning, bare_program, check, import, list_blocks, plain, publish, replay_shape, rewrite, show, task_asked, watch_shape}
 use Rattle.words_core.specs.declared.option_words.Options.{Options}
-use Rattle.words_core.specs.RequestLine.{AnswersRequest, RefusesBlock, Wish, no_options, option_named, options_in, switch_name, switches, with_these}
+use Rattle.words_core.specs.RequestLine.{AnswersRequest, RefusesBlock, Wish, asked_beside, losses_shape, no_options, option_named, options_in, switch_name, switches, with_these}
 
 -- the options' rules, where they are offered
 abbrev pub offered_rules : Bool → List Rule
@@ -31,17 +31,31 @@ is_local c = not (out-Command c).has_globals
 abbrev pub reader_shapes : Bool → List Shape
 reader_shapes offers = offered offers (plain show).shape ∷ offered offers (plain check).shape ∷ (plain rewrite).shape ∷ offered offers (plain list_blocks).shape ∷ []
 
+-- `losses` before these, where the options are offered
+abbrev pub losses_before : Bool → List Shape → List Shape
+losses_before true shapes = offered true losses_shape ∷ shapes
+losses_before false shapes = shapes
+
+-- the program with `losses` too, where the options are offered
+abbrev pub with_losses : Bool → App → App
+with_losses offers a = fold with_subcommand a (losses_before offers [])
+
 abbrev pub shapes : Bool → List Shape
-shapes offers = reader_shapes offers ++ (offered offers replay_shape ∷ (plain publish).shape ∷ offered offers watch_shape ∷ (plain import).shape ∷ [])
+shapes offers = reader_shapes offers ++ (offered offers replay_shape ∷ (plain publish).shape ∷ offered offers watch_shape ∷ losses_before offers ((plain import).shape ∷ []))
 
 abbrev pub line_of : Bool → App
-line_of offers = fold with_subcommand bare_program (shapes offers)
+line_of offers = record { top = record bare_program.top { is_leaf = false }; subs = shapes offers }
 
 abbrev pub faults_by : Bool → List Text → Kinds
 faults_by offers = fault_of (line_of offers)
 
+-- what the subcommand that was met asks for, `losses` among them where the options are offered
+abbrev pub asked_for : Bool → Text × List Row → Option Meaning
+asked_for true = asked_beside
+asked_for false = task_asked
+
 abbrev pub task_by : Bool → List Text → Option Meaning
-task_by offers words = option_and_then task_asked (subcommand_of (line_of offers) words)
+task_by offers words = option_and_then (asked_for offers) (subcommand_of (line_of offers) words)
 
 -- the options that the matches give, where they are offered
 abbrev pub options_by : Bool → List Row → Option Options
@@ -49,7 +63,7 @@ options_by true rows = options_in rows
 options_by false rows = Some no_options
 
 abbrev pub request_by : Bool → Text × List Row → Option Wish
-request_by offers met = option_and_then (λ options. option_map (with_these options) (task_asked met)) (options_by offers met.1)
+request_by offers met = option_and_then (λ options. option_map (with_these options) (asked_for offers met)) (options_by offers met.1)
 
 abbrev pub wish_by : Bool → List Text → Option Wish
 wish_by offers words = option_and_then (request_by offers) (subcommand_of (line_of offers) words)

@@ -3,7 +3,7 @@ use Rattle.std.proofs.lemmas.Result.{IfErr-weaker, IfOk-weaker}
 use Rattle.clap.specs.Words.{App, HasKind, Row, Text, fault_of, is_simple, is_simple_and_free, subcommand_of, takes}
 use Rattle.clap.specs.Walk.{texts}
 use Rattle.words_core.specs.CommandLine.{IsNoMistake}
-use Rattle.words_core.specs.computed.OfferedLine.{MayGrant, faults_by, line_of, mistakes_by, request_by, wish_by}
+use Rattle.words_core.specs.computed.OfferedLine.{MayGrant, faults_by, request_by, wish_by}
 use Rattle.words_core.proofs.WordLemmas.{agreed, answers_found, answers_refused, excluded, free_line, granted_faultless, may_refuse, no_wish, simple_line}
 use Rattle.words_core.proofs.words.read_by.Goals as goal
 
