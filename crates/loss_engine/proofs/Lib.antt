@@ -1,0 +1,17 @@
+pub mod Judged
+pub mod Kept
+pub mod Tracks
+pub mod Tellings
+pub mod Closings
+pub mod Passages
+pub mod Ends
+pub mod Rows
+pub mod WorkedLines
+pub mod LossRuns
+pub mod KeyOrder
+pub mod RollLemmas
+pub mod TrackedKeys
+pub mod Stands
+pub mod LossLaws
+pub mod LossWanted
+pub mod LossesOnce

@@ -1,0 +1,119 @@
+-- For what a run of `losses` wants memory, in the words of the definitions.
+use Rattle.std.proofs.Common.{Option, Some, ◌≡◌, ◌||◌, ℕ, suc, Bool, true, false, not, is_some, List, [], ◌∷◌, ◌++◌, length, map, take, if◌then◌else◌, inl, inr, ap, refl, ◌∙◌, sym, subst}
+use Rattle.std.specs.Prelude.{slice_get}
+use Rattle.std.specs.List.{list_any}
+use Rattle.std.proofs.lemmas.Bool.{false≢true, not-true, or_cases}
+use Rattle.list_core.specs.declared.event.Event.{Event}
+use Rattle.list_core.specs.Items.{Numbered, put_item, put_items}
+use Rattle.engine_core.specs.declared.ending.Ending.{Ending}
+use Rattle.engine_core.specs.declared.style.Style.{Style}
+use Rattle.engine_core.specs.EngineText.{Allowed, ItemText}
+use Rattle.engine_core.specs.InputRun.{EndsOnward, InputRun}
+use Rattle.loss_engine.specs.computed.LossRun.{LossRun}
+use Rattle.loss_engine.specs.LossText.{AreLosses}
+use Rattle.loss_engine.specs.LossWants.{ArePiecesOf, LossWants, ShowsNew, WritesLosses, for_input, for_new, for_text}
+use Rattle.loss_engine.specs.Sights.{Key, Sight, same_key}
+use Rattle.loss_engine.specs.computed.Entries.{IsPeriodOf}
+use Rattle.loss_engine.specs.computed.Tracking.{Kept, Tracked, keep_all, kept_none, known_of, pieces_by, shows_new, sights_by}
+use Rattle.loss_engine.specs.computed.Wanting.{Wanting, by_input, by_new, by_text}
+use Rattle.loss_engine.proofs.LossLaws.{Follows, follows_all, losses_are, pieces_sizes, pieces_tell_all, sights_there}
+
+-- ---- a key that is not tracked was not shown
+
+known_is : (xs : List Tracked) (key : Key) → is_some (known_of xs key) ≡ list_any (λ k. same_key k key) (map (λ (x : Tracked). x.key) xs)
+known_is [] key = refl
+known_is (x ∷ xs) key =
+    elim (same_key x.key key) as (λ b. is_some (if b then Some x.progress else known_of xs key) ≡ (b || list_any (λ k. same_key k key) (map (λ (y : Tracked). y.key) xs)))
+    [ true ↦ refl | false ↦ known_is xs key ]
+
+any_found : {X : Type 0} (test : X → Bool) (xs : List X) → list_any test xs ≡ true → (i : ℕ) × (x : X) × (slice_get xs i ≡ Some x) × (test x ≡ true)
+any_found test [] h = absurd (false≢true h)
+any_found test (x ∷ xs) h =
+    elim (or_cases (test x) (list_any test xs) h) [
+      | inl here ↦ (0, x, refl, here)
+      | inr later ↦ let f = any_found test xs later in (suc f.0, f.1, f.2, f.3)
+    ]
+
+module _ {A : Type 0} (period : Option ℕ) (is : IsPeriodOf period) where
+  shown_new : (before : List (ℕ × Event A)) (k : Kept) (e : ℕ × Event A) → Follows period before k → shows_new k.tracked (sights_by k e.1) ≡ true → ShowsNew before e
+  shown_new before k e f h =
+      let found = any_found (λ (s : Sight). not (is_some (known_of k.tracked s.key))) (sights_by k e.1) h in
+      let s : Sight = found.1 in
+      record {
+        at = found.0;
+        sight = s;
+        is = ap (λ l. slice_get l found.0) (sym (sights_there period is before k e f)) ∙ found.2;
+        is_new = ap (list_any (λ j. same_key j s.key)) (sym f.stands.keys) ∙ (sym (known_is k.tracked s.key) ∙ not-true (is_some (known_of k.tracked s.key)) found.3);
+      }
+
+  are_pieces : (style : Style) (events : List (ℕ × Event A)) → ArePiecesOf period style events (pieces_by period style kept_none events)
+  are_pieces style events = record { sizes = pieces_sizes period is style events kept_none; each = λ i e w p q. pieces_tell_all period is style events i e w p q }
+
+-- ---- the events of what is written are the first that are said
+
+front_all : {X : Type 0} (xs ys : List X) → take (length xs) (xs ++ ys) ≡ xs
+front_all [] ys = refl
+front_all (x ∷ xs) ys = ap (λ l. x ∷ l) (front_all xs ys)
+
+next_of : {X : Type 0} (xs : List X) (y : X) (ys : List X) → slice_get (xs ++ y ∷ ys) (length xs) ≡ Some y
+next_of [] y ys = refl
+next_of (x ∷ xs) y ys = next_of xs y ys
+
+module _ {A F : Type 0} (period : Option ℕ) (is : IsPeriodOf period) (style : Style) (Keeps : List (ℕ × Event A) → Type 0) (said : Numbered (Event A) F) (pieces : Numbered ItemText F) where
+  new_wanted : (written : List (ℕ × ItemText)) (events : List (ℕ × Event A)) (next : ℕ × Event A) (others : Numbered (Event A) F) → written ≡ pieces_by period style kept_none events → said ≡ put_items events (put_item next others) →
+      ShowsNew events next → LossWants period style Keeps said pieces written
+  new_wanted written events next others by says new =
+      let size : length written ≡ length events = ap length by ∙ pieces_sizes period is style events kept_none in
+      let items : said.items ≡ events ++ next ∷ others.items = ap (λ (l : Numbered (Event A) F). l.items) says in
+      let front : take (length written) said.items ≡ events = ap (λ n. take n said.items) size ∙ (ap (take (length events)) items ∙ front_all events (next ∷ others.items)) in
+      for_new next (ap (slice_get said.items) size ∙ (ap (λ l. slice_get l (length events)) items ∙ next_of events next others.items))
+      (subst (λ es. ArePiecesOf period style es written) (sym front) (subst (λ l. ArePiecesOf period style events l) (sym by) (are_pieces period is style events)))
+      (subst (λ es. ShowsNew es next) (sym front) new)
+
+  pub loss_wants : (written : List (ℕ × ItemText)) → Wanting period style kept_none Keeps said pieces written → LossWants period style Keeps said pieces written
+  loss_wants written (by_input events others by says keeps) =
+      let size : length written ≡ length events = ap length by ∙ pieces_sizes period is style events kept_none in
+      let front : take (length written) said.items ≡ events = ap (λ n. take n said.items) size ∙ (ap (λ (l : Numbered (Event A) F). take (length events) l.items) says ∙ front_all events others.items) in
+      for_input (subst (λ es. ArePiecesOf period style es written) (sym front) (subst (λ l. ArePiecesOf period style events l) (sym by) (are_pieces period is style events))) (subst Keeps (sym front) keeps)
+  loss_wants written (by_new events next others by says new) =
+      new_wanted written events next others by says (shown_new period is events (keep_all period kept_none events) next (follows_all period is events) new)
+  loss_wants written (by_text next others says some) = for_text next others says some
+
+-- ---- a run
+
+-- where other things may be wanted of the same items
+module _ {X C F : Type 0} (Keeps More : List (ℕ × X) → Type 0) (more : (items : List (ℕ × X)) → Keeps items → More items) (refused : ℕ → C → F) (failed : F → Bool) (t : Allowed X C F) where
+  ends_more : (items : List (ℕ × X)) (texts : List ItemText) (onward : Numbered X F) (ending : Ending) (fault : Option F) (held new : Option (List ℕ)) →
+      EndsOnward Keeps refused failed t items texts onward ending fault held new → EndsOnward More refused failed t items texts onward ending fault held new
+  ends_more items texts onward ending fault held new h = elim h [
+    | inl e ↦ inl e
+    | inr (inl e) ↦ inr (inl e)
+    | inr (inr (inl e)) ↦ inr (inr (inl e))
+    | inr (inr (inr e)) ↦ inr (inr (inr (record {
+      has_ending = e.has_ending;
+      by_none = e.by_none;
+      wanted = elim e.wanted [ inl keeps ↦ inl (more items keeps) | inr some ↦ inr some ];
+      no_more = e.no_more;
+    })))
+  ]
+
+  run_more : (said : Numbered X F) (ending : Ending) (fault : Option F) (old new : Option (List ℕ)) → InputRun Keeps refused failed t said ending fault old new → InputRun More refused failed t said ending fault old new
+  run_more said ending fault old new run = record {
+    items = run.items;
+    texts = run.texts;
+    are_texts = run.are_texts;
+    held = run.held;
+    written = run.written;
+    onward = run.onward;
+    says = run.says;
+    ends = ends_more run.items run.texts run.onward ending fault run.held new run.ends;
+  }
+
+-- a run by what is kept writes what the definitions say
+pub writes_losses : {A C F : Type 0} (period : Option ℕ) (style : Style) (Keeps : List (ℕ × Event A) → Type 0) (refused : ℕ → C → F) (failed : F → Bool) (last_line last_object : F → List ℕ) (said : Numbered (Event A) F) (ending : Ending) (fault : Option F) (old new : Option (List ℕ)) →
+    IsPeriodOf period → LossRun period style Keeps refused failed last_line last_object said ending fault old new → WritesLosses period style Keeps refused failed last_line last_object said ending fault old new
+writes_losses period style Keeps refused failed last_line last_object said ending fault old new is l = record {
+  pieces = l.pieces;
+  are = subst (λ p. AreLosses period style said p) (sym l.are) (losses_are period style l.number said is);
+  run = run_more _ _ (loss_wants period is style Keeps said l.pieces) refused failed _ l.pieces ending fault old new l.run;
+}

@@ -1,0 +1,210 @@
+-- What sights tell, one after another.
+use Rattle.std.proofs.Common.{Option, Some, None, ◌≡◌, ℕ, Bool, true, false, List, [], ◌∷◌, ◌++◌, map, inl, inr, ap, ap₂, refl, ◌∙◌, sym, subst}
+use Rattle.std.specs.Prelude.{◌||◌, not, is_some, if◌then◌else◌}
+use Rattle.std.specs.List.{flat_map, list_any}
+use Rattle.std.proofs.lemmas.List.{append-nil, append_assoc, map-append}
+use Rattle.list_core.proofs.Emptiness.{back_nil, front_nil}
+use Rattle.object_core.specs.declared.counted.Form.{Form}
+use Rattle.object_core.specs.declared.counted.Form.TheVariants.{Text, Object}
+use Rattle.object_core.specs.declared.counted.Heading.{Heading}
+use Rattle.loss_engine.specs.declared.finding.Finding.{Finding}
+use Rattle.loss_core.specs.declared.sender.Arrival.{Arrival}
+use Rattle.loss_core.specs.declared.sender.Pair.{Pair}
+use Rattle.loss_core.specs.declared.sender.Told.{Told}
+use Rattle.loss_core.specs.declared.stream.Came.{Came}
+use Rattle.loss_core.specs.Sender.{told_after}
+use Rattle.loss_engine.specs.Findings.{came_told, frame_findings, has_loss, synch_told}
+use Rattle.loss_engine.specs.LossText.{told_line}
+use Rattle.pdu_core.specs.SampledViews.{asdu_of}
+use Rattle.pdu_core.specs.declared.sampled.asdu.Asdu.{Asdu}
+use Rattle.pdu_core.specs.declared.sampled.view.AsduView.{AsduView}
+use Rattle.loss_engine.specs.Sights.{Key, Sight, frame, same_key, sample, sight_of_asdu}
+use Rattle.loss_engine.specs.computed.Telling.{TellsSights, WantsFor, sights_text}
+use Rattle.loss_engine.specs.computed.Tracking.{CountsAs, Kept, Tracked, came_by, findings_all, findings_by, known_of, Progress, sender_of, shows_new, synch_of, track, track_all, with_progress}
+
+-- a line is not empty
+behind_some : (xs : List ℕ) (c : ℕ) (ys : List ℕ) → xs ++ c ∷ ys ≡ [] → ⊥
+behind_some [] c ys h = cc
+behind_some (x ∷ xs) c ys h = cc
+
+told_some : (form : Form) (n moment : ℕ) (key : Key) (f : Finding) → told_line form n moment key f ≡ [] → ⊥
+told_some Text n moment key f h = behind_some _ 10 [] h
+told_some (Object counted) n moment key f h = cc
+
+first_none : (xs ys : List ℕ) → xs ++ ys ≡ [] → xs ≡ []
+first_none [] ys h = refl
+first_none (x ∷ xs) ys h = cc
+
+or_none : (b : Bool) → (b || false) ≡ b
+or_none true = refl
+or_none false = refl
+
+or_true : (b : Bool) → (b || true) ≡ true
+or_true true = refl
+or_true false = refl
+
+none_if : (o : Option Progress) → (not (is_some o) || false) ≡ true → o ≡ None
+none_if None h = refl
+none_if (Some p) h = cc
+
+-- where nothing is written there is no finding
+pub told_none : (form : Form) (n moment : ℕ) (key : Key) (fs : List Finding) → flat_map (told_line form n moment key) fs ≡ [] → fs ≡ []
+told_none form n moment key [] h = refl
+told_none form n moment key (f ∷ fs) h = absurd (told_some form n moment key f (first_none (told_line form n moment key f) (flat_map (told_line form n moment key) fs) h))
+
+module _ (h : Heading) (period : Option ℕ) (k : Kept) (s : Sight) where
+  -- what one sight tells
+  abbrev findings : List Finding
+  findings = findings_by period (known_of k.tracked s.key) s.moment s.shown
+
+  abbrev lines : List Finding → List ℕ
+  lines fs = flat_map (told_line h.form h.number h.moment s.key) fs
+
+  one_text : sights_text h period k.tracked (s ∷ []) ≡ lines findings
+  one_text = append-nil (lines findings)
+
+  pub tells_one : (fs : List Finding) (old new : List ℕ) (found : Bool) (after : Kept) → fs ≡ findings → new ≡ old ++ lines fs → found ≡ has_loss fs → after ≡ record { moment = k.moment; tracked = track period k.tracked s } →
+      TellsSights h period k (s ∷ []) old found new after
+  tells_one fs old new found after is text finds keeps = record {
+    text = text ∙ ap (λ l. old ++ l) (ap lines is ∙ sym one_text);
+    finds = finds ∙ ap has_loss is ∙ sym (or_none (has_loss findings));
+    keeps = keeps;
+  }
+
+  pub wants_new : known_of k.tracked s.key ≡ None → WantsFor h period k (s ∷ [])
+  wants_new none = inl (rw none refl)
+
+  pub wants_text : (fs : List Finding) → fs ≡ findings → (fs ≡ [] → ⊥) → WantsFor h period k (s ∷ [])
+  wants_text fs is some = inr (λ empty. some (told_none h.form h.number h.moment s.key fs (ap lines is ∙ sym one_text ∙ empty)))
+
+-- memory is wanted for what a frame tells
+pub wants_frame : (h : Heading) (period : Option ℕ) (k : Kept) (key : Key) (p : Pair) (lifetime : ℕ) (f : Arrival) (t : Told) →
+    f ≡ record { pair = p; moment = k.moment; lifetime = lifetime } → t ≡ told_after (sender_of (known_of k.tracked key)) f → (frame_findings f t ≡ [] → ⊥) →
+    WantsFor h period k (record { key = key; moment = k.moment; shown = frame p lifetime } ∷ [])
+wants_frame h period k key p lifetime f t is told some =
+    wants_text h period k (record { key = key; moment = k.moment; shown = frame p lifetime }) (frame_findings f t)
+    (ap₂ (λ x y. frame_findings x y) is (told ∙ ap (λ x. told_after (sender_of (known_of k.tracked key)) x) is)) some
+
+-- and for what a sample tells
+pub wants_sample : (h : Heading) (period : Option ℕ) (n : ℕ) (k : Kept) (key : Key) (count synch : ℕ) (came : Came) (before : Option ℕ) (taken : Option (Came × Option ℕ)) →
+    period ≡ Some n → taken ≡ Some (came, before) → CountsAs period (known_of k.tracked key) (record { count = count; moment = k.moment }) taken → (came_told n count came ++ synch_told before synch ≡ [] → ⊥) →
+    WantsFor h period k (record { key = key; moment = k.moment; shown = sample count synch } ∷ [])
+wants_sample h None n k key count synch came before taken is got counts some = cc
+wants_sample h (Some m) n k key count synch came before taken is got counts some =
+    let same : m ≡ n = cc in
+    let pair : (came, before) ≡ (came_by m (known_of k.tracked key) (record { count = count; moment = k.moment }), synch_of (known_of k.tracked key)) = cc in
+    wants_text h (Some m) k (record { key = key; moment = k.moment; shown = sample count synch }) (came_told n count came ++ synch_told before synch)
+    (ap (λ x. came_told x count came ++ synch_told before synch) (sym same) ∙ ap (λ (p : Came × Option ℕ). came_told m count p.0 ++ synch_told p.1 synch) pair) some
+
+-- ---- sights, and others behind them
+
+track-append : (period : Option ℕ) (t : List Tracked) (xs ys : List Sight) → track_all period t (xs ++ ys) ≡ track_all period (track_all period t xs) ys
+track-append period t [] ys = refl
+track-append period t (x ∷ xs) ys = track-append period (track period t x) xs ys
+
+text-append : (h : Heading) (period : Option ℕ) (t : List Tracked) (xs ys : List Sight) → sights_text h period t (xs ++ ys) ≡ sights_text h period t xs ++ sights_text h period (track_all period t xs) ys
+text-append h period t [] ys = refl
+text-append h period t (x ∷ xs) ys =
+    let first : List ℕ = flat_map (told_line h.form h.number h.moment x.key) (findings_by period (known_of t x.key) x.moment x.shown) in
+    ap (λ l. first ++ l) (text-append h period (track period t x) xs ys) ∙ sym (append_assoc first (sights_text h period (track period t x) xs) (sights_text h period (track_all period (track period t x) xs) ys))
+
+or_assoc : (a b c : Bool) → (a || (b || c)) ≡ ((a || b) || c)
+or_assoc true b c = refl
+or_assoc false b c = refl
+
+finds-append : (period : Option ℕ) (t : List Tracked) (xs ys : List Sight) →
+    list_any has_loss (findings_all period t (xs ++ ys)) ≡ (list_any has_loss (findings_all period t xs) || list_any has_loss (findings_all period (track_all period t xs) ys))
+finds-append period t [] ys = refl
+finds-append period t (x ∷ xs) ys =
+    ap (λ b. has_loss (findings_by period (known_of t x.key) x.moment x.shown) || b) (finds-append period (track period t x) xs ys)
+    ∙ or_assoc (has_loss (findings_by period (known_of t x.key) x.moment x.shown)) _ _
+
+-- nothing was seen yet
+pub tells_none : (h : Heading) (period : Option ℕ) (k : Kept) (old : List ℕ) → TellsSights h period k [] old false old k
+tells_none h period k old = record { text = sym (append-nil old); finds = refl; keeps = refl }
+
+pub tells_then : (h : Heading) (period : Option ℕ) (k mid after : Kept) (xs ys : List Sight) (old between new : List ℕ) (f g : Bool) →
+    TellsSights h period k xs old f between mid → TellsSights h period mid ys between g new after → TellsSights h period k (xs ++ ys) old (f || g) new after
+tells_then h period k mid after xs ys old between new f g p q = record {
+  text =
+      q.text ∙ ap₂ (λ l (m : Kept). l ++ sights_text h period m.tracked ys) p.text p.keeps
+      ∙ append_assoc old (sights_text h period k.tracked xs) (sights_text h period (track_all period k.tracked xs) ys)
+      ∙ ap (λ l. old ++ l) (sym (text-append h period k.tracked xs ys));
+  finds = ap₂ (λ a b. a || b) p.finds (q.finds ∙ ap (λ (m : Kept). list_any has_loss (findings_all period m.tracked ys)) p.keeps) ∙ sym (finds-append period k.tracked xs ys);
+  keeps =
+      q.keeps ∙ ap (λ (m : Kept). record { moment = m.moment; tracked = track_all period m.tracked ys }) p.keeps
+      ∙ ap (λ t. record { moment = k.moment; tracked = t }) (sym (track-append period k.tracked xs ys));
+}
+
+-- what is known stays so
+other_head : (b : Bool) (p q : Progress) (o : Option Progress) → (if b then Some p else o) ≡ None → (if b then Some q else o) ≡ None
+other_head true p q o h = cc
+other_head false p q o h = h
+
+other_tail : (b : Bool) (p : Progress) (o u : Option Progress) → (o ≡ None → u ≡ None) → (if b then Some p else o) ≡ None → (if b then Some p else u) ≡ None
+other_tail true p o u f h = cc
+other_tail false p o u f h = f h
+
+known_stays : (t : List Tracked) (other : Key) (first : Progress) (more : Progress → Progress) (key : Key) → known_of (with_progress t other first more) key ≡ None → known_of t key ≡ None
+known_stays [] other first more key h = refl
+known_stays (x ∷ t) other first more key h = elim (same_key x.key other) as
+    (λ b. known_of (if b then record { key = x.key; progress = more x.progress } ∷ t else x ∷ with_progress t other first more) key ≡ None → known_of (x ∷ t) key ≡ None) [
+      | true ↦ λ e. other_head (same_key x.key key) (more x.progress) x.progress (known_of t key) e
+      | false ↦ λ e. other_tail (same_key x.key key) x.progress (known_of (with_progress t other first more) key) (known_of t key) (λ none. known_stays t other first more key none) e
+    ] h
+
+known_before : (period : Option ℕ) (t : List Tracked) (xs : List Sight) (key : Key) → known_of (track_all period t xs) key ≡ None → known_of t key ≡ None
+known_before period t [] key h = h
+known_before period t (x ∷ xs) key h = known_stays t x.key _ _ key (known_before period (track period t x) xs key h)
+
+-- one of several is new
+new_among : (t : List Tracked) (xs : List Sight) (y : Sight) (zs : List Sight) → known_of t y.key ≡ None → shows_new t (xs ++ y ∷ zs) ≡ true
+new_among t [] y zs h = rw h refl
+new_among t (x ∷ xs) y zs h = ap (λ b. not (is_some (known_of t x.key)) || b) (new_among t xs y zs h) ∙ or_true (not (is_some (known_of t x.key)))
+
+new_none : (t : List Tracked) (y : Sight) → shows_new t (y ∷ []) ≡ true → known_of t y.key ≡ None
+new_none t y h = none_if (known_of t y.key) h
+
+-- memory is wanted for one, behind others and before further ones
+pub wants_then : (h : Heading) (period : Option ℕ) (k mid : Kept) (xs : List Sight) (y : Sight) (zs : List Sight) (old between : List ℕ) (f : Bool) →
+    TellsSights h period k xs old f between mid → WantsFor h period mid (y ∷ []) → WantsFor h period k (xs ++ y ∷ zs)
+wants_then h period k mid xs y zs old between f p (inl new) =
+    inl (new_among k.tracked xs y zs (known_before period k.tracked xs y.key (ap (λ (m : Kept). known_of m.tracked y.key) (sym p.keeps) ∙ new_none mid.tracked y new)))
+wants_then h period k mid xs y zs old between f p (inr some) = inr (λ none.
+    let behind = back_nil (sights_text h period k.tracked xs) (sights_text h period (track_all period k.tracked xs) (y ∷ zs)) (sym (text-append h period k.tracked xs (y ∷ zs)) ∙ none) in
+    some (ap (λ (m : Kept). sights_text h period m.tracked (y ∷ [])) p.keeps
+    ∙ front_nil (sights_text h period (track_all period k.tracked xs) (y ∷ [])) (sights_text h period (track_all period (track_all period k.tracked xs) (y ∷ [])) zs) (sym (text-append h period (track_all period k.tracked xs) (y ∷ []) zs) ∙ behind)))
+
+-- ---- the ASDUs of a frame
+
+module _ (h : Heading) (period : Option ℕ) (k mid : Kept) (app_id : ℕ) (source : List ℕ) (yielded : List AsduView) (a : AsduView) (all left next : List (Asdu (Unit {0}))) (old between : List ℕ) (f : Bool)
+    (parts : map (asdu_of {A = Unit {0}}) yielded ++ left ≡ all) (first : left ≡ asdu_of a ∷ next)
+    (told : TellsSights h period k (map (sight_of_asdu k.moment app_id source) (map (asdu_of {A = Unit {0}}) yielded)) old f between mid) where
+  -- what ASDUs show
+  abbrev shown : List (Asdu (Unit {0})) → List Sight
+  shown asdus = map (sight_of_asdu k.moment app_id source) asdus
+
+  same_moment : mid.moment ≡ k.moment
+  same_moment = ap (λ (m : Kept). m.moment) told.keeps
+
+  one_sight : sight_of_asdu mid.moment app_id source (asdu_of {A = Unit {0}} a) ∷ [] ≡ shown (asdu_of a ∷ [])
+  one_sight = ap (λ m. sight_of_asdu {A = Unit {0}} m app_id source (asdu_of {A = Unit {0}} a) ∷ []) same_moment
+
+  pub asdu_parts : map (asdu_of {A = Unit {0}}) (yielded ++ a ∷ []) ++ next ≡ all
+  asdu_parts =
+      ap (λ l. l ++ next) (map-append (asdu_of {A = Unit {0}}) yielded (a ∷ [])) ∙ append_assoc (map (asdu_of {A = Unit {0}}) yielded) (asdu_of a ∷ []) next
+      ∙ ap (λ l. map (asdu_of {A = Unit {0}}) yielded ++ l) (sym first) ∙ parts
+
+  pub asdu_more : (mid_period : Option ℕ) (after : Kept) (new : List ℕ) (g : Bool) → mid_period ≡ period → TellsSights h mid_period mid (sight_of_asdu mid.moment app_id source (asdu_of {A = Unit {0}} a) ∷ []) between g new after →
+      TellsSights h period k (shown (map (asdu_of {A = Unit {0}}) (yielded ++ a ∷ []))) old (f || g) new after
+  asdu_more mid_period after new g same more =
+      subst (λ l. TellsSights h period k l old (f || g) new after)
+      (ap (λ l. shown (map (asdu_of {A = Unit {0}}) yielded) ++ l) one_sight ∙ sym (map-append (sight_of_asdu {A = Unit {0}} k.moment app_id source) (map (asdu_of {A = Unit {0}}) yielded) (asdu_of a ∷ [])) ∙ ap shown (sym (map-append (asdu_of {A = Unit {0}}) yielded (a ∷ []))))
+      (tells_then h period k mid after (shown (map (asdu_of {A = Unit {0}}) yielded)) _ old between new f g told (subst (λ p. TellsSights h p mid (sight_of_asdu mid.moment app_id source (asdu_of {A = Unit {0}} a) ∷ []) between g new after) same more))
+
+  pub asdus_wanted : (mid_period : Option ℕ) → mid_period ≡ period → WantsFor h mid_period mid (sight_of_asdu mid.moment app_id source (asdu_of {A = Unit {0}} a) ∷ []) → WantsFor h period k (shown all)
+  asdus_wanted mid_period same wants =
+      subst (λ l. WantsFor h period k (shown l)) (ap (λ l. map (asdu_of {A = Unit {0}}) yielded ++ l) (sym first) ∙ parts)
+      (subst (λ l. WantsFor h period k l) (sym (map-append (sight_of_asdu {A = Unit {0}} k.moment app_id source) (map (asdu_of {A = Unit {0}}) yielded) (asdu_of a ∷ next)))
+      (wants_then h period k mid (shown (map (asdu_of {A = Unit {0}}) yielded)) (sight_of_asdu {A = Unit {0}} k.moment app_id source (asdu_of a)) (shown next) old between f told
+      (subst (λ p. WantsFor h p mid (shown (asdu_of a ∷ []))) same (subst (λ l. WantsFor h mid_period mid l) one_sight wants))))

@@ -1,0 +1,12 @@
+pub mod Tracking
+pub mod Entries
+pub mod Held
+pub mod Telling
+pub mod Judging
+pub mod Closing
+pub mod LossesOver
+pub mod Wanting
+pub mod NumberText
+pub mod KeyOrder
+pub mod Roll
+pub mod LossRun

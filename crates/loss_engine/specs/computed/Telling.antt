@@ -1,0 +1,22 @@
+-- What one event makes `losses` write and keep.
+use Rattle.std.specs.Prelude.{◌≡◌, ◌⊎◌, ℕ, Bool, true, List, [], ◌++◌, Option}
+use Rattle.std.specs.List.{list_any}
+use Rattle.object_core.specs.declared.counted.Heading.{Heading}
+use Rattle.loss_engine.specs.Findings.{has_loss}
+use Rattle.loss_engine.specs.LossText.{sight_lines}
+use Rattle.loss_engine.specs.Sights.{Sight}
+use Rattle.loss_engine.specs.computed.Tracking.{Kept, Tracked, findings_all, shows_new, track_all}
+
+-- what sights tell under a heading, where this is tracked before them
+abbrev pub sights_text : Heading → Option ℕ → List Tracked → List Sight → List ℕ
+sights_text h period xs seen = sight_lines h.form h.number h.moment seen (findings_all period xs seen)
+
+-- what sights tell was appended, it was answered whether one is a loss, and they are kept
+pub record TellsSights (h : Heading) (period : Option ℕ) (before : Kept) (seen : List Sight) (old : List ℕ) (found : Bool) (new : List ℕ) (after : Kept) : Type 0 where
+  pub text : new ≡ old ++ sights_text h period before.tracked seen
+  pub finds : found ≡ list_any has_loss (findings_all period before.tracked seen)
+  pub keeps : after ≡ record { moment = before.moment; tracked = track_all period before.tracked seen }
+
+-- memory is wanted for a sender or a stream that is new, or for what sights tell
+abbrev pub WantsFor : Heading → Option ℕ → Kept → List Sight → Type 0
+WantsFor h period before seen = (shows_new before.tracked seen ≡ true) ⊎ (sights_text h period before.tracked seen ≡ [] → ⊥)

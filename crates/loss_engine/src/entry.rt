@@ -1,0 +1,230 @@
+// What is kept of one sender or one stream.
+
+ghost use Rattle.std.specs.Prelude.{◌≡◌, ◌++◌, IfOk, Some, None};
+ghost use Rattle.loss_engine.specs.KeySaid.{key_said};
+ghost use Rattle.loss_engine.specs.Sights.{same_key};
+ghost use Rattle.loss_engine.specs.computed.Entries.{entry_key, entry_name, entry_source, progress_of};
+ghost use Rattle.loss_engine.specs.LossText.{with_end};
+ghost use Rattle.loss_engine.specs.computed.Closing.{closing_item};
+ghost use Rattle.loss_engine.specs.computed.Tracking.{TellsSample, more_frames, more_samples, sender_of, silent_since, stale_newest, total_by};
+ghost use Rattle.loss_core.specs.declared.sender.Arrival.{Arrival};
+ghost use Rattle.loss_core.specs.Sender.{over_at, told_after};
+ghost use Rattle.object_core.specs.declared.counted.Form.{Form};
+
+use crate::closing::Closing;
+use crate::key::{Key, SenderKey, StreamKey};
+use ber_core::Octets;
+use loss_core::{
+    Arrival, Came, Newest, Sample, SenderTally, SenderTotals, Standing, StreamTally, Told,
+};
+use std::alloc::{AllocError, Allocator};
+
+/// How far a sender or a stream has come.
+#[derive(Drop)]
+pub enum Progress {
+    /// What the frames of a sender come to.
+    Frames(SenderTally),
+    /// What the samples of a stream come to, and the last smpSynch.
+    Samples(StreamTally, u8),
+    /// How many samples came, where no period is given.
+    Counted(u64),
+}
+
+/// One sender or stream, its names in memory of its own: the source address of a stream, and behind it the svID, or a gocbRef.
+#[derive(Drop)]
+pub struct Entry<A: Allocator> {
+    app_id: u16,
+    /// simulation, of a sender.
+    simulation: Option<bool>,
+    octets: Octets<A>,
+    name_at: usize,
+    pub(crate) progress: Progress,
+}
+
+// Copies two texts, one behind the other.
+fn joined<A: Allocator>(alloc: A, front: &[u8], behind: &[u8]) -> Result<Octets<A>, AllocError>
+    ensures { IfOk result (λ o. o ≡ front.now ++ behind.now) }
+{
+    let mut octets = Vec::with_capacity(alloc, front.len().saturating_add(behind.len()))?;
+    octets.extend_from_slice(front)?;
+    octets.extend_from_slice(behind)?;
+    Ok(Octets::from(octets))
+}
+
+impl<A: Allocator> Entry<A> {
+    /// One with this key, of which this is kept.
+    pub fn new(alloc: A, key: Key<'_>, progress: Progress) -> Result<Entry<A>, AllocError>
+        ensures key { IfOk result (λ e. entry_key e ≡ key_said key.entry) }
+        ensures progress { IfOk result (λ e. e.progress ≡ progress) }
+    {
+        let (app_id, simulation, front, behind): (u16, Option<bool>, &[u8], &[u8]) = match key {
+            Key::Sender(sender) => (
+                sender.app_id,
+                Some(sender.simulation),
+                b"",
+                sender.reference,
+            ),
+            Key::Stream(stream) => (stream.app_id, None, stream.source, stream.id),
+        };
+        let octets = joined(alloc, front, behind)?;
+        Ok(Entry {
+            app_id,
+            simulation,
+            octets,
+            name_at: front.len(),
+            progress,
+        })
+    }
+
+    // The source address, and the name.
+    fn names(&self) -> (&[u8], &[u8])
+        ensures source { result.0.now ≡ entry_source self.now }
+        ensures name { result.1.now ≡ entry_name self.now }
+    {
+        let octets = self.octets.as_slice();
+        octets.split_at(self.name_at.min(octets.len()))
+    }
+
+    /// Its key.
+    pub fn key(&self) -> Key<'_>
+        ensures { key_said result ≡ entry_key self.now }
+    {
+        let (source, name) = self.names();
+        match self.simulation {
+            Some(simulation) => Key::Sender(SenderKey {
+                app_id: self.app_id,
+                reference: name,
+                simulation,
+            }),
+            None => Key::Stream(StreamKey {
+                app_id: self.app_id,
+                source,
+                id: name,
+            }),
+        }
+    }
+}
+
+impl<A: Allocator> Entry<A> {
+    /// Whether this is the one with a key.
+    #[inline]
+    pub fn is_of(&self, key: Key<'_>) -> bool
+        ensures { result ≡ same_key (entry_key self.now) (key_said key.entry) }
+    {
+        match (self.key(), key) {
+            (Key::Sender(own), Key::Sender(other)) => own.is_same(other),
+            (Key::Stream(own), Key::Stream(other)) => own.is_same(other),
+            _ => false,
+        }
+    }
+}
+
+impl Progress {
+    /// Takes a frame of a sender, and answers what it tells.
+    pub fn take_frame(&mut self, frame: Arrival) -> Told
+        ensures told { result ≡ told_after (sender_of (Some (progress_of self.old))) frame }
+        ensures after { progress_of self.new ≡ more_frames frame (progress_of self.old) }
+    {
+        match self {
+            Progress::Frames(tally) => tally.take(frame),
+            Progress::Samples(_, _) => first_told(),
+            Progress::Counted(_) => first_told(),
+        }
+    }
+
+    /// Takes a sample of a stream with this smpSynch, and answers what it tells, and the smpSynch before; nothing, where samples
+    /// are counted alone.
+    pub fn take_sample(&mut self, sample: Sample, synch: u8) -> Option<(Came, u8)>
+        ensures told { TellsSample (progress_of self.old) sample result }
+        ensures after { progress_of self.new ≡ more_samples sample synch (progress_of self.old) }
+    {
+        match self {
+            Progress::Frames(_) => None,
+            Progress::Samples(tally, last) => {
+                let before = *last;
+                *last = synch;
+                Some((tally.take(sample), before))
+            }
+            Progress::Counted(count) => {
+                *count = count.saturating_add(1);
+                None
+            }
+        }
+    }
+}
+
+// The lifetime that is over at a moment.
+fn over_at(deadline: u128, moment: u64) -> Option<u64>
+    ensures { result ≡ over_at deadline moment }
+{
+    if deadline <= u128::from(moment) {
+        Some(deadline as u64)
+    } else {
+        None
+    }
+}
+
+// The moment of a newest sample, where that is a second or more before the end.
+fn stale(newest: Option<Newest>, end: u64) -> Option<u64>
+    ensures { result ≡ stale_newest newest end }
+{
+    match newest {
+        Some(newest) if u128::from(newest.moment) + 1_000_000 <= u128::from(end) => {
+            Some(newest.moment)
+        }
+        _ => None,
+    }
+}
+
+// The totals of a sender, where its lifetime was over at the end too.
+fn with_end(since: Option<u64>, totals: SenderTotals) -> SenderTotals
+    ensures { result ≡ with_end since totals }
+{
+    match since {
+        None => totals,
+        Some(_) => SenderTotals {
+            silent: totals.silent.saturating_add(1),
+            ..totals
+        },
+    }
+}
+
+impl Progress {
+    /// Since when it has not come back at the end, if it has not.
+    pub fn silent_since(&self, end: u64) -> Option<u64>
+        ensures { result ≡ silent_since end (progress_of self.now) }
+    {
+        match self {
+            Progress::Frames(tally) => over_at(tally.sender.deadline, end),
+            Progress::Samples(tally, _) => stale(tally.newest(), end),
+            Progress::Counted(_) => None,
+        }
+    }
+}
+
+impl<A: Allocator> Entry<A> {
+    /// What it comes to at the end.
+    pub fn total(&self, end: u64) -> Closing<'_>
+        ensures { (form : Form) → closing_item form end result ≡ total_by form end (entry_key self.now) (progress_of self.now.progress) }
+    {
+        let key = self.key();
+        match &self.progress {
+            Progress::Frames(tally) => {
+                let since = over_at(tally.sender.deadline, end);
+                Closing::Frames(key, with_end(since, tally.totals))
+            }
+            Progress::Samples(tally, _) => Closing::Samples(key, tally.totals()),
+            Progress::Counted(count) => Closing::Counted(key, *count),
+        }
+    }
+}
+
+/// What the first frame of a sender tells.
+pub fn first_told() -> Told
+    ensures { (a : Arrival) → result ≡ told_after None a }
+{
+    Told {
+        silent_since: None,
+        standing: Standing::First,
+    }
+}

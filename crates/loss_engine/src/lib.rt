@@ -1,0 +1,19 @@
+//! The engine of `goose losses`: what is missing of each control block and stream of an input, when, and how much.
+#![tactic(auto, using(text_core::proofs::Fronts::front_before))]
+
+mod closing;
+mod engine;
+mod entry;
+mod finding;
+mod key;
+mod losing;
+mod losses;
+mod order;
+mod passage;
+mod roll;
+mod telling;
+mod texts;
+
+pub use crate::engine::losses_over;
+pub use crate::finding::Finding;
+pub use crate::key::{Key, SenderKey, StreamKey};

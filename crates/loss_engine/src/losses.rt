@@ -1,0 +1,242 @@
+// What is kept of all senders and streams.
+
+ghost use Rattle.std.specs.Prelude.{◌≡◌, ◌∷◌, ◌++◌, IsSome, ◌+◌, ◌*◌, ◌^◌, ◌<◌, ℕ, length, max, IfSome, [], IfOk, OnErr, OnOk, None, Some, slice_get};
+ghost use Rattle.loss_core.specs.Sender.{told_after};
+ghost use Rattle.loss_core.specs.computed.SenderTotalSteps.{first_tally};
+ghost use Rattle.loss_engine.specs.KeySaid.{key_said, sender_said, stream_said};
+ghost use Rattle.loss_engine.specs.Sights.{Key as SpecKey};
+ghost use Rattle.object_core.specs.declared.counted.Form.{Form};
+ghost use Rattle.loss_engine.specs.computed.Closing.{IsClosingAt, closing_item};
+ghost use Rattle.loss_engine.specs.computed.Entries.{Finds, IsPeriodOf, progress_of};
+ghost use Rattle.loss_engine.specs.computed.Tracking.{CountsAs, Progress as Known, TellsSample, frames, first_samples, known_of, more_frames, more_samples, sender_of, silences_by, totals_by, with_progress};
+
+use crate::closing::Closing;
+use crate::entry::{Entry, Progress, first_told};
+use crate::key::{Key, SenderKey, StreamKey};
+use crate::roll::Roll;
+use loss_core::{Arrival, Came, Pair, Sample, SenderTally, StreamTally, Told};
+use std::alloc::{AllocError, Allocator};
+
+/// What is kept of senders and streams, in the order of their first occurrence.
+#[derive(Drop)]
+pub struct Losses<A: Allocator> {
+    period: Option<u32>,
+    roll: Roll<A>,
+    greatest: u64,
+    ghost is_period: { IsPeriodOf period },
+}
+
+impl<A: Allocator + Copy> Losses<A> {
+    ghost use Rattle.loss_engine.specs.computed.Held.{kept_by, period_by};
+
+    /// Of streams of so many samples a second, where that is given, 1 to 65,536; of none of them anything came.
+    pub fn new(alloc: A, period: Option<u32>) -> Losses<A>
+        requires { IsPeriodOf period }
+        ensures period { period_by result ≡ period }
+        ensures none { kept_by result ≡ record { moment = 0; tracked = [] } }
+    {
+        Losses {
+            period,
+            roll: Roll::new(alloc),
+            greatest: 0,
+        }
+    }
+
+    /// How many samples a second the streams have, where that is given.
+    pub fn period(&self) -> Option<u32>
+        ensures is { result ≡ period_by self.now }
+        ensures range { IsPeriodOf result }
+    {
+        self.period
+    }
+
+    /// The greatest moment so far.
+    pub fn greatest(&self) -> u64
+        ensures { result ≡ (kept_by self.now).moment }
+    {
+        self.greatest
+    }
+
+    /// A moment comes.
+    pub fn pass(&mut self, moment: u64)
+        ensures period { period_by self.new ≡ period_by self.old }
+        ensures kept { kept_by self.new ≡ record { moment = max (kept_by self.old).moment moment; tracked = (kept_by self.old).tracked } }
+    {
+        self.greatest = self.greatest.max(moment);
+    }
+
+    // Where the one with a key stands.
+    fn find(&self, key: Key<'_>) -> Option<usize>
+        ensures { Finds (kept_by self.now).tracked (key_said key.entry) result }
+    {
+        self.roll.find(key)
+    }
+
+    // Puts one more, with a key that none has.
+    fn put(&mut self, alloc: A, key: Key<'_>, progress: Progress) -> Result<(), AllocError>
+        requires { known_of (kept_by self.old).tracked (key_said key) ≡ None }
+        ensures put { OnOk result (kept_by self.new ≡ record { moment = (kept_by self.old).moment; tracked = (kept_by self.old).tracked ++ record { key = key_said key.entry; progress = progress_of progress } ∷ [] }) }
+        ensures period { period_by self.new ≡ period_by self.old }
+    {
+        let entry = Entry::new(alloc, key, progress)?;
+        self.roll.push(alloc, entry)
+    }
+
+    // Hands a frame to the sender at a position.
+    fn frame_at(&mut self, at: usize, frame: Arrival) -> Told
+        requires { at < length (kept_by self.old).tracked }
+        ensures told { (key : SpecKey) → Finds (kept_by self.old).tracked key (Some at) → result ≡ told_after (sender_of (known_of (kept_by self.old).tracked key)) frame }
+        ensures kept { (key : SpecKey) (first : Known) → Finds (kept_by self.old).tracked key (Some at) → kept_by self.new ≡ record { moment = (kept_by self.old).moment; tracked = with_progress (kept_by self.old).tracked key first (more_frames frame) } }
+        ensures period { period_by self.new ≡ period_by self.old }
+    {
+        self.roll.take_frame(at, frame)
+    }
+
+    // Hands a sample with this smpSynch to the stream at a position.
+    fn sample_at(&mut self, at: usize, sample: Sample, synch: u8) -> Option<(Came, u8)>
+        requires { at < length (kept_by self.old).tracked }
+        ensures told { (key : SpecKey) → Finds (kept_by self.old).tracked key (Some at) → IfSome (known_of (kept_by self.old).tracked key) (λ known. TellsSample known sample result) }
+        ensures kept { (key : SpecKey) (first : Known) → Finds (kept_by self.old).tracked key (Some at) → kept_by self.new ≡ record { moment = (kept_by self.old).moment; tracked = with_progress (kept_by self.old).tracked key first (more_samples sample synch) } }
+        ensures known { (key : SpecKey) → Finds (kept_by self.old).tracked key (Some at) → IsSome (known_of (kept_by self.old).tracked key) }
+        ensures period { period_by self.new ≡ period_by self.old }
+    {
+        self.roll.take_sample(at, sample, synch)
+    }
+
+    /// Takes a frame of a sender with this lifetime in milliseconds, and answers what it tells. Memory is wanted for a new sender
+    /// alone.
+    pub fn take_frame(
+        &mut self,
+        alloc: A,
+        key: SenderKey<'_>,
+        pair: Pair,
+        live: u32,
+    ) -> Result<(Arrival, Told), AllocError>
+        ensures arrival { IfOk result (λ r. r.0 ≡ record { pair = pair; moment = (kept_by self.old).moment; lifetime = 1000 * live }) }
+        ensures told { IfOk result (λ r. r.1 ≡ told_after (sender_of (known_of (kept_by self.old).tracked (sender_said key.entry))) r.0) }
+        ensures kept { IfOk result (λ r. kept_by self.new ≡ record { moment = (kept_by self.old).moment; tracked = with_progress (kept_by self.old).tracked (sender_said key.entry) (frames (first_tally r.0)) (more_frames r.0) }) }
+        ensures period { period_by self.new ≡ period_by self.old }
+        ensures wants { OnErr result (known_of (kept_by self.old).tracked (sender_said key.entry) ≡ None) }
+    {
+        let frame = Arrival {
+            pair,
+            moment: self.greatest,
+            lifetime: 1000 * u64::from(live),
+        };
+        match self.find(Key::Sender(key)) {
+            Some(at) => {
+                let told = self.frame_at(at, frame);
+                Ok((frame, told))
+            }
+            None => {
+                let first = Progress::Frames(SenderTally::of_first(frame));
+                self.put(alloc, Key::Sender(key), first)?;
+                Ok((frame, first_told()))
+            }
+        }
+    }
+
+    // What a first sample tells, where a period is given.
+    fn first_came(&self, count: u16) -> Option<(Came, Option<u8>)>
+        ensures { (moment : ℕ) → CountsAs (period_by self.now) None (record { count = count; moment = moment }) result }
+    {
+        match self.period {
+            None => None,
+            Some(period) if u32::from(count) < period => Some((Came::First, None)),
+            Some(_) => Some((Came::OutOfRange, None)),
+        }
+    }
+
+    // What is kept of a stream at its first sample.
+    fn first_samples(&self, sample: Sample, synch: u8) -> Progress
+        ensures { progress_of result ≡ first_samples (period_by self.now) sample synch }
+    {
+        match self.period {
+            None => Progress::Counted(1),
+            Some(period) => {
+                let mut tally = StreamTally::new(period);
+                tally.take(sample);
+                Progress::Samples(tally, synch)
+            }
+        }
+    }
+
+    // What is answered of a sample of a stream that is known.
+    fn came_of(&self, answer: Option<(Came, u8)>, count: u16) -> Option<(Came, Option<u8>)>
+        ensures { (known : Known) (moment : ℕ) → TellsSample known (record { count = count; moment = moment }) answer → CountsAs (period_by self.now) (Some known) (record { count = count; moment = moment }) result }
+    {
+        match answer {
+            None => self.first_came(count),
+            Some((came, before)) => match self.period {
+                None => None,
+                Some(_) => Some((came, Some(before))),
+            },
+        }
+    }
+
+    /// Takes a sample of a stream with this smpSynch, and answers what its count tells and the smpSynch before, where a period is
+    /// given. Memory is wanted for a new stream alone.
+    pub fn take_sample(
+        &mut self,
+        alloc: A,
+        key: StreamKey<'_>,
+        count: u16,
+        synch: u8,
+    ) -> Result<Option<(Came, Option<u8>)>, AllocError>
+        ensures told { IfOk result (λ r. CountsAs (period_by self.old) (known_of (kept_by self.old).tracked (stream_said key.entry)) (record { count = count; moment = (kept_by self.old).moment }) r) }
+        ensures kept { OnOk result (kept_by self.new ≡ record { moment = (kept_by self.old).moment; tracked = with_progress (kept_by self.old).tracked (stream_said key.entry) (first_samples (period_by self.old) (record { count = count; moment = (kept_by self.old).moment }) synch) (more_samples (record { count = count; moment = (kept_by self.old).moment }) synch) }) }
+        ensures period { period_by self.new ≡ period_by self.old }
+        ensures wants { OnErr result (known_of (kept_by self.old).tracked (stream_said key.entry) ≡ None) }
+    {
+        let sample = Sample {
+            count,
+            moment: self.greatest,
+        };
+        match self.find(Key::Stream(key)) {
+            Some(at) => {
+                let answer = self.sample_at(at, sample, synch);
+                Ok(self.came_of(answer, count))
+            }
+            None => {
+                let first = self.first_samples(sample, synch);
+                self.put(alloc, Key::Stream(key), first)?;
+                Ok(self.first_came(count))
+            }
+        }
+    }
+
+    // What the line tells that says what has not come back of the one at a position.
+    fn silence_at(&self, at: usize) -> Closing<'_>
+        requires { at < length (kept_by self.now).tracked }
+        ensures { (form : Form) → slice_get (silences_by form (kept_by self.now)) at ≡ Some (closing_item form (kept_by self.now).moment result) }
+    {
+        let entry = self.roll.entry(at);
+        Closing::Silent(entry.key(), entry.progress.silent_since(self.greatest))
+    }
+
+    // What the line tells that is the total of the one at a position.
+    fn total_at(&self, at: usize) -> Closing<'_>
+        requires { at < length (kept_by self.now).tracked }
+        ensures { (form : Form) → slice_get (totals_by form (kept_by self.now)) at ≡ Some (closing_item form (kept_by self.now).moment result) }
+    {
+        self.roll.entry(at).total(self.greatest)
+    }
+
+    /// What the line at the end tells that stands at this position: of each sender and stream what has not come back, and then
+    /// of each its total.
+    pub fn closing_at(&self, at: u128) -> Option<Closing<'_>>
+        ensures is { IsClosingAt (kept_by self.now) at result }
+        ensures few { IfSome result (λ _. at < length (kept_by self.now).tracked + length (kept_by self.now).tracked) }
+        ensures most { length (kept_by self.now).tracked < 2 ^ 64 }
+    {
+        let count = self.roll.len() as u128;
+        if at < count {
+            return Some(self.silence_at(at as usize));
+        }
+        let behind = at - count;
+        if behind < count {
+            return Some(self.total_at(behind as usize));
+        }
+        None
+    }
+}

@@ -1,0 +1,145 @@
+// Senders and streams in the order of their first occurrence, each found by its key.
+
+ghost use Rattle.std.specs.Prelude.{◌≡◌, ◌<◌, ◌++◌, ◌∷◌, [], IfSome, IsSome, IsTrue, None, OnErr, OnOk, Some, length, slice_get};
+ghost use Rattle.loss_core.specs.Sender.{told_after};
+ghost use Rattle.loss_engine.specs.KeySaid.{key_said};
+ghost use Rattle.loss_engine.specs.Sights.{Key as SpecKey};
+ghost use Rattle.loss_engine.specs.computed.Entries.{Finds, IsFirstAt, all_tracked, entry_key, tracked_by};
+ghost use Rattle.loss_engine.specs.computed.KeyOrder.{key_cmp};
+ghost use Rattle.loss_engine.specs.computed.Roll.{HasKeyAt};
+ghost use Rattle.loss_engine.specs.computed.Tracking.{Progress as Known, TellsSample, known_of, more_frames, more_samples, sender_of, with_progress};
+
+use crate::entry::Entry;
+use crate::key::Key;
+use crate::order::compare_keys;
+use known_core::{Probe, Runs, find_position};
+use loss_core::{Arrival, Came, Sample, Told};
+use std::alloc::{AllocError, Allocator};
+use std::cmp::Ordering;
+use std::marker::Model;
+
+impl<A: Allocator> Probe<Entry<A>> for Key<'_> {
+    ghost cmp = { λ key one. key_cmp (entry_key one) (key_said key) };
+
+    #[inline(always)]
+    fn compare(&self, one: &Entry<A>) -> Ordering {
+        compare_keys(one.key(), *self)
+    }
+}
+
+/// Senders and streams in the order of their first occurrence.
+#[derive(Drop)]
+pub struct Roll<A: Allocator> {
+    entries: Vec<Entry<A>, A>,
+    positions: Runs<usize, A>,
+    last: usize,
+}
+
+impl<A: Allocator> Model for Roll<A> {
+    ghost use Rattle.std.specs.Prelude.{List};
+    ghost use Rattle.known_core.specs.computed.Positions.{AreInOrder};
+    ghost use Rattle.loss_engine.specs.computed.Entries.{all_tracked, entry_key};
+    ghost use Rattle.loss_engine.specs.computed.KeyOrder.{key_cmp};
+    ghost use Rattle.loss_engine.specs.computed.Tracking.{Tracked};
+
+    ghost Value = { List Tracked };
+
+    ghost view = { λ r. all_tracked r.entries.items };
+
+    ghost invariant = { λ r. AreInOrder key_cmp entry_key r.entries.items r.positions };
+}
+
+// Whether the one at a position has a key.
+fn has_at<A: Allocator>(entries: &[Entry<A>], at: usize, key: Key<'_>) -> bool
+    ensures { IsTrue result → HasKeyAt entries.now (key_said key.entry) at }
+{
+    match entries.get(at) {
+        Some(entry) => entry.is_of(key),
+        None => false,
+    }
+}
+
+impl<A: Allocator + Copy> Roll<A> {
+    /// None came.
+    pub fn new(alloc: A) -> Roll<A>
+        ensures { result ≡ [] }
+    {
+        Roll {
+            entries: Vec::new(alloc),
+            positions: Runs::new(alloc),
+            last: 0,
+        }
+    }
+
+    /// How many came.
+    pub fn len(&self) -> usize
+        ensures { result ≡ length self.now }
+    {
+        self.entries.len()
+    }
+
+    /// The one at a position.
+    pub fn entry(&self, at: usize) -> &Entry<A>
+        requires { at < length self.now }
+        ensures { slice_get self.now at ≡ Some (tracked_by result.now) }
+    {
+        &self.entries[at]
+    }
+
+    /// The position of the one with a key. That which came last is tried first, and then the one behind it: streams of one frame
+    /// come in an order that stays.
+    pub fn find(&self, key: Key<'_>) -> Option<usize>
+        ensures { Finds self.now (key_said key.entry) result }
+    {
+        if has_at(self.entries.as_slice(), self.last, key) {
+            return Some(self.last);
+        }
+        let next = self.last.saturating_add(1);
+        if has_at(self.entries.as_slice(), next, key) {
+            return Some(next);
+        }
+        match find_position(&self.positions, self.entries.as_slice(), &key) {
+            Ok(at) => Some(at),
+            Err(_) => None,
+        }
+    }
+
+    /// Appends one with a key that none has.
+    pub fn push(&mut self, alloc: A, entry: Entry<A>) -> Result<(), AllocError>
+        requires { known_of self.old (entry_key entry) ≡ None }
+        ensures pushed { OnOk result (self.new ≡ self.old ++ tracked_by entry ∷ []) }
+        ensures kept { OnErr result (self.new ≡ self.old) }
+    {
+        let found = find_position(&self.positions, self.entries.as_slice(), &entry.key());
+        let Err(place) = found else {
+            return Ok(());
+        };
+        self.entries.reserve(1)?;
+        let at = self.entries.len();
+        self.positions.insert(alloc, place, at)?;
+        self.entries.push_reserved(entry);
+        self.last = at;
+        Ok(())
+    }
+
+    /// Hands a frame to the sender at a position.
+    pub fn take_frame(&mut self, at: usize, frame: Arrival) -> Told
+        requires { at < length self.old }
+        ensures told { (key : SpecKey) → IsFirstAt self.old key at → result ≡ told_after (sender_of (known_of self.old key)) frame }
+        ensures kept { (key : SpecKey) (first : Known) → IsFirstAt self.old key at → self.new ≡ with_progress self.old key first (more_frames frame) }
+    {
+        self.last = at;
+        self.entries[at].progress.take_frame(frame)
+    }
+
+    /// Hands a sample with this smpSynch to the stream at a position.
+    pub fn take_sample(&mut self, at: usize, sample: Sample, synch: u8) -> Option<(Came, u8)>
+        requires { at < length self.old }
+        ensures told { (key : SpecKey) → IsFirstAt self.old key at → IfSome (known_of self.old key) (λ known. TellsSample known sample result) }
+        ensures kept { (key : SpecKey) (first : Known) → IsFirstAt self.old key at → self.new ≡ with_progress self.old key first (more_samples sample synch) }
+        ensures known { (key : SpecKey) → IsFirstAt self.old key at → IsSome (known_of self.old key) }
+    {
+        self.last = at;
+        self.entries[at].progress.take_sample(sample, synch)
+    }
+}

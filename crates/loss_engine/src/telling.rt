@@ -1,0 +1,135 @@
+// What is told of the frames of events, and kept of them.
+
+ghost use Rattle.std.specs.Prelude.{◌≡◌, ◌∷◌, [], IfOk, OnErr, length, map, take};
+ghost use Rattle.pdu_core.specs.SampledViews.{asdu_of, asdus_left};
+ghost use Rattle.pdu_core.specs.Views.{pdu_of};
+ghost use Rattle.loss_engine.specs.Sights.{sight_of_asdu, sight_of_goose, sights_of};
+ghost use Rattle.loss_engine.specs.computed.Held.{kept_by, period_by};
+ghost use Rattle.loss_engine.specs.computed.Telling.{TellsSights, WantsFor};
+
+use crate::key::{Key, SenderKey, StreamKey};
+use crate::losses::Losses;
+use crate::texts::told::{put_frame, put_sample};
+use frame_core::{ApduView, EventKind, view_frame};
+use loss_core::Pair;
+use object_core::Heading;
+use pdu_core::{AsduView, GooseView, SvView};
+use std::alloc::{AllocError, Allocator};
+
+// Appends what a frame of GOOSE tells, and answers whether it is a loss.
+fn put_goose<A: Allocator + Copy>(
+    alloc: A,
+    losses: &mut Losses<A>,
+    out: &mut Vec<u8, A>,
+    heading: Heading,
+    app_id: u16,
+    goose: &GooseView<'_>,
+) -> Result<bool, AllocError>
+    ensures tells { IfOk result (λ found. TellsSights heading (period_by losses.old) (kept_by losses.old) (sight_of_goose (kept_by losses.old).moment app_id (pdu_of {A = Unit {0}} goose.now) ∷ []) out.old.items found out.new.items (kept_by losses.new)) }
+    ensures period { period_by losses.new ≡ period_by losses.old }
+    ensures wants { OnErr result (WantsFor heading (period_by losses.old) (kept_by losses.old) (sight_of_goose (kept_by losses.old).moment app_id (pdu_of {A = Unit {0}} goose.now) ∷ [])) }
+    ensures kept { take (length out.old.items) out.new.items ≡ out.old.items }
+{
+    let key = SenderKey {
+        app_id,
+        reference: goose.gocb_ref,
+        simulation: goose.simulation,
+    };
+    let pair = Pair {
+        state: goose.st_num,
+        sequence: goose.sq_num,
+    };
+    let (frame, told) = losses.take_frame(alloc, key, pair, goose.live)?;
+    let found = put_frame(out, heading, &Key::Sender(key), frame, told)?;
+    Ok(found)
+}
+
+// Appends what an ASDU tells, and answers whether it is a loss.
+fn put_asdu<A: Allocator + Copy>(
+    alloc: A,
+    losses: &mut Losses<A>,
+    out: &mut Vec<u8, A>,
+    heading: Heading,
+    app_id: u16,
+    source: &[u8],
+    asdu: &AsduView<'_>,
+) -> Result<bool, AllocError>
+    ensures tells { IfOk result (λ found. TellsSights heading (period_by losses.old) (kept_by losses.old) (sight_of_asdu (kept_by losses.old).moment app_id source.now (asdu_of {A = Unit {0}} asdu.now) ∷ []) out.old.items found out.new.items (kept_by losses.new)) }
+    ensures period { period_by losses.new ≡ period_by losses.old }
+    ensures wants { OnErr result (WantsFor heading (period_by losses.old) (kept_by losses.old) (sight_of_asdu (kept_by losses.old).moment app_id source.now (asdu_of {A = Unit {0}} asdu.now) ∷ [])) }
+    ensures kept { take (length out.old.items) out.new.items ≡ out.old.items }
+{
+    let key = StreamKey {
+        app_id,
+        source,
+        id: asdu.sv_id,
+    };
+    let taken = losses.take_sample(alloc, key, asdu.smp_cnt, asdu.smp_synch)?;
+    let Some((came, before)) = taken else {
+        return Ok(false);
+    };
+    let Some(period) = losses.period() else {
+        return Ok(false);
+    };
+    let key = Key::Stream(key);
+    let count = asdu.smp_cnt;
+    let synch = asdu.smp_synch;
+    let found = put_sample(out, heading, &key, period, count, came, before, synch)?;
+    Ok(found)
+}
+
+// Appends what the ASDUs of a frame tell, and answers whether one of them is a loss.
+fn put_asdus<A: Allocator + Copy>(
+    alloc: A,
+    losses: &mut Losses<A>,
+    out: &mut Vec<u8, A>,
+    heading: Heading,
+    app_id: u16,
+    source: &[u8],
+    sampled: &SvView<'_>,
+) -> Result<bool, AllocError>
+    ensures tells { IfOk result (λ found. TellsSights heading (period_by losses.old) (kept_by losses.old) (map (sight_of_asdu (kept_by losses.old).moment app_id source.now) (asdus_left {A = Unit {0}} sampled.now.asdus)) out.old.items found out.new.items (kept_by losses.new)) }
+    ensures period { period_by losses.new ≡ period_by losses.old }
+    ensures wants { OnErr result (WantsFor heading (period_by losses.old) (kept_by losses.old) (map (sight_of_asdu (kept_by losses.old).moment app_id source.now) (asdus_left {A = Unit {0}} sampled.now.asdus))) }
+    ensures kept { take (length out.old.items) out.new.items ≡ out.old.items }
+{
+    let mut found = false;
+    for asdu in sampled.asdus {
+        found |= put_asdu(alloc, losses, out, heading, app_id, source, &asdu)?;
+    }
+    Ok(found)
+}
+
+/// Appends what the frame of an event tells, and answers whether it is a loss; nothing of the clock and of modes. Memory is wanted
+/// for a sender or a stream that is new, and for what is told.
+pub fn put_event<A: Allocator + Copy>(
+    alloc: A,
+    losses: &mut Losses<A>,
+    out: &mut Vec<u8, A>,
+    heading: Heading,
+    kind: &EventKind<A>,
+) -> Result<bool, AllocError>
+    ensures tells { IfOk result (λ found. TellsSights heading (period_by losses.old) (kept_by losses.old) (sights_of (kept_by losses.old).moment kind.now) out.old.items found out.new.items (kept_by losses.new)) }
+    ensures period { period_by losses.new ≡ period_by losses.old }
+    ensures wants { OnErr result (WantsFor heading (period_by losses.old) (kept_by losses.old) (sights_of (kept_by losses.old).moment kind.now)) }
+    ensures kept { take (length out.old.items) out.new.items ≡ out.old.items }
+{
+    let EventKind::Frame(octets) = kind else {
+        return Ok(false);
+    };
+    match view_frame(octets.as_slice()) {
+        Err(_) => Ok(false),
+        Ok(view) => match &view.apdu {
+            ApduView::Goose(goose) => put_goose(alloc, losses, out, heading, view.app_id, goose),
+            ApduView::Sampled(sampled) => put_asdus(
+                alloc,
+                losses,
+                out,
+                heading,
+                view.app_id,
+                &view.source,
+                sampled,
+            ),
+        },
+    }
+}

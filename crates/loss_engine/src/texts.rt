@@ -1,0 +1,7 @@
+//! The texts that `losses` writes.
+
+pub mod closing;
+pub mod finding;
+pub mod key;
+pub mod number;
+pub mod told;
