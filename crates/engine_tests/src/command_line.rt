@@ -16,6 +16,7 @@ fn task_named(rt: &HostRuntime, words: &[&str]) -> &'static str {
         Ok(Task::Import) => "import",
         Ok(Task::Replay(_)) => "replay",
         Ok(Task::Watch { .. }) => "watch",
+        Ok(Task::Losses { .. }) => "losses",
         Err(_) => "none",
     }
 }
@@ -168,10 +169,12 @@ fn is_refused_by(rt: &HostRuntime, words: &[&str], kind: ErrorKind) -> bool {
 }
 
 // Words that are refused, and by which kind of error: no mistake is told as want of memory.
-const REFUSALS: [(&[&str], ErrorKind); 14] = [
+const REFUSALS: [(&[&str], ErrorKind); 15] = [
     (&[], ErrorKind::MissingSubcommand),
     (&["goose"], ErrorKind::MissingSubcommand),
     (&["goose", "fly"], ErrorKind::InvalidSubcommand),
+    // What is missing is told beside the options alone.
+    (&["goose", "losses"], ErrorKind::InvalidSubcommand),
     (&["goose", "--loud", "show"], ErrorKind::UnknownArgument),
     (&["goose", "show", "list"], ErrorKind::UnknownArgument),
     (
@@ -322,6 +325,52 @@ fn a_request_has_its_options(rt: HostRuntime) -> Result<(), Fail> {
     Ok(())
 }
 
+// Whether these words ask for what is missing, with this period or none, on a capture.
+fn are_losses(rt: &HostRuntime, words: &[&str], wanted: Option<u32>) -> bool {
+    match read_request(rt.alloc(), words) {
+        Ok(Request { task, options }) => match task {
+            Task::Losses { period } => period == wanted && options.is_capture,
+            _ => false,
+        },
+        Err(_) => false,
+    }
+}
+
+// Words that ask for what is missing on a capture, and the period of streams.
+const LOSSES: [(&[&str], Option<u32>); 5] = [
+    (&["goose", "losses", "--capture"], None),
+    (
+        &["goose", "losses", "--capture", "--skip-other", "--"],
+        None,
+    ),
+    (&["goose", "losses", "--period", "2", "--capture"], Some(2)),
+    (
+        &["goose", "losses", "--capture", "--period=65536"],
+        Some(65_536),
+    ),
+    (
+        &[
+            "goose",
+            "losses",
+            "--time",
+            "--period=+5",
+            "--capture",
+            "--",
+        ],
+        Some(5),
+    ),
+];
+
+#[test]
+fn losses_have_a_period_or_none(rt: HostRuntime) -> Result<(), Fail> {
+    let mut case = 0u32;
+    for (words, wanted) in LOSSES {
+        assert!(rt; are_losses(&rt, words, wanted), "case {case}");
+        case = case.saturating_add(1);
+    }
+    Ok(())
+}
+
 // Words that ask for dates, on a capture.
 const DATED: [&[&str]; 6] = [
     &["goose", "show", "--time", "--capture"],
@@ -382,7 +431,7 @@ fn is_no_request(rt: &HostRuntime, words: &[&str], kind: ErrorKind) -> bool {
 }
 
 // Words with options that are refused, and by which kind of error.
-const NO_REQUESTS: [(&[&str], ErrorKind); 16] = [
+const NO_REQUESTS: [(&[&str], ErrorKind); 21] = [
     (
         &["goose", "rewrite", "--capture"],
         ErrorKind::UnknownArgument,
@@ -434,6 +483,23 @@ const NO_REQUESTS: [(&[&str], ErrorKind); 16] = [
         ErrorKind::ArgumentConflict,
     ),
     (&["goose", "show", "--help"], ErrorKind::DisplayHelp),
+    (
+        &["goose", "losses", "--period", "1"],
+        ErrorKind::ValueValidation,
+    ),
+    (
+        &["goose", "losses", "--period=65537"],
+        ErrorKind::ValueValidation,
+    ),
+    (
+        &["goose", "losses", "0001,G,D,,1,1"],
+        ErrorKind::UnknownArgument,
+    ),
+    (
+        &["goose", "losses", "--period=5", "--json", "--time"],
+        ErrorKind::ArgumentConflict,
+    ),
+    (&["goose", "losses", "--help"], ErrorKind::DisplayHelp),
 ];
 
 #[test]

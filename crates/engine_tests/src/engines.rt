@@ -8,7 +8,8 @@ use std::alloc::Allocator;
 use subscribe_core::Block;
 
 /// An engine, and which input it is given: one without a fault of its lines; one that ends by a fault, of which a list is
-/// `FAULTY`; clock moments and a mode, `QUIET`, of which `show` and `rewrite` write lines; or one that wants no memory.
+/// `FAULTY`; clock moments and a mode, `QUIET`, of which `show` and `rewrite` write lines; one that wants no memory; or a frame
+/// of floating-point numbers.
 #[derive(Clone, Copy)]
 pub(super) enum Example {
     Show,
@@ -38,10 +39,11 @@ pub(super) enum Example {
     QuietWatch,
     EmptyReplay,
     CutImport,
+    Floats,
 }
 
 /// Those of which something is written beside the version.
-pub(super) const EXAMPLES: [Example; 19] = [
+pub(super) const EXAMPLES: [Example; 20] = [
     Example::Show,
     Example::Rewrite,
     Example::Check,
@@ -61,6 +63,7 @@ pub(super) const EXAMPLES: [Example; 19] = [
     Example::MarkedShow,
     Example::MarkedRewrite,
     Example::CutImport,
+    Example::Floats,
 ];
 
 /// Those that want no memory.
@@ -88,6 +91,10 @@ const FAULTY: &[u8] =
 // A list of a version, a clock moment, the mode, a comment and another clock moment.
 const QUIET: &[u8] = b"V2\nC 1\nM 2 on\n# nothing\nC 3\n";
 
+// A frame of a day in 2023: a binary32, a binary64, what is no number, and a time whose quality has all flags, as its t has.
+const FLOATS: &[u8] =
+    b"V2\nF 1700000000000000 010ccd01000102000000000188b80001005500000000614b800147810207d082014484086553f0ff800000ea8501018601008701008801018901008a0104ab2387050843c8000087090bc08f4000000000008705087fc0000091086553f0ff800000ea\n";
+
 // A list without events.
 const EMPTY: &[u8] = b"# nothing\n\n";
 
@@ -99,6 +106,7 @@ const UNCHANGED: &[u8] =
 pub(super) fn input_of(example: Example) -> &'static [u8] {
     match example {
         Example::Show | Example::Rewrite => FRAMES,
+        Example::Floats => FLOATS,
         Example::Check => b"F 0 00\nC 1\nF 2 0000\n",
         Example::Publish => {
             b"control,010ccd010001,020000000001,,0001,G,D,,1,1,0,0,1\nstep,10,2000\nstep,1000,3000\nchange,0,0000000000000000,8301ff\npoll,9\npoll,10\npoll,1009\npoll,1010\nchange,1500,0000000000000000,830100\n"
@@ -146,6 +154,9 @@ pub(super) fn text_of(example: Example) -> &'static [u8] {
         }
         Example::Rewrite => {
             b"V2\nF 0 010ccd01000102000000000188b80001005d000000006153800147810207d0820144830349225c840800000000000000008501018601008701008801018901008a0106ab268a046122625c840204a0a20ba1068501fb86010783010084010089009108600000018000000a\nF 1000 010ccd0100010200000000018100800088b80001003500000000612b800147810207d0820144840800000000000000008501018601008701008801018901008a0101ab038301ff00000000\nF 2000 010ccd04000102000000000188ba40000052000000006048800102a243302b80015381014482020f9e8304000000018408600000018000000a85010286020fa08702002a880100890107301480015382020f9e8304000000018501028702002a\nF 3000 010ccd01000102000000000188b80001003500000000612b800147810207d0820144840800000000000000008501018601008701008801018901008a0102ab038301ff\n"
+        }
+        Example::Floats => {
+            b"2 goose 010ccd010001 020000000001 tag=- appid=0001 r1=0000 r2=0000 ref=\"G\" live=2000 set=\"D\" id=- t=6553f0ff800000ea st=1 sq=0 sim=false rev=1 com=false {float:0843c80000 float:0bc08f400000000000 float:087fc00000 utc:6553f0ff800000ea} trailer=-\n"
         }
         Example::Check => b"1 fault 1 Truncated\n3 fault 2 Truncated\n",
         Example::Publish => {
@@ -222,6 +233,7 @@ pub(super) fn places_of(example: Example) -> &'static [usize] {
         Example::FaultyRewrite => &[0, 1, 2, 3],
         Example::FaultyWatch => &[2, 3],
         Example::FaultyPublish | Example::RefusedPublish => &[0, 3, 4],
+        Example::Floats => &[2],
         Example::MarkedShow => &[2, 3, 5],
         Example::MarkedRewrite => &[0, 2, 3, 5],
         Example::Import => &[0, 40, 59],
@@ -245,8 +257,8 @@ pub(super) fn begins_with_version(example: Example) -> bool {
     )
 }
 
-// The block of the examples, or none where memory is refused.
-fn one_block<A: Allocator + Copy>(alloc: A) -> Option<Vec<Block<A>, A>> {
+/// The block of the examples, or none where memory is refused.
+pub(super) fn one_block<A: Allocator + Copy>(alloc: A) -> Option<Vec<Block<A>, A>> {
     let Ok(block) = read_block(alloc, "0001,G,D,,1,1") else {
         return None;
     };
@@ -283,9 +295,11 @@ pub(super) fn run<A: Allocator + Copy, R: Source, W: Sink>(
     requires works { W.failed writer.old ≡ false }
 {
     match example {
-        Example::Show | Example::FaultyShow | Example::MarkedShow | Example::QuietShow => show(
-            alloc, reader, writer,
-        ),
+        Example::Show
+        | Example::FaultyShow
+        | Example::MarkedShow
+        | Example::QuietShow
+        | Example::Floats => show(alloc, reader, writer),
         Example::Rewrite
         | Example::FaultyRewrite
         | Example::MarkedRewrite

@@ -17,3 +17,5 @@ mod laws;
 mod limits;
 #[cfg(test)]
 mod scripts;
+#[cfg(test)]
+mod styles;

@@ -1,1 +1,3 @@
+pub mod LossesLemmas
 pub mod EventTaskLemmas
+pub mod PassedLemmas

@@ -1,3 +1,5 @@
 pub mod TaskText
 pub mod EventTasks
 pub mod RequestText
+pub mod LossesText
+pub mod HandedOut

@@ -27,6 +27,7 @@ use Rattle.words_core.specs.declared.option_words.Writing.{Writing}
 use Rattle.words_core.specs.declared.option_words.Writing.TheVariants as writes
 use Rattle.words_core.specs.declared.option_words.Options.{Options}
 use Rattle.goose.specs.EventTasks.{EventsLeave}
+use Rattle.goose.specs.LossesText.{LossesOfInput}
 use Rattle.goose.specs.TaskText.{TaskWrites}
 
 -- what is made of each event: where frames of other protocols are passed over, what is left of it
@@ -68,7 +69,7 @@ is_plain writes.Objects = false
 -- what a task over events leaves written by these options
 abbrev pub EventsWrite : Options → Asked → Ending → InputEnd → List ℕ → Option (List ℕ) → Option (List ℕ) → Type 0
 EventsWrite options asked ending z read old new =
-    EventsLeave (style_of options) asked (OfInput options.is_capture (style_of options) (made_by options.skips_other) ending z read old new) ending z read old new
+    EventsLeave (style_of options) asked (OfInput options.is_capture (style_of options) (made_by options.skips_other) ending z read old new) (LossesOfInput options.is_capture (style_of options) (made_by options.skips_other) ending z read old new) ending z read old new
 
 -- some option is given
 abbrev pub has_option : Options → Bool

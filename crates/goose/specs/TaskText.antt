@@ -10,8 +10,10 @@ use Rattle.list_core.specs.EventLine.{event_rules}
 use Rattle.script_core.specs.declared.script.ScriptLines.TheVariants as scripts
 use Rattle.script_core.specs.Script.{script_rules}
 use Rattle.engine_core.specs.declared.ending.Ending.{Ending}
+use Rattle.engine_core.specs.declared.style.Style.TheVariants as styles
 use Rattle.engine_core.specs.EngineText.{Text}
 use Rattle.engine_core.specs.Run.{Writes, WritesSome}
+use Rattle.object_core.specs.declared.counted.Form.TheVariants as forms
 use Rattle.frame_engines.specs.ShowText.{show_text}
 use Rattle.frame_engines.specs.CheckText.{check_text}
 use Rattle.frame_engines.specs.RewriteText.{rewrite_text}
@@ -20,7 +22,8 @@ use Rattle.inventory_engine.specs.BlocksText.{IsBlocksText}
 use Rattle.exchange_engines.specs.ReplayText.{ReplayWrites}
 use Rattle.exchange_engines.specs.PublishText.{IsPublishText}
 use Rattle.exchange_engines.specs.WatchText.{IsWatchText}
-use Rattle.words_core.specs.CommandLine.{Asked, show, check, rewrite, list_blocks, publish, import, replay, watch}
+use Rattle.words_core.specs.CommandLine.{Asked, show, check, rewrite, list_blocks, publish, import, losses, replay, watch}
+use Rattle.goose.specs.LossesText.{LossesOfList}
 
 -- a run over a list of events writes this text
 abbrev pub WritesOfEvents : Text (Event Global) ListCause → Ending → InputEnd → List ℕ → Option (List ℕ) → Option (List ℕ) → Type 0
@@ -36,3 +39,4 @@ TaskWrites (replay blocks) ending z given old new = ReplayWrites blocks ending z
 TaskWrites publish ending z given old new = WritesSome (IsPublishText {A = Global}) script_rules scripts.First ending z given old new
 TaskWrites (watch period id) ending z given old new = WritesSome (IsWatchText {A = Global} period id) event_rules events.First ending z given old new
 TaskWrites import ending z given old new = Imports Open ending z given old new
+TaskWrites (losses period) ending z given old new = LossesOfList (styles.Lines forms.Text) (λ event. event) ending z given old new period

@@ -1,16 +1,18 @@
 //! Tasks over events that any reader has, in a style.
-ghost use Rattle.std.specs.Prelude.{◌≡◌, false, option_map};
+ghost use Rattle.std.specs.Prelude.{◌≡◌, false};
 ghost use Rattle.block_core.specs.Period.{IsPeriod};
 ghost use Rattle.engine_core.specs.Ending.{is_write_fault};
-ghost use Rattle.words_core.specs.CommandLine.{Asked, check, list_blocks, replay, show, watch};
+ghost use Rattle.loss_engine.specs.computed.Entries.{IsPeriodOf};
+ghost use Rattle.words_core.specs.CommandLine.{Asked, check, list_blocks, losses, replay, show, watch};
 ghost use Rattle.goose.specs.EventTasks.{OverWrites};
 
 use block_core::Block;
 use engine_core::{Stopped, Style};
-use exchange_engines::{ReplayStop, replay_over, watch_over};
+use exchange_engines::{ReplayStop, of_input, replay_over, watch_over};
 use frame_core::{Event, InputFault, ReadItems, Sink};
 use frame_engines::{check_over, show_over};
 use inventory_engine::blocks_over;
+use loss_engine::losses_over;
 use object_core::LastObject;
 use std::alloc::Global;
 use text_core::LastLine;
@@ -27,30 +29,8 @@ pub trait EventTask {
         W: Sink,
     >(self, alloc: Global, style: Style, events: I, writer: &mut W) -> Stopped<I, ReplayStop<F>>
         requires works { W.failed writer.old ≡ false }
-        ensures text { OverWrites style (asked self) I.answers F.refused F.failed F.last_line F.last_object events result.ending result.fault result.reader (W.contents writer.old) (W.contents writer.new) }
+        ensures text { OverWrites style (asked self) I.answers I.number F.refused F.failed F.last_line F.last_object events result.ending result.fault result.reader (W.contents writer.old) (W.contents writer.new) }
         ensures fault { W.failed writer.new ≡ is_write_fault result.ending };
-}
-
-// What a task hands out that has no reason of its own to stop.
-fn of_input<I, F>(stopped: Stopped<I, F>) -> Stopped<I, ReplayStop<F>>
-    ensures ending { result.ending ≡ stopped.ending }
-    ensures fault { result.fault ≡ option_map ReplayStop.Input stopped.fault }
-    ensures reader { result.reader ≡ stopped.reader }
-{
-    let Stopped {
-        ending,
-        fault,
-        reader,
-    } = stopped;
-    let fault = match fault {
-        Some(fault) => Some(ReplayStop::Input(fault)),
-        None => None,
-    };
-    Stopped {
-        ending,
-        fault,
-        reader,
-    }
 }
 
 /// One line an event.
@@ -148,5 +128,27 @@ impl EventTask for Watches<'_> {
     >(self, alloc: Global, style: Style, events: I, writer: &mut W) -> Stopped<I, ReplayStop<F>> {
         let Watches { period, id } = self;
         of_input(watch_over(alloc, style, events, period, id, writer))
+    }
+}
+
+/// What is missing of each control block and stream, and at the end of the input what has not come back and what came in all.
+#[derive(Drop)]
+pub struct TellsLosses {
+    /// How many samples a second streams have, where that is given; else they are counted alone.
+    pub period: Option<u32>,
+    ghost is_period: { IsPeriodOf period },
+}
+
+impl EventTask for TellsLosses {
+    ghost asked = { λ s. losses s.period };
+
+    #[inline(never)]
+    fn over<
+        F: InputFault + LastLine + LastObject + Drop,
+        I: ReadItems<Global, Item = Event<Global>, Fault = F>,
+        W: Sink,
+    >(self, alloc: Global, style: Style, events: I, writer: &mut W) -> Stopped<I, ReplayStop<F>> {
+        let TellsLosses { period } = self;
+        of_input(losses_over(alloc, style, events, period, writer))
     }
 }

@@ -6,6 +6,8 @@ ghost use Rattle.list_core.specs.Device.{GivesOctets};
 ghost use Rattle.engine_core.specs.declared.ending.Ending.{Ending};
 ghost use Rattle.engine_core.specs.Ending.{is_write_fault};
 ghost use Rattle.goose.specs.EventTasks.{EventsLeave};
+ghost use Rattle.goose.specs.LossesText.{LossesOfCapture, LossesOfList};
+ghost use Rattle.goose.specs.HandedOut.{InputTells, PassesWhere, stop_of};
 ghost use Rattle.goose.specs.RequestText.{EventsWrite, OfCapture, OfList, made_by, style_of};
 
 use crate::event_tasks::EventTask;
@@ -30,7 +32,10 @@ fn over_list<T: EventTask, R: Source, W: Sink>(
     requires open { R.ending reader ≡ InputEnd.Open }
     requires works { W.failed writer.old ≡ false }
     ensures text { (given : List ℕ) × GivesOctets (R.left reader) (R.left result.reader) given
-        × EventsLeave style (T.asked task) (OfList style (made_by false) result.ending (R.ending result.reader) given (W.contents writer.old) (W.contents writer.new)) result.ending (R.ending result.reader) given (W.contents writer.old) (W.contents writer.new) }
+        × EventsLeave style (T.asked task) (OfList style (made_by false) result.ending (R.ending result.reader) given (W.contents writer.old) (W.contents writer.new)) (LossesOfList style (made_by false) result.ending (R.ending result.reader) given (W.contents writer.old) (W.contents writer.new)) result.ending (R.ending result.reader) given (W.contents writer.old) (W.contents writer.new) }
+    ensures told { (given : List ℕ) × GivesOctets (R.left reader) (R.left result.reader) given
+        × InputTells false style (made_by false) (T.asked task) result.ending (R.ending result.reader) given (W.contents writer.old) (W.contents writer.new) (stop_of result.told) }
+    ensures passed { PassesWhere false false result.ending (R.ending result.reader) (R.left reader) (R.left result.reader) result.passed }
     ensures read_fault { result.ending ≡ Ending.ReadFault → R.ending result.reader ≡ InputEnd.Failed }
     ensures fault { W.failed writer.new ≡ is_write_fault result.ending }
 {
@@ -49,7 +54,10 @@ fn over_capture<T: EventTask, R: Source, W: Sink>(
     requires open { R.ending reader ≡ InputEnd.Open }
     requires works { W.failed writer.old ≡ false }
     ensures text { (given : List ℕ) × GivesOctets (R.left reader) (R.left result.reader) given
-        × EventsLeave style (T.asked task) (OfCapture style (made_by false) result.ending (R.ending result.reader) given (W.contents writer.old) (W.contents writer.new)) result.ending (R.ending result.reader) given (W.contents writer.old) (W.contents writer.new) }
+        × EventsLeave style (T.asked task) (OfCapture style (made_by false) result.ending (R.ending result.reader) given (W.contents writer.old) (W.contents writer.new)) (LossesOfCapture style (made_by false) result.ending (R.ending result.reader) given (W.contents writer.old) (W.contents writer.new)) result.ending (R.ending result.reader) given (W.contents writer.old) (W.contents writer.new) }
+    ensures told { (given : List ℕ) × GivesOctets (R.left reader) (R.left result.reader) given
+        × InputTells true style (made_by false) (T.asked task) result.ending (R.ending result.reader) given (W.contents writer.old) (W.contents writer.new) (stop_of result.told) }
+    ensures passed { PassesWhere false true result.ending (R.ending result.reader) (R.left reader) (R.left result.reader) result.passed }
     ensures read_fault { result.ending ≡ Ending.ReadFault → R.ending result.reader ≡ InputEnd.Failed }
     ensures fault { W.failed writer.new ≡ is_write_fault result.ending }
 {
@@ -67,7 +75,10 @@ fn over_passed_capture<T: EventTask, R: Source, W: Sink>(
     requires open { R.ending reader ≡ InputEnd.Open }
     requires works { W.failed writer.old ≡ false }
     ensures text { (given : List ℕ) × GivesOctets (R.left reader) (R.left result.reader) given
-        × EventsLeave style (T.asked task) (OfCapture style (made_by true) result.ending (R.ending result.reader) given (W.contents writer.old) (W.contents writer.new)) result.ending (R.ending result.reader) given (W.contents writer.old) (W.contents writer.new) }
+        × EventsLeave style (T.asked task) (OfCapture style (made_by true) result.ending (R.ending result.reader) given (W.contents writer.old) (W.contents writer.new)) (LossesOfCapture style (made_by true) result.ending (R.ending result.reader) given (W.contents writer.old) (W.contents writer.new)) result.ending (R.ending result.reader) given (W.contents writer.old) (W.contents writer.new) }
+    ensures told { (given : List ℕ) × GivesOctets (R.left reader) (R.left result.reader) given
+        × InputTells true style (made_by true) (T.asked task) result.ending (R.ending result.reader) given (W.contents writer.old) (W.contents writer.new) (stop_of result.told) }
+    ensures passed { PassesWhere true true result.ending (R.ending result.reader) (R.left reader) (R.left result.reader) result.passed }
     ensures read_fault { result.ending ≡ Ending.ReadFault → R.ending result.reader ≡ InputEnd.Failed }
     ensures fault { W.failed writer.new ≡ is_write_fault result.ending }
 {
@@ -86,7 +97,10 @@ fn over_passed_list<T: EventTask, R: Source, W: Sink>(
     requires open { R.ending reader ≡ InputEnd.Open }
     requires works { W.failed writer.old ≡ false }
     ensures text { (given : List ℕ) × GivesOctets (R.left reader) (R.left result.reader) given
-        × EventsLeave style (T.asked task) (OfList style (made_by true) result.ending (R.ending result.reader) given (W.contents writer.old) (W.contents writer.new)) result.ending (R.ending result.reader) given (W.contents writer.old) (W.contents writer.new) }
+        × EventsLeave style (T.asked task) (OfList style (made_by true) result.ending (R.ending result.reader) given (W.contents writer.old) (W.contents writer.new)) (LossesOfList style (made_by true) result.ending (R.ending result.reader) given (W.contents writer.old) (W.contents writer.new)) result.ending (R.ending result.reader) given (W.contents writer.old) (W.contents writer.new) }
+    ensures told { (given : List ℕ) × GivesOctets (R.left reader) (R.left result.reader) given
+        × InputTells false style (made_by true) (T.asked task) result.ending (R.ending result.reader) given (W.contents writer.old) (W.contents writer.new) (stop_of result.told) }
+    ensures passed { PassesWhere true false result.ending (R.ending result.reader) (R.left reader) (R.left result.reader) result.passed }
     ensures read_fault { result.ending ≡ Ending.ReadFault → R.ending result.reader ≡ InputEnd.Failed }
     ensures fault { W.failed writer.new ≡ is_write_fault result.ending }
 {
@@ -119,6 +133,9 @@ pub fn over_events<T: EventTask, R: Source, W: Sink>(
     requires works { W.failed writer.old ≡ false }
     ensures text { (given : List ℕ) × GivesOctets (R.left reader) (R.left result.reader) given
         × EventsWrite options (T.asked task) result.ending (R.ending result.reader) given (W.contents writer.old) (W.contents writer.new) }
+    ensures told { (given : List ℕ) × GivesOctets (R.left reader) (R.left result.reader) given
+        × InputTells options.is_capture (style_of options) (made_by options.skips_other) (T.asked task) result.ending (R.ending result.reader) given (W.contents writer.old) (W.contents writer.new) (stop_of result.told) }
+    ensures passed { PassesWhere options.skips_other options.is_capture result.ending (R.ending result.reader) (R.left reader) (R.left result.reader) result.passed }
     ensures read_fault { result.ending ≡ Ending.ReadFault → R.ending result.reader ≡ InputEnd.Failed }
     ensures fault { W.failed writer.new ≡ is_write_fault result.ending }
 {

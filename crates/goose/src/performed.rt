@@ -1,8 +1,9 @@
 //! What a task leaves, of what its engine's run hands out.
-ghost use Rattle.std.specs.Prelude.{◌≡◌, Some};
+ghost use Rattle.std.specs.Prelude.{◌≡◌, None, Some, option_map};
 ghost use Rattle.list_core.specs.ItemReader.{item_state};
 ghost use Rattle.capture_core.specs.PacketReader.{packet_state};
 ghost use Rattle.frame_core.specs.SkipOther.{beneath, passed_over};
+ghost use Rattle.goose.specs.HandedOut.{of_list, of_replay, of_stop, stop_of};
 
 use capture_core::{CaptureFault, PacketReader};
 use engine_core::{Ending, Stopped};
@@ -36,13 +37,17 @@ pub struct Performed<R> {
 }
 
 // What is told of a fault at which these octets stand.
-fn told_at(stop: Stop, octets: &[u8]) -> Told {
+fn told_at(stop: Stop, octets: &[u8]) -> Told
+    ensures { result.stop ≡ stop }
+{
     let advice = advice_by_line(&stop, octets);
     Told { stop, advice }
 }
 
 // What is told of a fault of this line, of which the reader of the items may hold the octets.
-fn told_of<R: Source, G>(stop: Stop, line: u64, reader: &ItemReader<R, G>) -> Told {
+fn told_of<R: Source, G>(stop: Stop, line: u64, reader: &ItemReader<R, G>) -> Told
+    ensures { result.stop ≡ stop }
+{
     told_at(stop, reader.held_from(line).unwrap_or(b""))
 }
 
@@ -56,6 +61,8 @@ fn of_list<R: Source>(
     ensures ending { result.ending ≡ ending }
     ensures left { R.left result.reader ≡ (item_state R.left R.ending reader).left }
     ensures source { R.ending result.reader ≡ (item_state R.left R.ending reader).ending }
+    ensures told { stop_of result.told ≡ option_map Stop.List fault }
+    ensures passed { result.passed ≡ None }
 {
     let told = match fault {
         Some(fault) => Some(told_of(Stop::List(fault), fault.line, &reader)),
@@ -77,6 +84,8 @@ pub fn of_events<R: Source>(
     ensures ending { result.ending ≡ stopped.ending }
     ensures left { R.left result.reader ≡ (item_state R.left R.ending stopped.reader).left }
     ensures source { R.ending result.reader ≡ (item_state R.left R.ending stopped.reader).ending }
+    ensures told { stop_of result.told ≡ option_map of_list stopped.fault }
+    ensures passed { result.passed ≡ None }
 {
     let Stopped {
         ending,
@@ -98,6 +107,8 @@ pub fn of_replay<R: Source>(
     ensures ending { result.ending ≡ stopped.ending }
     ensures left { R.left result.reader ≡ (item_state R.left R.ending stopped.reader).left }
     ensures source { R.ending result.reader ≡ (item_state R.left R.ending stopped.reader).ending }
+    ensures told { stop_of result.told ≡ option_map of_replay stopped.fault }
+    ensures passed { result.passed ≡ None }
 {
     let Stopped {
         ending,
@@ -132,6 +143,8 @@ pub fn of_script<R: Source>(
     ensures ending { result.ending ≡ stopped.ending }
     ensures left { R.left result.reader ≡ (item_state R.left R.ending stopped.reader).left }
     ensures source { R.ending result.reader ≡ (item_state R.left R.ending stopped.reader).ending }
+    ensures told { stop_of result.told ≡ option_map Stop.Script stopped.fault }
+    ensures passed { result.passed ≡ None }
 {
     let Stopped {
         ending,
@@ -158,6 +171,8 @@ pub fn of_script<R: Source>(
 pub fn of_capture<R>(stopped: Stopped<R, CaptureFault>) -> Performed<R>
     ensures ending { result.ending ≡ stopped.ending }
     ensures reader { result.reader ≡ stopped.reader }
+    ensures told { stop_of result.told ≡ option_map Stop.Capture stopped.fault }
+    ensures passed { result.passed ≡ None }
 {
     let Stopped {
         ending,
@@ -177,7 +192,9 @@ pub fn of_capture<R>(stopped: Stopped<R, CaptureFault>) -> Performed<R>
 }
 
 // What is told of why a task over a capture stopped.
-fn told_of_packets(why: Option<ReplayStop<CaptureFault>>) -> Option<Told> {
+fn told_of_packets(why: Option<ReplayStop<CaptureFault>>) -> Option<Told>
+    ensures { stop_of result ≡ option_map (of_stop Stop.Packet) why }
+{
     match why {
         Some(ReplayStop::Input(fault)) => Some(told_at(Stop::Packet(fault), b"")),
         Some(ReplayStop::SameBlockTwice(position)) => {
@@ -195,6 +212,8 @@ pub fn of_packets<R: Source>(
     ensures ending { result.ending ≡ stopped.ending }
     ensures left { R.left result.reader ≡ (packet_state R.left R.ending stopped.reader).left }
     ensures source { R.ending result.reader ≡ (packet_state R.left R.ending stopped.reader).ending }
+    ensures told { stop_of result.told ≡ option_map (of_stop Stop.Packet) stopped.fault }
+    ensures passed { result.passed ≡ None }
 {
     let Stopped {
         ending,
@@ -218,6 +237,7 @@ pub fn of_passed_packets<R: Source>(
     ensures left { R.left result.reader ≡ (packet_state R.left R.ending (beneath stopped.reader)).left }
     ensures source { R.ending result.reader ≡ (packet_state R.left R.ending (beneath stopped.reader)).ending }
     ensures passed { result.passed ≡ Some (passed_over stopped.reader) }
+    ensures told { stop_of result.told ≡ option_map (of_stop Stop.Packet) stopped.fault }
 {
     let Stopped {
         ending,
@@ -237,7 +257,9 @@ pub fn of_passed_packets<R: Source>(
 fn told_of_events<R: Source>(
     why: Option<ReplayStop<ItemFault<ListCause>>>,
     events: &ItemReader<R, EventLines>,
-) -> Option<Told> {
+) -> Option<Told>
+    ensures { stop_of result ≡ option_map (of_stop of_list) why }
+{
     match why {
         Some(ReplayStop::Input(fault)) => {
             let fault = fault_of_list(&fault);
@@ -258,6 +280,8 @@ pub fn of_styled_events<R: Source>(
     ensures ending { result.ending ≡ stopped.ending }
     ensures left { R.left result.reader ≡ (item_state R.left R.ending stopped.reader).left }
     ensures source { R.ending result.reader ≡ (item_state R.left R.ending stopped.reader).ending }
+    ensures told { stop_of result.told ≡ option_map (of_stop of_list) stopped.fault }
+    ensures passed { result.passed ≡ None }
 {
     let Stopped {
         ending,
@@ -285,6 +309,7 @@ pub fn of_passed_events<R: Source>(
     ensures left { R.left result.reader ≡ (item_state R.left R.ending (beneath stopped.reader)).left }
     ensures source { R.ending result.reader ≡ (item_state R.left R.ending (beneath stopped.reader)).ending }
     ensures passed { result.passed ≡ Some (passed_over stopped.reader) }
+    ensures told { stop_of result.told ≡ option_map (of_stop of_list) stopped.fault }
 {
     let Stopped {
         ending,

@@ -1,15 +1,17 @@
 //! A task is performed by the engine that it asks for. Each engine has a function of its own, so that it takes its room on the
 //! stack only where it runs.
-ghost use Rattle.std.specs.Prelude.{◌≡◌, ℕ, List, false};
+ghost use Rattle.std.specs.Prelude.{◌≡◌, ℕ, List, None, false};
 ghost use Rattle.list_core.specs.declared.device.InputEnd.{InputEnd};
 ghost use Rattle.list_core.specs.Device.{GivesOctets};
 ghost use Rattle.engine_core.specs.Ending.{is_write_fault};
 ghost use Rattle.block_core.specs.Period.{IsPeriod};
-ghost use Rattle.words_core.specs.CommandLine.{HasPeriod, asked_by, check, import, list_blocks, publish, replay, rewrite, show, watch};
-ghost use Rattle.goose.specs.RequestText.{RequestWrites, has_option};
+ghost use Rattle.loss_engine.specs.computed.Entries.{IsPeriodOf};
+ghost use Rattle.words_core.specs.CommandLine.{HasPeriod, asked_by, check, import, list_blocks, losses, publish, replay, rewrite, show, watch};
+ghost use Rattle.goose.specs.HandedOut.{InputTells, PassesWhere, RequestPasses, RequestTells, TaskTells, stop_of};
+ghost use Rattle.goose.specs.RequestText.{EventsWrite, RequestWrites, has_option, made_by, style_of};
 ghost use Rattle.goose.specs.TaskText.{TaskWrites};
 
-use crate::event_tasks::{Checks, ListsBlocks, Replays, Shows, Watches};
+use crate::event_tasks::{Checks, ListsBlocks, Replays, Shows, TellsLosses, Watches};
 use crate::over_events::over_events;
 use crate::performed::{Performed, of_capture, of_events, of_replay, of_script};
 use block_core::Block;
@@ -27,6 +29,9 @@ fn perform_show<R: Source, W: Sink>(alloc: Global, reader: R, writer: &mut W) ->
     requires works { W.failed writer.old ≡ false }
     ensures text { (given : List ℕ) × GivesOctets (R.left reader) (R.left result.reader) given
         × TaskWrites show result.ending (R.ending result.reader) given (W.contents writer.old) (W.contents writer.new) }
+    ensures told { (given : List ℕ) × GivesOctets (R.left reader) (R.left result.reader) given
+        × TaskTells show result.ending (R.ending result.reader) given (W.contents writer.old) (W.contents writer.new) (stop_of result.told) }
+    ensures passed { result.passed ≡ None }
     ensures read_fault { result.ending ≡ Ending.ReadFault → R.ending result.reader ≡ InputEnd.Failed }
     ensures fault { W.failed writer.new ≡ is_write_fault result.ending }
 {
@@ -39,6 +44,9 @@ fn perform_check<R: Source, W: Sink>(alloc: Global, reader: R, writer: &mut W) -
     requires works { W.failed writer.old ≡ false }
     ensures text { (given : List ℕ) × GivesOctets (R.left reader) (R.left result.reader) given
         × TaskWrites check result.ending (R.ending result.reader) given (W.contents writer.old) (W.contents writer.new) }
+    ensures told { (given : List ℕ) × GivesOctets (R.left reader) (R.left result.reader) given
+        × TaskTells check result.ending (R.ending result.reader) given (W.contents writer.old) (W.contents writer.new) (stop_of result.told) }
+    ensures passed { result.passed ≡ None }
     ensures read_fault { result.ending ≡ Ending.ReadFault → R.ending result.reader ≡ InputEnd.Failed }
     ensures fault { W.failed writer.new ≡ is_write_fault result.ending }
 {
@@ -51,6 +59,9 @@ fn perform_rewrite<R: Source, W: Sink>(alloc: Global, reader: R, writer: &mut W)
     requires works { W.failed writer.old ≡ false }
     ensures text { (given : List ℕ) × GivesOctets (R.left reader) (R.left result.reader) given
         × TaskWrites rewrite result.ending (R.ending result.reader) given (W.contents writer.old) (W.contents writer.new) }
+    ensures told { (given : List ℕ) × GivesOctets (R.left reader) (R.left result.reader) given
+        × TaskTells rewrite result.ending (R.ending result.reader) given (W.contents writer.old) (W.contents writer.new) (stop_of result.told) }
+    ensures passed { result.passed ≡ None }
     ensures read_fault { result.ending ≡ Ending.ReadFault → R.ending result.reader ≡ InputEnd.Failed }
     ensures fault { W.failed writer.new ≡ is_write_fault result.ending }
 {
@@ -63,6 +74,9 @@ fn perform_blocks<R: Source, W: Sink>(alloc: Global, reader: R, writer: &mut W) 
     requires works { W.failed writer.old ≡ false }
     ensures text { (given : List ℕ) × GivesOctets (R.left reader) (R.left result.reader) given
         × TaskWrites list_blocks result.ending (R.ending result.reader) given (W.contents writer.old) (W.contents writer.new) }
+    ensures told { (given : List ℕ) × GivesOctets (R.left reader) (R.left result.reader) given
+        × TaskTells list_blocks result.ending (R.ending result.reader) given (W.contents writer.old) (W.contents writer.new) (stop_of result.told) }
+    ensures passed { result.passed ≡ None }
     ensures read_fault { result.ending ≡ Ending.ReadFault → R.ending result.reader ≡ InputEnd.Failed }
     ensures fault { W.failed writer.new ≡ is_write_fault result.ending }
 {
@@ -75,6 +89,9 @@ fn perform_publish<R: Source, W: Sink>(alloc: Global, reader: R, writer: &mut W)
     requires works { W.failed writer.old ≡ false }
     ensures text { (given : List ℕ) × GivesOctets (R.left reader) (R.left result.reader) given
         × TaskWrites publish result.ending (R.ending result.reader) given (W.contents writer.old) (W.contents writer.new) }
+    ensures told { (given : List ℕ) × GivesOctets (R.left reader) (R.left result.reader) given
+        × TaskTells publish result.ending (R.ending result.reader) given (W.contents writer.old) (W.contents writer.new) (stop_of result.told) }
+    ensures passed { result.passed ≡ None }
     ensures read_fault { result.ending ≡ Ending.ReadFault → R.ending result.reader ≡ InputEnd.Failed }
     ensures fault { W.failed writer.new ≡ is_write_fault result.ending }
 {
@@ -87,6 +104,9 @@ fn perform_import<R: Source, W: Sink>(alloc: Global, reader: R, writer: &mut W) 
     requires works { W.failed writer.old ≡ false }
     ensures text { (given : List ℕ) × GivesOctets (R.left reader) (R.left result.reader) given
         × TaskWrites import result.ending (R.ending result.reader) given (W.contents writer.old) (W.contents writer.new) }
+    ensures told { (given : List ℕ) × GivesOctets (R.left reader) (R.left result.reader) given
+        × TaskTells import result.ending (R.ending result.reader) given (W.contents writer.old) (W.contents writer.new) (stop_of result.told) }
+    ensures passed { result.passed ≡ None }
     ensures read_fault { result.ending ≡ Ending.ReadFault → R.ending result.reader ≡ InputEnd.Failed }
     ensures fault { W.failed writer.new ≡ is_write_fault result.ending }
 {
@@ -105,6 +125,9 @@ fn perform_replay<R: Source, W: Sink>(
     requires works { W.failed writer.old ≡ false }
     ensures text { (given : List ℕ) × GivesOctets (R.left reader) (R.left result.reader) given
         × TaskWrites (replay blocks.items) result.ending (R.ending result.reader) given (W.contents writer.old) (W.contents writer.new) }
+    ensures told { (given : List ℕ) × GivesOctets (R.left reader) (R.left result.reader) given
+        × TaskTells (replay blocks.items) result.ending (R.ending result.reader) given (W.contents writer.old) (W.contents writer.new) (stop_of result.told) }
+    ensures passed { result.passed ≡ None }
     ensures read_fault { result.ending ≡ Ending.ReadFault → R.ending result.reader ≡ InputEnd.Failed }
     ensures fault { W.failed writer.new ≡ is_write_fault result.ending }
 {
@@ -124,10 +147,42 @@ fn perform_watch<R: Source, W: Sink>(
     requires period { IsPeriod period }
     ensures text { (given : List ℕ) × GivesOctets (R.left reader) (R.left result.reader) given
         × TaskWrites (watch period id.now) result.ending (R.ending result.reader) given (W.contents writer.old) (W.contents writer.new) }
+    ensures told { (given : List ℕ) × GivesOctets (R.left reader) (R.left result.reader) given
+        × TaskTells (watch period id.now) result.ending (R.ending result.reader) given (W.contents writer.old) (W.contents writer.new) (stop_of result.told) }
+    ensures passed { result.passed ≡ None }
     ensures read_fault { result.ending ≡ Ending.ReadFault → R.ending result.reader ≡ InputEnd.Failed }
     ensures fault { W.failed writer.new ≡ is_write_fault result.ending }
 {
     of_events(watch_to_stop(alloc, reader, period, id, writer))
+}
+
+// Lines of text of a list, as without options.
+const NO_OPTION: Options = Options {
+    is_capture: false,
+    skips_other: false,
+    writes: Writing::Lines,
+};
+
+#[inline(never)]
+fn perform_losses<R: Source, W: Sink>(
+    alloc: Global,
+    options: Options,
+    reader: R,
+    period: Option<u32>,
+    writer: &mut W,
+) -> Performed<R>
+    requires open { R.ending reader ≡ InputEnd.Open }
+    requires works { W.failed writer.old ≡ false }
+    requires period { IsPeriodOf period }
+    ensures text { (given : List ℕ) × GivesOctets (R.left reader) (R.left result.reader) given
+        × EventsWrite options (losses period) result.ending (R.ending result.reader) given (W.contents writer.old) (W.contents writer.new) }
+    ensures told { (given : List ℕ) × GivesOctets (R.left reader) (R.left result.reader) given
+        × InputTells options.is_capture (style_of options) (made_by options.skips_other) (losses period) result.ending (R.ending result.reader) given (W.contents writer.old) (W.contents writer.new) (stop_of result.told) }
+    ensures passed { PassesWhere options.skips_other options.is_capture result.ending (R.ending result.reader) (R.left reader) (R.left result.reader) result.passed }
+    ensures read_fault { result.ending ≡ Ending.ReadFault → R.ending result.reader ≡ InputEnd.Failed }
+    ensures fault { W.failed writer.new ≡ is_write_fault result.ending }
+{
+    over_events(alloc, options, TellsLosses { period }, reader, writer)
 }
 
 /// Does what a task asks for: reads the reader, writes the text that is defined for the task, and hands out how that ended,
@@ -149,6 +204,9 @@ pub fn perform<R: Source, W: Sink>(
     requires period { HasPeriod (asked_by task) }
     ensures text { (given : List ℕ) × GivesOctets (R.left reader) (R.left result.reader) given
         × TaskWrites (asked_by task) result.ending (R.ending result.reader) given (W.contents writer.old) (W.contents writer.new) }
+    ensures told { (given : List ℕ) × GivesOctets (R.left reader) (R.left result.reader) given
+        × TaskTells (asked_by task) result.ending (R.ending result.reader) given (W.contents writer.old) (W.contents writer.new) (stop_of result.told) }
+    ensures passed { result.passed ≡ None }
     ensures read_fault { result.ending ≡ Ending.ReadFault → R.ending result.reader ≡ InputEnd.Failed }
     ensures fault { W.failed writer.new ≡ is_write_fault result.ending }
 {
@@ -160,6 +218,7 @@ pub fn perform<R: Source, W: Sink>(
         Task::Replay(blocks) => perform_replay(alloc, reader, blocks, heard, writer),
         Task::Publish => perform_publish(alloc, reader, writer),
         Task::Watch { period, id } => perform_watch(alloc, reader, period, id.as_slice(), writer),
+        Task::Losses { period } => perform_losses(alloc, NO_OPTION, reader, period, writer),
         Task::Import => perform_import(alloc, reader, writer),
     }
 }
@@ -189,6 +248,9 @@ pub fn perform_request<R: Source, W: Sink>(
     requires period { HasPeriod (asked_by task) }
     ensures text { (given : List ℕ) × GivesOctets (R.left reader) (R.left result.reader) given
         × RequestWrites options (asked_by task) result.ending (R.ending result.reader) given (W.contents writer.old) (W.contents writer.new) }
+    ensures told { (given : List ℕ) × GivesOctets (R.left reader) (R.left result.reader) given
+        × RequestTells options (asked_by task) result.ending (R.ending result.reader) given (W.contents writer.old) (W.contents writer.new) (stop_of result.told) }
+    ensures passed { RequestPasses options (asked_by task) result.ending (R.ending result.reader) (R.left reader) (R.left result.reader) result.passed }
     ensures read_fault { result.ending ≡ Ending.ReadFault → R.ending result.reader ≡ InputEnd.Failed }
     ensures fault { W.failed writer.new ≡ is_write_fault result.ending }
 {
@@ -212,6 +274,7 @@ pub fn perform_request<R: Source, W: Sink>(
             let id = id.as_slice();
             over_events(alloc, options, Watches { period, id }, reader, writer)
         }
+        Task::Losses { period } => perform_losses(alloc, options, reader, period, writer),
         Task::Import => perform_import(alloc, reader, writer),
     }
 }
