@@ -14,6 +14,9 @@ COLUMNS = ("line", "microseconds", "time", "kind", "block", "reason", "offset", 
            "simulation", "confRev", "ndsCom", "members", "asdus", "trailer", "asdu", "smpCnt", "missing", "svID", "text",
            # Those that objects alone have.
            "packet", "tQuality", "delay", "entries")
+# Those that objects of losses alone have.
+LOSSES = ("since", "sinceTime", "for", "from", "to", "frames", "statesMissing", "framesMissing", "late", "repeated", "restarted", "silent",
+          "samples", "outOfRange", "outages", "longest")
 
 # The words of a shown line, and the standard's; those of an ASDU differ.
 SHOWN = {"tag": "tag", "appid": "appid", "r1": "reserved1", "r2": "reserved2", "ref": "gocbRef", "live": "timeAllowedtoLive",

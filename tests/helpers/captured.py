@@ -1,4 +1,4 @@
-"""Runs of the five commands that read events, over captures and lists, held against the slow programs."""
+"""Runs of the six commands that read events, over captures and lists, held against the slow programs."""
 import re
 
 from helpers.harness import clipped, first_difference, never_seen, run, text
@@ -8,7 +8,7 @@ from oracles.objects import numbers_read
 # The words of each command, for frames of the worked block and the worked stream.
 ASKED = {
     "show": ["show"], "check": ["check"], "blocks": ["blocks"], "replay": ["replay", "0001,G,D,,1,1"],
-    "watch": ["watch", "--period", "4000", "--id", "S"],
+    "watch": ["watch", "--period", "4000", "--id", "S"], "losses": ["losses", "--period", "4000"],
 }
 PASSED = re.compile(r"(\d+) of (?:EtherType )?([0-9a-f]{4})(?: \([^;()]*(?:\([^()]*\))?[^;()]*\))?, from (\d+) on")
 
@@ -21,6 +21,23 @@ def asking(command, *options):
 def capturing(command, *options):
     """The words of a command over a capture."""
     return asking(command, reading.CAPTURE, *options)
+
+
+def before_the_end(lines):
+    """The lines that do not wait for the end of the input, as totals do."""
+    return [it for it in lines if it.split(" ", 1)[0] not in ("end", "total")]
+
+
+def in_turn(asked, pieces):
+    """Pieces of an input, each with the text that it adds, and the text that the end adds."""
+    whole, before, turns = b"", b"", []
+    for piece in pieces:
+        whole += piece
+        lines, status, _ = reading.answered(asked, whole)
+        wrote = text(reading.written(asked, before_the_end(lines), whole))
+        turns.append((piece, wrote[len(before):]))
+        before = wrote
+    return turns, status, text(reading.written(asked, lines, whole))[len(before):]
 
 
 def why_passed(passed, lines):

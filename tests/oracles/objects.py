@@ -7,7 +7,7 @@ import json
 import re
 import struct
 
-from oracles import inventory, reference, subscriber, watcher
+from oracles import inventory, losses, reference, subscriber, watcher
 from oracles.dates import date
 
 # The members that are their octets in hexadecimal.
@@ -193,6 +193,22 @@ def counted(name, place, moment, sample):
     return {**it, "missing": int(missing)} if missing else it
 
 
+# The names of what `losses` says, where they differ from the words of its lines.
+LOST_NAMES = {"st": "stNum", "sq": "sqNum", "cnt": "smpCnt", "states-missing": "statesMissing", "frames-missing": "framesMissing",
+              "out-of-range": "outOfRange"}
+
+
+def lost(name, place, moment, word, key, values):
+    """The object of what `losses` says of a sender or a stream. At the end there is no event."""
+    sort, app_id, *own = key
+    whose = {"gocbRef": texts(own[0]), "simulation": own[1]} if sort == "goose" else {"source": own[0].hex(), "svID": texts(own[1])}
+    kind = word.replace(" ", "-")
+    it = {"kind": kind} if place is None else head(name, place, moment, kind)
+    told = {LOST_NAMES.get(named, named): value for named, value in values.items()}
+    dated = {"since": told.pop("since"), "sinceTime": date(values["since"])} if "since" in told else {}
+    return {**it, "appid": f"{app_id:04x}", **whose, **dated, **told}
+
+
 # ---- Commands ----------------------------------------------------------------
 
 
@@ -223,6 +239,11 @@ def watch(name, how, period, sv_id):
     return (counted(name, *sample) for sample in watcher.samples(octets, period, sv_id, *rest))
 
 
+def missing(name, how, period):
+    octets, *rest = how
+    return (lost(name, *found) for found in losses.findings(octets, period, *rest))
+
+
 def json_of(value):
     """A value as JSON, with no space between its parts."""
     if isinstance(value, dict):
@@ -232,7 +253,7 @@ def json_of(value):
     return value if isinstance(value, Number) else json.dumps(value)
 
 
-COMMANDS = {"show": show, "check": check, "blocks": blocks, "replay": replay, "watch": watch}
+COMMANDS = {"show": show, "check": check, "blocks": blocks, "replay": replay, "watch": watch, "losses": missing}
 
 
 def objects(command, name, own, octets, has_failed, events_of):

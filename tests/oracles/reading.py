@@ -1,7 +1,7 @@
 """What the commands that read events write of a list or of a capture, by the slow programs."""
-from oracles import dates, inventory, objects, packets, reference, skipping, subscriber, watcher
+from oracles import dates, inventory, losses, objects, packets, reference, skipping, subscriber, watcher
 
-COMMANDS = ("show", "check", "blocks", "replay", "watch")
+COMMANDS = ("show", "check", "blocks", "replay", "watch", "losses")
 CAPTURE, SKIP, TIME, JSON = "--capture", "--skip-other", "--time", "--json"
 OPTIONS = {CAPTURE, SKIP, TIME, JSON}
 
@@ -14,9 +14,9 @@ def options_of(asked):
 
 
 def value(asked, name):
-    """The value of an option, in its next word or in its own."""
-    return next((asked[at + 1] if word == name else word[len(name) + 1:] for at, word in enumerate(asked)
-                 if word == name or word.startswith(f"{name}=")))
+    """The value of an option, in its next word or in its own; None where it is not given."""
+    return next(("".join(asked[at + 1:at + 2]) if word == name else word[len(name) + 1:] for at, word in enumerate(asked)
+                 if word == name or word.startswith(f"{name}=")), None)
 
 
 def reader_of(asked):
@@ -38,6 +38,8 @@ def answered(asked, octets, has_failed=False, events_of=None):
         lines, status = inventory.blocks(octets, *how)
     elif name == "replay":
         lines, status = subscriber.replay(octets, *own, *how)
+    elif name == "losses":
+        lines, status = losses.losses(octets, *own, *how)
     else:
         lines, status = watcher.watch(octets, *own, *how)
     return lines, status, passed
@@ -48,6 +50,9 @@ def own_words(plain):
     name, *own = [word for word in plain if word != "--"]
     if name == "watch":
         return name, int(value(own, "--period")), value(own, "--id")
+    if name == "losses":
+        period = value(own, "--period")
+        return name, None if period is None else int(period)
     return (name, own) if name == "replay" else (name,)
 
 

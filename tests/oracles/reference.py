@@ -2,7 +2,7 @@
 
 It shares nothing with the program: it reads by recursion, keeps whole lists in memory and raises the first fault that
 it finds. The tests compare the program with it, line by line. `tests/oracles/reference_program` runs it as a program, so
-that the tests themselves can be tried (it takes minutes, and it holds whole lists, which one theme refuses):
+that the tests themselves can be tried (it takes minutes, and it holds whole inputs, which some themes refuse):
 
     tests/run --program tests/oracles/reference_program --without streaming
 """
@@ -658,11 +658,12 @@ HELP = {
     "replay": "Shows what a device that subscribes to control blocks does with each frame",
     "publish": "Reads a script and writes the list of frames that a publisher sends",
     "watch": "Shows each sample of one stream, and whether its count is the next one",
+    "losses": "Shows what is missing of each control block and stream, and when",
     "import": "Reads a capture (classic libpcap, as tcpdump -w writes) and writes it as a list",
 }
 # The words behind a command's name, as its help writes them, and what help says of the options.
 TAKES = {"show": " [OPTIONS]", "check": " [OPTIONS]", "blocks": " [OPTIONS]", "replay": " [OPTIONS] <BLOCK>...",
-         "watch": " [OPTIONS] --period <N> --id <TEXT>"}
+         "watch": " [OPTIONS] --period <N> --id <TEXT>", "losses": " [OPTIONS]"}
 OPTIONS = {
     "--capture": "Reads a capture (classic or pcapng) in place of a list",
     "--skip-other": "Takes frames of other EtherTypes as a sign that time passes, and counts them",

@@ -1,6 +1,7 @@
-"""The slow programs as one program, which reads lists and captures under the five commands that read events, and lists under
+"""The slow programs as one program, which reads lists and captures under the six commands that read events, and lists under
 `rewrite`: to try the tests themselves. Its messages are few."""
 import os
+import re
 import sys
 
 sys.path.insert(0, os.path.dirname(os.path.dirname(os.path.abspath(__file__))))
@@ -40,6 +41,17 @@ def said(asked, lines, status, passed):
     return told
 
 
+def refusal(plain):
+    """What is wrong with the period of a command line, or with what stands beside it under `losses`; None where all is well."""
+    name, *own = plain
+    period = reading.value(own, "--period")
+    if period is not None and not (re.fullmatch(r"\+?\d+", period) and 2 <= int(period) <= 65536):
+        return f"error: invalid value '{period}' for '--period <N>': {period} is not in 2..=65536"
+    count = len(own) - own.count("--")
+    is_alone = count == (0 if period is None else 1 + ("--period" in own))
+    return None if name != "losses" or is_alone else "error: --period is the one option that has a value"
+
+
 def main(asked):
     plain, _ = reading.options_of(asked)
     if not plain or plain[0] not in reading.COMMANDS or {"-h", "--help"} & set(plain) or (
@@ -47,6 +59,10 @@ def main(asked):
         return reference.main(asked)
     if {reading.TIME, reading.JSON} <= reading.options_of(asked)[1]:
         reference.put(2, [f"error: {reading.TIME} does not go with {reading.JSON}"])
+        return 2
+    why = refusal(plain) if plain[0] in ("watch", "losses") else None
+    if why:
+        reference.put(2, [why])
         return 2
     octets, has_failed = all_octets(reference.LIST_DESCRIPTOR)
     lines, status, passed = reading.answered(asked, octets, has_failed)

@@ -9,7 +9,7 @@ import threading
 import time
 
 from helpers.capture_parts import custom, header, interface, names, packet, record, section
-from helpers.captured import ASKED, capturing, why_differs
+from helpers.captured import ASKED, capturing, in_turn, why_differs
 from helpers.frames import SAMPLED, WORKED, put
 from helpers.harness import SECONDS, first_difference, run, text
 from oracles import reading
@@ -27,16 +27,6 @@ START = section() + interface()
 # ---- Live --------------------------------------------------------------------
 
 
-def answered_in_turn(asked, pieces):
-    """Pieces of a capture, each with the text that it adds."""
-    whole, before = b"", b""
-    for piece in pieces:
-        whole += piece
-        wrote = text(reading.answered(asked, whole)[0])
-        yield piece, wrote[len(before):]
-        before = wrote
-
-
 def pieces_of(form):
     """A capture, cut behind its start and behind each record or block."""
     frames = [WORKED, ARP, state(1, 0), b"", SAMPLED, put(WORKED, at15=2), WORKED[:30], state(2, 0)]
@@ -47,13 +37,11 @@ def pieces_of(form):
 
 
 def live():
-    statuses = {"check": 1, "watch": 1}
     for command in ASKED:
         for form in ("classic", "pcapng"):
-            turns = list(answered_in_turn(capturing(command), pieces_of(form)))
-            status = statuses.get(command, 0)
-            yield InTurn(f"{command}, {form}: each packet is answered before the next", capturing(command), turns, status)
-            yield InTurn(f"{command}, {form}: the same, octet by octet", capturing(command), list(octets(turns)), status)
+            turns, *how = in_turn(capturing(command), pieces_of(form))
+            yield InTurn(f"{command}, {form}: each packet is answered before the next", capturing(command), turns, *how)
+            yield InTurn(f"{command}, {form}: the same, octet by octet", capturing(command), list(octets(turns)), *how)
     act, again = b"1 act 0 st=1 sq=0 t=0000000000000000 {true}\n", b"2 repeated 0 st=1 sq=0\n"
     other, frame = custom(size=2000), packet(1, WORKED)
     replay = capturing("replay")
@@ -134,7 +122,7 @@ def failing():
         yield Full(f"{name} of nothing on a full disk", asked, START, None)
         yield Unread(f"{name} to nobody", asked, faulty, None, 4, FAULT)
         yield TriedOnce(f"{name} tries no failed write again", asked, faulty)
-        if command != "blocks":
+        if command not in ("blocks", "losses"):
             yield Full(f"{name} of a long capture on a full disk", asked, long, None, 4, FAULT)
         yield GoesAway(f"{name}: a reader that goes away", asked, *going_away(command))
         yield FullAtOnce(name, asked, going_away(command)[0])
@@ -146,6 +134,8 @@ def going_away(command):
     """A capture's start that gives a line, and what gives another."""
     if command == "blocks":
         return START + packet(1, WORKED), packet(2, put(WORKED, at15=2))
+    if command == "losses":
+        return START + packet(1, WORKED) + packet(2, state(1, 2)), packet(3, state(1, 4))
     return START + packet(1, b"\1"), packet(2, b"\2")
 
 

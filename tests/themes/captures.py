@@ -11,7 +11,7 @@ import tempfile
 
 from helpers.capture_parts import (block, custom, fours, header, interface, names, offset, old_packet, option, packet, padded, record,
                                    resolution, section, simple_packet, statistics, twos)
-from helpers.captured import ASKED, EachOf, Read, asking, capturing, why_wrong_of
+from helpers.captured import ASKED, EachOf, Read, asking, before_the_end, capturing, why_wrong_of
 from helpers.frames import SAMPLED, WORKED, put
 from helpers.harness import SECONDS, Case, Skipped, first_difference, run, text
 from oracles import packets
@@ -367,8 +367,9 @@ class AsImported:
         for command in self.commands:
             of_list, _, wanted = run(program, asking(command), listed)
             of_capture, _, status = run(program, capturing(command), self.octets)
-            lines = [line.split(b" ", 1) for line in of_list.splitlines()]
-            renumbered = b"".join(b"%d %s\n" % (int(number) - 1, rest) for number, rest in lines)
+            told = of_list.decode().splitlines()
+            lines = [it.split(" ", 1) for it in (before_the_end(told) if error else told)]
+            renumbered = text(f"{int(number) - 1 if number.isdigit() else number} {rest}" for number, rest in lines)
             difference = first_difference(renumbered + error, of_capture)
             why += [f"{command}: {difference}"] if difference else []
             why += [f"{command} ended with status {status}, and not {ended or wanted}"] if status != (ended or wanted) else []

@@ -9,7 +9,7 @@ import random
 from helpers import by_chance as made_by_chance
 from helpers.asked_tools import EXAMPLES
 from helpers.capture_parts import header, interface, offset, packet, record, section
-from helpers.captured import ASKED, EachOf, Read, asking, why_differs
+from helpers.captured import ASKED, EachOf, Read, asking, in_turn, why_differs
 from helpers.frames import SAMPLED, WORKED, put
 from helpers.harness import Case, first_difference, listed, run, text
 from oracles import reading
@@ -200,13 +200,8 @@ def failing():
 
 def live():
     for command in ASKED:
-        asked, whole, before, turns = asking(command, TIME), b"V2\n", b"", [(b"V2\n", b"")]
-        for moment, frame in recorded():
-            whole += line(moment, frame)
-            wrote = text(reading.written(asked, reading.answered(asked, whole)[0], whole))
-            turns.append((line(moment, frame), wrote[len(before):]))
-            before = wrote
-        yield InTurn(f"{command}: each line is answered before the next", asked, turns, {"check": 1, "watch": 1}.get(command, 0))
+        asked = asking(command, TIME)
+        yield InTurn(f"{command}: each line is answered before the next", asked, *in_turn(asked, [b"V2\n", *(line(*it) for it in recorded())]))
 
 
 def memory():

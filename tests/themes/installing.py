@@ -40,12 +40,12 @@ def installed_wrong(prefix):
         example = ran(["bash", "-c", command], cwd=documents, env={**os.environ, "PATH": path})
         if example.returncode > 1 or example.stderr or not example.stdout:
             yield f"{command}: {example!r}"
-    asked = ran([documents / "tools" / "what_was_lost", "examples/repeated_frames.list", "0001,G,D,,1,1"], cwd=documents,
+    asked = ran([documents / "tools" / "draw_recording", "examples/repeated_frames.list", "0001,G,D,,1,1"], cwd=documents,
                 env={**os.environ, "PATH": "/usr/bin:/bin", "GOOSE": ""})
-    if asked.returncode != 1 or asked.stderr or asked.stdout.count(b"\n") != 2:
-        yield f"what_was_lost: {asked!r}"
+    if asked.returncode or asked.stderr or not asked.stdout.startswith(b"<svg "):
+        yield f"draw_recording: {asked!r}"
     for words, wanted in ((["goose", ""], {*reference.HELP, "--help", "--version"}), (["goose", "re"], {"replay", "rewrite"}),
-                          (["goose", "watch", "--p"], {"--period"})):
+                          (["goose", "watch", "--p"], {"--period"}), (["goose", "losses", "--p"], {"--period"})):
         completed = ran(["bash", "-c", COMPLETE, "bash", str(prefix / "share/bash-completion/completions/goose"), *words],
                         env={**os.environ, "PATH": path})
         if set(completed.stdout.decode().split()) != wanted:

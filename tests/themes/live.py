@@ -36,10 +36,10 @@ def come(pipe, wanted):
 
 
 class InTurn:
-    """Pieces of input, of which each is sent once the text of the one before has come, and comes alone."""
+    """Pieces of input, of which each is sent once the text of the one before has come, and comes alone; and what comes at the end."""
 
-    def __init__(self, name, asked, turns, status=0):
-        self.name, self.asked, self.turns, self.status = name, asked, turns, status
+    def __init__(self, name, asked, turns, status=0, end=b""):
+        self.name, self.asked, self.turns, self.status, self.end = name, asked, turns, status, end
 
     def why_wrong(self, program):
         run = started(program, self.asked)
@@ -54,7 +54,7 @@ class InTurn:
             run.stdin.close()
             rest = run.stdout.read()
             status = run.wait(timeout=SECONDS)
-        why += [f"{rest!r} came at the end"] if rest and not why else []
+        why += [f"{rest!r} came at the end, and not {self.end!r}"] if rest != self.end and not why else []
         return why + ([] if status == self.status or why else [f"ended with status {status}"])
 
 

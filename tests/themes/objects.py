@@ -17,7 +17,7 @@ from helpers.frames import SAMPLED, WORKED, element, put, with_fields, with_memb
 from helpers.harness import SECONDS, Case, Skipped, clipped, first_difference, listed, run, text
 from oracles.packets import LAST_MOMENT
 from oracles.reading import JSON, TIME
-from themes import replaying, watching
+from themes import losses, replaying, watching
 from themes.capture_streams import FailsAtEach, WritesAtMost
 from themes.captures import FORMS
 from themes.dated import inputs
@@ -28,6 +28,8 @@ from themes.streaming import DoesNotGrow, WantsMemory
 from themes.tool_texts import COLUMNS
 
 SEED, LISTS, NUMBERS = 7159, 2000, 2000
+# The commands whose text `tools/to_json` knows.
+KNOWN = [command for command in ASKED if command != "losses"]
 AT = '"microseconds":1700000000000000,"time":"2023-11-14T22:13:20.000000Z"'
 NO_QUALITY = '{"leapSecondsKnown":false,"clockFailure":false,"clockNotSynchronized":false,"timeAccuracy":0}'
 # The names that --json adds to those of `tools/to_json`, and the name that says where.
@@ -163,10 +165,10 @@ class BesideTool:
     def why_wrong(self, program):
         chance, why = random.Random(SEED), []
         for example in sorted(EXAMPLES.glob("*.list")):
-            for command in ASKED:
+            for command in KNOWN:
                 why += self.why_list_wrong(program, command, example.read_bytes(), example.name)
         for at in range(LISTS):
-            why += self.why_list_wrong(program, list(ASKED)[at % 5], some_list(chance), f"list {at}")
+            why += self.why_list_wrong(program, KNOWN[at % len(KNOWN)], some_list(chance), f"list {at}")
             if len(why) > 3:
                 break
         return why
@@ -192,18 +194,26 @@ class Told:
         rows = {words: re.findall(r'"(\w+)":', forms) for words, forms in re.findall(r"(?m)^\| (.*?) \| (.*) \|$", table)}
         told = {kind: names for words, names in rows.items() for kind in re.findall(r"`([\w-]+)`", words)}
         told.update({"clock": [], "mode": rows["a mode"], **dict.fromkeys(("not-written", "destination", "not-subscribed", "sampled"), [])})
+        of_lost = dict(told)
         told.update(dict.fromkeys(("first", "next", "same", "late", "out-of-range"), told["watch"][:2]), skipped=told["watch"])
         seen, why = set(), []
-        for name, octets, options in inputs():
+        for name, octets, options in (*inputs(), ("losses", losses.of(*losses.recorded()), ())):
             for command in ASKED:
                 for it in map(json.loads, run(program, asking(command, JSON, *options), octets)[0].splitlines()):
                     kind = it["kind"]
                     seen.add(kind)
                     names = [it for it in it if it not in ("line", "packet", "microseconds", "time", "kind")]
-                    why += [f"{name}: {kind} has {names}"] if names != told.get(kind, ["error"]) else []
+                    is_lost = command == "losses" and "appid" in it
+                    wanted = self.whose(it, told["losses"]) + of_lost[kind] if is_lost else told.get(kind, ["error"])
+                    why += [f"{name}: {kind} has {names}"] if names != wanted else []
                     for inside, row in self.inside(it):
                         why += [f"{name}: {row} has {list(inside)}"] if list(inside) != rows[row] else []
-        return why[:3] or [f"no object is {it}" for it in sorted(set(told) - seen - {"watch", "blocks"})]
+        return why[:3] or [f"no object is {it}" for it in sorted(set(told) - seen - {"watch", "blocks", "losses"})]
+
+    @staticmethod
+    def whose(it, names):
+        """The names of a sender, or of a stream."""
+        return names[:3] if "gocbRef" in it else names[3:]
 
     @staticmethod
     def inside(it):
@@ -231,14 +241,23 @@ class AsRows:
         return why[:3]
 
 
+def asks(program, octets, options):
+    """The words of each command, and those of a replay by the blocks that are seen."""
+    yield from (asking(command, JSON, *options) for command in ASKED)
+    seen = map(json.loads, run(program, ["blocks", *options, JSON], octets)[0].splitlines())
+    blocks = [it["text"] for it in seen if it["kind"] == "block" and it["text"].count(",") == 5]
+    if blocks:
+        yield ["replay", *options, JSON, *blocks]
+
+
 class OncePerName:
     """Python reads one object of each line, in ASCII and without a space between its parts, which has each name once."""
 
     name = "each line is an object with each name once"
 
     def why_wrong(self, program):
-        return [f"{name}, {command}: {why}" for name, octets, options in inputs() for command in ASKED
-                for why in self.why_text_wrong(run(program, asking(command, JSON, *options), octets)[0])]
+        return [f"{name}, {asked}: {why}" for name, octets, options in inputs() for asked in asks(program, octets, options)
+                for why in self.why_text_wrong(run(program, asked, octets)[0])]
 
     def why_text_wrong(self, wrote):
         twice = []
@@ -256,6 +275,22 @@ class OncePerName:
                 return
 
 
+class Exact:
+    """Python reads each number of 64 bits whole."""
+
+    name = "numbers of 64 bits"
+    signed = (-2**63, 1 - 2**63, -2**53 - 1, -1, 0, 2**53 + 1, 2**63 - 1)
+    unsigned = (0, 2**53 + 1, 2**63 - 1, 2**63, 2**64 - 1)
+
+    def why_wrong(self, program):
+        whole = [(0x85, "int", it) for it in self.signed] + [(0x86, "uint", it) for it in self.unsigned]
+        members = b"".join(element(tag, it.to_bytes(max(it, ~it).bit_length() // 8 + 1, "big", signed=True)) for tag, _, it in whole)
+        wrote = run(program, ["show", JSON], b"V2\n" + line(LAST_MOMENT, with_members(members, len(whole))))[0]
+        got = json.loads(wrote)
+        wanted = {"microseconds": LAST_MOMENT, "members": [{name: it} for _, name, it in whole]}
+        return [f"{name}: wanted {it}, got {got[name]}" for name, it in wanted.items() if got[name] != it]
+
+
 class Queried:
     """`jq -c .` writes them as they are, but for numbers, which are the same as far as a binary64 tells."""
 
@@ -265,7 +300,7 @@ class Queried:
         if not shutil.which("jq"):
             raise Skipped("there is no jq: run tests/get_tools")
         for name, octets, options in inputs():
-            wrote = b"".join(run(program, asking(command, JSON, *options), octets)[0] for command in ASKED)
+            wrote = b"".join(run(program, asked, octets)[0] for asked in asks(program, octets, options))
             read = subprocess.run(["jq", "-c", "."], input=wrote, stdout=subprocess.PIPE, stderr=subprocess.PIPE, timeout=SECONDS)
             why = first_difference(*(TOKEN.sub(plain_number, it) for it in (wrote, read.stdout)))
             if why or read.returncode:
@@ -308,4 +343,4 @@ def streams():
 
 
 def cases():
-    yield from (*worked(), *beside(), BesideTool(), Told(), AsRows(), OncePerName(), Queried(), *words(), *streams())
+    yield from (*worked(), *beside(), BesideTool(), Told(), AsRows(), OncePerName(), Exact(), Queried(), *words(), *streams())

@@ -1,4 +1,5 @@
 """The pictures of the documents are what the tools draw of the examples, and a picture says what a replay says."""
+import contextlib
 import os
 import pathlib
 import re
@@ -152,16 +153,37 @@ class Undrawn:
 
 
 class TwoBlocks:
-    """docs/two_bays.svg draws two blocks above each other."""
+    """docs/two_bays.svg draws two blocks above each other, with what was lost of them."""
 
     name = "docs/two_bays.svg"
 
     def why_wrong(self, program):
         recorded = EXAMPLES / "two_bays.list"
         entries, _, _ = run(program, ["replay", TRIP, START], recorded.read_bytes())
-        picture, why = drawn(program, "draw_replay", [recorded], entries)
+        with lost_of(program, recorded.read_bytes()) as lost:
+            picture, why = drawn(program, "draw_replay", ["--losses", lost.name, recorded], entries)
         difference = first_difference((DOCS / "two_bays.svg").read_bytes(), picture)
         return why + ([difference] if difference else [])
+
+
+@contextlib.contextmanager
+def lost_of(program, octets):
+    """A file of the objects that `losses` writes of a list."""
+    with tempfile.NamedTemporaryFile() as lost:
+        lost.write(run(program, ["losses", "--json"], octets)[0])
+        lost.flush()
+        yield lost
+
+
+def marks(picture):
+    """The marks of a picture by their classes: where each is, and how far it reaches, if it is a bar or a line."""
+    got = {}
+    for it in ElementTree.fromstring(picture):
+        if it.get("class"):
+            x, *until = map(int, re.findall(r"(?:^M|H)(\d+)", it.get("d") or "") or [it.get("x") or it.get("cx")])
+            reach = int(it.get("width") or 0) or sum(until) - x * len(until)
+            got.setdefault(it.get("class"), []).append((x, reach) if reach else x)
+    return got
 
 
 class Marked:
@@ -181,12 +203,54 @@ class Marked:
             recorded.write(octets)
             recorded.flush()
             picture, why = drawn(program, "draw_replay", [recorded.name], entries)
-        got = {}
-        for it in ElementTree.fromstring(picture):
-            if it.get("class"):
-                x = int(it.get("x") or it.get("cx") or re.match(r"M(\d+)", it.get("d"))[1])
-                got.setdefault(it.get("class"), []).append((x, int(it.get("width"))) if it.get("width") else x)
+        got = marks(picture)
         return why + ([] if got == self.wanted else [f"wanted {self.wanted}, got {got}"])
+
+
+class MarkedLosses:
+    """With what `losses` says of the list, silences are lines from when to when, and each line on what is missing a mark at its time, which
+    says it; else the picture is as without. A frame with a time that goes back is drawn at the greatest so far."""
+
+    name = "what was lost, in a picture"
+    frames = [(0, 1, 0), (1000, 1, 3), (4000, 1, 5), (0, 1, 7), (5000, 3, 1), (5000, 2, 0)]
+    wanted = {"silent": [(336, 102), (744, 306)], "missing": [132, 438, 540]}
+    told = ["silent for 1.000000 s", "silent for 3.000000 s", "missing: frames 1 to 2 of state 1",
+            "missing: frames 4 to 4 of state 1; missing: frames 6 to 6 of state 1", "missing: states 2 to 2; missing: frames 0 to 0 of state 3"]
+
+    def why_wrong(self, program):
+        octets = text([*(f"F {at} {put(WORKED, at46=st, at49=sq).hex()}" for at, st, sq in self.frames), "C 10000"])
+        entries, _, _ = run(program, ["replay", "0001,G,D,,1,1"], octets)
+        with tempfile.NamedTemporaryFile() as recorded, lost_of(program, octets) as lost:
+            recorded.write(octets)
+            recorded.flush()
+            plain, why = drawn(program, "draw_replay", [recorded.name], entries)
+            picture, more = drawn(program, "draw_replay", ["--losses", lost.name, recorded.name], entries)
+        got = marks(picture)
+        lost = {name: got.pop(name, []) for name in self.wanted}
+        told = re.findall(r"<title>(.*?)</title>", picture.decode())
+        why += [*more, *([] if got == marks(plain) else [f"other marks: {got}"])]
+        return why + ([] if (lost, told) == (self.wanted, self.told) else [f"wanted {self.wanted}, got {lost}: {told}"])
+
+
+class OtherLosses:
+    """What is no text of `losses --json` of that list is refused."""
+
+    name = "what was lost of another list, in a picture"
+
+    def why_wrong(self, program):
+        octets, other = listed(WORKED), text(["V2", "# none", f"F 0 {WORKED.hex()}", f"F 9 {put(WORKED, at49=9).hex()}"])
+        entries, _, _ = run(program, ["replay", "0001,G,D,,1,1"], octets)
+        given = [run(program, ["losses", "--json"], other)[0], entries, b"[]\n", b"{}\n", b"7\n", run(program, ["losses"], other)[0]]
+        return [f"{it!r}: {got}" for it in given for got in [self.drawn_with(program, octets, entries, it)]
+                if got != (b"", b"draw_replay: these are not the objects that goose losses --json writes for that list\n", 3)]
+
+    @staticmethod
+    def drawn_with(program, octets, entries, lost):
+        with tempfile.NamedTemporaryFile() as recorded, tempfile.NamedTemporaryFile() as given:
+            for file, it in ((recorded, octets), (given, lost)):
+                file.write(it)
+                file.flush()
+            return ask(program, "draw_replay", ["--losses", given.name, recorded.name], entries)
 
 
 class Small:
@@ -240,6 +304,8 @@ def cases():
     yield Undrawn(b"V2\n# nothing\n", "the list has no event")
     yield TwoBlocks()
     yield Marked()
+    yield MarkedLosses()
+    yield OtherLosses()
     yield Small()
     yield Faulty()
     yield Strange()

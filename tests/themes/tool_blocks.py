@@ -1,19 +1,11 @@
-"""tools/scl_blocks, compare_blocks and what_was_lost: configured blocks, those of a list, and what is
-missing."""
+"""tools/scl_blocks and compare_blocks: configured blocks, and those of a list or a capture."""
 import pathlib
-import random
-import re
 import resource
 import subprocess
 import tempfile
 
-from helpers.asked_tools import EXAMPLES, TOOLS, Asked, ask
-from helpers.frames import WORKED, put
-from helpers.harness import SECONDS, first_difference, run, text
-from oracles import publisher
-from themes import replaying
-
-SEED, COUNT = 61851, 300
+from helpers.asked_tools import TOOLS, ask
+from helpers.harness import SECONDS, first_difference, text
 
 
 # ---- SCL ---------------------------------------------------------------------
@@ -175,151 +167,6 @@ def compared():
     yield Compared("a BLOCK that is none", ["0001,G"], [], [], 3)
 
 
-# ---- What was lost -----------------------------------------------------------
-
-COLUMNS = ["block", "acts", "refreshed", "repeated", "old", "refused", "expired", "switched", "restarts", "states lost", "frames lost",
-           "gap", "delay", "gocbRef"]
-
-
-def table(program, octets, blocks):
-    """The rows that what_was_lost writes of a list, by the names of their columns, and its status."""
-    with tempfile.NamedTemporaryFile() as recorded:
-        recorded.write(octets)
-        recorded.flush()
-        wrote, complained, status = ask(program, "what_was_lost", [recorded.name, *blocks])
-    head, *rows = wrote.decode().splitlines() or [""]
-    found = [dict(zip(re.split("  +", head.strip()), re.split("  +", row.strip()))) for row in rows]
-    return found, status, complained
-
-
-class Lost:
-    """A list, and what the table has in some columns of a block's row."""
-
-    def __init__(self, name, octets, block, status=1, **wanted):
-        self.name, self.octets, self.block, self.status = f"what_was_lost: {name}", octets, block, status
-        self.wanted = {name.replace("_", " "): str(it) for name, it in wanted.items()}
-
-    def why_wrong(self, program):
-        (row, *others), status, complained = table(program, self.octets, [self.block])
-        got = {name: row.get(name) for name in self.wanted}
-        why = [] if got == self.wanted and not others else [f"wanted {self.wanted}, got {got}"]
-        return why + ([f"ended with status {status}: {complained!r}"] if status != self.status else [])
-
-
-class Counted:
-    """Of each block the entries of each name are as many as in its replay."""
-
-    name = "what_was_lost: the entries of a list by chance"
-
-    def why_wrong(self, program):
-        octets = replaying.some_list(random.Random(SEED), COUNT)
-        rows, _, complained = table(program, octets, replaying.BLOCKS)
-        wrote, _, _ = run(program, ["replay", *replaying.BLOCKS], octets)
-        names = {"acts": "act", **{it: it for it in COLUMNS[2:8]}}
-        for position, row in enumerate(rows):
-            counts = {name: len(re.findall(rf"(?m)^\d+ {word} {position}\b", wrote.decode())) for name, word in names.items()}
-            if counts != {name: int(row[name]) for name in names}:
-                return [f"block {position}: wanted {counts}, got {row}"]
-        return [] if len(rows) == len(replaying.BLOCKS) else [f"{len(rows)} rows: {complained!r}"]
-
-
-class Dropped:
-    """Of what a publisher sends, some states and some retransmissions are dropped, but none at the end of a state that is kept: the
-    table counts each of them."""
-
-    name = "what_was_lost: what was dropped of published lists"
-
-    def why_wrong(self, program):
-        chance = random.Random(SEED)
-        for _ in range(20):
-            calls, states = [], chance.randrange(3, 9)
-            for state in range(states):
-                calls += [f"change,{10 * len(calls)},{bytes(8).hex()},8301ff"]
-                calls += [f"poll,{10 * (len(calls) + it)}" for it in range(chance.randrange(1, 9))]
-            script = ["control,010ccd010001,020000000001,,0001,G,D,,1,1,0,0,1", "step,1,60000", *calls]
-            lines, _ = publisher.publish(text(script))
-            frames = [line for line in lines if line.startswith("F ")]
-            groups = [[]]
-            for call, frame in zip(calls, frames):
-                groups += [[]] if call.startswith("change") and groups[-1] else []
-                groups[-1].append(frame)
-            kept, lost_states, lost_frames = [], 0, 0
-            for at, group in enumerate(groups):
-                if 0 < at < len(groups) - 1 and chance.random() < 0.3:
-                    lost_states += 1
-                    continue
-                first, last = (group[:1] if at == 0 else []), group[-1:]
-                middle = group[len(first):-1] if len(group) > len(first) else []
-                chosen = [it for it in middle if chance.random() < 0.6]
-                lost_frames += len(middle) - len(chosen)
-                kept += first + chosen + (last if len(group) > len(first) else [])
-            (row,), _, _ = table(program, text(["V2", *kept]), ["0001,G,D,,1,1"])
-            got, wanted = (row["states lost"], row["frames lost"]), (str(lost_states), str(lost_frames))
-            if got != wanted:
-                return [f"wanted {wanted}, got {got}: {kept}"]
-        return []
-
-
-class Unseen:
-    """A BLOCK of which no frame came is never seen. If it has no $, a shell may have taken its names."""
-
-    name = "what_was_lost: a BLOCK that is never seen"
-
-    def why_wrong(self, program):
-        blocks = ["0001,G,D,,1,1", "0001,X/LLN0,X/LLN0,,1,1", "0002,X/LLN0$GO$G,X/LLN0$D,,1,1"]
-        (seen, *others), status, complained = table(program, text([state(0, 1, 0)]), blocks)
-        wanted = [{**dict.fromkeys(COLUMNS, "-"), "block": str(at), "gocbRef": f"{block.split(',')[1]}, never seen"}
-                  for at, block in enumerate(blocks) if at]
-        why = "goose replay: block {} was never seen: no frame has the APPID and the gocbRef of {}"
-        told = [why.format(1, blocks[1]) + ". Is it in single quotes? Otherwise a shell takes words like $GO out of it", why.format(2, blocks[2])]
-        is_well = (seen["acts"], others, status, complained.decode().splitlines()) == ("1", wanted, 1, told)
-        return [] if is_well else [f"status {status}, {others}: {complained!r}"]
-
-
-def state(at, st, sq, t=0, quality=0x0A):
-    """The line of a frame: its time in milliseconds, stNum, sqNum, and the seconds and the quality of t."""
-    changed = {f"at{36 + place}": octet for place, octet in enumerate(t.to_bytes(4, "big"))}
-    return f"F {at} {put(WORKED, at46=st, at49=sq, at43=quality, **changed).hex()}"
-
-
-def lost():
-    trip = (EXAMPLES / "trip_recording.list").read_bytes()
-    yield Lost("the trip recording", trip, "3001,BAY1PROT/LLN0$GO$gcbTrip,BAY1PROT/LLN0$dsTrip,BAY1_Trip,1,2", acts=6, refreshed=3, repeated=1,
-               old=1, refused=1, expired=1, switched=2, restarts=1, states_lost=0, frames_lost=1, gap="2696/2000", delay="-")
-    block = "0001,G,D,,1,1"
-    yield Lost("nothing", text([state(0, 1, 0), state(1000, 1, 1), state(1500, 2, 0)]), block, status=0, acts=2, states_lost=0, frames_lost=0,
-               gap="1000/2000", restarts=0, delay="1500")
-    yield Lost("states before an expiry and after it", text([state(0, 3, 0), state(5000, 7, 0)]), block, expired=1, states_lost=3, restarts=0)
-    yield Lost("a state after an expiry that comes late", text([state(0, 3, 0), state(5000, 6, 0), state(5100, 5, 0)]), block, expired=1, old=1,
-               states_lost=1)
-    late = [state(0, 3, 0), state(5000, 6, 0), state(5100, 5, 0), state(5200, 4, 0)]
-    yield Lost("all states after an expiry that come late", text(late), block, expired=1, old=2, states_lost=0, frames_lost=0)
-    yield Lost("a restart", text([state(0, 3, 9), state(5000, 1, 1, 4)]), block, expired=1, states_lost=0, frames_lost=0, restarts=1)
-    yield Lost("a link that was down", text([state(0, 3, 9), state(5000, 3, 14)]), block, expired=1, states_lost=0, frames_lost="-", restarts=0)
-    yield Lost("a link that was down, and frames that come late", text([state(0, 3, 9), state(5000, 3, 11), state(5100, 3, 10)]), block, expired=1,
-               frames_lost=0)
-    yield Lost("frames of a state lost across an expiry", text([state(0, 3, 0), state(1, 3, 2), state(5000, 4, 2)]), block, expired=1,
-               states_lost=0, frames_lost="-")
-    yield Lost("an expiry without a loss", text([state(0, 3, 0), state(1, 3, 2), state(5000, 3, 3), state(9000, 4, 0)]), block, expired=2,
-               states_lost=0, frames_lost=1)
-    yield Lost("a restart with a higher sqNum", text([state(0, 3, 1), state(5000, 1, 7, 4)]), block, expired=1, frames_lost=0, restarts=1)
-    yield Unseen()
-    yield Lost("delays", text([state(1, 1, 0), state(100, 2, 0), state(1002, 3, 0, 1), state(1100, 4, 1, 1)]), block, delay="100", frames_lost=1)
-    yield Lost("an earlier state that comes late", text([state(0, 5, 0), state(100, 3, 0), state(200, 3, 4)]), block, status=0, old=2,
-               states_lost=0, frames_lost=0)
-    yield Lost("times that go back", text([state(5000, 1, 0), state(0, 1, 1), state(6000, 1, 2)]), block, status=0, gap="1000/2000")
-    simulated = f"F 1500 {put(WORKED, at46=2, at52=255).hex()}"
-    yield Lost("a switch", text([state(0, 1, 0), "M 100 on", simulated]), block, status=0, switched=1, acts=2, gap="-")
-    yield Lost("a frame before its change", text([state(0, 1, 0), state(1000, 2, 0, 2)]), block, status=0, delay="0")
-    yield Lost("a clock that is not synchronised", text([state(1, 1, 0), state(100, 2, 0, 0, 0x2A)]), block, status=0, delay="1")
-    yield Lost("clocks that are apart", text(["V2", state(7200000000, 1, 0)]), block, status=0, delay="-")
-    yield Counted()
-    yield Dropped()
-    yield Lost("a list with an error", text([state(0, 1, 0), "x", state(1, 3, 0)]), block, status=3, acts=1, states_lost=0)
-    yield Asked("a block given twice", "what_was_lost", ["/dev/null", block, block], status=3, stderr=[b"BLOCK 1 has the APPID"])
-
-
 def cases():
     yield from configured()
     yield from compared()
-    yield from lost()

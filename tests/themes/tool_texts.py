@@ -263,6 +263,11 @@ def of_objects():
             + '",-3,18446744073709551615,"[true, {""float"": ""0843c80000"", ""value"": 400.0}, ""x,y""]",', "8,,,clock,,,,,,",
             ',,,,,,,,,"{""packet"":9"', ',,,,,,,,,"{""packet"":9} x"', ",9,1970-01-01T00:00:00.000005Z,clock,,,,,,"]
     yield Asked("objects, and lines that are none", "to_csv", ["--columns", columns], text(lines), text(rows), 1)
+    lost = ['{"line":3,"kind":"frames-missing","appid":"0001","gocbRef":"G","simulation":false,"stNum":1,"from":2,"to":3}',
+            '{"kind":"total-goose","appid":"0001","gocbRef":"G","simulation":false,"frames":3,"statesMissing":0,"framesMissing":2,"late":0,'
+            '"repeated":0,"restarted":0,"silent":1,"longest":3000000}']
+    yield Asked("objects of losses", "to_csv", ["--columns", "line,kind,gocbRef,simulation,from,to,framesMissing,longest"], text(lost), (
+        b"line,kind,gocbRef,simulation,from,to,framesMissing,longest\n3,frames-missing,G,false,2,3,,\n,total-goose,G,false,,,2,3000000\n"))
     yield Asked("one column, that an object does not have", "to_csv", ["--columns", "delay"], text(lines[:2]), b'delay\n-3\n""\n')
     yield Asked("a column that is asked for twice", "to_csv", ["--columns", "kind,packet,kind"], text(lines[1:2]), b"kind,packet,kind\nclock,8,clock\n")
 
@@ -311,7 +316,7 @@ def cases():
     for example in sorted(EXAMPLES.glob("*.list")):
         yield Whole(f"examples/{example.name}", example.read_bytes())
     bays = (EXAMPLES / "two_bays.pcapng").read_bytes()
-    yield Whole("a capture that is cut off", bays[:-1], [capturing(command) for command in ASKED if command != "blocks"])
+    yield Whole("a capture that is cut off", bays[:-1], [capturing(command) for command in ASKED if command not in ("blocks", "losses")])
     yield Queried()
     yield Dated()
     strange = b"3 acts 0 st=1\nx\n\n4 \xff\n"

@@ -79,13 +79,13 @@ def quoted(path):
 class Missing:
     """A tool that asks goose says that there is none, and ends with 127."""
 
-    name = "what_was_lost without goose"
+    name = "draw_recording without goose"
 
     def why_wrong(self, _program):
         with tempfile.TemporaryDirectory() as folder:
             tools = pathlib.Path(folder) / "tools"
             shutil.copytree(TOOLS, tools)
-            asked = ran([tools / "what_was_lost", "/dev/null", "0001,G,D,,1,1"], env={**os.environ, "GOOSE": "", "PATH": "/usr/bin:/bin"})
+            asked = ran([tools / "draw_recording", "/dev/null", "0001,G,D,,1,1"], env={**os.environ, "GOOSE": "", "PATH": "/usr/bin:/bin"})
         return [] if asked.returncode == 127 and b"there is no goose" in asked.stderr else [clipped(repr(asked).encode())]
 
 

@@ -106,7 +106,7 @@ def some_list(chance, period, count):
 
 def cases():
     yield from worked()
-    # The table of docs/RECIPES.md.
+    # The table of docs/FORMATS.md.
     yield Outage(1600, {"skipped 1600": 1}, 1)
     yield Outage(2400, {"late": 1599, "same": 1}, 1)
     yield Outage(4000, {}, 0)

@@ -27,19 +27,20 @@ ON_LISTS = ("rewrite", "publish", "watch")
 FOUND = {
     "--help": b"1 something was found", "check": b"1 a line was written for some frame",
     "rewrite": b"1 some frame could not be written anew", "watch": b"1 some line says another word",
-    "import": b"1 a record was left out",
+    "losses": b"1 something is missing, late, silent, restarted or out of range", "import": b"1 a record was left out",
 }
 # What help says of a command's own words.
 OWN_WORDS = {
     "replay": [b"APPID,gocbRef,datSet,goID,confRev,entries", b"0001,IED1LD/LLN0$GO$gcb,IED1LD/LLN0$ds,,1,2"],
     "watch": [b"from 2 to 65536"],
+    "losses": [b"--period <N>", b"from 2 to 65536"],
 }
 # What would have been right, by what the message of the parser says: it stands behind that, or that says it itself.
 RIGHT = {
-    b"unrecognized subcommand": b"\nThe commands are show, check, rewrite, blocks, replay, publish, watch and import; ",
+    b"unrecognized subcommand": b"\nThe commands are show, check, rewrite, blocks, replay, publish, watch, losses and import; ",
     b"unexpected argument": b"\nA list, script or capture is read from standard input: goose COMMAND < FILE; ",
     b"invalid value": b"\nN is a whole number from 2 to 65536: ",
-    b"requires a subcommand": b"\n  [subcommands: show, check, rewrite, blocks, replay, publish, watch, import]\n",
+    b"requires a subcommand": b"\n  [subcommands: show, check, rewrite, blocks, replay, publish, watch, losses, import]\n",
     b"each argument": b" must be text in UTF-8, ",
     b"required arguments were not provided": b"\nUsage: goose ",
     b"a value is required": b" but none was supplied\n",
@@ -179,7 +180,7 @@ def refusals():
         (["-x"], b"'-x'"), ([b"sh\xffow"], b"UTF-8"), (["show", b"\xff"], b"UTF-8"),
     ):
         yield Refuses(words, named)
-    for name in [*COMMANDS, "blocks", "publish", "import"]:
+    for name in [*COMMANDS, "blocks", "publish", "losses", "import"]:
         for words, named in (
             ([name, "more"], b"'more'"), ([name, name], f"'{name}'".encode()), ([name, "--nothing"], b"'--nothing'"),
             ([name, "--version"], b"'--version'"), ([name, "--", "more"], b"'more'"), (["--", name], f"'{name}'".encode()),
@@ -201,6 +202,14 @@ def refusals():
     ):
         yield Refuses(words, named)
     for words, named in (
+        (["losses", "0001,G,D,,1,1"], b"'0001,G,D,,1,1'"), (["losses", "--id", "S"], b"'--id'"), (["losses", "4000"], b"'4000'"),
+        (["losses", "--period"], b"--period <N>"), (["losses", "--period", "--capture"], b"--period <N>"),
+        (["losses", "--period=5", "--period=6"], b"--period <N>"), (["losses", "--", "--period=5"], b"'--period"),
+        (["losses", "--json", "--period=5", "--time"], b"'--time' cannot be used with '--json'"), (["losses", "--periods=5"], b"'--periods"),
+        (["losses", "--capture", "--capture"], b"'--capture'"), (["--period=5", "losses"], b"'--period"),
+    ):
+        yield Refuses(words, named)
+    for words, named in (
         *(([name, option], f"'{option}'".encode()) for name in ("rewrite", "publish", "import") for option in OPTIONS),
         *(([option, "show"], f"'{option}'".encode()) for option in OPTIONS), (["show", "--cap"], b"'--cap'"),
         (["show", "--skip_other"], b"'--skip_other'"), (["check", "--", "--capture"], b"'--capture'"),
@@ -213,11 +222,14 @@ def refusals():
     ):
         yield Refuses(words, named)
     for period in ("0", "1", "65537", "99999"):
-        yield Refuses(["watch", "--period", period, *name], f"'--period <N>': {period} is not in 2..=65536".encode())
+        for words in (["watch", *name], ["losses"]):
+            yield Refuses([*words, "--period", period], f"'--period <N>': {period} is not in 2..=65536".encode())
     for period in ("-1", "-5"):
-        yield Refuses(["watch", f"--period={period}", *name], f"'--period <N>': {period} is not in 2..=65536".encode())
+        for words in (["watch", *name], ["losses"]):
+            yield Refuses([*words, f"--period={period}"], f"'--period <N>': {period} is not in 2..=65536".encode())
     for period in ("", "x", " 5", "5 ", "5.0", "0x5", "5,0", "\u0665", "9" * 30):
         yield Refuses(["watch", "--period", period, *name], f"invalid value '{period}' for '--period <N>'".encode())
+        yield Refuses(["losses", "--period", period], f"invalid value '{period}' for '--period <N>'".encode())
     for block in (
         "", "0001", "0001,G,D,,1", "0001,G,D,,1,1,1", "001,G,D,,1,1", "00001,G,D,,1,1", "000g,G,D,,1,1", "0001,G,D,,,1",
         "0001,G,D,,4294967296,1", "0001,G,D,,1,12345678901", "0001,G,D,,1,-1", "0001,G\x7f,D,,1,1", "0001,G\u00e9,D,,1,1",
@@ -239,6 +251,9 @@ def accepted():
         yield Case(" ".join(words), words, capture, b"1 block 0001,G,D,,1,1\n" if words[0] == "blocks" else b"")
     for words in (["replay", "0001,G,D,,1,1", "--time", "--capture"], ["replay", "--capture", "--time", "--", "0001,G,D,,1,1"]):
         yield Case(" ".join(words), words, capture, b"1970-01-01T00:00:01.000002Z " + act)
+    for words in ([], ["--"], ["--period", "2"], ["--period=65536", "--skip-other", "--"], ["--json", "--period", "4000"], ["--time"]):
+        for on_capture, nothing in (([], b""), (["--capture"], header())):
+            yield Case(" ".join(["losses", *on_capture, *words]), ["losses", *on_capture, *words], nothing, b"")
     blocks = [f"0001,G{at},D,,1,1" for at in range(299)]
     yield Case("replay of 300 blocks", ["replay", *blocks, "0001,G,D,,1,1"], listed(WORKED), b"1 act 299 st=1 sq=0 t=0000000000000000 {true}\n")
 
