@@ -1,0 +1,261 @@
+"""Pictures on a time axis as SVG: lanes of control blocks and streams one above another, and a second picture of each burst of events."""
+import bisect
+import collections
+
+from output import date
+from reporting import page
+from time_axis import places_of, step_of
+
+WIDTH, SIDE, TOP, LANE, BAR, TRACK = 1000, 24, 34, 64, 14, 37
+# How each entry is drawn around (0, 0), in the order of the legend, and what it is.
+MARKS = {
+    "act": ('<circle class="act" {at} r="5"/>', "act: the device takes a new state; its stNum below"),
+    "refreshed": ('<path class="refreshed" {at} d="M0-7V7"/>', "refreshed: a retransmission"),
+    "repeated": ('<circle class="repeated" {at} r="3.5"/>', "repeated"),
+    "old": ('<path class="old" {at} d="M-4.5-4h9l-4.5 8z"/>', "old"),
+    "refused": ('<path class="refused" {at} d="M-4-4L4 4M4-4L-4 4"/>', "refused"),
+    "switched": ('<path class="switched" {at} d="M0-7L7 0L0 7L-7 0z"/>', "switched between real and simulated frames"),
+    "expired": ('<path class="expired" {at} d="M0-11V11"/>', "expired: valid data ends"),
+    "lost": ('<path class="lost" {at} d="M-5-9h10L0 0z"/>', "frames, states or samples missing before this"),
+    "late": ('<path class="late" {at} d="M-4.5-8h9L0 0z"/>', "late, restarted or out of range"),
+}
+# Which are drawn over which: the ones that matter most come last.
+ORDER = ("act", "switched", "expired", "repeated", "old", "refused", "late", "lost")
+ABOVE = ("repeated", "old", "refused", "lost", "late")
+BARS = {"valid": "valid data is held", "flow": "samples come", "silent": "silence"}
+# The findings that are marks of their own.
+FINDINGS = {"states-missing": "lost", "frames-missing": "lost", "samples-missing": "lost", "late": "late", "restarted": "late",
+            "sample-late": "late", "count-out-of-range": "late"}
+# A burst begins so long before its first event and goes on so long after its last one; a longer one is cut, in microseconds.
+BEFORE, AFTER, LONGEST = 20_000, 250_000, 1_000_000
+# The most letters of a lane's name.
+LONGEST_NAME = 100
+# The most pictures of bursts, marks in one of them, and lanes of one picture.
+MOST_BURSTS, MOST_MARKS, MOST_LANES, MOST_CLOSE = 30, 5000, 14, 21
+
+
+class Axis:
+    """A span of time, and where a moment of it is."""
+
+    def __init__(self, first, last):
+        self.first, self.span = first, max(last - first, 1)
+
+    def x(self, moment):
+        return SIDE + (min(max(moment - self.first, 0), self.span)) * (WIDTH - 2 * SIDE) // self.span
+
+
+class Lane:
+    """What is drawn of one sender over the whole capture: of marks and bars that cover one another one is kept."""
+
+    def __init__(self, key, name, axis):
+        self.key, self.name, self.axis, self.marks, self.bars, self.since = key, name, axis, {}, {}, None
+
+    def mark(self, kind, moment, label):
+        x = self.axis.x(moment)
+        self.marks.setdefault((kind, x), label)
+        if kind in ("expired", "switched") and self.since is not None:
+            self.bar("valid", self.since, moment)
+            self.since = None
+        if kind in ("act", "refreshed") and self.since is None:
+            self.since = moment
+
+    def bar(self, kind, since, until):
+        x = self.axis.x(since)
+        self.bars[kind, x, max(self.axis.x(until) - x, 1)] = None
+
+    def end(self, moment):
+        if self.since is not None:
+            self.bar("valid", self.since, moment)
+            self.since = None
+
+
+class Burst:
+    """Events that follow one another closely, and all marks around them."""
+
+    def __init__(self, moment, packet, recent, held):
+        self.first, self.last, self.packets, self.until, self.bars = moment, moment, [packet, packet], moment + AFTER, []
+        self.marks, self.held = [it for it in recent if it[2] >= moment - BEFORE], held
+
+    def add(self, moment, packet):
+        """One more event, unless that would make the burst too long."""
+        if moment - self.first > LONGEST:
+            return False
+        self.last, self.packets[1], self.until = moment, packet, moment + AFTER
+        return True
+
+
+class Picture:
+    """The lanes of a capture, and its bursts."""
+
+    def __init__(self, span):
+        self.axis, self.lanes, self.now = Axis(*span), {}, span[0]
+        self.bursts, self.more, self.beyond, self.burst, self.recent = [], 0, None, None, collections.deque(maxlen=MOST_MARKS)
+
+    def lane(self, key, name):
+        if key not in self.lanes:
+            self.lanes[key] = Lane(key, name, self.axis)
+        return self.lanes[key]
+
+    def mark(self, key, kind, moment, state, packet):
+        """An entry of a control block. Times that go back count as the greatest so far."""
+        self.now = max(self.now, moment)
+        lane, label = self.lane(key, key[1]), "" if state is None else str(state)
+        if self.burst and self.now > self.burst.until:
+            self.burst = None
+        if kind == "act" and not (self.burst and self.burst.add(self.now, packet)):
+            self.begin(packet)
+        lane.mark(kind, self.now, label)
+        self.recent.append((lane, kind, self.now, label))
+        if self.burst and len(self.burst.marks) < MOST_MARKS:
+            self.burst.marks.append(self.recent[-1])
+
+    def begin(self, packet):
+        """A new burst, which begins with an event."""
+        if len(self.bursts) >= MOST_BURSTS:
+            self.more, self.beyond, self.burst = self.more + 1, self.beyond or packet, None
+            return
+        held = {it.key for it in self.lanes.values() if it.since is not None}
+        self.burst = Burst(self.now, packet, self.recent, held)
+        self.bursts.append(self.burst)
+
+    def flow(self, key, name, first, last):
+        """A stream, from its first sample to its last."""
+        self.lane(key, name).bar("flow", first, last)
+
+    def finding(self, record, where):
+        """A finding of goose losses."""
+        if "svID" in record:
+            lane = self.lanes.get((record["appid"], record["source"], record["svID"]))
+        else:
+            lane = self.lanes.get((record["appid"], record["gocbRef"]))
+        if lane is None:
+            return
+        kind, moment = record["kind"], where.microseconds
+        if kind in ("silent", "end-silent"):
+            lane.bar("silent", record["since"], record["since"] + record["for"])
+            for burst in self.bursts_of(record["since"], record["since"] + record["for"]):
+                burst.bars.append((lane, "silent", record["since"], record["since"] + record["for"]))
+        elif kind in FINDINGS:
+            lane.mark(FINDINGS[kind], moment, "")
+            for burst in self.bursts_of(moment, moment):
+                burst.marks.append((lane, FINDINGS[kind], moment, ""))
+
+    def bursts_of(self, since, until):
+        """The bursts that a time meets."""
+        firsts = [it.first - BEFORE for it in self.bursts]
+        return [it for it in self.bursts[:bisect.bisect_right(firsts, until)] if it.until >= since]
+
+    def end(self):
+        """The end of the capture: what has not expired by then is still valid."""
+        for lane in self.lanes.values():
+            lane.end(self.axis.first + self.axis.span)
+
+
+# ---- Drawing -----------------------------------------------------------------
+
+
+def text(x, y, words, **how):
+    return page.element("text", words, x=x, y=y, **how)
+
+
+def drawn_mark(kind, x, y):
+    return MARKS[kind][0].format(at=f'transform="translate({x} {y - 14 if kind in ABOVE else y})"')
+
+
+def scale(axis, height, zero, unit, places):
+    """The axis with its steps, counted from a moment in a unit of so many microseconds."""
+    step = step_of(axis.span)
+    first = -((zero - axis.first) // step) * step
+    for since in range(first, axis.first + axis.span - zero + 1, step):
+        x = axis.x(zero + since)
+        yield f'<path class="grid" d="M{x} {TOP - 8}V{height}"/>'
+        yield text(x, TOP - 14, f"{since / unit:.{places}f}", class_="scale", text_anchor="middle")
+
+
+def labels(marks, y):
+    """The stNums of events, where there is room."""
+    free = 0
+    for (kind, x), label in sorted(marks.items(), key=lambda it: it[0][1]):
+        half = 4 * len(label) + 2
+        if label and x - half >= free:
+            yield text(x, y + 20, label, class_="act", text_anchor="middle")
+            free = x + half
+
+
+def lane_of(name, marks, bars, top):
+    """One lane: its name, bars, and marks over them."""
+    y = top + TRACK
+    yield text(SIDE, top + 11, name if len(name) <= LONGEST_NAME else f"{name[:LONGEST_NAME]} ..", class_="lane")
+    for kind, x, wide in sorted(bars, key=lambda it: list(BARS).index(it[0])):
+        yield f'<rect class="{kind}" x="{x}" y="{y - BAR // 2}" width="{wide}" height="{BAR}"/>'
+    # Retransmissions are many: they are one path, and lie under the other marks.
+    ticks = "".join(f"M{x} {y - 7}v14" for kind, x in sorted(marks) if kind == "refreshed")
+    yield f'<path class="refreshed" d="{ticks}"/>' if ticks else ""
+    for kind, x in sorted((it for it in marks if it[0] != "refreshed"), key=lambda it: (ORDER.index(it[0]), it[1])):
+        yield drawn_mark(kind, x, y)
+    yield from labels(marks, y)
+
+
+def svg(title, axis, lanes, zero, unit):
+    """A picture of lanes: names, marks and bars."""
+    height = TOP + LANE * len(lanes) + 6
+    inside = [page.element("title", title), *map(page.Raw, scale(axis, height, zero, unit, places_of(step_of(axis.span), unit)))]
+    for at, lane in enumerate(lanes):
+        inside += map(page.Raw, lane_of(*lane, TOP + LANE * at))
+    return page.element("svg", inside, viewBox=f"0 0 {WIDTH} {height}", width=WIDTH, height=height, role="img", aria_label=title)
+
+
+def figure(caption, title, *drawn):
+    """A picture under its caption; where there is no room for it, it can be moved sideways."""
+    moved = page.element("div", svg(title, *drawn), class_="scroll", tabindex="0", role="group", aria_label=title)
+    return page.Raw(page.element("figure", [page.element("figcaption", caption), moved]) + "\n")
+
+
+def parted(lanes, most):
+    """Lanes in parts of so many that each fits a page."""
+    return [lanes[at:at + most] for at in range(0, len(lanes), most)]
+
+
+def overviews(picture, zero):
+    """The lanes over the whole capture."""
+    lanes = list(picture.lanes.values())
+    for number, some in enumerate(parted(lanes, MOST_LANES)):
+        at = number * MOST_LANES
+        of = f", {at + 1} to {at + len(some)} of {len(lanes)}" if len(lanes) > MOST_LANES else ""
+        title = f"Control blocks and streams over the whole capture{of}"
+        yield figure(f"{title}. Seconds from {zero.time or zero.microseconds} (packet\u00a0{zero.packet}).", title, picture.axis,
+                     [(it.name, it.marks, it.bars) for it in some], zero.microseconds, 1_000_000)
+
+
+def lanes_of(burst, axis):
+    """The lanes of a burst: those that have marks in it. Data that was valid before it is so until the first mark that says otherwise."""
+    lanes = {}
+    for lane, kind, moment, label in sorted(burst.marks, key=lambda it: it[2]):
+        if lane.key not in lanes:
+            lanes[lane.key] = Lane(lane.key, lane.name, axis)
+            lanes[lane.key].since = axis.first if lane.key in burst.held or kind in ("expired", "switched") else None
+        lanes[lane.key].mark(kind, moment, label)
+    for lane, kind, since, until in burst.bars:
+        if lane.key in lanes:
+            lanes[lane.key].bar(kind, since, until)
+    for lane in lanes.values():
+        lane.end(axis.first + axis.span)
+    return [(it.name, it.marks, it.bars) for it in lanes.values()]
+
+
+def zooms(picture, short):
+    """A picture of each burst."""
+    for number, burst in enumerate(picture.bursts, 1):
+        axis = Axis(burst.first - BEFORE, min(burst.until, picture.axis.first + picture.axis.span))
+        at, what = page.packets(*burst.packets), "Event" if burst.packets[0] == burst.packets[1] else "Events"
+        told = page.element("span", [f"{what} at {at}. Milliseconds from ", page.moment(date(burst.first), short), f" (packet\u00a0{burst.packets[0]})."])
+        for some in parted(lanes_of(burst, axis), MOST_CLOSE):
+            yield figure(told, f"Burst {number}, {at}", axis, some, burst.first, 1000)
+
+
+def legend(kinds, bars):
+    """What the marks mean that are there."""
+    icon = lambda inside: page.Raw(f'<svg viewBox="-12 -12 24 24" aria-hidden="true">{inside}</svg>')
+    told = [page.element("li", [icon(MARKS[kind][0].format(at="")), MARKS[kind][1]]) for kind in MARKS if kind in kinds]
+    told += [page.element("li", [icon(f'<rect class="{kind}" x="-12" y="-7" width="24" height="14"/>'), BARS[kind]]) for kind in BARS if kind in bars]
+    return page.Raw(page.element("ul", told, class_="legend") + "\n")

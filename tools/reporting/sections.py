@@ -1,0 +1,238 @@
+"""The sections of the page, each from what was found."""
+import shlex
+
+import senders
+from reporting import events, faults, missing, page, picture
+
+# How many lifetimes of one block are told.
+MOST_LIFETIMES = 8
+BLOCKS = [page.Column("Reference"), page.Column("APPID"), page.Column("Addresses"), page.Column("Lifetime"), page.Column("Frames", page.NUMBER),
+          page.Column("First and last"), page.Column("Data set, goID, confRev, members")]
+STREAMS = [page.Column("svID"), page.Column("APPID"), page.Column("Addresses"), page.Column("Frames", page.NUMBER), page.Column("First and last"),
+           page.Column("confRev", page.NUMBER)]
+FACTS = [page.Column("What"), page.Column("Value")]
+INTERFACES = [page.Column("Interface"), page.Column("Link type"), page.Column("Packets", page.NUMBER), page.Column("First packet", page.NUMBER),
+              page.Column("Last packet", page.NUMBER)]
+OTHERS = [page.Column("EtherType"), page.Column("Packets", page.NUMBER), page.Column("First packet", page.NUMBER)]
+
+
+def lines_of(values):
+    """Values below one another in a cell."""
+    return page.Raw("<br/>".join(page.text(it) for it in values))
+
+
+def section(title, key, *parts):
+    begin = page.Raw(f'<section aria-labelledby="{key}">\n{page.element("h2", title, id=key)}\n')
+    return page.pieces([begin, *parts, page.Raw("</section>\n")])
+
+
+def paragraph(*parts, **how):
+    return page.Raw(page.element("p", list(parts), **how) + "\n")
+
+
+def whole(value):
+    return page.element("span", value, class_="whole")
+
+
+# ---- What was recorded -------------------------------------------------------
+
+
+def recorded(found, own):
+    """The file, its packets, its interfaces, the program and the commands."""
+    file, station = found.recorded, found.station
+    rows = [("File", page.element("span", found.name, class_="name")), ("Format", file.form), ("Size", f"{file.size:,} octets"),
+            ("SHA-256", page.digits(file.sha256))]
+    rows += [("Saved by", file.application)] if file.application else []
+    rows += [("Packets", f"{found.packets:,}" + (f" ({page.packets(1, found.packets)})" if found.packets else "")),
+             ("Of these", "; ".join(kinds_of(found)))]
+    if station.first:
+        rows += [("First packet", full(station.first)), ("Last packet", full(station.last)), ("Duration", page.duration(station.span[1] - station.span[0]))]
+    rows += [("Program", found.version)]
+    rows += [("SCL file", page.element("span", own.scd, class_="name"))] if own.scd else []
+    told = [page.table("The capture", FACTS, [page.row(FACTS, it) for it in rows], False)]
+    if found.is_short and station.first and station.first.time:
+        told.append(paragraph(f"Times below are UTC, on {station.first.time[:10]}.", class_="soft"))
+    if any(it.name or it.description or it.packets for it in file.interfaces):
+        told.append(page.table("Interfaces", INTERFACES, [interface(at, it) for at, it in enumerate(file.interfaces)]))
+    if found.others:
+        told.append(page.table("Frames of other protocols, which are counted and not judged", OTHERS, [page.row(OTHERS, [
+            name.replace("EtherType ", ""), f"{number:,}", first]) for number, name, first in found.others], False))
+    ran = [shlex.join(["tools/report", *own.words])] + [f"{shlex.join(['goose', *it])} < {shlex.quote(found.name)}" for it in found.commands]
+    told += [page.element("h3", "Commands"), page.element("pre", page.element("code", "\n".join(ran)))]
+    return section("What was recorded", "recorded", *told)
+
+
+def full(place):
+    """A time with its date, or what is told where it has none."""
+    if place.time is None:
+        return f"{place.microseconds:,} \u03bcs since 1970"
+    return page.element("span", [page.moment(place.time, False), " UTC"])
+
+
+def kinds_of(found):
+    """How many packets are what. Those that are no Ethernet frames are known by what is left."""
+    kinds, passed = found.station.kinds, found.passed
+    counts = [(kinds.get(b"goose", 0), "GOOSE frame", "GOOSE frames"), (kinds.get(b"sv", 0), "frame of Sampled Values", "frames of Sampled Values"),
+              (kinds.get(b"fault", 0), "frame with an error", "frames with an error"), (passed, "of another protocol", "of other protocols"),
+              (kinds.get(b"clock", 0) - passed, "no Ethernet frame", "no Ethernet frames")]
+    return [page.count(*it) for it in counts if it[0]] or ["none"]
+
+
+def interface(number, it):
+    name = it.name or f"interface {number}"
+    return page.row(INTERFACES, [f"{name} ({it.description})" if it.description else name, it.link, f"{it.packets:,}", it.first, it.last])
+
+
+# ---- Control blocks and streams ----------------------------------------------
+
+
+def addresses(seen):
+    """The destinations, sources and tags of a sender. Of several each has its first packet."""
+    is_one = len(seen.envelopes) == 1
+    for (destination, source, tag), packet in seen.envelopes.items():
+        address = senders.envelope_of({"destination": destination, "tag": tag})
+        yield whole(f"to {address['MAC address']}")
+        yield whole(f"from {senders.hyphened(source)}")
+        vlan = "no VLAN tag" if tag is None else f"VLAN {address['VLAN']}, priority {address['priority']}"
+        yield vlan if is_one else f"{vlan} (packet\u00a0{packet} on)"
+
+
+def lifetimes(seen):
+    """The lifetimes of a block's frames, in the order of packets: of several each with the first packet that has it."""
+    held = sorted(seen.lifetimes.items(), key=lambda it: it[1])
+    more = [f"{len(held) - MOST_LIFETIMES} more"] if len(held) > MOST_LIFETIMES else []
+    told = [f"{live:,}\u00a0ms" + (f" (packet\u00a0{packet} on)" if len(held) > 1 else "") for live, packet in held[:MOST_LIFETIMES]]
+    return lines_of(told + more)
+
+
+def time_span(seen, short):
+    if seen.first is None:
+        return ""
+    places = (seen.first, seen.last) if seen.first.packet != seen.last.packet else (seen.first,)
+    return lines_of(page.element("span", [page.when(it, short), f" (packet\u00a0{it.packet})"]) for it in places)
+
+
+def forms(seen):
+    """The data set, goID, confRev and size of a block, and how they change."""
+    told, before = [], None
+    for text, packet in seen.forms.items():
+        now = senders.block_fields(text)
+        if now is None:
+            told.append(page.element("span", [page.named(text), f" (packet\u00a0{packet})"], class_="name"))
+        elif before is None:
+            told += [page.named(now["datSet"]), f"goID {now['goID'] or 'absent or empty'}",
+                     f"confRev {now['confRev']}, {page.count(int(now['entries']), 'member')}"]
+        else:
+            told.append(f"then {', '.join(f'{name} {it}' for name, it in now.items() if it != before[name])} (packet\u00a0{packet})")
+        before = now or before
+    return page.element("span", lines_of(told), class_="name")
+
+
+def agreement(differences, name):
+    """How a sender is beside its configuration, and whether it differs."""
+    if differences is None:
+        return f"not in {name}", True
+    if not differences:
+        return "agrees", False
+    return lines_of(f"differs: {what} {theirs} (packet\u00a0{packet}), configured {ours}" for (what, ours, theirs), packet in differences), True
+
+
+def block_row(seen, columns, short, compared):
+    cells = [page.element("span", page.named(seen.name), class_="name"), page.digits(seen.appid), lines_of(addresses(seen)), lifetimes(seen),
+             f"{seen.frames:,}", time_span(seen, short), forms(seen)]
+    return page.row(columns, [*cells, *compared[:1]], found=len(cells) if compared[1:] == (True,) else None)
+
+
+def stream_row(seen, columns, short, compared):
+    revisions = [f"{text.rpartition('=')[2]}" + (f" (packet\u00a0{packet})" if len(seen.forms) > 1 else "") for text, packet in seen.forms.items()]
+    cells = [page.element("span", page.named(seen.name), class_="name"), page.digits(seen.appid), lines_of(addresses(seen)), f"{seen.frames:,}",
+             time_span(seen, short), lines_of(revisions)]
+    return page.row(columns, [*cells, *compared[:1]], found=len(cells) if compared[1:] == (True,) else None)
+
+
+def missing_row(sender, columns, packets, name):
+    """A sender that is configured and was not seen."""
+    fields, is_block = sender.fields, sender.kind == "block"
+    address = [whole(f"to {fields['MAC address']}")] if fields.get("MAC address") else []
+    address += [f"VLAN {fields['VLAN']}"] if fields.get("VLAN") else []
+    own = [page.element("span", page.named(fields["gocbRef"] if is_block else sender.more["svID"]), class_="name"), page.digits(fields["APPID"]),
+           lines_of(address), *([""] if is_block else []), "0", "", ""]
+    return page.row(columns, [*own, f"missing: no frame in {packets}, but in {name}"], found=len(own))
+
+
+def station(found, own, short):
+    """The tables of control blocks and of streams, beside the SCL file where there is one."""
+    told = []
+    for kind, what, columns, row in (("block", "Control blocks (GOOSE)", BLOCKS, block_row), ("stream", "Streams (Sampled Values)", STREAMS, stream_row)):
+        heads = [*columns, *([page.Column(f"Beside {own.scd}")] if own.scd else [])]
+        rows = [row(it, heads, short, agreement(found.differences[id(it)], own.scd) if own.scd else ())
+                for it in found.station.seen.values() if it.kind == kind]
+        rows += [missing_row(it, heads, found.all_packets, own.scd) for it in found.missing_senders if it.kind == kind]
+        told.append(page.table(what, heads, rows) if rows else paragraph(f"{what}: none in {found.all_packets}."))
+    for line, reference, why in found.unusable:
+        told.append(paragraph(f"{own.scd}, line {line}: {reference} is not compared: {why}."))
+    return section("Control blocks and streams", "station", *told)
+
+
+# ---- Events, losses, errors, pictures ----------------------------------------
+
+
+def acted(found, own, rows):
+    """The events, and what the device did with the other frames."""
+    it = found.events
+    who = (f"{own.ied}, which receives {page.count(found.replayed, 'control block')} by {own.scd}" if own.ied
+           else f"a device that subscribes to each of {page.count(found.replayed, 'control block')} as it was first sent")
+    told = [paragraph(f"Told of {who}. A member is counted from 1; t is when its state began, by the sender's clock.")]
+    told += [paragraph(f"Not told of {what}: {why}.") for what, why in found.untold]
+    if it.acts:
+        told += [page.head("Events in the order of packets", events.COLUMNS), rows, page.FOOT]
+    else:
+        told.append(paragraph(f"No event was acted on in {found.all_packets}."))
+    if it.beyond:
+        told.append(paragraph(f"{it.acts - events.MOST:,} more events, from packet\u00a0{it.beyond.packet} on, are not listed."))
+    if it.blocks:
+        told.append(events.counts(it))
+    return section("Events acted on", "events", *told)
+
+
+def lost(found, own, rows):
+    """Losses, silences, restarts, late frames, and totals."""
+    it, told = found.missing, []
+    streams = [seen for seen in found.station.seen.values() if seen.kind == "stream"]
+    if streams and not own.period:
+        told.append(paragraph(f"Samples were not looked at in {page.count(len(streams), 'stream')}: no --period was given."))
+    if it.kinds:
+        told += [page.head("Findings in the order of packets", missing.COLUMNS), rows, it.rest(), page.FOOT]
+    else:
+        told.append(paragraph(f"Nothing is missing, late, silent or restarted in {found.all_packets}."))
+    for kind, names, what, first in (("total-goose", missing.GOOSE, "Totals of control blocks", "Control block"),
+                                     ("total-sv", missing.SAMPLED, "Totals of streams", "Stream")):
+        columns, held = missing.totals(it.totals, kind, names, first)
+        told += [page.table(f"{what}, {found.all_packets}", columns, held)] if held else []
+    if not it.totals and found.broken:
+        told.append(paragraph("There are no totals, since the capture breaks off."))
+    told.append(paragraph("What is lost at the end of a state that another followed cannot be seen.", class_="soft"))
+    return section("Losses, silences, restarts and late frames", "losses", *told)
+
+
+def wrong(found, short):
+    """Errors and notes by kind."""
+    it = found.faults
+    told = [page.table("Errors of frames, by kind", faults.COLUMNS, it.rows(short)) if it.errors
+            else paragraph(f"No frame of GOOSE or Sampled Values has an error in {found.all_packets}.")]
+    told += [page.table("Notes on valid frames", faults.NOTES, it.note_rows(short))] if it.notes else []
+    return section("Errors", "errors", *told)
+
+
+def pictures(found, short):
+    it = found.picture
+    if not it or not it.lanes:
+        return section("Picture", "picture", paragraph(f"There is nothing to draw in {found.all_packets}."))
+    kinds = {kind for lane in it.lanes.values() for kind, _ in lane.marks}
+    bars = {kind for lane in it.lanes.values() for kind, *_ in lane.bars}
+    told = [picture.legend(kinds, bars), picture.overviews(it, found.station.first)]
+    if it.bursts:
+        told += [page.element("h3", "Events close up"), picture.zooms(it, short)]
+    if it.more:
+        told.append(paragraph(f"{it.more:,} more, from packet\u00a0{it.beyond} on, are not drawn close up."))
+    return section("Picture", "picture", *told)

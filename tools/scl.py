@@ -1,0 +1,269 @@
+"""What an SCL file (IEC 61850-6: SCD, CID, IID, ICD) says of GOOSE and Sampled Values: the control blocks, their addresses, and who
+receives them. Each file is read apart. A file with a document type is refused: SCL has none, and entities could make a small
+file a large one.
+"""
+import re
+from xml.parsers import expat
+
+import senders
+from running import Ended
+
+NAMESPACE = "http://www.iec.ch/61850/2003/SCL"
+# What may stand between the file's root and the elements that are read.
+READ = {"SCL", "Communication", "SubNetwork", "ConnectedAP", "GSE", "SMV", "Address", "P", "IED", "AccessPoint", "Server", "LDevice", "LN0",
+        "LN", "DataSet", "FCDA", "GSEControl", "SampledValueControl", "IEDName", "Inputs", "ExtRef"}
+# The services of control blocks, as an ExtRef names them, and the elements of their addresses.
+SERVICES = {"GSEControl": "GOOSE", "SampledValueControl": "SMV"}
+ADDRESSES = {"GSE": "GOOSE", "SMV": "SMV"}
+# What the reference of a control block has before its name.
+KINDS = {"GOOSE": "GO", "SMV": "MS"}
+# How the parts of an address that a BLOCK does not have are written.
+FORMS = {"MAC-Address": r"[0-9a-fA-F]{2}(-[0-9a-fA-F]{2}){5}", "VLAN-ID": r"[0-9a-fA-F]{1,3}", "VLAN-PRIORITY": r"[0-7]"}
+# By what an ExtRef names data.
+DATA = ("ldInst", "prefix", "lnClass", "lnInst", "doName")
+
+
+class Address:
+    """An address of a control block: the texts of its parts, by their types."""
+
+    def __init__(self, parts):
+        self.parts = parts
+
+    def odd(self):
+        """The parts that are not written as they should be, which nothing is compared with."""
+        return [name for name, form in FORMS.items() if name in self.parts and not re.fullmatch(form, self.parts[name])]
+
+    def fields(self):
+        """MAC address, VLAN and priority. VLAN-ID has hexadecimal digits."""
+        told = {name: text for name, text in self.parts.items() if name not in self.odd()}
+        vlan = int(told["VLAN-ID"], 16) if "VLAN-ID" in told else None
+        return senders.address_fields(told.get("MAC-Address", "").upper() or None, vlan, told.get("VLAN-PRIORITY"))
+
+
+class Control:
+    """A control block as its GSEControl or SampledValueControl states it. Its receivers are those of its IEDNames."""
+
+    def __init__(self, service, owner, device, line, stated):
+        self.service, self.owner, self.device, self.line, self.stated = service, owner, device, line, stated
+        self.name, self.receivers = stated["name"], set()
+
+    def reference(self, name):
+        ied, (inst, logical_name) = self.owner[0], self.device
+        return f"{logical_name or ied + inst}/LLN0${name}"
+
+    def told(self):
+        """The reference of the block itself."""
+        return self.reference(f"{KINDS[self.service]}${self.name}")
+
+    def data_set(self):
+        return self.owner, self.device[0], self.stated.get("datSet")
+
+
+class Station:
+    """What an SCL file says: the IEDs and control blocks in order, the addresses of these, the members of data sets, and the ExtRefs of
+    IEDs."""
+
+    def __init__(self, path):
+        self.path, self.ieds, self.controls, self.addresses, self.members, self.references = path, [], [], {}, {}, []
+        self.by_ied = {}
+        self.read(path)
+
+    def read(self, path):
+        parser = expat.ParserCreate(namespace_separator=" ")
+        reader = Reader(self, parser)
+        parser.StartElementHandler, parser.EndElementHandler = reader.starts, reader.ends
+        parser.CharacterDataHandler, parser.StartDoctypeDeclHandler = reader.text, reader.refuse
+        parser.buffer_text = True
+        with open(path, "rb") as file:
+            try:
+                parser.ParseFile(file)
+            except KeyError as name:
+                raise Ended(f"{path}: line {parser.CurrentLineNumber}: an element lacks {name}") from None
+            except (expat.ExpatError, LookupError, ValueError, Ended) as why:
+                raise Ended(f"{path}: {why}") from None
+
+    def senders(self, control):
+        """What a control block sends, for each of its addresses. An error says why it sends nothing that could be told."""
+        addresses = self.addresses.get((control.service, control.owner[0], control.device[0], control.name), [])
+        if control.service == "GOOSE":
+            return self.blocks(control, addresses)
+        return self.streams(control, addresses)
+
+    def blocks(self, control, addresses):
+        """The BLOCKs of a GSEControl."""
+        stated, members = control.stated, self.members.get(control.data_set())
+        if stated.get("type", "GOOSE") != "GOOSE":
+            raise ValueError(f"its type is {stated['type']}")
+        check((not addresses, "no GSE address with an APPID"), (members is None, "no data set of that name"),
+              ("confRev" not in stated, "no confRev"))
+        check_numbers(addresses, stated)
+        texts = [control.told(), control.reference(stated["datSet"]), stated.get("appID", "")]
+        for text in texts:
+            if "," in text or not is_visible(text):
+                raise ValueError(f"a BLOCK cannot hold {text!r}")
+        for address in addresses:
+            block = ",".join([appid_of(address), *texts, str(int(stated["confRev"])), str(len(members))])
+            yield senders.Sender(block, "block", {**senders.block_fields(block), **address.fields()}, address=address)
+
+    def streams(self, control, addresses):
+        """The streams of a SampledValueControl."""
+        stated = control.stated
+        if stated.get("multicast", "true") not in ("true", "1"):
+            raise ValueError("it sends to one device alone")
+        check((not addresses, "no SMV address with an APPID"), (self.members.get(control.data_set()) is None, "no data set of that name"),
+              ("confRev" not in stated, "no confRev"), (not stated.get("smvID"), "no smvID"))
+        check_numbers(addresses, stated)
+        if not is_visible(stated["smvID"]):
+            raise ValueError(f"a stream cannot have the svID {stated['smvID']!r}")
+        for address in addresses:
+            stream = senders.stream_of(stated["smvID"], int(stated["confRev"]), APPID=appid_of(address), **address.fields())
+            stream.more["address"] = address
+            yield stream
+
+    def sent_by(self, ied):
+        if not self.by_ied:
+            for control in self.controls:
+                self.by_ied.setdefault(control.owner[0], []).append(control)
+        return self.by_ied.get(ied, [])
+
+    def received(self, ied):
+        """The control blocks that an IED receives: those whose IEDName it is, and those that its ExtRefs name."""
+        named = {id(control) for reference in self.references if reference.ied == ied for control in self.named(reference)}
+        return [control for control in self.controls if ied in control.receivers or id(control) in named]
+
+    def named(self, reference):
+        """The control blocks that an ExtRef names: by srcCBName, or where it has none by data that is in their data sets."""
+        stated = reference.stated
+        for control in self.sent_by(stated.get("iedName")):
+            if stated.get("serviceType", control.service) != control.service:
+                continue
+            if stated.get("srcCBName"):
+                device = stated.get("srcLDInst") or stated.get("ldInst") or control.device[0]
+                if (control.name, control.device[0]) == (stated["srcCBName"], device):
+                    yield control
+            elif any(is_data_of(stated, member) for member in self.members.get(control.data_set(), ())):
+                yield control
+
+    def unnamed(self, ied):
+        """What the ExtRefs of an IED say of blocks of GOOSE or Sampled Values that the file does not have, each with its first line."""
+        said = {}
+        for reference in self.references:
+            stated = reference.stated
+            is_of_block = stated.get("serviceType") in KINDS or (stated.get("srcCBName") and "serviceType" not in stated)
+            if reference.ied == ied and is_of_block and not any(self.named(reference)):
+                names = [f"{name} {stated[name]}" for name in ("iedName", "srcLDInst", "ldInst", "srcCBName") if stated.get(name)]
+                said.setdefault(f"an ExtRef of {ied} names a block that is not there: {', '.join(names)}", reference.line)
+        return said.items()
+
+
+class Reference:
+    """An ExtRef of an IED: what one of its inputs is bound to."""
+
+    def __init__(self, ied, line, stated):
+        self.ied, self.line, self.stated = ied, line, stated
+
+
+def check(*cases):
+    for is_missing, what in cases:
+        if is_missing:
+            raise ValueError(f"it has {what}")
+
+
+def check_numbers(addresses, stated):
+    bad = [it.parts["APPID"] for it in addresses if not re.fullmatch(r"[0-9a-fA-F]{1,4}", it.parts["APPID"])]
+    bad += [] if re.fullmatch(r"[0-9]{1,10}", stated["confRev"]) else [stated["confRev"]]
+    if bad:
+        raise ValueError(f"{bad[0]!r} is no number of a BLOCK")
+
+
+def appid_of(address):
+    return f"{int(address.parts['APPID'], 16):04x}"
+
+
+def is_visible(text):
+    return all(" " <= it <= "~" for it in text)
+
+
+def is_data_of(reference, member):
+    """Whether an ExtRef names data of an FCDA. One that names no attribute has all of them."""
+    names = [(it.get("daName") or None) for it in (reference, member)]
+    return (all((reference.get(it) or "") == (member.get(it) or "") for it in DATA) and (None in names or names[0] == names[1]))
+
+
+class Reader:
+    """Where in a file the parser is. Only the path from the root through elements that are read is looked into."""
+
+    def __init__(self, station, parser):
+        self.station, self.parser = station, parser
+        self.path, self.at, self.skipped, self.words = [], {}, 0, None
+        self.parts, self.appids = {}, []
+
+    def refuse(self, *_):
+        raise Ended("it has a document type, which SCL does not have")
+
+    def starts(self, name, stated):
+        space, _, local = name.rpartition(" ")
+        if self.skipped or space not in ("", NAMESPACE) or local not in READ:
+            self.skipped += 1
+            return
+        self.path.append(local)
+        self.at[local] = stated
+        parent = self.path[-2] if len(self.path) > 1 else ""
+        if parent == "Address" or local == "IEDName":
+            self.words = ""
+        elif local in ADDRESSES:
+            self.parts, self.appids = {}, []
+        elif self.path == ["SCL", "IED"]:
+            self.station.ieds.append(stated.get("name", ""))
+        elif parent == "Inputs":
+            self.station.references.append(Reference(self.at["IED"]["name"], self.parser.CurrentLineNumber, stated))
+        else:
+            self.starts_in_device(local, stated)
+
+    def starts_in_device(self, local, stated):
+        """Data sets and control blocks of LLN0."""
+        if self.path[-2:] == ["LN0", "DataSet"]:
+            self.station.members[self.data_set()] = []
+        elif self.path[-3:] == ["LN0", "DataSet", "FCDA"]:
+            self.station.members[self.data_set()].append(stated)
+        elif self.path[-2:-1] == ["LN0"] and local in SERVICES:
+            device = (self.at["LDevice"]["inst"], self.at["LDevice"].get("ldName"))
+            self.station.controls.append(Control(SERVICES[local], self.owner(), device, self.parser.CurrentLineNumber, stated))
+
+    def ends(self, _name):
+        if self.skipped:
+            self.skipped -= 1
+            return
+        parent, local = self.path[-2:] if len(self.path) > 1 else ("", self.path[0])
+        self.path.pop()
+        if local == "P" and self.path[-2:-1] and self.path[-2] in ADDRESSES:
+            self.ends_part(self.at["P"].get("type"))
+        elif local in ADDRESSES:
+            self.ends_address(local)
+        elif local == "IEDName" and self.path[-2:-1] == ["LN0"] and parent in SERVICES:
+            self.station.controls[-1].receivers.add(self.words.strip())
+        self.words = None if local in ("P", "IEDName") else self.words
+
+    def ends_part(self, sort):
+        """A part of an address. APPID can be there twice."""
+        if sort == "APPID":
+            self.appids.append(self.words.strip())
+        elif sort in FORMS:
+            self.parts[sort] = self.words.strip()
+
+    def ends_address(self, local):
+        stated = self.at[local]
+        if self.appids:
+            key = ADDRESSES[local], self.at["ConnectedAP"]["iedName"], stated["ldInst"], stated["cbName"]
+            held = self.station.addresses.setdefault(key, [])
+            held += [Address({**self.parts, "APPID": appid}) for appid in self.appids]
+
+    def text(self, text):
+        if self.words is not None and not self.skipped:
+            self.words += text
+
+    def owner(self):
+        return self.at["IED"]["name"], self.at["AccessPoint"]["name"]
+
+    def data_set(self):
+        return self.owner(), self.at["LDevice"]["inst"], self.at["DataSet"]["name"]
