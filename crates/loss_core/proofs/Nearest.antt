@@ -1,9 +1,10 @@
 -- The number that is nearest to the samples due.
-use Rattle.std.proofs.Common.{◌≡◌, ◌⊎◌, ℕ, zero, suc, ◌+◌, ◌-◌, ◌*◌, ◌/◌, ◌%◌, ◌<◌, ◌≤◌, sym, refl, ap, ap₂, ◌∙◌, subst, arith, inl, inr}
-use Rattle.std.proofs.lemmas.Bool.{cases_lt, cases_order}
-use Rattle.std.proofs.Math.Nat.{add-mod_left, div-add-mod, mod-add-mod, mod-eq_of_lt, mod-lt, mul-add-mod_self_left}
-use Rattle.loss_core.specs.Advance.{IsNearest, distance, due}
-use Rattle.loss_core.specs.computed.AdvanceSteps.{greatest_upto, most, nearest_to}
+use Rattle.std.proofs.Common.{◌≡◌, ◌⊎◌, ℕ, zero, suc, ◌+◌, ◌-◌, ◌*◌, ◌/◌, ◌%◌, ◌<◌, ◌≤◌, Bool, if◌then◌else◌, sym, refl, ap, ap₂, ◌∙◌, subst, arith, inl, inr}
+use Rattle.std.proofs.lemmas.Bool.{cases_order, lt-ltb}
+use Rattle.std.proofs.Math.Nat.{add-mod_left, div-add-mod, mod-add-mod, mod-eq_of_lt, mod-lt, mul-add-mod_self_left, mul-le-mul_right}
+use Rattle.loss_core.specs.declared.advance.Advance.TheVariants.{Ahead, Back}
+use Rattle.loss_core.specs.Advance.{IsAdvance, IsNearest, advance_of, distance, due, way_round}
+use Rattle.loss_core.specs.computed.AdvanceSteps.{advance_by, greatest_upto, most, nearest_to}
 
 -- a multiple by one more is a period more
 more : (n u v : ℕ) → u < v → n * u + n ≤ n * v
@@ -110,3 +111,36 @@ nearest_within n elapsed rest a is near =
         | inr (inr above) ↦ absurd (omega arith)
       ];
     }
+
+-- at most half a second on, the first number behind a period is nearest
+pub next_at : (n elapsed : ℕ) → 1 < n → elapsed ≤ 500000 → nearest_to n elapsed 1 ≡ n + 1
+next_at n elapsed some le =
+    let t = top_is n (due n elapsed) in
+    let low : 2000000 * most n elapsed ≤ 2 * due n elapsed + 1000000 * n = t.0 in
+    let high : 2 * due n elapsed + 1000000 * n < 2000000 * (most n elapsed + 1) = t.1 in
+    let g = greatest_is n 1 (most n elapsed) some (enough n (due n elapsed) (omega arith) (omega arith)) in
+    let upto : nearest_to n elapsed 1 ≤ most n elapsed = g.upto in
+    let over : most n elapsed < nearest_to n elapsed 1 + n = g.greatest in
+    let few : elapsed * n ≤ 500000 * n = mul-le-mul_right n le in
+    elim (apart n (nearest_to n elapsed 1) (n + 1) (g.congruent ∙ sym (add-mod_left n 1 ∙ mod-eq_of_lt some))) [
+      | inl e ↦ e
+      | inr (inl less) ↦ absurd (omega arith)
+      | inr (inr above) ↦ absurd (omega arith)
+    ]
+
+-- the way to the next count is one
+pub way_to_next : (n from : ℕ) → 1 < n → from < n → way_round n from ((from + 1) % n) ≡ 1
+way_to_next n from some lt =
+    let whole : from + 1 + (n - from) ≡ n + 1 = omega arith in
+    mod-add-mod (from + 1) n (n - from) ∙ (ap (λ x. x % n) whole ∙ (add-mod_left n 1 ∙ mod-eq_of_lt some))
+
+-- so it is one sample on, where it comes at most half a second later
+pub one_on : (n elapsed from : ℕ) → 1 < n → elapsed ≤ 500000 → from < n → advance_by n elapsed from ((from + 1) % n) ≡ Ahead 1
+one_on n elapsed from some le lt =
+    ap (λ rest. advance_of n (nearest_to n elapsed rest)) (way_to_next n from some lt) ∙
+    (ap (advance_of n) (next_at n elapsed some le) ∙
+    (ap (λ (b : Bool). if b then Ahead (n + 1 - n) else Back (n - (n + 1))) (lt-ltb n (n + 1) (omega arith)) ∙ ap Ahead (omega arith)))
+
+-- the advance that is computed is the advance
+pub advance_is : (n elapsed from to : ℕ) → 0 < n → IsAdvance n elapsed from to (advance_by n elapsed from to)
+advance_is n elapsed from to some = (nearest_to n elapsed (way_round n from to), nearest_at n (way_round n from to) elapsed (mod-lt (to + (n - from)) some), refl)

@@ -1,22 +1,20 @@
 -- What is known of samples before a position, and one sample more.
-use Rattle.std.proofs.Common.{◌≡◌, ◌⊎◌, ℕ, zero, suc, ◌+◌, ◌-◌, ◌*◌, ◌%◌, ◌<◌, ◌≤◌, ◌==◌, ◌||◌, min, nat_lt, Bool, true, false, Option, Some, None, List, [], ◌∷◌, ◌++◌, add-zero, append-nil, drop, filter, length, slice_get, take, if◌then◌else◌, sym, refl, ap, ap₂, ◌∙◌, subst, arith, inl, inr}
-use Rattle.std.proofs.lemmas.Bool.{cases_Bool, cases_lt, false≢true, le-ltb, lt-ltb, ltb-true}
+use Rattle.std.proofs.Common.{◌≡◌, ℕ, ◌+◌, ◌-◌, ◌<◌, ◌≤◌, ◌==◌, ◌||◌, min, nat_lt, Bool, true, false, Option, Some, None, List, [], ◌∷◌, ◌++◌, add-zero, drop, filter, length, slice_get, take, if◌then◌else◌, sym, refl, ap, ap₂, ◌∙◌, subst, arith, inl, inr}
+use Rattle.std.proofs.lemmas.Bool.{cases_Bool, cases_lt, false≢true, le-ltb, lt-ltb}
 use Rattle.std.proofs.lemmas.List.{drop-append-le, length-append, length_push, take-append-le}
 use Rattle.std.proofs.lemmas.List.Elements.{filter-append}
 use Rattle.std.proofs.Math.Seq.{drop-append_seam, take-length}
-use Rattle.std.proofs.Math.Nat.{mod-lt}
-use Rattle.std.proofs.lemmas.Option.{none-some, same_Some}
-use Rattle.loss_core.specs.declared.advance.Advance.{Advance}
+use Rattle.std.proofs.lemmas.Option.{same_Some}
 use Rattle.loss_core.specs.declared.advance.Advance.TheVariants.{Ahead, Back}
 use Rattle.loss_core.specs.declared.stream.Sample.{Sample}
 use Rattle.loss_core.specs.declared.stream.Newest.{Newest}
 use Rattle.loss_core.specs.declared.stream.Came.{Came}
 use Rattle.loss_core.specs.declared.stream.Came.TheVariants as came
-use Rattle.loss_core.specs.Advance.{IsAdvance, advance_of, way_round}
+use Rattle.loss_core.specs.Advance.{advance_of, way_round}
 use Rattle.loss_core.specs.Stream.{AreSamplesTold, IsKnownOf, IsNewestSample, IsRun, IsSampleToldLast, Known, Tells, begins, by_advance, moves}
 use Rattle.loss_core.specs.computed.AdvanceSteps.{advance_by, nearest_to}
-use Rattle.loss_core.specs.computed.StreamSteps.{IsInRange, Keeps, StreamStandsAfter, StreamState, came_after, kept_after}
-use Rattle.loss_core.proofs.Nearest.{nearest_at}
+use Rattle.loss_core.specs.computed.StreamSteps.{Keeps, StreamStandsAfter, StreamState, came_after, kept_after}
+use Rattle.loss_core.proofs.Nearest.{advance_is}
 use Rattle.loss_core.proofs.Places.{get_back, get_front, get_pushed, place}
 
 -- what is known before a position depends on what stands before it alone
@@ -178,9 +176,6 @@ capped_of period x run le =
           ap (by_advance (min run 4294967295)) it ∙ (capped run (period - x) (omega arith) ∙ sym (ap (by_advance run) it))
     ]
 
-is_advance : (period elapsed from to : ℕ) → 0 < period → IsAdvance period elapsed from to (advance_by period elapsed from to)
-is_advance period elapsed from to some = (nearest_to period elapsed (way_round period from to), nearest_at period (way_round period from to) elapsed (mod-lt (to + (period - from)) some), refl)
-
 pub tells_by : (period : ℕ) (known : Option Known) (kept : Option Newest) (s : Sample) → 0 < period → period ≤ 65536 → Keeps known kept → Tells period known s (came_after period kept s)
 tells_by period None None s some most keeps = refl
 tells_by period None (Some n) s some most keeps = absurd keeps
@@ -192,7 +187,7 @@ tells_by period (Some k) (Some n) s some most keeps =
             lt,
             (
               advance_by period (s.moment - k.moment) k.count s.count,
-              is_advance period (s.moment - k.moment) k.count s.count some,
+              advance_is period (s.moment - k.moment) k.count s.count some,
               ap (λ (b : Bool). if b then by_advance n.run (advance_by period (s.moment - n.moment) n.count s.count) else came.OutOfRange) lt ∙
                   (ap₂ (λ (c m : ℕ). by_advance n.run (advance_by period (s.moment - m) c s.count)) keeps.0 keeps.1 ∙
                   (ap (λ (r : ℕ). by_advance r (advance_by period (s.moment - k.moment) k.count s.count)) keeps.2 ∙

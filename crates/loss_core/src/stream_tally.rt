@@ -1,6 +1,6 @@
 // A stream, and what its samples come to.
 
-ghost use Rattle.std.specs.Prelude.{◌≡◌, ◌+◌, ◌<◌, ◌≤◌, ◌++◌, ◌∷◌, [], List, max};
+ghost use Rattle.std.specs.Prelude.{◌≡◌, ◌+◌, ◌^◌, ◌<◌, ◌≤◌, ◌++◌, ◌∷◌, [], List, max};
 ghost use Rattle.loss_core.specs.SenderTotals.{kept, one_if};
 ghost use Rattle.loss_core.specs.Stream.{IsSampleToldLast};
 ghost use Rattle.loss_core.specs.StreamTotals.{missing_before};
@@ -44,40 +44,42 @@ impl Model for StreamTally {
     ghost view = { λ s. record { stream = s.stream; totals = s.totals } };
 }
 
-// How many samples are missing before one.
-fn missing_samples(came: Came) -> u64
-    ensures { result ≡ missing_before came }
+// One more.
+fn one_more(count: u64) -> u64
+    ensures { result ≡ kept (count + 1) }
 {
-    match came {
-        Came::Missing(count) => count,
-        Came::First | Came::Next | Came::Repeated | Came::Late | Came::OutOfRange => 0,
-    }
+    count.saturating_add(1)
 }
 
-// One more where it is so.
-fn counted(count: u64, is_so: bool) -> u64
-    ensures { result ≡ kept (count + one_if is_so) }
-{
-    if is_so {
-        count.saturating_add(1)
-    } else {
-        count
-    }
-}
+// Each number lies in the range of its type; nothing is computed.
+fn know_ranges(totals: StreamTotals)
+    ensures missing { totals.missing < 2 ^ 64 }
+    ensures late { totals.late < 2 ^ 64 }
+    ensures repeated { totals.repeated < 2 ^ 64 }
+    ensures out_of_range { totals.out_of_range < 2 ^ 64 }
+    ensures outages { totals.outages < 2 ^ 64 }
+    ensures longest { totals.longest < 2 ^ 64 }
+{}
 
 impl StreamTotals {
     // Adds a sample that tells this.
     fn add(&mut self, came: Came)
         ensures { AddsSample came self.old self.new }
     {
-        let missing = missing_samples(came);
-        self.samples = self.samples.saturating_add(1);
-        self.missing = self.missing.saturating_add(missing);
-        self.late = counted(self.late, came == Came::Late);
-        self.repeated = counted(self.repeated, came == Came::Repeated);
-        self.out_of_range = counted(self.out_of_range, came == Came::OutOfRange);
-        self.outages = counted(self.outages, came.is_behind_outage());
-        self.longest = self.longest.max(missing);
+        know_ranges(*self);
+        self.samples = one_more(self.samples);
+        match came {
+            Came::First => {}
+            Came::Next => {}
+            Came::Missing(missing) => {
+                self.missing = self.missing.saturating_add(missing);
+                self.outages = one_more(self.outages);
+                self.longest = self.longest.max(missing);
+            }
+            Came::Repeated => self.repeated = one_more(self.repeated),
+            Came::Late => self.late = one_more(self.late),
+            Came::OutOfRange => self.out_of_range = one_more(self.out_of_range),
+        }
     }
 }
 
@@ -119,6 +121,7 @@ impl StreamTally {
     }
 
     // Takes the next sample, and answers what it tells.
+    #[inline(always)]
     fn step(&mut self, sample: Sample) -> Came
         ensures some { 0 < self.old.stream.period }
         ensures most { self.old.stream.period ≤ 65536 }
@@ -133,6 +136,7 @@ impl StreamTally {
     }
 
     /// Takes the next sample, and answers what it tells.
+    #[inline(always)]
     pub fn take(&mut self, sample: Sample) -> Came
         // For all samples after which the tally stands: the answer is what this one tells after them, and the tally then
         // stands after it too.

@@ -11,7 +11,7 @@ sender_said k = sender k.app_id k.reference.now k.simulation
 
 -- a stream, wherever its names stand
 abbrev pub stream_said : StreamKey → Key
-stream_said k = stream k.app_id k.source.now k.id.now
+stream_said k = stream k.app_id k.source k.id.now
 
 -- a key, wherever its names stand
 abbrev pub key_said : Borrowed → Key

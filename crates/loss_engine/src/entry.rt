@@ -1,9 +1,9 @@
 // What is kept of one sender or one stream.
 
-ghost use Rattle.std.specs.Prelude.{◌≡◌, ◌++◌, IfOk, Some, None};
-ghost use Rattle.loss_engine.specs.KeySaid.{key_said};
+ghost use Rattle.std.specs.Prelude.{◌≡◌, IfOk, Some, None};
+ghost use Rattle.loss_engine.specs.KeySaid.{key_said, stream_said};
 ghost use Rattle.loss_engine.specs.Sights.{same_key};
-ghost use Rattle.loss_engine.specs.computed.Entries.{entry_key, entry_name, entry_source, progress_of};
+ghost use Rattle.loss_engine.specs.computed.Entries.{entry_key, progress_of};
 ghost use Rattle.loss_engine.specs.LossText.{with_end};
 ghost use Rattle.loss_engine.specs.computed.Closing.{closing_item};
 ghost use Rattle.loss_engine.specs.computed.Tracking.{TellsSample, more_frames, more_samples, sender_of, silent_since, stale_newest, total_by};
@@ -30,25 +30,22 @@ pub enum Progress {
     Counted(u64),
 }
 
-/// One sender or stream, its names in memory of its own: the source address of a stream, and behind it the svID, or a gocbRef.
+/// What tells senders and streams of one APPID and name apart.
+#[derive(Clone, Copy)]
+pub enum Origin {
+    /// Of a sender, whether its frames are simulated.
+    Sender(bool),
+    /// Of a stream, the address that its frames are sent from.
+    Stream([u8; 6]),
+}
+
+/// One sender or stream, its gocbRef or svID in memory of its own.
 #[derive(Drop)]
 pub struct Entry<A: Allocator> {
     app_id: u16,
-    /// simulation, of a sender.
-    simulation: Option<bool>,
-    octets: Octets<A>,
-    name_at: usize,
+    origin: Origin,
+    name: Octets<A>,
     pub(crate) progress: Progress,
-}
-
-// Copies two texts, one behind the other.
-fn joined<A: Allocator>(alloc: A, front: &[u8], behind: &[u8]) -> Result<Octets<A>, AllocError>
-    ensures { IfOk result (λ o. o ≡ front.now ++ behind.now) }
-{
-    let mut octets = Vec::with_capacity(alloc, front.len().saturating_add(behind.len()))?;
-    octets.extend_from_slice(front)?;
-    octets.extend_from_slice(behind)?;
-    Ok(Octets::from(octets))
 }
 
 impl<A: Allocator> Entry<A> {
@@ -57,46 +54,35 @@ impl<A: Allocator> Entry<A> {
         ensures key { IfOk result (λ e. entry_key e ≡ key_said key.entry) }
         ensures progress { IfOk result (λ e. e.progress ≡ progress) }
     {
-        let (app_id, simulation, front, behind): (u16, Option<bool>, &[u8], &[u8]) = match key {
+        let (app_id, origin, name) = match key {
             Key::Sender(sender) => (
                 sender.app_id,
-                Some(sender.simulation),
-                b"",
+                Origin::Sender(sender.simulation),
                 sender.reference,
             ),
-            Key::Stream(stream) => (stream.app_id, None, stream.source, stream.id),
+            Key::Stream(stream) => (stream.app_id, Origin::Stream(stream.source), stream.id),
         };
-        let octets = joined(alloc, front, behind)?;
+        let name = Octets::try_from_slice(alloc, name)?;
         Ok(Entry {
             app_id,
-            simulation,
-            octets,
-            name_at: front.len(),
+            origin,
+            name,
             progress,
         })
-    }
-
-    // The source address, and the name.
-    fn names(&self) -> (&[u8], &[u8])
-        ensures source { result.0.now ≡ entry_source self.now }
-        ensures name { result.1.now ≡ entry_name self.now }
-    {
-        let octets = self.octets.as_slice();
-        octets.split_at(self.name_at.min(octets.len()))
     }
 
     /// Its key.
     pub fn key(&self) -> Key<'_>
         ensures { key_said result ≡ entry_key self.now }
     {
-        let (source, name) = self.names();
-        match self.simulation {
-            Some(simulation) => Key::Sender(SenderKey {
+        let name = self.name.as_slice();
+        match self.origin {
+            Origin::Sender(simulation) => Key::Sender(SenderKey {
                 app_id: self.app_id,
                 reference: name,
                 simulation,
             }),
-            None => Key::Stream(StreamKey {
+            Origin::Stream(source) => Key::Stream(StreamKey {
                 app_id: self.app_id,
                 source,
                 id: name,
@@ -115,6 +101,19 @@ impl<A: Allocator> Entry<A> {
             (Key::Sender(own), Key::Sender(other)) => own.is_same(other),
             (Key::Stream(own), Key::Stream(other)) => own.is_same(other),
             _ => false,
+        }
+    }
+
+    /// Whether this is the stream with a key.
+    #[inline(always)]
+    pub fn is_stream(&self, key: StreamKey<'_>) -> bool
+        ensures { result ≡ same_key (entry_key self.now) (stream_said key.entry) }
+    {
+        match self.origin {
+            Origin::Sender(_) => false,
+            Origin::Stream(source) => {
+                self.app_id == key.app_id && source == key.source && self.name.as_slice() == key.id
+            }
         }
     }
 }

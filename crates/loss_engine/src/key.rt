@@ -20,8 +20,8 @@ pub struct SenderKey<'a> {
 pub struct StreamKey<'a> {
     /// APPID.
     pub app_id: u16,
-    /// The address that its frames are sent from, six octets.
-    pub source: &'a [u8],
+    /// The address that its frames are sent from.
+    pub source: [u8; 6],
     /// svID, the name of the stream.
     pub id: &'a [u8],
 }

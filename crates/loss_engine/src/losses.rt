@@ -72,6 +72,14 @@ impl<A: Allocator + Copy> Losses<A> {
         self.roll.find(key)
     }
 
+    // Where the stream with a key stands.
+    #[inline(always)]
+    fn find_stream(&self, key: StreamKey<'_>) -> Option<usize>
+        ensures { Finds (kept_by self.now).tracked (stream_said key.entry) result }
+    {
+        self.roll.find_stream(key)
+    }
+
     // Puts one more, with a key that none has.
     fn put(&mut self, alloc: A, key: Key<'_>, progress: Progress) -> Result<(), AllocError>
         requires { known_of (kept_by self.old).tracked (key_said key) ≡ None }
@@ -174,6 +182,25 @@ impl<A: Allocator + Copy> Losses<A> {
         }
     }
 
+    // Takes the first sample of a stream. A call of its own, since there is one of each stream.
+    #[inline(never)]
+    fn take_first(
+        &mut self,
+        alloc: A,
+        key: StreamKey<'_>,
+        sample: Sample,
+        synch: u8,
+    ) -> Result<Option<(Came, Option<u8>)>, AllocError>
+        requires { known_of (kept_by self.old).tracked (stream_said key) ≡ None }
+        ensures told { IfOk result (λ r. CountsAs (period_by self.old) None sample r) }
+        ensures put { OnOk result (kept_by self.new ≡ record { moment = (kept_by self.old).moment; tracked = (kept_by self.old).tracked ++ record { key = stream_said key.entry; progress = first_samples (period_by self.old) sample synch } ∷ [] }) }
+        ensures period { period_by self.new ≡ period_by self.old }
+    {
+        let first = self.first_samples(sample, synch);
+        self.put(alloc, Key::Stream(key), first)?;
+        Ok(self.first_came(sample.count))
+    }
+
     /// Takes a sample of a stream with this smpSynch, and answers what its count tells and the smpSynch before, where a period is
     /// given. Memory is wanted for a new stream alone.
     pub fn take_sample(
@@ -192,16 +219,12 @@ impl<A: Allocator + Copy> Losses<A> {
             count,
             moment: self.greatest,
         };
-        match self.find(Key::Stream(key)) {
+        match self.find_stream(key) {
             Some(at) => {
                 let answer = self.sample_at(at, sample, synch);
                 Ok(self.came_of(answer, count))
             }
-            None => {
-                let first = self.first_samples(sample, synch);
-                self.put(alloc, Key::Stream(key), first)?;
-                Ok(self.first_came(count))
-            }
+            None => self.take_first(alloc, key, sample, synch),
         }
     }
 

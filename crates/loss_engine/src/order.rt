@@ -41,12 +41,12 @@ impl<'a> Key<'a> {
     }
 
     // The source address, which a sender has none of.
-    fn source(self) -> &'a [u8]
-        ensures { result.now ≡ source_of (key_said self.entry) }
+    fn source(&self) -> &[u8]
+        ensures { result.now ≡ source_of (key_said self.now) }
     {
         match self {
             Key::Sender(_) => b"",
-            Key::Stream(stream) => stream.source,
+            Key::Stream(stream) => stream.source.as_slice(),
         }
     }
 }

@@ -2,7 +2,7 @@
 
 ghost use Rattle.std.specs.Prelude.{◌≡◌, ◌<◌, ◌++◌, ◌∷◌, [], IfSome, IsSome, IsTrue, None, OnErr, OnOk, Some, length, slice_get};
 ghost use Rattle.loss_core.specs.Sender.{told_after};
-ghost use Rattle.loss_engine.specs.KeySaid.{key_said};
+ghost use Rattle.loss_engine.specs.KeySaid.{key_said, stream_said};
 ghost use Rattle.loss_engine.specs.Sights.{Key as SpecKey};
 ghost use Rattle.loss_engine.specs.computed.Entries.{Finds, IsFirstAt, all_tracked, entry_key, tracked_by};
 ghost use Rattle.loss_engine.specs.computed.KeyOrder.{key_cmp};
@@ -10,7 +10,7 @@ ghost use Rattle.loss_engine.specs.computed.Roll.{HasKeyAt};
 ghost use Rattle.loss_engine.specs.computed.Tracking.{Progress as Known, TellsSample, known_of, more_frames, more_samples, sender_of, with_progress};
 
 use crate::entry::Entry;
-use crate::key::Key;
+use crate::key::{Key, StreamKey};
 use crate::order::compare_keys;
 use known_core::{Probe, Runs, find_position};
 use loss_core::{Arrival, Came, Sample, Told};
@@ -59,6 +59,17 @@ fn has_at<A: Allocator>(entries: &[Entry<A>], at: usize, key: Key<'_>) -> bool
     }
 }
 
+// Whether the one at a position is the stream with a key.
+#[inline(always)]
+fn has_stream_at<A: Allocator>(entries: &[Entry<A>], at: usize, key: StreamKey<'_>) -> bool
+    ensures { IsTrue result → HasKeyAt entries.now (stream_said key.entry) at }
+{
+    match entries.get(at) {
+        Some(entry) => entry.is_stream(key),
+        None => false,
+    }
+}
+
 impl<A: Allocator + Copy> Roll<A> {
     /// None came.
     pub fn new(alloc: A) -> Roll<A>
@@ -86,21 +97,44 @@ impl<A: Allocator + Copy> Roll<A> {
         &self.entries[at]
     }
 
-    /// The position of the one with a key. That which came last is tried first, and then the one behind it: streams of one frame
-    /// come in an order that stays.
+    // The position behind the one that came last, or the first one.
+    fn behind_last(&self) -> usize {
+        let behind = self.last.saturating_add(1);
+        if behind < self.entries.len() {
+            behind
+        } else {
+            0
+        }
+    }
+
+    /// The position of the one with a key. That which came last is tried first, and then the one behind it: streams often come
+    /// in turns that stay.
+    #[inline(never)]
     pub fn find(&self, key: Key<'_>) -> Option<usize>
         ensures { Finds self.now (key_said key.entry) result }
     {
         if has_at(self.entries.as_slice(), self.last, key) {
             return Some(self.last);
         }
-        let next = self.last.saturating_add(1);
+        let next = self.behind_last();
         if has_at(self.entries.as_slice(), next, key) {
             return Some(next);
         }
         match find_position(&self.positions, self.entries.as_slice(), &key) {
             Ok(at) => Some(at),
             Err(_) => None,
+        }
+    }
+
+    /// The position of the stream with a key. That which came last is tried at once, since the ASDUs of a frame are often of one.
+    #[inline(always)]
+    pub fn find_stream(&self, key: StreamKey<'_>) -> Option<usize>
+        ensures { Finds self.now (stream_said key.entry) result }
+    {
+        if has_stream_at(self.entries.as_slice(), self.last, key) {
+            Some(self.last)
+        } else {
+            self.find(Key::Stream(key))
         }
     }
 

@@ -49,14 +49,14 @@ fn put_asdu<A: Allocator + Copy>(
     alloc: A,
     losses: &mut Losses<A>,
     out: &mut Vec<u8, A>,
-    heading: Heading,
+    heading: &Heading,
     app_id: u16,
-    source: &[u8],
+    source: [u8; 6],
     asdu: &AsduView<'_>,
 ) -> Result<bool, AllocError>
-    ensures tells { IfOk result (λ found. TellsSights heading (period_by losses.old) (kept_by losses.old) (sight_of_asdu (kept_by losses.old).moment app_id source.now (asdu_of {A = Unit {0}} asdu.now) ∷ []) out.old.items found out.new.items (kept_by losses.new)) }
+    ensures tells { IfOk result (λ found. TellsSights heading.now (period_by losses.old) (kept_by losses.old) (sight_of_asdu (kept_by losses.old).moment app_id source (asdu_of {A = Unit {0}} asdu.now) ∷ []) out.old.items found out.new.items (kept_by losses.new)) }
     ensures period { period_by losses.new ≡ period_by losses.old }
-    ensures wants { OnErr result (WantsFor heading (period_by losses.old) (kept_by losses.old) (sight_of_asdu (kept_by losses.old).moment app_id source.now (asdu_of {A = Unit {0}} asdu.now) ∷ [])) }
+    ensures wants { OnErr result (WantsFor heading.now (period_by losses.old) (kept_by losses.old) (sight_of_asdu (kept_by losses.old).moment app_id source (asdu_of {A = Unit {0}} asdu.now) ∷ [])) }
     ensures kept { take (length out.old.items) out.new.items ≡ out.old.items }
 {
     let key = StreamKey {
@@ -71,10 +71,9 @@ fn put_asdu<A: Allocator + Copy>(
     let Some(period) = losses.period() else {
         return Ok(false);
     };
-    let key = Key::Stream(key);
     let count = asdu.smp_cnt;
     let synch = asdu.smp_synch;
-    let found = put_sample(out, heading, &key, period, count, came, before, synch)?;
+    let found = put_sample(out, heading, key, period, count, came, before, synch)?;
     Ok(found)
 }
 
@@ -85,17 +84,17 @@ fn put_asdus<A: Allocator + Copy>(
     out: &mut Vec<u8, A>,
     heading: Heading,
     app_id: u16,
-    source: &[u8],
+    source: [u8; 6],
     sampled: &SvView<'_>,
 ) -> Result<bool, AllocError>
-    ensures tells { IfOk result (λ found. TellsSights heading (period_by losses.old) (kept_by losses.old) (map (sight_of_asdu (kept_by losses.old).moment app_id source.now) (asdus_left {A = Unit {0}} sampled.now.asdus)) out.old.items found out.new.items (kept_by losses.new)) }
+    ensures tells { IfOk result (λ found. TellsSights heading (period_by losses.old) (kept_by losses.old) (map (sight_of_asdu (kept_by losses.old).moment app_id source) (asdus_left {A = Unit {0}} sampled.now.asdus)) out.old.items found out.new.items (kept_by losses.new)) }
     ensures period { period_by losses.new ≡ period_by losses.old }
-    ensures wants { OnErr result (WantsFor heading (period_by losses.old) (kept_by losses.old) (map (sight_of_asdu (kept_by losses.old).moment app_id source.now) (asdus_left {A = Unit {0}} sampled.now.asdus))) }
+    ensures wants { OnErr result (WantsFor heading (period_by losses.old) (kept_by losses.old) (map (sight_of_asdu (kept_by losses.old).moment app_id source) (asdus_left {A = Unit {0}} sampled.now.asdus))) }
     ensures kept { take (length out.old.items) out.new.items ≡ out.old.items }
 {
     let mut found = false;
     for asdu in sampled.asdus {
-        found |= put_asdu(alloc, losses, out, heading, app_id, source, &asdu)?;
+        found |= put_asdu(alloc, losses, out, &heading, app_id, source, &asdu)?;
     }
     Ok(found)
 }
@@ -127,7 +126,7 @@ pub fn put_event<A: Allocator + Copy>(
                 out,
                 heading,
                 view.app_id,
-                &view.source,
+                view.source,
                 sampled,
             ),
         },

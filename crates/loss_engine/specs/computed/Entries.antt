@@ -1,31 +1,21 @@
 -- What is held of senders and streams.
-use Rattle.std.specs.Prelude.{◌≡◌, ℕ, ◌<◌, ◌≤◌, min, length, take, drop, slice_get, Bool, true, List, map, Option, Some, None}
+use Rattle.std.specs.Prelude.{◌≡◌, ℕ, ◌<◌, ◌≤◌, take, slice_get, true, List, map, Option, Some, None}
 use Rattle.loss_engine.specs.declared.entry.Entry.{Entry}
+use Rattle.loss_engine.specs.declared.entry.Origin.{Origin}
+use Rattle.loss_engine.specs.declared.entry.Origin.TheVariants as origin
 use Rattle.loss_engine.specs.declared.entry.Progress.{Progress as Held}
 use Rattle.loss_engine.specs.declared.entry.Progress.TheVariants as held
 use Rattle.loss_engine.specs.Sights.{Key, sender, stream, same_key}
 use Rattle.loss_engine.specs.computed.Tracking.{Progress, Tracked, frames, samples, counted, known_of}
 
--- where the name begins in the octets of an entry, behind a source address
-abbrev pub name_start : {A : Type 0} → Entry A → ℕ
-name_start e = min e.name_at (length e.octets)
-
--- its source address, which a sender has none of
-abbrev pub entry_source : {A : Type 0} → Entry A → List ℕ
-entry_source e = take (name_start e) e.octets
-
--- its gocbRef or svID
-abbrev pub entry_name : {A : Type 0} → Entry A → List ℕ
-entry_name e = drop (name_start e) e.octets
-
 -- the key by these parts
-abbrev pub key_by : ℕ → Option Bool → List ℕ → List ℕ → Key
-key_by app_id (Some simulation) source name = sender app_id name simulation
-key_by app_id None source name = stream app_id source name
+abbrev pub key_by : ℕ → Origin → List ℕ → Key
+key_by app_id (origin.Sender simulation) name = sender app_id name simulation
+key_by app_id (origin.Stream source) name = stream app_id source name
 
 -- the key of an entry
 abbrev pub entry_key : {A : Type 0} → Entry A → Key
-entry_key e = key_by e.app_id e.simulation (entry_source e) (entry_name e)
+entry_key e = key_by e.app_id e.origin e.name
 
 -- what is kept of one
 abbrev pub progress_of : Held → Progress

@@ -27,12 +27,12 @@ fn put_sender<A: Allocator>(out: &mut Vec<u8, A>, sender: &SenderKey<'_>) -> Res
 
 // Appends the words of a stream.
 fn put_stream<A: Allocator>(out: &mut Vec<u8, A>, stream: &StreamKey<'_>) -> Result<(), AllocError>
-    ensures { AppendsText result out.old.items out.new.items (key_text (of_stream stream.now.app_id stream.now.source.now stream.now.id.now)) }
+    ensures { AppendsText result out.old.items out.new.items (key_text (of_stream stream.now.app_id stream.now.source stream.now.id.now)) }
 {
     out.extend_from_slice(b" appid=")?;
     put_four_digits(out, stream.app_id)?;
     out.extend_from_slice(b" source=")?;
-    put_hexadecimal(out, stream.source)?;
+    put_hexadecimal(out, &stream.source)?;
     out.extend_from_slice(b" id=")?;
     put_quoted(out, stream.id)
 }
@@ -65,11 +65,11 @@ fn put_stream_fields<A: Allocator>(
     out: &mut Vec<u8, A>,
     stream: &StreamKey<'_>,
 ) -> Result<(), AllocError>
-    ensures { AppendsText result out.old.items out.new.items (onward (key_fields (of_stream stream.now.app_id stream.now.source.now stream.now.id.now))) }
+    ensures { AppendsText result out.old.items out.new.items (onward (key_fields (of_stream stream.now.app_id stream.now.source stream.now.id.now))) }
 {
     let app_id = [(stream.app_id / 256) as u8, (stream.app_id % 256) as u8];
     put_field_octets(out, b",\"appid\":", &app_id)?;
-    put_field_octets(out, b",\"source\":", stream.source)?;
+    put_field_octets(out, b",\"source\":", &stream.source)?;
     put_text(out, b",\"svID\":", stream.id)
 }
 

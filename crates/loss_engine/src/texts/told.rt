@@ -5,12 +5,12 @@ ghost use Rattle.text_core.specs.Pieces.{AppendsText};
 ghost use Rattle.loss_core.specs.Sender.{was_silent};
 ghost use Rattle.loss_engine.specs.declared.finding.Finding.TheVariants.{Late, Restarted};
 ghost use Rattle.loss_engine.specs.Findings.{came_told, first_missing as first_is, frame_findings, frames_told, has_loss, is_loss as loss_is, missing_told, silence as silence_is, standing_told, states_told, synch_told};
-ghost use Rattle.loss_engine.specs.KeySaid.{key_said};
+ghost use Rattle.loss_engine.specs.KeySaid.{key_said, stream_said};
 ghost use Rattle.loss_engine.specs.LossText.{told_line};
 ghost use Rattle.loss_engine.specs.computed.NumberText.{given};
 
 use crate::finding::Finding;
-use crate::key::Key;
+use crate::key::{Key, StreamKey};
 use crate::texts::finding::put_finding;
 use loss_core::{Arrival, Came, Missing, Pair, Span, Standing, Told, find_missing};
 use object_core::Heading;
@@ -281,8 +281,8 @@ fn is_synch_quiet(before: Option<u8>, synch: u8) -> bool
 #[inline]
 pub fn put_sample<A: Allocator>(
     out: &mut Vec<u8, A>,
-    heading: Heading,
-    key: &Key<'_>,
+    heading: &Heading,
+    key: StreamKey<'_>,
     period: u32,
     count: u16,
     came: Came,
@@ -291,7 +291,7 @@ pub fn put_sample<A: Allocator>(
 ) -> Result<bool, AllocError>
     requires some { 0 < period }
     requires most { period ≤ 65536 }
-    ensures text { AppendsText result out.old.items out.new.items (flat_map (told_line heading.form heading.number heading.moment (key_said key.now)) (came_told period count came ++ synch_told before synch)) }
+    ensures text { AppendsText result out.old.items out.new.items (flat_map (told_line heading.now.form heading.now.number heading.now.moment (stream_said key.entry)) (came_told period count came ++ synch_told before synch)) }
     ensures found { IfOk result (λ found. found ≡ has_loss (came_told period count came ++ synch_told before synch)) }
     ensures quiet { came_told period count came ++ synch_told before synch ≡ [] → IsOk result }
 {
@@ -300,8 +300,8 @@ pub fn put_sample<A: Allocator>(
     }
     put_findings(
         out,
-        heading,
-        key,
+        *heading,
+        &Key::Stream(key),
         &findings_of_sample(period, count, came, before, synch),
     )
 }

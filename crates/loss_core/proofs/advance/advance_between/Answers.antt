@@ -1,13 +1,12 @@
-use Rattle.std.proofs.Common.{◌+◌, ◌-◌, ◌∙◌, ap}
-use Rattle.std.proofs.Math.Nat.{mod-lt}
-use Rattle.loss_core.specs.Advance.{advance_of, way_round}
-use Rattle.loss_core.specs.computed.AdvanceSteps.{nearest_to}
-use Rattle.loss_core.proofs.Nearest.{nearest_at}
+use Rattle.std.proofs.Common.{sym, subst}
+use Rattle.loss_core.specs.Advance.{IsAdvance}
+use Rattle.loss_core.proofs.Nearest.{advance_is}
 use Rattle.loss_core.proofs.advance.advance_between.Goals as goal
 
-pub returns-clause-is : goal.returns-clause-is
-returns-clause-is c = (
-  nearest_to c.args.period c.args.elapsed (way_round c.args.period c.args.from c.args.to),
-  nearest_at c.args.period (way_round c.args.period c.args.from c.args.to) c.args.elapsed (mod-lt (c.args.to + (c.args.period - c.args.from)) c.requires.some),
-  c.counted.ensures ∙ ap (advance_of c.args.period) c.nearest.ensures,
-)
+pub returns-then-is_next-clause-is : goal.returns-then-is_next-clause-is
+returns-then-is_next-clause-is c =
+    subst (IsAdvance c.args.period c.args.elapsed c.args.from c.args.to) (c.is_next.ensures c.if-is_next.true) (advance_is c.args.period c.args.elapsed c.args.from c.args.to c.requires.some)
+
+pub returns-else-is_next-clause-is : goal.returns-else-is_next-clause-is
+returns-else-is_next-clause-is c =
+    subst (IsAdvance c.args.period c.args.elapsed c.args.from c.args.to) (sym c.any_advance.ensures) (advance_is c.args.period c.args.elapsed c.args.from c.args.to c.requires.some)

@@ -1,11 +1,14 @@
-use Rattle.std.proofs.Common.{[], ◌∷◌, ◌++◌, ap, sym, ◌∙◌}
+use Rattle.std.proofs.Common.{◌≡◌, List, subst, sym}
+use Rattle.std.specs.Result.{OnOk}
 use Rattle.loss_engine.specs.KeySaid.{stream_said}
-use Rattle.loss_engine.specs.computed.Tracking.{more_samples}
+use Rattle.loss_engine.specs.computed.Held.{kept_by, period_by}
+use Rattle.loss_engine.specs.computed.Tracking.{Tracked, first_samples, more_samples}
 use Rattle.loss_engine.proofs.Tracks.{with_none}
 use Rattle.loss_engine.proofs.losses.Losses.take_sample.Goals as goal
 
-pub returns-in_ok-put-in-None-clause-kept : goal.returns-in_ok-put-in-None-clause-kept
-returns-in_ok-put-in-None-clause-kept g c =
-    c.in_ok-put-in-None.ensures.put
-    ∙ ap (λ first. record { moment = c.args.self.now.greatest; tracked = c.args.self.now.roll ++ record { key = stream_said c.args.key; progress = first } ∷ [] }) c.first_samples-first.ensures
-    ∙ ap (λ xs. record { moment = c.args.self.now.greatest; tracked = xs }) (sym (with_none c.args.self.now.roll (stream_said c.args.key) _ (more_samples _ c.args.synch) c.in-None.ensures))
+pub returns-in-None-clause-kept : goal.returns-in-None-clause-kept
+returns-in-None-clause-kept g c =
+    let moment = c.args.self.now.greatest in
+    subst (λ (xs : List Tracked). OnOk c.take_first.result (kept_by c.take_first.new.self ≡ record { moment = moment; tracked = xs }))
+    (sym (with_none c.args.self.now.roll (stream_said c.args.key) (first_samples (period_by c.args.self.now) (record { count = c.args.count; moment = moment }) c.args.synch) (more_samples (record { count = c.args.count; moment = moment }) c.args.synch) c.in-None.ensures))
+    c.take_first.ensures.put

@@ -24,7 +24,7 @@ returns-then-has_at g c =
 pub returns-then-has_at-2 : goal.returns-then-has_at-2
 returns-then-has_at-2 g c =
     let key = key_said c.args.key in
-    let at = c.saturating_add-next.result in
+    let at = c.behind_last-next.result in
     let there = subst (λ (l : List (Entry g.row.A.Denot)). HasKeyAt l key at) c.as_slice-2.ensures.value (c.has_at-2.ensures c.if-has_at-2.true) in
     subst (λ (l : List Tracked). IsFirstAt l key at) c.self.view_is (first_at c.self.inside.entries.items c.self.inside.positions c.self.invariant key at there)
 

@@ -12,6 +12,6 @@ pub returns : goal.returns
 returns g c =
     let s = c.args.stream.now in
     let id = next_field (codes "svID", quoted s.id.now) in
-    row_then c.put_text.result _ _ _ (next_field (codes "appid", octets_value (two_octets s.app_id)) ∷ next_field (codes "source", octets_value s.source.now) ∷ []) (id ∷ [])
+    row_then c.put_text.result _ _ _ (next_field (codes "appid", octets_value (two_octets s.app_id)) ∷ next_field (codes "source", octets_value s.source) ∷ []) (id ∷ [])
     (more c.in_ok-put_field_octets.ensures (more c.in_ok-put_field_octets-2.ensures (done refl)))
     (same_text c.put_text.result _ _ _ _ (sym (append-nil id)) c.put_text.ensures)
