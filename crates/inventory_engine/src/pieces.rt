@@ -160,15 +160,15 @@ pub fn text_size<A: Allocator>(
     Ok(size)
 }
 
-// What follows these octets at the start of a text.
-fn after<'a>(text: &'a [u8], front: &[u8]) -> Option<&'a [u8]>
+/// What follows these octets at the start of a text.
+pub fn after<'a>(text: &'a [u8], front: &[u8]) -> Option<&'a [u8]>
     ensures { IsAfter text.now front.now result }
 {
     text.strip_prefix(front)
 }
 
-// What follows this octet.
-fn after_one(text: &[u8], octet: u8) -> Option<&[u8]>
+/// What follows this octet.
+pub fn after_one(text: &[u8], octet: u8) -> Option<&[u8]>
     ensures { IsAfter text.now (octet ∷ []) result }
 {
     match text.split_first() {
@@ -177,15 +177,27 @@ fn after_one(text: &[u8], octet: u8) -> Option<&[u8]>
     }
 }
 
-// What follows a number in decimal.
-fn after_decimal(text: &[u8], number: u64) -> Option<&[u8]>
+/// What follows a number in decimal.
+#[inline(always)]
+pub fn after_decimal(text: &[u8], number: u64) -> Option<&[u8]>
+    ensures { IsAfter text.now (decimal number) result }
+{
+    if number < 10 {
+        return after_one(text, b'0' + number as u8);
+    }
+    after_longer(text, number)
+}
+
+// What follows a number in decimal. A call of its own: most numbers have one digit.
+#[inline(never)]
+fn after_longer(text: &[u8], number: u64) -> Option<&[u8]>
     ensures { IsAfter text.now (decimal number) result }
 {
     after(text, Buffer::new().format(number).as_bytes())
 }
 
-// What follows a number in four hexadecimal digits.
-fn after_digits(text: &[u8], number: u16) -> Option<&[u8]>
+/// What follows a number in four hexadecimal digits.
+pub fn after_digits(text: &[u8], number: u16) -> Option<&[u8]>
     ensures { IsAfter text.now (four_digits number) result }
 {
     let mut digits = [0; 4];
@@ -221,8 +233,8 @@ fn after_escaped<'a>(text: &'a [u8], octets: &[u8]) -> Option<&'a [u8]>
     Some(rest)
 }
 
-// What follows a text between quotation marks.
-fn after_quoted<'a>(text: &'a [u8], octets: &[u8]) -> Option<&'a [u8]>
+/// What follows a text between quotation marks.
+pub fn after_quoted<'a>(text: &'a [u8], octets: &[u8]) -> Option<&'a [u8]>
     ensures { IsAfter text.now (quoted octets.now) result }
 {
     let opened = after_one(text, b'"')?;

@@ -1,24 +1,31 @@
 // The lines of sightings.
 
 ghost use Rattle.std.specs.Prelude.{◌≡◌, ◌∷◌, ◌++◌, [], IfOk, OnErr, OnOk, Some, length, take};
-ghost use Rattle.std.specs.List.{concat, flat_map};
+ghost use Rattle.std.specs.List.{flat_map};
 ghost use Rattle.std.specs.Fmt.{decimal};
 ghost use Rattle.pdu_core.specs.SampledViews.{asdu_of, asdus_left};
-ghost use Rattle.pdu_core.specs.Views.{octets_if, pdu_of};
+ghost use Rattle.pdu_core.specs.Views.{pdu_of};
 ghost use Rattle.list_core.specs.declared.event.EventKind.{EventKind as SpecKind};
 ghost use Rattle.text_core.specs.Pieces.{AppendsText};
 ghost use Rattle.object_core.specs.Onward.{onward};
-ghost use Rattle.inventory_engine.specs.SightingObject.{fields_of_stream, name_fields, sighting_object};
-ghost use Rattle.inventory_engine.specs.computed.ShownFields.{shown_block, shown_fields, shown_names, sighting_by};
+ghost use Rattle.inventory_engine.specs.SightingObject.{fields_of_stream, sighting_object};
+ghost use Rattle.inventory_engine.specs.computed.ShownFields.{shown_block, shown_fields, shown_names, shown_sighting, shown_stream, sighting_by};
 ghost use Rattle.inventory_engine.specs.computed.PieceText.{piece_text};
-ghost use Rattle.inventory_engine.specs.Sightings.{block_parts, block_sighting, has_fields as fields_have, is_field as field_is, is_field_octet as octet_is, named_parts, sightings_of, stream_parts, stream_sighting, stream_sightings, text_or_none};
+ghost use Rattle.inventory_engine.specs.Sightings.{block_sighting, key_of, sightings_of, stream_sighting, stream_sightings};
 ghost use Rattle.inventory_engine.specs.BlocksText.{changed_kind, first_kind, sighting_line, spaced_word, told_by};
 ghost use Rattle.inventory_engine.specs.computed.BlocksStep.{AppendsLines, HasLines, telling_at};
+ghost use Rattle.inventory_engine.specs.computed.KnownTexts.{by_key};
+ghost use Rattle.known_core.specs.computed.Held.{AnswersPlace};
 
+use crate::block_text::{
+    ShownBlock, block_pieces, block_shown, has_fields, is_block_text, named_pieces,
+};
 use crate::inventory::{Inventory, Sought, set_text};
 use crate::known::Known;
 use crate::pieces::{Piece, is_text, put_pieces, put_quoted_pieces, text_size};
+use crate::stream_text::{is_stream_text, stream_pieces};
 use frame_core::{ApduView, EventKind, view_frame};
+use known_core::Place;
 use object_core::event::put_event_head;
 use object_core::fields::{put_field_octets, put_field_text_if};
 use object_core::{Counted, Form, Heading};
@@ -77,23 +84,6 @@ fn put_line<A: Allocator>(
     let size = line.len().saturating_sub(start);
     line.extend_from_slice(b"\n")?;
     Ok(size)
-}
-
-/// What a frame says of its control block: not its view, so that of this no more is kept at hand.
-#[derive(Clone, Copy)]
-pub struct ShownBlock<'a> {
-    /// The APPID.
-    pub app_id: u16,
-    /// The gocbRef.
-    pub gocb_ref: &'a [u8],
-    /// The datSet.
-    pub dat_set: &'a [u8],
-    /// The goID, which may be absent.
-    pub go_id: Option<&'a [u8]>,
-    /// The confRev.
-    pub conf_rev: u32,
-    /// How many members there are.
-    pub entries: usize,
 }
 
 /// What a sighting is of.
@@ -220,10 +210,11 @@ fn put_told<A: Allocator>(
     }
 }
 
-// Appends what is written of a sighting, and keeps its text.
+// Appends what is written of a sighting, and keeps its text. It was looked for, and this is where it is or would be.
 fn put_sighting<A: Allocator + Copy>(
     alloc: A,
     known: &mut Inventory<A>,
+    found: Result<Place, Place>,
     line: &mut Vec<u8, A>,
     heading: Heading,
     app_id: Option<u16>,
@@ -231,11 +222,12 @@ fn put_sighting<A: Allocator + Copy>(
     pieces: &[Piece<'_>],
     shown: Shown<'_>,
 ) -> Result<(), AllocError>
+    requires found { AnswersPlace (by_key (app_id, name.now)) known.old found }
     ensures written { OnOk result (AppendsLines (telling_at heading) (sighting_by app_id name.now shown.entry (flat_map piece_text pieces.now) ∷ []) known.old known.new line.old.items line.new.items) }
     ensures wants { OnErr result (HasLines (telling_at heading) (sighting_by app_id name.now shown.entry (flat_map piece_text pieces.now) ∷ []) known.old) }
     ensures kept { take (length line.old.items) line.new.items ≡ line.old.items }
 {
-    match known.find(&Sought { app_id, name }) {
+    match found {
         Ok(place) => {
             if is_text(known.get(place).text(), pieces) {
                 return Ok(());
@@ -251,125 +243,36 @@ fn put_sighting<A: Allocator + Copy>(
     }
 }
 
-// Whether an octet can stand in a field of a BLOCK.
-fn is_field_octet(octet: u8) -> bool
-    ensures { result ≡ octet_is octet }
+// Appends what is written of a control block that is not known as a frame shows it. A call of its own, since nearly every
+// frame shows what is known: what a line is made of is put together here alone. It takes what is shown by value, so that of a
+// frame whose block is known nothing has to stand in memory.
+#[inline(never)]
+fn put_other_block<A: Allocator + Copy>(
+    alloc: A,
+    known: &mut Inventory<A>,
+    found: Result<Place, Place>,
+    line: &mut Vec<u8, A>,
+    heading: Heading,
+    block: ShownBlock<'_>,
+) -> Result<(), AllocError>
+    requires found { AnswersPlace (by_key (key_of (shown_sighting block))) known.old found }
+    ensures written { OnOk result (AppendsLines (telling_at heading) (shown_sighting block.entry ∷ []) known.old known.new line.old.items line.new.items) }
+    ensures wants { OnErr result (HasLines (telling_at heading) (shown_sighting block.entry ∷ []) known.old) }
+    ensures kept { take (length line.old.items) line.new.items ≡ line.old.items }
 {
-    octet >= 0x20 && octet <= 0x7E && octet != b','
-}
-
-// Whether a text can. A long one is passed eight octets at a time, which the compiler looks at together; the last eight may
-// be some of those before them.
-fn is_field(text: &[u8]) -> bool
-    ensures { result ≡ field_is text.now }
-{
-    if text.len() < 8 {
-        return text.iter().all(|octet| is_field_octet(*octet));
-    }
-    let (_front, last) = text.split_at(text.len() - 8);
-    let mut others = text;
-    'eights: while 8 < others.len() {
-        let (eight, rest) = others.split_at(8);
-        if !are_field_octets(eight) {
-            return false;
-        }
-        others = rest;
-    }
-    are_field_octets(last)
-}
-
-// Whether each of these octets can. It looks at each, also behind one that cannot, so that the compiler compares several
-// octets at once.
-#[inline(always)]
-fn are_field_octets(octets: &[u8]) -> bool
-    ensures { result ≡ field_is octets.now }
-{
-    let mut can_stand = true;
-    for octet in octets {
-        can_stand &= is_field_octet(*octet);
-    }
-    can_stand
-}
-
-// A text, which is empty where it is absent.
-fn present(text: Option<&[u8]>) -> &[u8]
-    ensures { result.now ≡ text_or_none (octets_if text.entry) }
-{
-    match text {
-        Some(text) => text,
-        None => b"",
-    }
-}
-
-// Whether the three texts of an APDU can stand in a BLOCK.
-fn has_fields(goose: &GooseView<'_>) -> bool
-    ensures { result ≡ fields_have (pdu_of {A = Unit {0}} goose.now) }
-{
-    is_field(goose.gocb_ref) && is_field(goose.dat_set) && is_field(present(goose.go_id))
-}
-
-// The text of a BLOCK.
-fn block_pieces<'a>(app_id: u16, goose: &GooseView<'a>) -> [Piece<'a>; 11]
-    ensures { flat_map piece_text result ≡ concat (block_parts app_id (pdu_of {A = Unit {0}} goose.now)) }
-{
-    [
-        Piece::Digits(app_id),
-        Piece::Octet(b','),
-        Piece::Octets(goose.gocb_ref),
-        Piece::Octet(b','),
-        Piece::Octets(goose.dat_set),
-        Piece::Octet(b','),
-        Piece::Octets(present(goose.go_id)),
-        Piece::Octet(b','),
-        Piece::Decimal(u64::from(goose.conf_rev)),
-        Piece::Octet(b','),
-        Piece::Decimal(goose.entries as u64),
-    ]
-}
-
-// The same fields by their names.
-fn named_pieces<'a>(app_id: u16, goose: &GooseView<'a>) -> [Piece<'a>; 12]
-    ensures { flat_map piece_text result ≡ concat (named_parts app_id (pdu_of {A = Unit {0}} goose.now)) }
-{
-    [
-        Piece::Octets(b"appid="),
-        Piece::Digits(app_id),
-        Piece::Octets(b" ref="),
-        Piece::Quoted(goose.gocb_ref),
-        Piece::Octets(b" set="),
-        Piece::Quoted(goose.dat_set),
-        Piece::Octets(b" id="),
-        Piece::Optional(goose.go_id),
-        Piece::Octets(b" rev="),
-        Piece::Decimal(u64::from(goose.conf_rev)),
-        Piece::Octets(b" entries="),
-        Piece::Decimal(goose.entries as u64),
-    ]
-}
-
-// The text of a stream.
-fn stream_pieces<'a>(asdu: &AsduView<'a>) -> [Piece<'a>; 4]
-    ensures { flat_map piece_text result ≡ concat (stream_parts (asdu_of {A = Unit {0}} asdu.now)) }
-{
-    [
-        Piece::Octets(b"id="),
-        Piece::Quoted(asdu.sv_id),
-        Piece::Octets(b" rev="),
-        Piece::Decimal(u64::from(asdu.conf_rev)),
-    ]
-}
-
-// What a frame with this APPID and APDU says of its control block.
-fn block_shown<'a>(app_id: u16, goose: &GooseView<'a>) -> ShownBlock<'a>
-    ensures { shown_names result ≡ name_fields app_id (pdu_of {A = Unit {0}} goose.now) }
-{
-    ShownBlock {
-        app_id,
-        gocb_ref: goose.gocb_ref,
-        dat_set: goose.dat_set,
-        go_id: goose.go_id,
-        conf_rev: goose.conf_rev,
-        entries: goose.entries,
+    let app_id = Some(block.app_id);
+    let name = block.gocb_ref;
+    let shown = Shown::Block(block);
+    if has_fields(&block) {
+        let pieces = block_pieces(&block);
+        put_sighting(
+            alloc, known, found, line, heading, app_id, name, &pieces, shown,
+        )
+    } else {
+        let pieces = named_pieces(&block);
+        put_sighting(
+            alloc, known, found, line, heading, app_id, name, &pieces, shown,
+        )
     }
 }
 
@@ -386,33 +289,38 @@ fn put_block<A: Allocator + Copy>(
     ensures wants { OnErr result (HasLines (telling_at heading) (block_sighting app_id (pdu_of {A = Unit {0}} goose.now) ∷ []) known.old) }
     ensures kept { take (length line.old.items) line.new.items ≡ line.old.items }
 {
-    let name = goose.gocb_ref;
-    let shown = Shown::Block(block_shown(app_id, goose));
-    if has_fields(goose) {
-        let pieces = block_pieces(app_id, goose);
-        put_sighting(
-            alloc,
-            known,
-            line,
-            heading,
-            Some(app_id),
-            name,
-            &pieces,
-            shown,
-        )
-    } else {
-        let pieces = named_pieces(app_id, goose);
-        put_sighting(
-            alloc,
-            known,
-            line,
-            heading,
-            Some(app_id),
-            name,
-            &pieces,
-            shown,
-        )
+    let found = known.find(&Sought {
+        app_id: Some(app_id),
+        name: goose.gocb_ref,
+    });
+    let block = block_shown(app_id, goose);
+    match found {
+        Ok(place) if is_block_text(known.get(place).text(), &block) => Ok(()),
+        _ => put_other_block(alloc, known, found, line, heading, block),
     }
+}
+
+// Appends what is written of the stream of an ASDU that is not known as it shows it: a call of its own, as that of a block.
+#[inline(never)]
+fn put_other_stream<A: Allocator + Copy>(
+    alloc: A,
+    known: &mut Inventory<A>,
+    found: Result<Place, Place>,
+    line: &mut Vec<u8, A>,
+    heading: Heading,
+    conf_rev: u32,
+    sv_id: &[u8],
+) -> Result<(), AllocError>
+    requires found { AnswersPlace (by_key (None, sv_id.now)) known.old found }
+    ensures written { OnOk result (AppendsLines (telling_at heading) (shown_stream conf_rev sv_id.now ∷ []) known.old known.new line.old.items line.new.items) }
+    ensures wants { OnErr result (HasLines (telling_at heading) (shown_stream conf_rev sv_id.now ∷ []) known.old) }
+    ensures kept { take (length line.old.items) line.new.items ≡ line.old.items }
+{
+    let pieces = stream_pieces(conf_rev, sv_id);
+    let shown = Shown::Stream(conf_rev, sv_id);
+    put_sighting(
+        alloc, known, found, line, heading, None, sv_id, &pieces, shown,
+    )
 }
 
 // Appends what is written of the stream of an ASDU.
@@ -427,17 +335,22 @@ fn put_stream<A: Allocator + Copy>(
     ensures wants { OnErr result (HasLines (telling_at heading) (stream_sighting (asdu_of {A = Unit {0}} asdu.now) ∷ []) known.old) }
     ensures kept { take (length line.old.items) line.new.items ≡ line.old.items }
 {
-    let pieces = stream_pieces(asdu);
-    put_sighting(
-        alloc,
-        known,
-        line,
-        heading,
-        None,
-        asdu.sv_id,
-        &pieces,
-        Shown::Stream(asdu.conf_rev, asdu.sv_id),
-    )
+    let found = known.find(&Sought {
+        app_id: None,
+        name: asdu.sv_id,
+    });
+    match found {
+        Ok(place) if is_stream_text(known.get(place).text(), asdu.conf_rev, asdu.sv_id) => Ok(()),
+        _ => put_other_stream(
+            alloc,
+            known,
+            found,
+            line,
+            heading,
+            asdu.conf_rev,
+            asdu.sv_id,
+        ),
+    }
 }
 
 // Appends what is written of the streams of a frame's ASDUs.

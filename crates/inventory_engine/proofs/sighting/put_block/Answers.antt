@@ -1,32 +1,25 @@
-use Rattle.std.proofs.Common.{[], ◌∷◌, ◌∙◌, List, ℕ, Some, ap}
-use Rattle.std.specs.Prelude.{codes}
-use Rattle.std.specs.List.{concat, flat_map}
+use Rattle.std.proofs.Common.{◌∙◌, [], ◌∷◌, Some, true, ap}
+use Rattle.std.specs.Str.{bytes_eq}
 use Rattle.pdu_core.specs.Views.{pdu_of}
-use Rattle.inventory_engine.specs.computed.PieceText.{piece_text}
-use Rattle.text_core.specs.Pieces.{quoted}
-use Rattle.object_core.specs.Objects.{Field}
-use Rattle.inventory_engine.specs.SightingObject.{name_fields}
-use Rattle.inventory_engine.specs.Sightings.{Sighting, block_parts, block_sighting, has_fields, named_parts}
+use Rattle.known_core.specs.computed.Held.{position_of}
+use Rattle.inventory_engine.specs.declared.known.Known.{Known}
 use Rattle.inventory_engine.specs.computed.BlocksStep.{telling_at}
-use Rattle.inventory_engine.proofs.Appending.{by_test, by_test_not, appends_as}
+use Rattle.inventory_engine.specs.computed.KnownTexts.{known_text}
+use Rattle.inventory_engine.specs.computed.ShownFields.{shown_sighting}
+use Rattle.inventory_engine.specs.Sightings.{Sighting, block_sighting}
+use Rattle.inventory_engine.proofs.Appending.{appends_as, compared, said_same}
 use Rattle.inventory_engine.proofs.sighting.put_block.Goals as goal
 
--- a sighting of this text, with these fields behind it
-seen : ℕ → List ℕ → List Field → List ℕ → List Sighting
-seen app_id name fields text = record { app_id = Some app_id; name = name; text = text; fields = (codes "text", quoted text) ∷ fields } ∷ []
+pub returns-in-Ok-clause-written : goal.returns-in-Ok-clause-written
+returns-in-Ok-clause-written g c =
+    let s = block_sighting c.args.app_id (pdu_of {A = Unit {0}} c.args.goose.now) in
+    let at = position_of c.args.known.now c.in-Ok.place in
+    let one : Known g.row.A.Denot = record { app_id = Some c.args.app_id; octets = []; text_at = 0 } in
+    said_same (telling_at c.args.heading) s c.args.known.now at one c.args.line.now.items c.in-Ok.ensures.1
+    (compared c.args.known.now at one c.text.result.now s.text c.is_block_text.result true (c.text.ensures ∙ ap known_text (c.get.ensures one)) (c.is_block_text.ensures ∙ ap (λ (x : Sighting). bytes_eq c.text.result.now x.text) c.block_shown-block.ensures) c.if-is_block_text.true)
 
-pub returns-then-has_fields-clause-written : goal.returns-then-has_fields-clause-written
-unfolding seen
-returns-then-has_fields-clause-written g c =
-    let p = pdu_of {A = Unit {0}} c.args.goose.now in
-    let text = by_test (has_fields p) (concat (block_parts c.args.app_id p)) (concat (named_parts c.args.app_id p)) (flat_map piece_text c.block_pieces-pieces.result) c.has_fields.result c.has_fields.ensures c.if-has_fields.true c.block_pieces-pieces.ensures in
-    appends_as c.put_sighting.result (telling_at c.args.heading) _ (block_sighting c.args.app_id p ∷ []) c.args.known.now c.put_sighting.new.known c.args.line.now.items c.put_sighting.new.line.items
-    (ap (λ fields. seen c.args.app_id p.gocb_ref fields (flat_map piece_text c.block_pieces-pieces.result)) c.block_shown.ensures ∙ ap (seen c.args.app_id p.gocb_ref (name_fields c.args.app_id p)) text) c.put_sighting.ensures.written
-
-pub returns-else-has_fields-clause-written : goal.returns-else-has_fields-clause-written
-unfolding seen
-returns-else-has_fields-clause-written g c =
-    let p = pdu_of {A = Unit {0}} c.args.goose.now in
-    let text = by_test_not (has_fields p) (concat (block_parts c.args.app_id p)) (concat (named_parts c.args.app_id p)) (flat_map piece_text c.named_pieces-pieces.result) c.has_fields.result c.has_fields.ensures c.if-has_fields.false c.named_pieces-pieces.ensures in
-    appends_as c.put_sighting-else-has_fields.result (telling_at c.args.heading) _ (block_sighting c.args.app_id p ∷ []) c.args.known.now c.put_sighting-else-has_fields.new.known c.args.line.now.items c.put_sighting-else-has_fields.new.line.items
-    (ap (λ fields. seen c.args.app_id p.gocb_ref fields (flat_map piece_text c.named_pieces-pieces.result)) c.block_shown.ensures ∙ ap (seen c.args.app_id p.gocb_ref (name_fields c.args.app_id p)) text) c.put_sighting-else-has_fields.ensures.written
+pub returns-in_default-clause-written : goal.returns-in_default-clause-written
+returns-in_default-clause-written g c =
+    let s = block_sighting c.args.app_id (pdu_of {A = Unit {0}} c.args.goose.now) in
+    appends_as c.put_other_block.result (telling_at c.args.heading) (shown_sighting c.block_shown-block.result ∷ []) (s ∷ []) c.args.known.now c.put_other_block.new.known c.args.line.now.items c.put_other_block.new.line.items
+    (ap (λ (x : Sighting). x ∷ []) c.block_shown-block.ensures) c.put_other_block.ensures.written

@@ -1,19 +1,17 @@
-use Rattle.std.proofs.Common.{[], ◌∷◌, List, ℕ, None, ap}
+use Rattle.std.proofs.Common.{◌∙◌, [], None, true, ap}
 use Rattle.pdu_core.specs.SampledViews.{asdu_of}
-use Rattle.pdu_core.specs.declared.sampled.view.AsduView.{AsduView}
-use Rattle.inventory_engine.specs.SightingObject.{stream_fields}
-use Rattle.inventory_engine.specs.Sightings.{Sighting, stream_sighting}
+use Rattle.known_core.specs.computed.Held.{position_of}
+use Rattle.inventory_engine.specs.declared.known.Known.{Known}
 use Rattle.inventory_engine.specs.computed.BlocksStep.{telling_at}
-use Rattle.inventory_engine.proofs.Appending.{appends_as}
+use Rattle.inventory_engine.specs.computed.KnownTexts.{known_text}
+use Rattle.inventory_engine.specs.Sightings.{stream_sighting}
+use Rattle.inventory_engine.proofs.Appending.{compared, said_same}
 use Rattle.inventory_engine.proofs.sighting.put_stream.Goals as goal
 
--- a sighting of this text
-seen : AsduView → List ℕ → List Sighting
-seen asdu text = record { app_id = None; name = asdu.sv_id.now; text = text; fields = stream_fields (asdu_of {A = Unit {0}} asdu) } ∷ []
-
-pub returns-clause-written : goal.returns-clause-written
-unfolding seen
-returns-clause-written g c =
-    let a = asdu_of {A = Unit {0}} c.args.asdu.now in
-    appends_as c.put_sighting.result (telling_at c.args.heading) _ (stream_sighting a ∷ []) c.args.known.now c.put_sighting.new.known c.args.line.now.items c.put_sighting.new.line.items
-    (ap (seen c.args.asdu.now) c.stream_pieces-pieces.ensures) c.put_sighting.ensures.written
+pub returns-in-Ok-clause-written : goal.returns-in-Ok-clause-written
+returns-in-Ok-clause-written g c =
+    let s = stream_sighting (asdu_of {A = Unit {0}} c.args.asdu.now) in
+    let at = position_of c.args.known.now c.in-Ok.place in
+    let one : Known g.row.A.Denot = record { app_id = None; octets = []; text_at = 0 } in
+    said_same (telling_at c.args.heading) s c.args.known.now at one c.args.line.now.items c.in-Ok.ensures.1
+    (compared c.args.known.now at one c.text.result.now s.text c.is_stream_text.result true (c.text.ensures ∙ ap known_text (c.get.ensures one)) c.is_stream_text.ensures c.if-is_stream_text.true)

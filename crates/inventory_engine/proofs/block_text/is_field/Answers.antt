@@ -1,7 +1,7 @@
 use Rattle.std.proofs.Common.{◌≡◌, ◌-◌, ◌≤◌, ◌∙◌, true, arith, length, rules, sym}
 use Rattle.inventory_engine.specs.Sightings.{is_field_octet}
 use Rattle.inventory_engine.proofs.Fields.{behind_decides, end_of_end, longer_end}
-use Rattle.inventory_engine.proofs.sighting.is_field.Goals as goal
+use Rattle.inventory_engine.proofs.block_text.is_field.Goals as goal
 
 pub eights-preserved : goal.eights-preserved
 eights-preserved c =

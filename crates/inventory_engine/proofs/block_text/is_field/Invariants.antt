@@ -1,7 +1,7 @@
 use Rattle.std.proofs.Common.{◌≡◌, ◌-◌, ◌≤◌, drop, length}
 use Rattle.std.specs.List.{list_all}
 use Rattle.inventory_engine.specs.Sightings.{is_field_octet}
-use Rattle.inventory_engine.proofs.sighting.is_field.Given as goal
+use Rattle.inventory_engine.proofs.block_text.is_field.Given as goal
 
 abbrev pub invariant-eights : goal.invariant-eights
 invariant-eights l = record {

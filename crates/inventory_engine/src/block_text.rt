@@ -1,0 +1,199 @@
+// The text that tells how a control block is configured.
+
+ghost use Rattle.std.specs.Prelude.{◌≡◌, ◌++◌, codes};
+ghost use Rattle.std.specs.List.{concat, flat_map};
+ghost use Rattle.std.specs.Str.{bytes_eq};
+ghost use Rattle.std.specs.Fmt.{decimal};
+ghost use Rattle.pdu_core.specs.Views.{octets_if, pdu_of};
+ghost use Rattle.inventory_engine.specs.computed.PieceText.{IsAfter, piece_text};
+ghost use Rattle.inventory_engine.specs.computed.ShownFields.{shown_can, shown_named, shown_parts, shown_sighting, shown_text};
+ghost use Rattle.inventory_engine.specs.Sightings.{block_sighting, is_field as field_is, is_field_octet as octet_is, text_or_none};
+
+use crate::pieces::{Piece, after, after_decimal, after_digits, after_one, is_text};
+use pdu_core::GooseView;
+
+/// What a frame says of its control block: not its view, so that of this no more is kept at hand.
+#[derive(Clone, Copy)]
+pub struct ShownBlock<'a> {
+    /// The APPID.
+    pub app_id: u16,
+    /// The gocbRef.
+    pub gocb_ref: &'a [u8],
+    /// The datSet.
+    pub dat_set: &'a [u8],
+    /// The goID, which may be absent.
+    pub go_id: Option<&'a [u8]>,
+    /// The confRev.
+    pub conf_rev: u32,
+    /// How many members there are.
+    pub entries: usize,
+}
+
+/// What a frame with this APPID and APDU says of its control block.
+pub fn block_shown<'a>(app_id: u16, goose: &GooseView<'a>) -> ShownBlock<'a>
+    ensures { shown_sighting result ≡ block_sighting app_id (pdu_of {A = Unit {0}} goose.now) }
+{
+    ShownBlock {
+        app_id,
+        gocb_ref: goose.gocb_ref,
+        dat_set: goose.dat_set,
+        go_id: goose.go_id,
+        conf_rev: goose.conf_rev,
+        entries: goose.entries,
+    }
+}
+
+// Whether an octet can stand in a field of a BLOCK.
+fn is_field_octet(octet: u8) -> bool
+    ensures { result ≡ octet_is octet }
+{
+    octet >= 0x20 && octet <= 0x7E && octet != b','
+}
+
+// Whether a text can. A long one is passed eight octets at a time, which the compiler looks at together; the last eight may
+// be some of those before them.
+fn is_field(text: &[u8]) -> bool
+    ensures { result ≡ field_is text.now }
+{
+    if text.len() < 8 {
+        return text.iter().all(|octet| is_field_octet(*octet));
+    }
+    let (_front, last) = text.split_at(text.len() - 8);
+    let mut others = text;
+    'eights: while 8 < others.len() {
+        let (eight, rest) = others.split_at(8);
+        if !are_field_octets(eight) {
+            return false;
+        }
+        others = rest;
+    }
+    are_field_octets(last)
+}
+
+// Whether each of these octets can. It looks at each, also behind one that cannot, so that the compiler compares several
+// octets at once.
+#[inline(always)]
+fn are_field_octets(octets: &[u8]) -> bool
+    ensures { result ≡ field_is octets.now }
+{
+    let mut can_stand = true;
+    for octet in octets {
+        can_stand &= is_field_octet(*octet);
+    }
+    can_stand
+}
+
+/// A text, which is empty where it is absent.
+pub fn present(text: Option<&[u8]>) -> &[u8]
+    ensures { result.now ≡ text_or_none (octets_if text.entry) }
+{
+    match text {
+        Some(text) => text,
+        None => b"",
+    }
+}
+
+/// Whether the three texts of a control block can stand in a BLOCK.
+pub fn has_fields(block: &ShownBlock<'_>) -> bool
+    ensures { result ≡ shown_can block.now }
+{
+    is_field(block.gocb_ref) && is_field(block.dat_set) && is_field(present(block.go_id))
+}
+
+/// The text of a BLOCK.
+pub fn block_pieces<'a>(block: &ShownBlock<'a>) -> [Piece<'a>; 11]
+    ensures { flat_map piece_text result ≡ concat (shown_parts block.now) }
+{
+    [
+        Piece::Digits(block.app_id),
+        Piece::Octet(b','),
+        Piece::Octets(block.gocb_ref),
+        Piece::Octet(b','),
+        Piece::Octets(block.dat_set),
+        Piece::Octet(b','),
+        Piece::Octets(present(block.go_id)),
+        Piece::Octet(b','),
+        Piece::Decimal(u64::from(block.conf_rev)),
+        Piece::Octet(b','),
+        Piece::Decimal(block.entries as u64),
+    ]
+}
+
+/// The same fields by their names.
+pub fn named_pieces<'a>(block: &ShownBlock<'a>) -> [Piece<'a>; 12]
+    ensures { flat_map piece_text result ≡ concat (shown_named block.now) }
+{
+    [
+        Piece::Octets(b"appid="),
+        Piece::Digits(block.app_id),
+        Piece::Octets(b" ref="),
+        Piece::Quoted(block.gocb_ref),
+        Piece::Octets(b" set="),
+        Piece::Quoted(block.dat_set),
+        Piece::Octets(b" id="),
+        Piece::Optional(block.go_id),
+        Piece::Octets(b" rev="),
+        Piece::Decimal(u64::from(block.conf_rev)),
+        Piece::Octets(b" entries="),
+        Piece::Decimal(block.entries as u64),
+    ]
+}
+
+// What follows a comma and a text.
+fn after_field<'a>(text: &'a [u8], field: &[u8]) -> Option<&'a [u8]>
+    ensures { IsAfter text.now (codes "," ++ field.now) result }
+{
+    let behind = after_one(text, b',')?;
+    after(behind, field)
+}
+
+// What follows a comma and a number in decimal.
+fn after_number(text: &[u8], number: u64) -> Option<&[u8]>
+    ensures { IsAfter text.now (codes "," ++ decimal number) result }
+{
+    let behind = after_one(text, b',')?;
+    after_decimal(behind, number)
+}
+
+// What follows the text of a BLOCK.
+fn after_block<'a>(text: &'a [u8], block: &ShownBlock<'_>) -> Option<&'a [u8]>
+    ensures { IsAfter text.now (concat (shown_parts block.now)) result }
+{
+    let behind_app_id = after_digits(text, block.app_id)?;
+    let behind_ref = after_field(behind_app_id, block.gocb_ref)?;
+    let behind_set = after_field(behind_ref, block.dat_set)?;
+    let behind_go_id = after_field(behind_set, present(block.go_id))?;
+    let behind_rev = after_number(behind_go_id, u64::from(block.conf_rev))?;
+    after_number(behind_rev, block.entries as u64)
+}
+
+// Whether a text is that of a BLOCK. It is compared field by field, and no pieces are put together: nearly every frame shows
+// what is known.
+fn is_fields_text(text: &[u8], block: &ShownBlock<'_>) -> bool
+    ensures { result ≡ bytes_eq text.now (concat (shown_parts block.now)) }
+{
+    match after_block(text, block) {
+        Some(rest) => rest.is_empty(),
+        None => false,
+    }
+}
+
+// Whether a text is that of the fields by their names. It takes what is shown by value: few frames have such a text, and of
+// all others nothing has to stand in memory.
+#[inline(never)]
+fn is_named_text(text: &[u8], block: ShownBlock<'_>) -> bool
+    ensures { result ≡ bytes_eq text.now (concat (shown_named block.entry)) }
+{
+    is_text(text, &named_pieces(&block))
+}
+
+/// Whether a text is that of the control block of a frame.
+pub fn is_block_text(text: &[u8], block: &ShownBlock<'_>) -> bool
+    ensures { result ≡ bytes_eq text.now (shown_text block.now) }
+{
+    if has_fields(block) {
+        is_fields_text(text, block)
+    } else {
+        is_named_text(text, *block)
+    }
+}
