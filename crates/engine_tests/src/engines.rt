@@ -1,9 +1,13 @@
-//! The eight engines, each with inputs, and what it writes of them.
+//! The nine engines, each with inputs, and what it writes of them.
 ghost use Rattle.std.specs.Prelude.{◌≡◌, false};
 ghost use Rattle.list_core.specs.declared.device.InputEnd.{InputEnd};
 
-use frame_core::{Sink, Source};
+use crate::losses;
+use crate::losses::{AT_END, tell_losses};
+use engine_core::Style;
+use frame_core::{EventLines, ItemReader, Sink, Source};
 use goose_cmd::{Ending, blocks, check, import, publish, read_block, replay, rewrite, show, watch};
+use object_core::Form;
 use std::alloc::Allocator;
 use subscribe_core::Block;
 
@@ -20,12 +24,15 @@ pub(super) enum Example {
     Replay,
     Watch,
     Import,
+    Losses,
+    CountedLosses,
     FaultyShow,
     FaultyRewrite,
     FaultyCheck,
     FaultyBlocks,
     FaultyReplay,
     FaultyWatch,
+    FaultyLosses,
     FaultyPublish,
     RefusedPublish,
     MarkedShow,
@@ -37,13 +44,14 @@ pub(super) enum Example {
     QuietPublish,
     QuietReplay,
     QuietWatch,
+    QuietLosses,
     EmptyReplay,
     CutImport,
     Floats,
 }
 
 /// Those of which something is written beside the version.
-pub(super) const EXAMPLES: [Example; 20] = [
+pub(super) const EXAMPLES: [Example; 23] = [
     Example::Show,
     Example::Rewrite,
     Example::Check,
@@ -52,12 +60,15 @@ pub(super) const EXAMPLES: [Example; 20] = [
     Example::Replay,
     Example::Watch,
     Example::Import,
+    Example::Losses,
+    Example::CountedLosses,
     Example::FaultyShow,
     Example::FaultyRewrite,
     Example::FaultyCheck,
     Example::FaultyBlocks,
     Example::FaultyReplay,
     Example::FaultyWatch,
+    Example::FaultyLosses,
     Example::FaultyPublish,
     Example::RefusedPublish,
     Example::MarkedShow,
@@ -67,13 +78,14 @@ pub(super) const EXAMPLES: [Example; 20] = [
 ];
 
 /// Those that want no memory.
-pub(super) const FREE: [Example; 8] = [
+pub(super) const FREE: [Example; 9] = [
     Example::QuietShow,
     Example::QuietRewrite,
     Example::QuietCheck,
     Example::QuietBlocks,
     Example::QuietPublish,
     Example::QuietWatch,
+    Example::QuietLosses,
     Example::Import,
     Example::CutImport,
 ];
@@ -125,7 +137,8 @@ pub(super) fn input_of(example: Example) -> &'static [u8] {
         | Example::FaultyCheck
         | Example::FaultyBlocks
         | Example::FaultyReplay
-        | Example::FaultyWatch => FAULTY,
+        | Example::FaultyWatch
+        | Example::FaultyLosses => FAULTY,
         Example::FaultyPublish => {
             b"control,010ccd010001,020000000001,,0001,G,D,,1,1,0,0,1\nstep,10,2000\nchange,0,0000000000000000,8301ff\nchange,5,0000000000000000,8300\npoll,9\n"
         }
@@ -137,7 +150,9 @@ pub(super) fn input_of(example: Example) -> &'static [u8] {
         | Example::QuietCheck
         | Example::QuietBlocks
         | Example::QuietReplay
-        | Example::QuietWatch => QUIET,
+        | Example::QuietWatch
+        | Example::QuietLosses => QUIET,
+        Example::Losses | Example::CountedLosses => losses::LIST,
         Example::QuietShow | Example::QuietRewrite | Example::EmptyReplay => EMPTY,
         Example::QuietPublish => UNCHANGED,
         Example::CutImport => {
@@ -182,6 +197,9 @@ pub(super) fn text_of(example: Example) -> &'static [u8] {
             b"1 act 0 st=1 sq=0 t=0000000000000000 {true}\n2 sampled\n3 list Hex\n"
         }
         Example::FaultyWatch => b"2 0 3 first\n3 list Hex\n",
+        Example::FaultyLosses => b"3 list Hex\n",
+        Example::Losses => losses::JUDGED,
+        Example::CountedLosses => losses::COUNTED,
         Example::FaultyPublish => {
             b"V2\nF 0 010ccd01000102000000000188b80001003500000000612b800147810207d0820144840800000000000000008501018601008701008801018901008a0101ab038301ff\n# 4 script Members 1 BooleanLength\n"
         }
@@ -197,6 +215,7 @@ pub(super) fn text_of(example: Example) -> &'static [u8] {
         | Example::QuietBlocks
         | Example::QuietReplay
         | Example::QuietWatch
+        | Example::QuietLosses
         | Example::EmptyReplay => b"",
     }
 }
@@ -204,13 +223,19 @@ pub(super) fn text_of(example: Example) -> &'static [u8] {
 // With what it ends then.
 pub(super) fn ending_of(example: Example) -> Ending {
     match example {
-        Example::Rewrite | Example::Check | Example::Watch | Example::Import => Ending::Findings,
+        Example::Rewrite
+        | Example::Check
+        | Example::Watch
+        | Example::Import
+        | Example::Losses
+        | Example::CountedLosses => Ending::Findings,
         Example::FaultyShow
         | Example::FaultyRewrite
         | Example::FaultyCheck
         | Example::FaultyBlocks
         | Example::FaultyReplay
         | Example::FaultyWatch
+        | Example::FaultyLosses
         | Example::FaultyPublish
         | Example::RefusedPublish
         | Example::CutImport => Ending::InputFault,
@@ -219,7 +244,7 @@ pub(super) fn ending_of(example: Example) -> Ending {
 }
 
 /// Behind which line of its input each line of its text is written, 0 for none; of a capture, behind which read where each
-/// gives one octet.
+/// gives one octet. `AT_END` is behind the end of the input.
 pub(super) fn places_of(example: Example) -> &'static [usize] {
     match example {
         Example::Show => &[1, 2, 3, 4],
@@ -232,6 +257,9 @@ pub(super) fn places_of(example: Example) -> &'static [usize] {
         Example::FaultyShow | Example::FaultyBlocks | Example::FaultyReplay => &[1, 2, 3],
         Example::FaultyRewrite => &[0, 1, 2, 3],
         Example::FaultyWatch => &[2, 3],
+        Example::FaultyLosses => &[3],
+        Example::Losses => &[3, 3, 4, 5, 5, 6, 6, 6, 6, 6, AT_END, AT_END, AT_END, AT_END],
+        Example::CountedLosses => &[3, 3, 4, 5, 5, AT_END, AT_END, AT_END],
         Example::FaultyPublish | Example::RefusedPublish => &[0, 3, 4],
         Example::Floats => &[2],
         Example::MarkedShow => &[2, 3, 5],
@@ -284,6 +312,11 @@ fn replay_one<A: Allocator + Copy, R: Source, W: Sink>(
     }
 }
 
+/// Whether streams have a period, where `losses` is run.
+pub(super) fn judges_streams(example: Example) -> bool {
+    !matches!(example, Example::CountedLosses)
+}
+
 // Runs the engine.
 pub(super) fn run<A: Allocator + Copy, R: Source, W: Sink>(
     example: Example,
@@ -317,6 +350,11 @@ pub(super) fn run<A: Allocator + Copy, R: Source, W: Sink>(
         Example::Watch | Example::FaultyWatch | Example::QuietWatch => watch(
             alloc, reader, 9, b"S", writer,
         ),
+        Example::Losses | Example::CountedLosses | Example::FaultyLosses | Example::QuietLosses => {
+            let events = ItemReader::new(reader, EventLines::First);
+            let are_judged = judges_streams(example);
+            tell_losses(alloc, Style::Lines(Form::Text), events, are_judged, writer)
+        }
         Example::Import | Example::CutImport => import(alloc, reader, writer),
     }
 }

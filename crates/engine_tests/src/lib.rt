@@ -16,6 +16,8 @@ mod laws;
 #[cfg(test)]
 mod limits;
 #[cfg(test)]
+mod losses;
+#[cfg(test)]
 mod scripts;
 #[cfg(test)]
 mod styles;

@@ -2,7 +2,9 @@
 ghost use Rattle.std.specs.Prelude.{◌≡◌, false};
 ghost use Rattle.list_core.specs.declared.device.InputEnd.{InputEnd};
 
-use crate::engines::{Example, one_block, run, text_of};
+use crate::engines::{Example, judges_streams, one_block, run, text_of};
+use crate::losses;
+use crate::losses::tell_losses;
 use engine_core::{Ending, Style};
 use exchange_engines::{replay_over, watch_over};
 use frame_core::{EventLines, ItemReader, Sink, Source};
@@ -22,23 +24,26 @@ pub(super) struct Case {
 pub(super) const STYLES: [Style; 2] = [Style::Dated, Style::Lines(Form::Object(Counted::Line))];
 
 /// The examples that are run in each style: of each engine over events, with every kind of line.
-pub(super) const OVER_EVENTS: [Example; 8] = [
+pub(super) const OVER_EVENTS: [Example; 10] = [
     Example::Show,
     Example::Floats,
     Example::Check,
     Example::Blocks,
     Example::Replay,
     Example::Watch,
+    Example::Losses,
+    Example::CountedLosses,
     Example::MarkedShow,
     Example::FaultyCheck,
 ];
 
 /// Those that want no memory in any style.
-pub(super) const FREE_OVER_EVENTS: [Example; 4] = [
+pub(super) const FREE_OVER_EVENTS: [Example; 5] = [
     Example::QuietShow,
     Example::QuietCheck,
     Example::QuietBlocks,
     Example::QuietWatch,
+    Example::QuietLosses,
 ];
 
 // What the engine writes of its input behind dates.
@@ -66,6 +71,8 @@ fn dated_text_of(example: Example) -> &'static [u8] {
             b"1970-01-01T00:00:00.000001Z 2 clock 1\n1970-01-01T00:00:00.000002Z 3 mode 2 on\n1970-01-01T00:00:00.000003Z 5 clock 3\n"
         }
         Example::FaultyCheck => b"1970-01-01T00:00:00.000000Z 1 not-written\n- 3 list Hex\n",
+        Example::Losses => losses::JUDGED_DATED,
+        Example::CountedLosses => losses::COUNTED_DATED,
         _ => b"",
     }
 }
@@ -97,6 +104,8 @@ fn objects_of(example: Example) -> &'static [u8] {
         Example::FaultyCheck => {
             b"{\"line\":1,\"microseconds\":0,\"time\":\"1970-01-01T00:00:00.000000Z\",\"kind\":\"not-written\"}\n{\"line\":3,\"kind\":\"list\",\"error\":\"Hex\"}\n"
         }
+        Example::Losses => losses::JUDGED_OBJECTS,
+        Example::CountedLosses => losses::COUNTED_OBJECTS,
         _ => b"",
     }
 }
@@ -162,6 +171,10 @@ fn run_over<A: Allocator + Copy, R: Source, W: Sink>(
         Example::Watch | Example::QuietWatch => watch_over(
             alloc, style, events, 9, b"S", writer,
         ).into_source(),
+        Example::Losses | Example::CountedLosses | Example::QuietLosses => {
+            let are_judged = judges_streams(example);
+            tell_losses(alloc, style, events, are_judged, writer)
+        }
         _ => show_over(alloc, style, events, writer).into_source(),
     }
 }
