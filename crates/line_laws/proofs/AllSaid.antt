@@ -8,6 +8,7 @@ use Rattle.line_laws.proofs.BlocksSaid.{blocks_says}
 use Rattle.line_laws.proofs.CheckSaid.{check_says}
 use Rattle.line_laws.proofs.EntrySaid.{twice_says}
 use Rattle.line_laws.proofs.LineSaid.{back}
+use Rattle.line_laws.proofs.LossesSaid.{losses_says}
 use Rattle.line_laws.proofs.ReplaySaid.{replay_says}
 use Rattle.line_laws.proofs.ShowSaid.{show_says}
 use Rattle.line_laws.proofs.SpokenLines.{back_none, gives_lines}
@@ -24,6 +25,7 @@ lines_had_back {A} {C} {F} = (
     replay = λ blocks say given said. gives_lines C F (entries_in blocks say) (replay_says blocks say given said);
     watch = λ period id texts wide are. gives_lines C F (exactly_each texts) (watch_says period id texts wide are);
     blocks = λ texts are. gives_lines C F (exactly_each texts) (blocks_says texts are);
+    losses = losses_says;
     of_list_fault = λ f wide. (say_list_fault f wide).in_front;
     of_capture_fault = λ f wide. (say_capture_fault f wide).in_front;
     of_twice = λ blocks i given h. (twice_says blocks i given h).in_front;

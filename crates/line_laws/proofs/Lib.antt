@@ -12,4 +12,7 @@ pub mod EntrySaid
 pub mod ReplaySaid
 pub mod AsduSaid
 pub mod ShowSaid
+pub mod LossGiven
+pub mod LossLineSaid
+pub mod LossesSaid
 pub mod AllSaid

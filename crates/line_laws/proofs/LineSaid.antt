@@ -1,5 +1,5 @@
 -- What an object says, as the line of text that stands for the same.
-use Rattle.std.specs.Prelude.{ℕ, List, [], ◌∷◌, ◌++◌, codes, Option, Some, None, if◌then◌else◌}
+use Rattle.std.specs.Prelude.{ℕ, Bool, true, false, not, ◌&&◌, List, [], ◌∷◌, ◌++◌, codes, Option, Some, None, if◌then◌else◌}
 use Rattle.std.specs.List.{concat, join_with_byte}
 use Rattle.std.specs.Str.{bytes_eq}
 use Rattle.json.specs.Json.{Json, null, boolean, number, string, array, object, Items, no_items, item, Members, no_members, member, document}
@@ -43,6 +43,15 @@ behind sign (number s) = sign ++ s
 behind sign (string s) = sign ++ s
 behind sign (array js) = []
 behind sign (object ms) = []
+
+-- the field is there
+abbrev pub is_there : Json → Bool
+is_there null = false
+is_there (boolean b) = true
+is_there (number s) = true
+is_there (string s) = true
+is_there (array js) = true
+is_there (object ms) = true
 
 -- ---- frames
 
@@ -123,6 +132,77 @@ sv_said (string s) = []
 sv_said (array js) = sv_words (asdus_said js)
 sv_said (object ms) = []
 
+-- ---- what was lost
+
+-- of which sender or stream
+abbrev pub key_words : Members → List ℕ
+key_words ms =
+    if is_there (at (codes "svID") ms) then codes " appid=" ++ word (codes "appid") ms ++ codes " source=" ++ word (codes "source") ms ++ codes " id=" ++ value_said (at (codes "svID") ms)
+    else codes " appid=" ++ word (codes "appid") ms ++ codes " ref=" ++ value_said (at (codes "gocbRef") ms) ++ codes " sim=" ++ word (codes "simulation") ms
+
+-- the number under a name, behind a sign
+abbrev pub number_words : List ℕ → List ℕ → Members → List ℕ
+number_words sign name ms = sign ++ word name ms
+
+-- the object tells of a sender or a stream, and of no block
+abbrev pub tells_loss : Members → Bool
+tells_loss ms = is_there (at (codes "appid") ms) && not (is_there (at (codes "block") ms))
+
+-- its numbers, and the end of the line
+abbrev pub loss_numbers : Members → List ℕ
+loss_numbers ms =
+    behind (codes " since=") (at (codes "since") ms)
+    ++ (behind (codes " for=") (at (codes "for") ms)
+    ++ (behind (codes " st=") (at (codes "stNum") ms)
+    ++ (behind (codes " sq=") (at (codes "sqNum") ms)
+    ++ (behind (codes " from=") (at (codes "from") ms)
+    ++ (behind (codes " to=") (at (codes "to") ms) ++ (behind (codes " missing=") (at (codes "missing") ms) ++ (behind (codes " cnt=") (at (codes "smpCnt") ms) ++ codes "\n")))))))
+
+abbrev pub loss_words : List ℕ → List ℕ → Members → List ℕ
+loss_words n kind ms = n ++ (codes " " ++ (kind ++ (key_words ms ++ loss_numbers ms)))
+
+-- what has not come back at the end
+abbrev pub end_silent_words : Members → List ℕ
+end_silent_words ms = codes "end silent" ++ key_words ms ++ number_words (codes " since=") (codes "since") ms ++ number_words (codes " for=") (codes "for") ms ++ codes "\n"
+
+-- what frames come to
+abbrev pub total_goose_words : Members → List ℕ
+total_goose_words ms =
+    concat (
+    codes "total goose"
+    ∷ key_words ms
+    ∷ number_words (codes " frames=") (codes "frames") ms
+    ∷ number_words (codes " states-missing=") (codes "statesMissing") ms
+    ∷ number_words (codes " frames-missing=") (codes "framesMissing") ms
+    ∷ number_words (codes " late=") (codes "late") ms
+    ∷ number_words (codes " repeated=") (codes "repeated") ms
+    ∷ number_words (codes " restarted=") (codes "restarted") ms
+    ∷ number_words (codes " silent=") (codes "silent") ms
+    ∷ number_words (codes " longest=") (codes "longest") ms
+    ∷ codes "\n"
+    ∷ []
+    )
+
+-- what samples come to, where they are judged and where they are counted alone
+abbrev pub judged_words : Members → List ℕ
+judged_words ms =
+    concat (
+    codes "total sv"
+    ∷ key_words ms
+    ∷ number_words (codes " samples=") (codes "samples") ms
+    ∷ number_words (codes " missing=") (codes "missing") ms
+    ∷ number_words (codes " late=") (codes "late") ms
+    ∷ number_words (codes " repeated=") (codes "repeated") ms
+    ∷ number_words (codes " out-of-range=") (codes "outOfRange") ms
+    ∷ number_words (codes " outages=") (codes "outages") ms
+    ∷ number_words (codes " longest=") (codes "longest") ms
+    ∷ codes "\n"
+    ∷ []
+    )
+
+abbrev pub counted_words : Members → List ℕ
+counted_words ms = concat (codes "total sv" ∷ key_words ms ∷ number_words (codes " samples=") (codes "samples") ms ∷ codes "\n" ∷ [])
+
 -- ---- lines
 
 abbrev pub stream_words : List ℕ → List ℕ → List ℕ
@@ -147,6 +227,7 @@ kind_said n kind ms =
     else if bytes_eq kind (codes "block-changed") then n ++ codes " block-changed " ++ word (codes "text") ms ++ codes "\n"
     else if bytes_eq kind (codes "stream") then n ++ codes " stream " ++ stream_words (value_said (at (codes "svID") ms)) (word (codes "confRev") ms) ++ codes "\n"
     else if bytes_eq kind (codes "stream-changed") then n ++ codes " stream-changed " ++ stream_words (value_said (at (codes "svID") ms)) (word (codes "confRev") ms) ++ codes "\n"
+    else if tells_loss ms then loss_words n kind ms
     else n ++ (behind (codes " ") (at (codes "asdu") ms)
     ++ (behind (codes " ") (at (codes "smpCnt") ms)
     ++ (codes " "
@@ -157,11 +238,20 @@ kind_said n kind ms =
     ++ (behind (codes " sq=") (at (codes "sqNum") ms)
     ++ (behind (codes " ") (at (codes "reason") ms) ++ codes "\n")))))))))
 
--- the first field is the number, and the kind is one of the others; but of a block given twice it is the kind
+-- a line of no event, by its kind
+abbrev pub eventless_said : List ℕ → Members → List ℕ
+eventless_said kind ms =
+    if bytes_eq kind (codes "blocks") then codes "blocks " ++ word (codes "error") ms ++ codes " " ++ word (codes "block") ms ++ codes "\n"
+    else if bytes_eq kind (codes "end-silent") then end_silent_words ms
+    else if bytes_eq kind (codes "total-goose") then total_goose_words ms
+    else if is_there (at (codes "missing") ms) then judged_words ms
+    else counted_words ms
+
+-- the first field is the number, and the kind is one of the others; but of what is no event it is the kind
 abbrev pub fields_said : Members → List ℕ
 fields_said no_members = []
 fields_said (member k j ms) =
-    if bytes_eq k (codes "kind") then codes "blocks " ++ word (codes "error") ms ++ codes " " ++ word (codes "block") ms ++ codes "\n"
+    if bytes_eq k (codes "kind") then eventless_said (inner j) ms
     else kind_said (inner j) (word (codes "kind") ms) ms
 
 abbrev pub line_said : Json → List ℕ

@@ -27,7 +27,7 @@ use Rattle.line_laws.specs.Given.{AreGivenBlocks, IsGivenKind, IsWide}
 use Rattle.line_laws.specs.JsonLines.{EventsAreJson, ReplayIsJson}
 use Rattle.line_laws.proofs.EntrySaid.{IsGivenEntry, entries_say}
 use Rattle.line_laws.proofs.FaultPlaces.{fault_wide}
-use Rattle.line_laws.proofs.SpokenLines.{SayEach, json_lines, say_same}
+use Rattle.line_laws.proofs.SpokenLines.{SayEach, all_both, json_lines, say_same}
 use Rattle.line_laws.proofs.Spelled.{AreSpelled, frame_held, members_spelled}
 
 -- ---- what is read in an event
@@ -67,10 +67,6 @@ last_read (f ∷ es) e [] r read at = absurd read
 last_read (f ∷ es) e (x ∷ readings) r read at = last_read es e readings r read.1 at
 
 -- ---- entries
-
-all_both : {X : Type 0} (P : X → Type 0) (xs ys : List X) → AllByRecursion P xs → AllByRecursion P ys → AllByRecursion P (xs ++ ys)
-all_both P [] ys a b = b
-all_both P (x ∷ xs) ys a b = (a.0, all_both P xs ys a.1 b)
 
 each_given : {A : Type 0} (n : ℕ) (holds : Block A → Type 0) (entry : ℕ → Entry A) (b : ℕ) (blocks : List (Block A)) (entries : List (Entry A)) → ((i : ℕ) → i < n → IsGivenEntry n (entry i)) → b + length blocks ≤ n
     → AreOfEach holds entry b blocks entries → AllByRecursion (IsGivenEntry n) entries

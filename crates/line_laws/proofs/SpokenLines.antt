@@ -32,7 +32,7 @@ back_none = refl
 pub say_none : Say [] []
 say_none = record { are_json = ([], refl, tt); in_front = λ rest. refl }
 
-all_both : {X : Type 0} (P : X → Type 0) (xs ys : List X) → AllByRecursion P xs → AllByRecursion P ys → AllByRecursion P (xs ++ ys)
+pub all_both : {X : Type 0} (P : X → Type 0) (xs ys : List X) → AllByRecursion P xs → AllByRecursion P ys → AllByRecursion P (xs ++ ys)
 all_both P [] ys a b = b
 all_both P (x ∷ xs) ys a b = (a.0, all_both P xs ys a.1 b)
 
@@ -89,13 +89,13 @@ all_at P [] i x all h = absurd (none-some x h)
 all_at P (y ∷ xs) zero x all h = subst P (same_Some y x h) all.0
 all_at P (y ∷ xs) (suc i) x all h = all_at P xs i x all.1 h
 
-say_joined : (os ls : List ItemText) → length os ≡ length ls → ((i : ℕ) (o l : ItemText) → slice_get os i ≡ Some o → slice_get ls i ≡ Some l → Say o.text l.text) → Say (joined_texts os) (joined_texts ls)
+pub say_joined : (os ls : List ItemText) → length os ≡ length ls → ((i : ℕ) (o l : ItemText) → slice_get os i ≡ Some o → slice_get ls i ≡ Some l → Say o.text l.text) → Say (joined_texts os) (joined_texts ls)
 say_joined [] [] e each = say_none
 say_joined [] (l ∷ ls) e each = absurd (omega arith)
 say_joined (o ∷ os) [] e each = absurd (omega arith)
 say_joined (o ∷ os) (l ∷ ls) e each = say_both _ _ _ _ (each 0 o l refl refl) (say_joined os ls (omega arith) (λ i p q a b. each (suc i) p q a b))
 
-found_joined : (os ls : List ItemText) → length os ≡ length ls → ((i : ℕ) (o l : ItemText) → slice_get os i ≡ Some o → slice_get ls i ≡ Some l → o.is_finding ≡ l.is_finding) → has_finding os ≡ has_finding ls
+pub found_joined : (os ls : List ItemText) → length os ≡ length ls → ((i : ℕ) (o l : ItemText) → slice_get os i ≡ Some o → slice_get ls i ≡ Some l → o.is_finding ≡ l.is_finding) → has_finding os ≡ has_finding ls
 found_joined [] [] e each = refl
 found_joined [] (l ∷ ls) e each = absurd (omega arith)
 found_joined (o ∷ os) [] e each = absurd (omega arith)

@@ -1,7 +1,8 @@
 -- That what commands write of an event as objects is lines of JSON (RFC 8259), by the words of the kit's reader.
-use Rattle.std.specs.Prelude.{◌≡◌, ◌<◌, ℕ, Bool, List, length}
+use Rattle.std.specs.Prelude.{◌≡◌, ◌<◌, ℕ, Bool, List, Option, length, map}
 use Rattle.std.specs.List.{AllByRecursion, concat}
 use Rattle.list_core.specs.declared.event.Event.{Event}
+use Rattle.list_core.specs.Items.{Numbered}
 use Rattle.block_core.specs.declared.block.Block.{Block}
 use Rattle.object_core.specs.declared.counted.Counted.{Counted}
 use Rattle.object_core.specs.declared.counted.Form.{Form}
@@ -16,7 +17,8 @@ use Rattle.exchange_engines.specs.EntryObject.{twice_object}
 use Rattle.exchange_engines.specs.ReplayText.{AreSaid, Says, entries_in}
 use Rattle.exchange_engines.specs.WatchText.{AreWatchTexts}
 use Rattle.inventory_engine.specs.BlocksText.{AreBlocksTexts}
-use Rattle.line_laws.specs.Given.{AreGivenBlocks, IsGiven, IsWide}
+use Rattle.loss_engine.specs.LossText.{AreLosses}
+use Rattle.line_laws.specs.Given.{AreGivenBlocks, IsGiven, IsGivenPeriod, IsWide}
 
 -- the text is lines, and each of them is one value of JSON, in which no object has a name twice
 abbrev pub AreJsonLines : List ℕ → Type 0
@@ -62,3 +64,20 @@ WatchIsJson A C F = (period : ℕ) (id : List ℕ) (texts : Form → EventText A
 -- what `blocks` writes
 abbrev pub BlocksIsJson : Type 0 → Type 0 → Type 0 → Type 0
 BlocksIsJson A C F = (texts : Form → EventText A) → AreBlocksTexts texts → ObjectsAreJson C F (exactly_each texts)
+
+-- ---- `losses`, which writes of each event, and at the end of the input of what came in all
+
+-- what was written of each piece of it
+abbrev pub written_of : {F : Type 0} → Numbered ItemText F → List ItemText
+written_of pieces = map (λ w. w.1) pieces.items
+
+-- each of these texts is lines of JSON, and so are all of them together
+pub record TextsAreJson (texts : List ItemText) : Type 0 where
+  pub each : AllByRecursion (λ w. AreJsonLines w.text) texts
+  pub together : AreJsonLines (joined_texts texts)
+
+-- what `losses` writes of an input
+abbrev pub LossesAreJson : Type 0 → Type 0 → Type 0
+LossesAreJson A F =
+    (period : Option ℕ) (counted : Counted) (said : Numbered (Event A) F) (pieces : Numbered ItemText F) → IsGivenPeriod period → AllByRecursion IsGiven said.items → AreLosses period (Lines (Object counted)) said pieces
+    → TextsAreJson (written_of pieces)

@@ -1,6 +1,7 @@
 use Rattle.line_laws.proofs.BlocksSaid.{blocks_is_json}
 use Rattle.line_laws.proofs.CheckSaid.{check_is_json}
 use Rattle.line_laws.proofs.EntrySaid.{twice_is_json}
+use Rattle.line_laws.proofs.LossesSaid.{losses_is_json}
 use Rattle.line_laws.proofs.ReplaySaid.{replay_is_json}
 use Rattle.line_laws.proofs.ShowSaid.{show_is_json}
 use Rattle.line_laws.proofs.WatchSaid.{watch_is_json}
@@ -23,3 +24,6 @@ returns-clause-watch g c = watch_is_json
 
 pub returns-clause-blocks : goal.returns-clause-blocks
 returns-clause-blocks g c = blocks_is_json
+
+pub returns-clause-losses : goal.returns-clause-losses
+returns-clause-losses g c = losses_is_json
