@@ -116,7 +116,7 @@ class Plain:
             read[tool.name] = "\n".join(re.findall(r'(?s)\A#!.*?\n"""(.*?)"""', tool.read_text()))
         for crate in tables.crates():
             code = "\n".join(file.read_text() for file in (TOP / "crates" / crate / "src").rglob("*.rt"))
-            says = '"(.*?)"' if crate in ("message_core", "words_core", "goose") else r'#\[error\("(.*?)"\)\]'
+            says = '"(.*?)"' if crate in ("words_core", "goose") else r'#\[error\("(.*?)"\)\]'
             read[crate] = "\n".join(re.findall(says, re.sub(self.UNSAID, "", code)))
         return [f"{name} says {it}" for name, text in read.items() for it in re.findall(self.OTHERS, text)]
 

@@ -5,7 +5,7 @@ use ber_core::{
     Cause, Fault, Full, Header, header, integer, known_header, laws, octet_count, put_header,
     put_integer, signed_count,
 };
-use worked_frames::FRAME;
+use test_support::FRAME;
 
 mod contents;
 mod fields;

@@ -1,11 +1,11 @@
 //! Control blocks from their texts.
 
 use goose_cmd::{BlockError, read_block};
-use refusing_alloc::RefusingAlloc;
 use std::alloc::{Allocator, Global};
 use std::process::Abort;
 use std::test::Fail;
 use subscribe_core::Block;
+use test_support::RefusingAlloc;
 
 /// The fields of a block.
 #[derive(Clone, Copy)]

@@ -2,12 +2,12 @@
 
 use ber_core::Cause;
 use frame_core::{ItemError, ItemFault, ItemReader, Source};
-use refusing_alloc::RefusingAlloc;
 use script_core::{ScriptCause, ScriptItem, ScriptLines};
 use std::alloc::{Allocator, Global};
 use std::process::Abort;
 use std::test::Fail;
 use test_devices::{NEVER, source_of};
+use test_support::RefusingAlloc;
 
 // A script of each kind of line. The values of its first change are a boolean, two octets, and a structure of a boolean.
 const SCRIPT: &[u8] =

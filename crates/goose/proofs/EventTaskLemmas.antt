@@ -40,8 +40,8 @@ use Rattle.engine_core.proofs.MadeRuns.{made_run}
 use Rattle.exchange_engines.specs.declared.engines.replay.ReplayStop.{ReplayStop}
 use Rattle.exchange_engines.specs.declared.engines.replay.ReplayStop.TheVariants.{Input}
 use Rattle.exchange_engines.specs.ReplayText.{twice_stop}
-use Rattle.message_core.specs.declared.stop.Stop.{Stop}
-use Rattle.message_core.specs.declared.stop.Stop.TheVariants as stop
+use Rattle.goose.specs.declared.messages.stop.Stop.{Stop}
+use Rattle.goose.specs.declared.messages.stop.Stop.TheVariants as stop
 use Rattle.words_core.specs.CommandLine.{Asked, show, check, rewrite, list_blocks, publish, import, losses, replay, watch}
 use Rattle.goose.specs.EventTasks.{EventsLeave, OverWrites, RunsTask, allowed_by}
 use Rattle.words_core.specs.RequestLine.{takes_options}

@@ -42,8 +42,8 @@ use Rattle.exchange_engines.specs.declared.engines.replay.ReplayFault.{ReplayFau
 use Rattle.exchange_engines.specs.declared.engines.replay.ReplayFault.TheVariants as replayed
 use Rattle.exchange_engines.specs.declared.engines.replay.ReplayStop.{ReplayStop}
 use Rattle.exchange_engines.specs.declared.engines.replay.ReplayStop.TheVariants as stops
-use Rattle.message_core.specs.declared.stop.Stop.{Stop}
-use Rattle.message_core.specs.declared.stop.Stop.TheVariants as stop
+use Rattle.goose.specs.declared.messages.stop.Stop.{Stop}
+use Rattle.goose.specs.declared.messages.stop.Stop.TheVariants as stop
 use Rattle.words_core.specs.CommandLine.{Asked, show, check, rewrite, list_blocks, publish, import, losses, replay, watch}
 use Rattle.words_core.specs.RequestLine.{takes_options}
 use Rattle.words_core.specs.declared.option_words.Options.{Options}

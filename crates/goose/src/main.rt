@@ -5,6 +5,7 @@
 
 mod event_tasks;
 mod input;
+mod messages;
 mod output;
 mod over_events;
 mod performed;
@@ -14,6 +15,11 @@ ghost use Rattle.std.specs.Prelude.{IfOk};
 ghost use Rattle.words_core.specs.CommandLine.{HasPeriod, asked_by};
 
 use crate::input::{BLOCK, Input, Seen};
+use crate::messages::advising::{Intake, advice_by_head};
+use crate::messages::block_fields::block_fault;
+use crate::messages::failure::Failure;
+use crate::messages::passed::passed_frames;
+use crate::messages::unheard::Unheard;
 use crate::output::Output;
 use crate::performed::{Performed, Told};
 use crate::performing::perform_request;
@@ -21,7 +27,6 @@ use clap::error::ErrorKind as WordsErrorKind;
 use engine_core::{Ending, status};
 use frame_core::PassedOver;
 use list_core::{FromRead, ToWrite};
-use message_core::{Failure, Intake, Unheard, advice_by_head, block_fault, passed_frames};
 use std::alloc::AllocError;
 use std::io::{BufReader, ErrorKind, IsTerminal};
 use std::process::ExitCode;

@@ -5,12 +5,13 @@ ghost use Rattle.capture_core.specs.PacketReader.{packet_state};
 ghost use Rattle.frame_core.specs.SkipOther.{beneath, passed_over};
 ghost use Rattle.goose.specs.HandedOut.{of_list, of_replay, of_stop, stop_of};
 
+use crate::messages::advising::{Advice, advice_by_line};
+use crate::messages::stop::Stop;
 use capture_core::{CaptureFault, PacketReader};
 use engine_core::{Ending, Stopped};
 use exchange_engines::{ReplayFault, ReplayStop};
 use frame_core::{PassedOver, SkipOther};
 use list_core::{EventLines, ItemFault, ItemReader, ListCause, ListFault, Source, fault_of_list};
-use message_core::{Advice, Stop, advice_by_line};
 use script_core::{ScriptCause, ScriptLines};
 use std::alloc::Global;
 

@@ -8,10 +8,10 @@ use mms_data::{
     Members, Octets, ReadFault, ValueList, check_members, members, put_value, put_values,
     read_members,
 };
-use refusing_alloc::RefusingAlloc;
 use std::alloc::Global;
 use std::process::Abort;
 use std::test::Fail;
+use test_support::RefusingAlloc;
 
 type Memory<'a> = &'a RefusingAlloc<Global>;
 

@@ -9,7 +9,7 @@ use pdu_core::{
 };
 use std::alloc::Global;
 use std::test::Fail;
-use worked_frames::FRAME;
+use test_support::FRAME;
 
 // The APDU of `FRAME` with a longer spelling of its length and of stNum.
 const LONG: [u8; 50] = [

@@ -5,7 +5,7 @@ use ber_core::{Cause, Fault};
 use mms_data::{ReadFault, UtcTime};
 use pdu_core::{AsduView, read_sv, view_sv};
 use std::test::Fail;
-use worked_frames::SAMPLED;
+use test_support::SAMPLED;
 
 /// An APDU of one ASDU with each field.
 pub const FULL: [u8; 54] = [

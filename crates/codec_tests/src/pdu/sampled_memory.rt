@@ -7,10 +7,10 @@ use arrayvec::ArrayVec;
 use ber_core::put_integer;
 use mms_data::{ReadFault, put_element};
 use pdu_core::{AsduList, SvPdu, put_sv, read_sv, view_sv};
-use refusing_alloc::RefusingAlloc;
 use std::alloc::Global;
 use std::process::Abort;
 use std::test::Fail;
+use test_support::RefusingAlloc;
 
 type Memory<'a> = &'a RefusingAlloc<Global>;
 

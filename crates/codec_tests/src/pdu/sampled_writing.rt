@@ -7,7 +7,7 @@ use mms_data::{Octets, PutFault};
 use pdu_core::{Asdu, AsduList, SvPdu, is_spellable_sv, put_sv, put_sv_view, read_sv, view_sv};
 use std::alloc::{AllocError, Global};
 use std::test::Fail;
-use worked_frames::SAMPLED;
+use test_support::SAMPLED;
 
 // The written form of the APDU that the octets spell, from where it stands.
 fn form_of_view(octets: &[u8]) -> Result<ArrayVec<u8, 209>, Fail> {

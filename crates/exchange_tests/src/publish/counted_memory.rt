@@ -4,9 +4,9 @@ use super::refusals::WIDE;
 use crate::publish::frames::{NO_TIME, changed, control, octet_strings, publisher, step};
 use mms_data::UtcTime;
 use publish_core::{PublishFault, Publisher, Table};
-use refusing_alloc::RefusingAlloc;
 use std::alloc::{AllocError, Global};
 use std::test::Fail;
+use test_support::RefusingAlloc;
 
 type Memory<'a> = &'a RefusingAlloc<Global>;
 

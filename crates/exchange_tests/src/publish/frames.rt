@@ -4,7 +4,7 @@ use arrayvec::ArrayVec;
 use mms_data::{Octets, UtcTime, Value, ValueList};
 use publish_core::{Control, PublishFault, Publisher, Step, Table};
 use std::alloc::{AllocError, Allocator};
-use worked_frames::FRAME;
+use test_support::FRAME;
 
 /// `FRAME` with another status number, sequence number and boolean. The first frame of a state lives 2,000 ms, the others
 /// 3,000.

@@ -8,7 +8,7 @@ use mms_data::Octets;
 use std::alloc::{AllocError, Global};
 use std::test::Fail;
 use subscribe_core::{Entry, Subscriber};
-use worked_frames::FRAME;
+use test_support::FRAME;
 
 /// The most booleans that a frame holds, and the greatest APPID: each block has as many members as its APPID says.
 const MOST: u16 = 480;

@@ -3,10 +3,10 @@
 use super::given::{Told, Want, block, event_with_frame, tells};
 use crate::publish::frames::{NO_TIME, changed, control, octet_strings, publisher, step};
 use arrayvec::ArrayVec;
-use refusing_alloc::RefusingAlloc;
 use std::alloc::Global;
 use std::test::Fail;
 use subscribe_core::{Entry, Subscriber};
+use test_support::RefusingAlloc;
 
 type Memory<'a> = &'a RefusingAlloc<Global>;
 

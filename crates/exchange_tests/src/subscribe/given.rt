@@ -5,7 +5,7 @@ use frame_core::{Event, EventKind};
 use mms_data::{Octets, Value};
 use std::alloc::{AllocError, Allocator};
 use subscribe_core::{Block, Entry, Reason};
-use worked_frames::{FRAME, SAMPLED};
+use test_support::{FRAME, SAMPLED};
 
 /// The numbers of a frame with one boolean: its moment in milliseconds, status and sequence number, and timeAllowedtoLive.
 #[derive(Clone, Copy)]

@@ -3,10 +3,10 @@
 use super::given::{Given, Numbers, TRUE, Told, Want, block, event, tells};
 use ber_core::Cause;
 use frame_core::Event;
-use refusing_alloc::RefusingAlloc;
 use std::alloc::{Allocator, Global};
 use std::test::Fail;
 use subscribe_core::{Block, Reason, SubscribeFault, Subscriber};
+use test_support::RefusingAlloc;
 
 /// What `new` answers.
 #[derive(Clone, Copy, PartialEq, Eq)]

@@ -2,10 +2,10 @@
 
 use capture_core::{CaptureCause, CaptureFault, PacketError, PacketReader};
 use frame_core::{Event, EventKind, Source};
-use refusing_alloc::RefusingAlloc;
 use std::alloc::{AllocError, Allocator, Global};
 use std::process::Abort;
 use test_devices::{NEVER, source_of};
+use test_support::RefusingAlloc;
 
 /// A packet: its number, its moment, and the octets of its frame, none where only time has passed.
 type Told<'a> = (u64, u64, &'a [u8]);

@@ -7,7 +7,7 @@ use frame_core::{ApduView, FrameView, VlanTag, laws, view_frame};
 use pdu_core::{AsduView, GooseView, SvView};
 use std::alloc::Global;
 use std::process::Abort;
-use worked_frames::{FRAME, SAMPLED};
+use test_support::{FRAME, SAMPLED};
 
 /// Whether the view has this tag and trailer, and the reserved fields and the source of the worked frames.
 fn has_envelope(view: &FrameView<'_>, tag: Option<VlanTag>, trailer: &[u8]) -> bool {

@@ -13,7 +13,7 @@ use pdu_core::{AsduList, SvPdu};
 use std::alloc::Global;
 use std::process::Abort;
 use std::test::Fail;
-use worked_frames::{FRAME, SAMPLED};
+use test_support::{FRAME, SAMPLED};
 
 /// Whether the view of these octets has this written form.
 fn has_view_form(octets: &[u8], form: &[u8]) -> bool {

@@ -4,9 +4,8 @@ use arrayvec::ArrayVec;
 use ber_core::{Cause, Fault};
 use frame_core::{Frame, decode, encode, view_frame};
 use mms_data::ReadFault;
-use refusing_alloc::RefusingAlloc;
 use std::alloc::{Allocator, Global};
-use worked_frames::FRAME;
+use test_support::{FRAME, RefusingAlloc};
 
 /// `FRAME` with needlessly long lengths and status number: two octets for the APDU's length, four for stNum.
 pub const LONG: [u8; 72] = [

@@ -7,11 +7,10 @@ use crate::frame::sampled_frames::TAGGED_SAMPLED;
 use arrayvec::ArrayVec;
 use frame_core::{Apdu, Frame, FrameView, decode, view_frame};
 use mms_data::{Octets, ReadFault};
-use refusing_alloc::RefusingAlloc;
 use std::alloc::{Allocator, Global};
 use std::process::Abort;
 use std::test::Fail;
-use worked_frames::{FRAME, SAMPLED};
+use test_support::{FRAME, RefusingAlloc, SAMPLED};
 
 /// The calls that make a frame, or its APDU, in memory of its own.
 #[derive(Clone, Copy, Debug)]

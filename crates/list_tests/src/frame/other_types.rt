@@ -3,7 +3,7 @@
 use crate::frame::frames::TAGGED;
 use frame_core::other_ether_type;
 use std::test::Fail;
-use worked_frames::FRAME;
+use test_support::FRAME;
 
 // Twelve octets of addresses, and what follows them.
 const ARP: [u8; 16] = [

@@ -2,10 +2,10 @@
 
 use crate::frame::list_reading::is_next;
 use frame_core::{ListReader, Source};
-use refusing_alloc::RefusingAlloc;
 use std::alloc::Global;
 use std::process::Abort;
 use test_devices::{NEVER, source_of};
+use test_support::RefusingAlloc;
 
 /// Whether the next answer is this one, in this line, once memory is granted: a refusal comes twice, and leaves the
 /// line's number.

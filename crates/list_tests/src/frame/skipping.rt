@@ -2,10 +2,10 @@
 
 use crate::frame::list_reading::is_listed_as;
 use frame_core::{Event, EventLines, ItemReader, Passed, PassedKind, ReadItems, SkipOther};
-use refusing_alloc::RefusingAlloc;
 use std::alloc::{AllocError, Global};
 use std::test::Fail;
 use test_devices::{Give, NEVER, source_of};
+use test_support::RefusingAlloc;
 
 // A reader of the events of a list.
 type Events<'a> = ItemReader<Give<'a>, EventLines>;

@@ -1,5 +1,4 @@
 //! The frames from which tests start.
-#![tactic(auto)]
 
 /// A frame of GOOSE (IEC 61850-8-1): control block G, data set D, status number 1, sequence number 0, a lifetime of
 /// 2,000 ms, and a boolean that is true. Its APDU stands at 22.

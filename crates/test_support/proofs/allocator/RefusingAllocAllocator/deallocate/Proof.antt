@@ -35,13 +35,13 @@ use Rattle.std.specs.Allocator.{HasLayout, owned_block}
 use Rattle.std.proofs.alloc.Calls.{Al, token, seen, gives_key, Gives, at_gives, Gives-goes, Gives-Gives}
 use Rattle.std.proofs.alloc.Shapes.{after}
 use Rattle.std.proofs.raw_atomic.Walks.{leaves, proved}
-use Rattle.refusing_alloc.proofs.Setting.{given_to, itself, pointer, word, forgotten, gone}
-use Rattle.refusing_alloc.proofs.OwnCalls.{at_behind, Tokens, Behind, picked, may_ask, lender}
-use Rattle.refusing_alloc.proofs.refusing.RefusingAlloc.behind.Met as behind_met
-use Rattle.refusing_alloc.specs.contracts.allocator.RefusingAllocAllocator.deallocate as F
-use Rattle.refusing_alloc.specs.contracts.allocator.RefusingAllocAllocator.deallocate.Key as key
-use Rattle.refusing_alloc.proofs.allocator.RefusingAllocAllocator.deallocate.Statement.{statement}
-use Rattle.refusing_alloc.proofs.allocator.RefusingAllocAllocator.deallocate.Code as code
+use Rattle.test_support.proofs.Setting.{given_to, itself, pointer, word, forgotten, gone}
+use Rattle.test_support.proofs.OwnCalls.{at_behind, Tokens, Behind, picked, may_ask, lender}
+use Rattle.test_support.proofs.refusing.RefusingAlloc.behind.Met as behind_met
+use Rattle.test_support.specs.contracts.allocator.RefusingAllocAllocator.deallocate as F
+use Rattle.test_support.specs.contracts.allocator.RefusingAllocAllocator.deallocate.Key as key
+use Rattle.test_support.proofs.allocator.RefusingAllocAllocator.deallocate.Statement.{statement}
+use Rattle.test_support.proofs.allocator.RefusingAllocAllocator.deallocate.Code as code
 
 module _ (Z : Al) where
   abbrev body_of : Fn
@@ -111,5 +111,5 @@ deallocate_spec 𝓤 𝓛 𝓜 𝓡 wired Y L g d drops met _ =
     (key.name (given_to Z)) (body_of Z) (code.unfolded 𝓤 𝓛.H 𝓜 𝓡 wired (Y, tt) d drops)
     (λ κs. (shr_vals, (rawptr_vals, (uint_vals w64, (uint_vals w64, tt))))) (λ κs. ((λ r vs is. is.0), (rawptr_Tells, (uint_Tells w64, (uint_Tells w64, tt)))))
     (λ κs qs bounds a τ are. walk Z 𝓛 𝓜.mem 𝓡.returns 𝓣.C 𝓣.Λ (framed 𝓤 𝓛.H 𝓜 𝓣)
-    (behind_met.met 𝓤 𝓛 𝓜 𝓡 (code.calls-refusing_alloc::refusing::RefusingAlloc::behind 𝓡.env wired) Y L)
+    (behind_met.met 𝓤 𝓛 𝓜 𝓡 (code.calls-test_support::refusing::RefusingAlloc::behind 𝓡.env wired) Y L)
     (met.deallocate drops) κs.0 κs.1.0 qs.0 qs.1.0 bounds.0 a.0 a.1.0 a.1.1.0 a.1.1.1.0 τ are.1.1.0.1 are.1.1.1.0.1)

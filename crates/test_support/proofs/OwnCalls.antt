@@ -27,11 +27,11 @@ use denote.Steps.{heard, only, nothing}
 use denote.Triple.Statement.{Contract}
 use denote.Triple.Spec.{triple_of}
 use Rattle.std.proofs.alloc.Calls.{Al, seen}
-use Rattle.refusing_alloc.specs.contracts.refusing.RefusingAlloc.{the_row}
-use Rattle.refusing_alloc.specs.contracts.refusing.RefusingAlloc.grants as G
-use Rattle.refusing_alloc.specs.contracts.refusing.RefusingAlloc.grants.Key as grants_key
-use Rattle.refusing_alloc.specs.contracts.refusing.RefusingAlloc.behind as B
-use Rattle.refusing_alloc.specs.contracts.refusing.RefusingAlloc.behind.Key as behind_key
+use Rattle.test_support.specs.contracts.refusing.RefusingAlloc.{the_row}
+use Rattle.test_support.specs.contracts.refusing.RefusingAlloc.grants as G
+use Rattle.test_support.specs.contracts.refusing.RefusingAlloc.grants.Key as grants_key
+use Rattle.test_support.specs.contracts.refusing.RefusingAlloc.behind as B
+use Rattle.test_support.specs.contracts.refusing.RefusingAlloc.behind.Key as behind_key
 
 module _ (Z : Al) where
   abbrev pub Refusing : RattleType

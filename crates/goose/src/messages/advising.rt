@@ -1,6 +1,6 @@
 //! What to do about an input that ended a run, where its octets tell.
 
-use crate::stop::Stop;
+use crate::messages::stop::Stop;
 use capture_core::CaptureCause;
 use list_core::{ItemFault, ListCause, cut_first};
 use script_core::ScriptCause;

@@ -40,16 +40,16 @@ use Rattle.std.specs.Allocator.{HasLayout, block_if_ok}
 use Rattle.std.proofs.alloc.Calls.{Al, Answer, answer_val, token, seen, takes_key, Takes, at_takes, Answered, Takes-goes, Takes-gives, answers}
 use Rattle.std.proofs.alloc.Shapes.{after}
 use Rattle.std.proofs.raw_atomic.Walks.{leaves, proved}
-use Rattle.refusing_alloc.proofs.Setting.{given_to, itself, word, forgotten, gone}
-use Rattle.refusing_alloc.proofs.OwnCalls.{Refusing, at_grants, at_behind, Tokens, Grants, Behind, picked, may_ask, granted, lender}
-use Rattle.refusing_alloc.proofs.Answers.{Typed, fits, is_block, is_refusal}
-use Rattle.refusing_alloc.proofs.refusing.RefusingAlloc.TheLaws.{the_row_laws}
-use Rattle.refusing_alloc.proofs.refusing.RefusingAlloc.grants.Met as grants_met
-use Rattle.refusing_alloc.proofs.refusing.RefusingAlloc.behind.Met as behind_met
-use Rattle.refusing_alloc.specs.contracts.allocator.RefusingAllocAllocator.allocate as F
-use Rattle.refusing_alloc.specs.contracts.allocator.RefusingAllocAllocator.allocate.Key as key
-use Rattle.refusing_alloc.proofs.allocator.RefusingAllocAllocator.allocate.Statement.{statement}
-use Rattle.refusing_alloc.proofs.allocator.RefusingAllocAllocator.allocate.Code as code
+use Rattle.test_support.proofs.Setting.{given_to, itself, word, forgotten, gone}
+use Rattle.test_support.proofs.OwnCalls.{Refusing, at_grants, at_behind, Tokens, Grants, Behind, picked, may_ask, granted, lender}
+use Rattle.test_support.proofs.Answers.{Typed, fits, is_block, is_refusal}
+use Rattle.test_support.proofs.refusing.RefusingAlloc.TheLaws.{the_row_laws}
+use Rattle.test_support.proofs.refusing.RefusingAlloc.grants.Met as grants_met
+use Rattle.test_support.proofs.refusing.RefusingAlloc.behind.Met as behind_met
+use Rattle.test_support.specs.contracts.allocator.RefusingAllocAllocator.allocate as F
+use Rattle.test_support.specs.contracts.allocator.RefusingAllocAllocator.allocate.Key as key
+use Rattle.test_support.proofs.allocator.RefusingAllocAllocator.allocate.Statement.{statement}
+use Rattle.test_support.proofs.allocator.RefusingAllocAllocator.allocate.Code as code
 
 module _ (Z : Al) where
   abbrev body_of : Fn
@@ -136,6 +136,6 @@ allocate_spec 𝓤 𝓛 𝓜 𝓡 wired Y L g d drops met _ =
     (key.name (given_to Z)) (body_of Z) (code.unfolded 𝓤 𝓛.H 𝓜 𝓡 wired (Y, tt) d drops)
     (λ κs. (shr_vals, (uint_vals w64, (uint_vals w64, tt)))) (λ κs. ((λ r vs is. is.0), (uint_Tells w64, (uint_Tells w64, tt))))
     (λ κs qs bounds a τ are. walk Z 𝓛 𝓜.mem 𝓡.returns 𝓣.C 𝓣.Λ (framed 𝓤 𝓛.H 𝓜 𝓣)
-    (grants_met.met 𝓤 𝓛 𝓜 𝓡 (code.calls-refusing_alloc::refusing::RefusingAlloc::grants 𝓡.env wired) Y L)
-    (behind_met.met 𝓤 𝓛 𝓜 𝓡 (code.calls-refusing_alloc::refusing::RefusingAlloc::behind 𝓡.env wired) Y L)
+    (grants_met.met 𝓤 𝓛 𝓜 𝓡 (code.calls-test_support::refusing::RefusingAlloc::grants 𝓡.env wired) Y L)
+    (behind_met.met 𝓤 𝓛 𝓜 𝓡 (code.calls-test_support::refusing::RefusingAlloc::behind 𝓡.env wired) Y L)
     (met.allocate drops) κs.0 κs.1.0 qs.0 qs.1.0 bounds.0 a.0 a.1.0 a.1.1.0 τ are.1.0.1 are.1.1.0.1)

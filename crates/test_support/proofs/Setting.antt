@@ -13,7 +13,7 @@ use denote.RawPtr.{RawPtr}
 use denote.Signature.{Slot, plain}
 use denote.Triple.Walked.{Stay, Goes, Silent, stay_dropped, Goes-dropped}
 use Rattle.std.proofs.alloc.Calls.{Al}
-use Rattle.refusing_alloc.proofs.OwnCalls.{Refusing}
+use Rattle.test_support.proofs.OwnCalls.{Refusing}
 
 module _ (Z : Al) where
   abbrev pub given_to : Args

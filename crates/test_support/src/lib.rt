@@ -1,0 +1,11 @@
+//! What tests start from: two frames, and an allocator that refuses growth number k and every growth after it until asked again.
+#![tactic(auto)]
+
+mod allocator;
+mod frames;
+mod refusing;
+#[cfg(test)]
+mod tests;
+
+pub use crate::frames::{FRAME, SAMPLED};
+pub use crate::refusing::RefusingAlloc;
