@@ -1,3 +1,4 @@
+pub mod AsduParts
 pub mod GooseParts
 pub mod ShowLemmas
 pub mod RewriteLemmas

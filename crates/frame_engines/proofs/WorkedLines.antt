@@ -7,7 +7,7 @@ use Rattle.frame_core.specs.declared.frame.Apdu.TheVariants as apdu
 use Rattle.frame_core.specs.declared.frame.Frame.{Frame}
 use Rattle.pdu_core.specs.declared.sampled.asdu.Asdu.{Asdu}
 use Rattle.frame_engines.specs.FrameText.{frame_line}
-use Rattle.text_core.specs.SampledText.{asdu_text}
+use Rattle.frame_engines.specs.SampledText.{asdu_text}
 use Rattle.mms_data.specs.Data.{boolean, simple}
 
 -- the two frames that docs/FORMATS.md changes into faulty ones

@@ -9,7 +9,7 @@ use Rattle.frame_core.specs.declared.frame.Apdu.TheVariants as apdu
 use Rattle.frame_core.specs.declared.frame.Frame.{Frame}
 use Rattle.frame_core.specs.declared.vlan_tag.VlanTag.{VlanTag}
 use Rattle.text_core.specs.Pieces.{quoted, quoted_or_dash, boolean_text, four_digits}
-use Rattle.text_core.specs.SampledText.{sv_text}
+use Rattle.frame_engines.specs.SampledText.{sv_text}
 use Rattle.text_core.specs.ValueText.{members_text, time_text}
 
 -- the control of a tag, or a dash

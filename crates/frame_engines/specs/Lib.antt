@@ -3,6 +3,7 @@ pub mod RewriteText
 pub mod WrittenForm
 pub mod CheckText
 pub mod ImportText
+pub mod SampledText
 pub mod FrameText
 pub mod FrameObject
 pub mod ShowObject

@@ -3,4 +3,5 @@
 pub mod event_object;
 pub mod frame;
 pub mod frame_object;
+pub mod sampled;
 pub mod sampled_object;

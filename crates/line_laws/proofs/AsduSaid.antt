@@ -10,7 +10,8 @@ use Rattle.pdu_core.specs.SampledSpellable.{IsFixed, IsSpellableAsdu}
 use Rattle.pdu_core.specs.declared.sampled.asdu.Asdu.{Asdu}
 use Rattle.json.specs.Json.{Items, item, no_items, null, object}
 use Rattle.text_core.specs.Pieces.{decimal_or_dash, octets_or_dash, quoted, quoted_or_dash}
-use Rattle.text_core.specs.SampledText.{asdu_text, time_or_dash}
+use Rattle.text_core.specs.ValueText.{time_or_dash}
+use Rattle.frame_engines.specs.SampledText.{asdu_text}
 use Rattle.object_core.specs.Objects as objects
 use Rattle.object_core.specs.Objects.{Field, decimal_or_null, octets_or_null, octets_value, text_or_null}
 use Rattle.object_laws.proofs.Values.{null_is}

@@ -8,5 +8,4 @@ pub mod BitLemmas
 pub mod Spaced
 pub mod OwnedTexts
 pub mod NonEmpty
-pub mod AsduParts
 pub mod WorkedExamples

@@ -3,4 +3,3 @@ pub mod Names
 pub mod CaptureNames
 pub mod ValueText
 pub mod LineText
-pub mod SampledText

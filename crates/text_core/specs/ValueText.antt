@@ -1,5 +1,5 @@
 -- The text of a value of Data.
-use Rattle.std.specs.Prelude.{ℕ, List, [], ◌∷◌, ◌++◌, codes}
+use Rattle.std.specs.Prelude.{ℕ, List, [], ◌∷◌, ◌++◌, Option, Some, None, codes}
 use Rattle.std.specs.List.{join_with_byte}
 use Rattle.std.specs.Fmt.{decimal, signed_decimal}
 use Rattle.hex.specs.Hex.{encode_lower}
@@ -11,6 +11,11 @@ use Rattle.text_core.specs.Pieces.{bits_text, quoted, boolean_text, spaced}
 -- a moment in UTC as its eight octets
 abbrev pub time_text : UtcTime → List ℕ
 time_text t = encode_lower (written_time t)
+
+-- a moment in UTC, or a dash
+abbrev pub time_or_dash : Option UtcTime → List ℕ
+time_or_dash None = codes "-"
+time_or_dash (Some t) = time_text t
 
 -- the kind and the contents, where the contents do not show the kind
 abbrev pub simple_text : Simple → List ℕ

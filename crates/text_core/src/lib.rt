@@ -1,4 +1,4 @@
-//! The texts of which the lines that `goose` writes are made: numbers, names, values, APDUs and the short lines.
+//! The texts of which the lines that `goose` writes are made: numbers, names, values and the short lines.
 #![tactic(auto, using(crate::proofs::Fronts::front_before))]
 
 pub mod event;
@@ -8,7 +8,6 @@ pub mod line;
 pub mod names;
 pub mod owned;
 pub mod pieces;
-pub mod sampled;
 pub mod short;
 pub mod value;
 

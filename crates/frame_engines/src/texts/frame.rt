@@ -8,11 +8,11 @@ ghost use Rattle.text_core.specs.Pieces.{AppendsText, boolean_text};
 ghost use Rattle.text_core.specs.ValueText.{time_text};
 ghost use Rattle.frame_engines.specs.FrameText.{tag_text, trailer_text, envelope_text, goose_text, apdu_word, apdu_text, frame_line};
 
+use crate::texts::sampled::put_sampled;
 use frame_core::{ApduView, FrameView, VlanTag};
 use pdu_core::GooseView;
 use std::alloc::{AllocError, Allocator};
 use text_core::fields::{put_number, put_octets, put_optional, put_text};
-use text_core::sampled::put_sampled;
 use text_core::short::ShortText;
 use text_core::value::put_members_text;
 

@@ -5,12 +5,13 @@ ghost use Rattle.std.specs.Fmt.{decimal};
 ghost use Rattle.pdu_core.specs.SampledViews.{asdu_of, asdus_left, sv_of};
 ghost use Rattle.pdu_core.specs.Views.{octets_if};
 ghost use Rattle.text_core.specs.Pieces.{AppendsText, after_space, decimal_or_dash, octets_or_dash, spaced};
-ghost use Rattle.text_core.specs.SampledText.{asdu_text, sv_text, time_or_dash};
+ghost use Rattle.text_core.specs.ValueText.{time_or_dash};
+ghost use Rattle.frame_engines.specs.SampledText.{asdu_text, sv_text};
 
-use crate::fields::{put_octets, put_octets_if, put_optional, put_text};
-use crate::short::ShortText;
 use pdu_core::{AsduView, Asdus, SvView};
 use std::alloc::{AllocError, Allocator};
+use text_core::fields::{put_octets, put_octets_if, put_optional, put_text};
+use text_core::short::ShortText;
 
 // Appends the fields of an ASDU between its data set and its sample.
 fn put_counts<A: Allocator>(out: &mut Vec<u8, A>, asdu: &AsduView<'_>) -> Result<(), AllocError>

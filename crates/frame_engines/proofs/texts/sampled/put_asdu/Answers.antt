@@ -2,8 +2,8 @@ use Rattle.std.proofs.Common.{refl}
 use Rattle.pdu_core.specs.SampledViews.{asdu_of}
 use Rattle.text_core.proofs.Fronts.{row_then}
 use Rattle.text_core.proofs.PieceLemmas.{more, several, done}
-use Rattle.text_core.proofs.AsduParts.{count_parts, end_parts, front_parts}
-use Rattle.text_core.proofs.sampled.put_asdu.Goals as goal
+use Rattle.frame_engines.proofs.AsduParts.{count_parts, end_parts, front_parts}
+use Rattle.frame_engines.proofs.texts.sampled.put_asdu.Goals as goal
 
 pub returns : goal.returns
 returns g c =

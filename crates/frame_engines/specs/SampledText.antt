@@ -1,18 +1,12 @@
 -- The text of an APDU of Sampled Values.
-use Rattle.std.specs.Prelude.{ℕ, List, [], ◌∷◌, ◌++◌, Option, Some, None, codes}
+use Rattle.std.specs.Prelude.{ℕ, List, [], ◌∷◌, ◌++◌, codes}
 use Rattle.std.specs.List.{concat}
 use Rattle.std.specs.Fmt.{decimal}
 use Rattle.hex.specs.Hex.{encode_lower}
-use Rattle.mms_data.specs.declared.time.UtcTime.{UtcTime}
 use Rattle.pdu_core.specs.declared.sampled.asdu.Asdu.{Asdu}
 use Rattle.pdu_core.specs.declared.sampled.asdu.SvPdu.{SvPdu}
 use Rattle.text_core.specs.Pieces.{decimal_or_dash, octets_or_dash, quoted, quoted_or_dash, spaced}
-use Rattle.text_core.specs.ValueText.{time_text}
-
--- a moment in UTC, or a dash
-abbrev pub time_or_dash : Option UtcTime → List ℕ
-time_or_dash None = codes "-"
-time_or_dash (Some t) = time_text t
+use Rattle.text_core.specs.ValueText.{time_or_dash}
 
 -- the fields of an ASDU, in their order in the standard
 abbrev pub asdu_parts : {A : Type 0} → Asdu A → List (List ℕ)

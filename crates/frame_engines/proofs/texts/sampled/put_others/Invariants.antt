@@ -2,8 +2,8 @@ use Rattle.std.proofs.Common.{◌≡◌, ◌++◌, map}
 use Rattle.std.specs.List.{flat_map}
 use Rattle.pdu_core.specs.SampledViews.{asdu_of, asdus_left}
 use Rattle.text_core.specs.Pieces.{after_space}
-use Rattle.text_core.specs.SampledText.{asdu_text}
-use Rattle.text_core.proofs.sampled.put_others.Given as goal
+use Rattle.frame_engines.specs.SampledText.{asdu_text}
+use Rattle.frame_engines.proofs.texts.sampled.put_others.Given as goal
 
 abbrev pub invariant-loop-asdu : goal.invariant-loop-asdu
 invariant-loop-asdu g l =

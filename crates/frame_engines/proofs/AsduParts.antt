@@ -5,7 +5,7 @@ use Rattle.std.specs.Fmt.{decimal}
 use Rattle.hex.specs.Hex.{encode_lower}
 use Rattle.pdu_core.specs.declared.sampled.asdu.Asdu.{Asdu}
 use Rattle.text_core.specs.Pieces.{decimal_or_dash, octets_or_dash, quoted, quoted_or_dash}
-use Rattle.text_core.specs.SampledText.{time_or_dash}
+use Rattle.text_core.specs.ValueText.{time_or_dash}
 
 -- between its data set and its sample
 abbrev pub count_parts : {A : Type 0} → Asdu A → List (List ℕ)
