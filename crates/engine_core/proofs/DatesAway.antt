@@ -1,12 +1,12 @@
 -- Texts behind dates, without them.
-use Rattle.std.proofs.Common.{◌≡◌, ℕ, zero, suc, ◌+◌, ◌<◌, false, true, eqb, List, [], ◌∷◌, ◌++◌, length, get_or, Option, Some, None, ap, ap₂, sym, subst, ◌∙◌, refl, inl, inr, arith}
+use Rattle.std.proofs.Common.{◌≡◌, ℕ, suc, ◌+◌, ◌<◌, List, [], ◌∷◌, ◌++◌, Option, ap, sym, ◌∙◌, refl, inl, inr, arith}
 use Rattle.std.specs.Prelude.{⊤, codes, unwrap_or}
 use Rattle.std.specs.List.{flat_map}
 use Rattle.std.proofs.lemmas.Bool.{cases_eq, cases_lt, ne_eqb}
-use Rattle.std.proofs.lemmas.List.{append_assoc, append-nil}
+use Rattle.std.proofs.lemmas.List.{append_assoc}
 use Rattle.list_core.specs.Cuts.{HasNo, cut_at}
 use Rattle.list_core.proofs.Cuts.{HasNo-append, cut-part, cut-rest, cut_some}
-use Rattle.date_core.specs.DateText.{date_text, moment_text}
+use Rattle.date_core.specs.DateText.{moment_text}
 use Rattle.date_core.proofs.Dates.{moments_have_dates, text_behind}
 use Rattle.engine_core.specs.Dated.{behind_space, date_mark, dated, lines_as, without_dates}
 use Rattle.engine_core.specs.DatedLaws.{DashGoesAway, DatesGoAway, DatesGoEach, IsLines, last_part}

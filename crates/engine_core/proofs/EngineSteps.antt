@@ -1,10 +1,10 @@
 -- What an engine owes for an answer, by what its own answer says; and engines that may write the same owe the same.
-use Rattle.std.proofs.Common.{Option, Some, None, Ok, Err, Result, ◌≡◌, ℕ, Bool, List, [], inl, inr, ap, sym, ◌∙◌, refl, subst}
+use Rattle.std.proofs.Common.{Option, Some, None, Ok, Err, Result, ◌≡◌, ℕ, Bool, List, [], inl, inr, ap, sym, ◌∙◌, refl}
 use Rattle.list_core.specs.ReadItems.{AnswerOf}
 use Rattle.engine_core.specs.declared.stopped.Halt.{Halt}
 use Rattle.engine_core.specs.declared.stopped.Halt.TheVariants as halt
 use Rattle.engine_core.specs.EngineText.{Alike, Allowed, step_text_to}
-use Rattle.engine_core.specs.RunOver.{HasText, IsDue, Stops, WantsFor, step_fault}
+use Rattle.engine_core.specs.RunOver.{IsDue, Stops, WantsFor, step_fault}
 use Rattle.engine_core.specs.computed.EngineStep.{IsRefused, ItemWritten}
 
 module _ {X C F : Type 0} (refused : ℕ → C → F) (t : Allowed X C F) (before : List (ℕ × X)) (e : ℕ × X) where

@@ -1,7 +1,7 @@
 -- An engine over events answers as one over an input of events.
 use Rattle.std.proofs.Common.{◌≡◌, ℕ, Bool, List, [], ◌∷◌, ◌++◌, Result, Ok, Err, ap, sym, ◌∙◌, refl, subst}
 use Rattle.list_core.specs.declared.event.Event.{Event}
-use Rattle.engine_core.specs.EngineText.{Alike, Allowed, exactly, step_text_to}
+use Rattle.engine_core.specs.EngineText.{Alike, exactly, step_text_to}
 use Rattle.engine_core.specs.declared.style.Style.{Style}
 use Rattle.engine_core.specs.declared.style.Style.TheVariants.{Lines, Dated}
 use Rattle.object_core.specs.declared.counted.Form.{Form}

@@ -4,11 +4,10 @@ use Rattle.list_core.specs.declared.device.InputEnd.{InputEnd}
 use Rattle.list_core.specs.declared.device.InputEnd.TheVariants.{Failed}
 use Rattle.list_core.specs.declared.event.Event.{Event}
 use Rattle.list_core.specs.declared.line_rules.ItemFault.{ItemFault}
-use Rattle.list_core.specs.Items.{Listing, Numbered, Rules, listing}
+use Rattle.list_core.specs.Items.{Numbered, Rules}
 use Rattle.list_core.specs.Lines.{faulty}
 use Rattle.list_core.proofs.Stops.{listing-means}
 use Rattle.capture_core.specs.declared.capture_fault.CaptureFault.{CaptureFault}
-use Rattle.capture_core.specs.Captured.{captured_packets}
 use Rattle.capture_core.proofs.StopsTold.{capture_means}
 use Rattle.engine_core.specs.declared.ending.Ending.{Ending}
 use Rattle.engine_core.specs.declared.ending.Ending.TheVariants.{ReadFault}

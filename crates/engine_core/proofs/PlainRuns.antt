@@ -1,10 +1,10 @@
 -- What an engine wrote of events behind their dates, without them.
-use Rattle.std.proofs.Common.{◌≡◌, ℕ, suc, ◌<◌, Bool, List, [], ◌∷◌, ◌++◌, length, Ok, ap, sym, ◌∙◌, refl, arith}
+use Rattle.std.proofs.Common.{◌≡◌, ℕ, suc, Bool, List, [], ◌∷◌, ◌++◌, ap, sym, ◌∙◌, refl, arith}
 use Rattle.std.specs.Prelude.{◌||◌, All}
 use Rattle.std.proofs.lemmas.List.{append_assoc}
 use Rattle.list_core.specs.declared.event.Event.{Event}
-use Rattle.engine_core.specs.Dated.{dated, without_dates}
-use Rattle.engine_core.specs.DatedLaws.{DatedAsPlain, HasPlain, IsLines}
+use Rattle.engine_core.specs.Dated.{without_dates}
+use Rattle.engine_core.specs.DatedLaws.{DatedAsPlain, IsLines}
 use Rattle.engine_core.specs.EngineText.{ItemText, has_finding, joined_texts}
 use Rattle.engine_core.specs.EventsText.{EventText, IsDated, exactly_event, over_allowed}
 use Rattle.engine_core.proofs.DatesAway.{first_away}

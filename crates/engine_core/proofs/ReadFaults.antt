@@ -7,7 +7,7 @@ use Rattle.list_core.specs.declared.list_fault.ListCause.TheVariants.{LineTooLon
 use Rattle.list_core.specs.declared.line_rules.ItemFault.{ItemFault}
 use Rattle.list_core.specs.declared.line_rules.ItemFault.TheVariants as fault
 use Rattle.list_core.specs.Lines.{faulty}
-use Rattle.list_core.specs.Items.{Listing, Rules, listing}
+use Rattle.list_core.specs.Items.{Listing, Rules}
 use Rattle.list_core.specs.ItemReader.{AnswersItem, ReaderState}
 use Rattle.list_core.specs.ReadItems.{is_failed_read, is_of_source}
 use Rattle.list_core.proofs.Readers.{CanFollow-none}

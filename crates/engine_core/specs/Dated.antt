@@ -1,5 +1,5 @@
 -- Lines behind the date of their event.
-use Rattle.std.specs.Prelude.{ℕ, List, [], ◌∷◌, ◌++◌, codes, ◌==◌, if◌then◌else◌, Option, Some, None, option_map, unwrap_or}
+use Rattle.std.specs.Prelude.{ℕ, List, [], ◌∷◌, ◌++◌, codes, ◌==◌, if◌then◌else◌, unwrap_or}
 use Rattle.list_core.specs.Cuts.{cut_at}
 use Rattle.date_core.specs.DateText.{date_text}
 

@@ -1,5 +1,5 @@
 -- The objects of a few entries and samples, computed: a wrong definition does not check.
-use Rattle.std.proofs.Common.{◌≡◌, ℕ, List, true, None, [], ◌∷◌, refl}
+use Rattle.std.proofs.Common.{◌≡◌, List, true, None, [], ◌∷◌, refl}
 use Rattle.std.specs.Prelude.{codes}
 use Rattle.std.specs.Fmt.{digits}
 use Rattle.hex.specs.Hex.{encode_with}

@@ -4,14 +4,9 @@ use Rattle.std.specs.Prelude.{Option, Some, None, ◌≢◌, ◌∷◌, ◌↔�
 use Rattle.std.proofs.lemmas.Bool.Decides.{nat_tests}
 use Rattle.std.specs.Fmt.{decimal}
 use Rattle.std.specs.Str.{bytes_eq}
-use Rattle.std.proofs.lemmas.List.{append_assoc}
 use Rattle.std.proofs.lemmas.Slice.Eq.{bytes_eq-Decides}
-use Rattle.ber_core.specs.declared.fault.Fault.{Fault}
 use Rattle.ber_core.specs.declared.fault.Full.{Full}
 use Rattle.frame_core.specs.declared.frame.Frame.{Frame}
-use Rattle.frame_core.specs.declared.frame_view.FrameView.{FrameView}
-use Rattle.frame_core.specs.FrameViews.{frame_of}
-use Rattle.frame_core.specs.computed.FrameReading.{frame_at}
 use Rattle.frame_core.specs.Written.{ApduIsSpellable, IsTooLong, written_frame}
 use Rattle.frame_core.specs.computed.WrittenTest.{fits}
 use Rattle.object_core.specs.declared.counted.Form.{Form}
@@ -23,9 +18,7 @@ use Rattle.frame_engines.specs.computed.InForm.{note_in, octets_notes_in}
 use Rattle.frame_engines.specs.CheckObject.{notes_in}
 use Rattle.frame_engines.specs.CheckText.{has_text, is_form}
 use Rattle.frame_engines.specs.WrittenForm.{fitting_form}
-use Rattle.list_core.proofs.Emptiness.{back_nil, front_nil}
-use Rattle.text_core.specs.Pieces.{AppendsText}
-use Rattle.text_core.proofs.Fronts.{grown}
+use Rattle.list_core.proofs.Emptiness.{back_nil}
 use Rattle.frame_engines.proofs.RewriteLemmas.{form_known, form_seen}
 
 -- nothing is noted only where it holds

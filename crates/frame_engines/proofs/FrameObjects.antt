@@ -1,10 +1,10 @@
 -- The object of a frame, as its parts are appended.
-use Rattle.std.proofs.Common.{◌≡◌, ℕ, List, [], ◌∷◌, ◌++◌, ap, refl, sym, ◌∙◌, append_assoc, append-nil}
+use Rattle.std.proofs.Common.{◌≡◌, ℕ, List, [], ◌∷◌, ◌++◌, ap, sym, ◌∙◌, append_assoc, append-nil}
 use Rattle.std.specs.Prelude.{codes}
 use Rattle.frame_core.specs.declared.frame.Frame.{Frame}
 use Rattle.object_core.specs.declared.counted.Counted.{Counted}
 use Rattle.object_core.specs.EventObject.{event_fields, counted_name}
-use Rattle.object_core.specs.Objects.{Field, date_value, in_quotes, object_line, opened}
+use Rattle.object_core.specs.Objects.{Field, date_value, in_quotes, opened}
 use Rattle.std.specs.Fmt.{decimal}
 use Rattle.frame_engines.specs.FrameObject.{AreApduFields, IsFrameObject, apdu_kind, envelope_fields, trailer_value}
 use Rattle.frame_engines.specs.computed.ObjectFields.{next_fields}

@@ -1,5 +1,5 @@
 -- The text of an object, as its fields are appended.
-use Rattle.std.proofs.Common.{◌≡◌, ℕ, List, [], ◌∷◌, ◌++◌, map, ap, refl, sym, ◌∙◌, append_assoc, Result}
+use Rattle.std.proofs.Common.{◌≡◌, ℕ, List, [], ◌∷◌, ◌++◌, map, ap, sym, ◌∙◌, append_assoc, Result}
 use Rattle.std.specs.Prelude.{codes}
 use Rattle.std.specs.List.{concat, flat_map, join_with_byte}
 use Rattle.std.proofs.lemmas.List.{append-nil, map-append}

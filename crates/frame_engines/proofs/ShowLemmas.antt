@@ -1,5 +1,5 @@
 -- Each event has a line.
-use Rattle.std.proofs.Common.{◌≡◌, ℕ, Bool, false, List, [], ◌∷◌, Result, Ok, Err, ap, refl, sym, ◌∙◌}
+use Rattle.std.proofs.Common.{ℕ, Bool, false, List, Result, Ok, Err, ap, refl, sym}
 use Rattle.std.specs.Fmt.{decimal}
 use Rattle.ber_core.specs.declared.fault.Fault.{Fault}
 use Rattle.list_core.specs.declared.event.EventKind.{EventKind}

@@ -1,9 +1,8 @@
 -- A replay of a capture writes the lines of the entries of its events.
-use Rattle.std.proofs.Common.{◌≡◌, ℕ, suc, ◌+◌, Bool, true, false, Option, Some, None, Result, Ok, Err, List, [], ◌∷◌, ◌++◌, length, slice_get, inl, inr, ap, subst, ap₂, sym, ◌∙◌, refl, arith, append_assoc}
+use Rattle.std.proofs.Common.{◌≡◌, ℕ, ◌+◌, Bool, true, false, Option, Some, Ok, List, [], ◌∷◌, ◌++◌, length, slice_get, inl, inr, ap, subst, ap₂, sym, ◌∙◌, refl, arith, append_assoc}
 use Rattle.std.specs.Prelude.{◌||◌, map}
 use Rattle.std.proofs.lemmas.List.{append-nil, length-map}
 use Rattle.std.specs.Io.KnownBytes.{Appends}
-use Rattle.list_core.specs.declared.device.InputEnd.{InputEnd}
 use Rattle.list_core.specs.declared.event.Event.{Event}
 use Rattle.list_core.specs.Device.{AppendsPrefix}
 use Rattle.list_core.specs.Items.{Numbered, put_items}
@@ -17,7 +16,7 @@ use Rattle.subscribe_core.specs.computed.Content.{reading_of}
 use Rattle.subscribe_core.specs.computed.Steps.{run_events}
 use Rattle.subscribe_core.specs.Apart.{AreApart}
 use Rattle.subscribe_core.specs.Entries.{AreEntries, AreEntriesAt, AreReadEntriesAt}
-use Rattle.subscribe_core.specs.EventsRead.{AreRead, EventRead}
+use Rattle.subscribe_core.specs.EventsRead.{EventRead}
 use Rattle.subscribe_core.specs.State.{fresh_state}
 use Rattle.subscribe_core.proofs.Acted.{acts_are_told}
 use Rattle.subscribe_core.proofs.Readings.{reads_one}

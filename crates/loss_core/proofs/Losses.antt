@@ -1,19 +1,18 @@
 -- What is missing between two pairs, and what is told of each pair of a stretch.
-use Rattle.std.proofs.Common.{◌≡◌, ◌⊎◌, ◌↔◌, ℕ, zero, suc, ◌+◌, ◌-◌, ◌<◌, ◌≤◌, ◌==◌, nat_lt, Bool, true, false, Option, Some, None, List, [], ◌∷◌, ◌++◌, length, slice_get, if◌then◌else◌, sym, refl, ap, ap₂, ◌∙◌, subst, arith, inl, inr}
+use Rattle.std.proofs.Common.{◌≡◌, ℕ, zero, suc, ◌+◌, ◌-◌, ◌<◌, ◌≤◌, Bool, true, false, Option, Some, None, List, slice_get, if◌then◌else◌, sym, refl, ap, ◌∙◌, subst, arith, inl, inr}
 use Rattle.std.proofs.lemmas.Bool.{cases_Bool, cases_lt, cases_order, eq-eqb, false≢true, le-ltb, lt-ltb, ne_eqb}
-use Rattle.std.proofs.lemmas.Option.{none-some, same_Some}
+use Rattle.std.proofs.lemmas.Option.{same_Some}
 use Rattle.loss_core.specs.declared.sender.Pair.{Pair}
 use Rattle.loss_core.specs.declared.sender.Arrival.{Arrival}
 use Rattle.loss_core.specs.declared.sender.Told.{Told}
 use Rattle.loss_core.specs.declared.sender.Sender.{Sender}
 use Rattle.loss_core.specs.declared.sender.Standing.TheVariants as standing
-use Rattle.loss_core.specs.declared.missing.Span.{Span}
-use Rattle.loss_core.specs.Sender.{AreTold, IsKnown, IsNewest, NoneRestarts, is_above, is_newer, restarts, standing_by, told_after}
+use Rattle.loss_core.specs.Sender.{AreTold, IsKnown, IsNewest, is_above, standing_by, told_after}
 use Rattle.loss_core.specs.Missing.{IsIn, IsNamed, missing_between, sequences_from, span}
-use Rattle.loss_core.specs.SenderLaws.{EachIsTold, EndsState, IsAboveAll, IsNewerAt, IsStretch, IsToldOf, MissingAreNamed}
+use Rattle.loss_core.specs.SenderLaws.{EachIsTold, EndsState, IsStretch, IsToldOf, MissingAreNamed}
 use Rattle.loss_core.proofs.Known.{newer_from}
 use Rattle.loss_core.proofs.Places.{below_length, get_there}
-use Rattle.loss_core.proofs.Order.{Above, AtMost, above_is, at_most_is, is_then_above, not_then_at_most, not_above_itself, above_both, above_lower, one_where_neither}
+use Rattle.loss_core.proofs.Order.{Above, above_is, is_then_above, not_above_itself, above_both, above_lower, one_where_neither}
 
 -- a number is in a span exactly where it is from one up to another
 

@@ -1,5 +1,5 @@
 -- How far the samples of a stream went on (IEC 61850-9-2, smpCnt): capture times tell whole seconds, counts the rest.
-use Rattle.std.specs.Prelude.{◌≡◌, ℕ, ◌+◌, ◌-◌, ◌*◌, ◌%◌, ◌<◌, ◌≤◌, nat_lt, if◌then◌else◌}
+use Rattle.std.specs.Prelude.{◌≡◌, ℕ, ◌+◌, ◌-◌, ◌*◌, ◌%◌, ◌≤◌, nat_lt, if◌then◌else◌}
 use Rattle.loss_core.specs.declared.advance.Advance.{Advance}
 use Rattle.loss_core.specs.declared.advance.Advance.TheVariants.{Ahead, Back}
 

@@ -1,7 +1,7 @@
 -- What comes of one sender (IEC 61850-8-1: a control block, its real frames or its simulated ones): the newest pair of stNum and
 -- sqNum since the last restart, the lifetime that is over or not, and what each frame tells by them. All is said by positions in
 -- the list of frames as they came.
-use Rattle.std.specs.Prelude.{◌≡◌, ℕ, ◌+◌, ◌<◌, ◌≤◌, ◌==◌, ◌&&◌, ◌||◌, nat_lt, nat_le, Bool, true, false, is_some, Option, Some, None, List, [], ◌∷◌, ◌++◌, length, slice_get, if◌then◌else◌}
+use Rattle.std.specs.Prelude.{◌≡◌, ℕ, ◌+◌, ◌<◌, ◌==◌, ◌&&◌, ◌||◌, nat_lt, nat_le, Bool, true, false, is_some, Option, Some, None, List, [], ◌∷◌, ◌++◌, length, slice_get, if◌then◌else◌}
 use Rattle.loss_core.specs.declared.sender.Pair.{Pair}
 use Rattle.loss_core.specs.declared.sender.Arrival.{Arrival}
 use Rattle.loss_core.specs.declared.sender.Standing.{Standing}

@@ -2,7 +2,7 @@
 use Rattle.std.specs.Prelude.{◌≡◌, ◌⊎◌, ◌↔◌, ℕ, ◌+◌, ◌<◌, ◌≤◌, true, Some, List, slice_get}
 use Rattle.loss_core.specs.declared.sender.Pair.{Pair}
 use Rattle.loss_core.specs.declared.sender.Arrival.{Arrival}
-use Rattle.loss_core.specs.declared.sender.Standing.TheVariants.{Below, Newer}
+use Rattle.loss_core.specs.declared.sender.Standing.TheVariants.{Newer}
 use Rattle.loss_core.specs.declared.sender.Told.{Told}
 use Rattle.loss_core.specs.Sender.{AreTold, NoneRestarts, is_above, restarts}
 use Rattle.loss_core.specs.Missing.{IsNamed, missing_between}

@@ -1,6 +1,5 @@
 -- What a sender's frames come to in all. Numbers are sums without bound.
 use Rattle.std.specs.Prelude.{◌≡◌, ℕ, ◌+◌, ◌-◌, ◌&&◌, max, min, Bool, true, false, not, Option, Some, None, List, [], ◌∷◌, length, if◌then◌else◌}
-use Rattle.loss_core.specs.declared.sender.Pair.{Pair}
 use Rattle.loss_core.specs.declared.sender.Arrival.{Arrival}
 use Rattle.loss_core.specs.declared.sender.Standing.{Standing}
 use Rattle.loss_core.specs.declared.sender.Standing.TheVariants as standing

@@ -1,5 +1,5 @@
 -- What comes of one stream (IEC 61850-9-2): the newest sample, how many came one by one up to it, and what each sample tells by them. All is said by positions in the list of samples as they came.
-use Rattle.std.specs.Prelude.{◌≡◌, ◌⊎◌, ℕ, ◌+◌, ◌-◌, ◌<◌, ◌==◌, ◌||◌, nat_lt, Bool, true, false, Option, Some, None, List, [], ◌∷◌, ◌++◌, drop, filter, length, map, slice_get, take, if◌then◌else◌}
+use Rattle.std.specs.Prelude.{◌≡◌, ◌⊎◌, ℕ, ◌-◌, ◌<◌, ◌==◌, ◌||◌, nat_lt, Bool, true, false, Option, Some, None, List, [], ◌∷◌, ◌++◌, drop, filter, length, slice_get, take, if◌then◌else◌}
 use Rattle.loss_core.specs.declared.advance.Advance.{Advance}
 use Rattle.loss_core.specs.declared.advance.Advance.TheVariants.{Ahead, Back}
 use Rattle.loss_core.specs.declared.stream.Sample.{Sample}

@@ -1,5 +1,5 @@
 -- What the definitions of streams say together.
-use Rattle.std.specs.Prelude.{◌≡◌, ℕ, ◌+◌, ◌-◌, ◌*◌, ◌%◌, ◌<◌, ◌≤◌, nat_lt, if◌then◌else◌, List, [], ◌∷◌, map}
+use Rattle.std.specs.Prelude.{◌≡◌, ℕ, ◌+◌, ◌-◌, ◌*◌, ◌%◌, ◌<◌, nat_lt, if◌then◌else◌, List, [], ◌∷◌, map}
 use Rattle.loss_core.specs.declared.stream.Sample.{Sample}
 use Rattle.loss_core.specs.declared.stream.Came.{Came}
 use Rattle.loss_core.specs.declared.stream.Came.TheVariants as came

@@ -1,6 +1,5 @@
 -- What the samples of a stream come to in all. Numbers are sums without bound.
 use Rattle.std.specs.Prelude.{◌≡◌, ℕ, ◌+◌, max, Bool, true, false, List, [], ◌∷◌, length}
-use Rattle.loss_core.specs.declared.stream.Sample.{Sample}
 use Rattle.loss_core.specs.declared.stream.Came.{Came}
 use Rattle.loss_core.specs.declared.stream.Came.TheVariants as came
 use Rattle.loss_core.specs.declared.stream_tally.StreamTotals.{StreamTotals}

@@ -1,17 +1,13 @@
 -- What one answer of a reader of items makes an engine write.
-use Rattle.std.specs.Prelude.{◌≡◌, ◌⊎◌, ℕ, Bool, List, [], ◌∷◌, ◌++◌, Option, Some, None, Result, Ok, Err, true, false}
+use Rattle.std.specs.Prelude.{◌≡◌, ℕ, Bool, List, [], ◌∷◌, ◌++◌, Option, Some, None, Result, Ok, Err, true, false}
 use Rattle.std.specs.Io.KnownBytes.{Appends}
-use Rattle.list_core.specs.Device.{AppendsPrefix}
 use Rattle.list_core.specs.declared.line_rules.LineError.{LineError}
 use Rattle.list_core.specs.declared.line_rules.LineError.TheVariants as line
 use Rattle.list_core.specs.ReadItems.{AnswerOf}
-use Rattle.engine_core.specs.declared.ending.Ending.{Ending}
-use Rattle.engine_core.specs.declared.ending.Ending.TheVariants.{WriteFault, Memory}
 use Rattle.engine_core.specs.declared.running.Next.{Next}
 use Rattle.engine_core.specs.declared.running.Next.TheVariants as next
 use Rattle.engine_core.specs.declared.stopped.Halt.{Halt}
 use Rattle.engine_core.specs.declared.stopped.Halt.TheVariants as halt
-use Rattle.engine_core.specs.Ending.{ending_by_fault}
 use Rattle.engine_core.specs.EngineText.{Allowed, step_text_to}
 use Rattle.engine_core.specs.RunOver.{IsDue, Stops, WantsFor}
 

@@ -1,7 +1,6 @@
 -- The fields of an object that is open already.
 use Rattle.std.specs.Prelude.{◌≡◌, ℕ, List, ◌∷◌, map}
 use Rattle.std.specs.List.{concat}
-use Rattle.mms_data.specs.Data.{Data}
 use Rattle.pdu_core.specs.declared.goose.GoosePdu.{GoosePdu}
 use Rattle.frame_core.specs.declared.frame.Apdu.{Apdu}
 use Rattle.object_core.specs.Objects.{Field, field_text}

@@ -1,5 +1,5 @@
 -- Something is written of each event as an object.
-use Rattle.std.specs.Prelude.{◌≡◌, ℕ, Bool, List, [], ◌∷◌, Result, Ok, Err}
+use Rattle.std.specs.Prelude.{◌≡◌, ℕ, List, [], ◌∷◌, Result, Ok, Err}
 use Rattle.std.proofs.Common.{sym, ◌∙◌}
 use Rattle.ber_core.specs.declared.fault.Fault.{Fault}
 use Rattle.list_core.specs.declared.event.EventKind.{EventKind}

@@ -1,5 +1,5 @@
 -- What is kept of a stream, and what one more sample makes of it.
-use Rattle.std.specs.Prelude.{◌≡◌, ℕ, ◌+◌, ◌-◌, ◌*◌, ◌≤◌, ◌<◌, min, nat_lt, Option, Some, None, List, length, if◌then◌else◌}
+use Rattle.std.specs.Prelude.{◌≡◌, ℕ, ◌+◌, ◌-◌, ◌<◌, min, nat_lt, Option, Some, None, List, length, if◌then◌else◌}
 use Rattle.loss_core.specs.declared.stream.Sample.{Sample}
 use Rattle.loss_core.specs.declared.stream.Came.{Came}
 use Rattle.loss_core.specs.declared.stream.Came.TheVariants as came

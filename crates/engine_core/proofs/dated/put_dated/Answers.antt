@@ -1,5 +1,4 @@
-use Rattle.std.proofs.Common.{◌≡◌, [], List, ℕ, sym, ap, ◌∙◌, ◌++◌, subst}
-use Rattle.std.proofs.lemmas.List.{append-nil}
+use Rattle.std.proofs.Common.{List, ℕ, sym, ◌∙◌, subst}
 use Rattle.text_core.specs.Pieces.{AppendsText}
 use Rattle.engine_core.proofs.DatedLines.{dated_by, dated_empty, mark_none, mark_some}
 use Rattle.engine_core.proofs.dated.put_dated.Goals as goal

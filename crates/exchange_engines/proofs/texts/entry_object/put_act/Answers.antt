@@ -1,4 +1,4 @@
-use Rattle.std.proofs.Common.{List, [], ◌∷◌, ◌++◌, ℕ, ap, refl, ◌∙◌}
+use Rattle.std.proofs.Common.{List, ◌∷◌, ◌++◌, ℕ, ap, refl, ◌∙◌}
 use Rattle.std.specs.Prelude.{codes}
 use Rattle.std.specs.Fmt.{signed_decimal}
 use Rattle.text_core.proofs.PieceLemmas.{then_text}

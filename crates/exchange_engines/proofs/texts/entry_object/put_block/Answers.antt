@@ -1,4 +1,4 @@
-use Rattle.std.proofs.Common.{List, ◌++◌, ℕ, ap, sym, refl, Option, Some, None, append-nil, slice_get, ◌≡◌, ◌∙◌}
+use Rattle.std.proofs.Common.{◌++◌, ap, sym, refl, Option, Some, None, append-nil, slice_get, ◌≡◌, ◌∙◌}
 use Rattle.std.specs.Prelude.{codes}
 use Rattle.std.specs.Fmt.{decimal}
 use Rattle.std.proofs.lemmas.Option.{slice_get_past, slice_get_read}

@@ -1,5 +1,5 @@
-use Rattle.std.proofs.Common.{◌≡◌, ℕ, List, ◌++◌, subst, ◌∙◌, pos}
-use Rattle.std.specs.Prelude.{codes, ◌-ℤ◌}
+use Rattle.std.proofs.Common.{ℕ, List, subst, ◌∙◌}
+use Rattle.std.specs.Prelude.{codes}
 use Rattle.std.specs.Fmt.{decimal, signed_decimal}
 use Rattle.text_core.specs.Pieces.{AppendsText}
 use Rattle.text_core.proofs.PieceLemmas.{before}

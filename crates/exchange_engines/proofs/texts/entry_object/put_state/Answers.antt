@@ -1,4 +1,4 @@
-use Rattle.std.proofs.Common.{List, [], ◌∷◌, ◌++◌, ℕ, ap, sym, ◌∙◌, append_assoc}
+use Rattle.std.proofs.Common.{List, ◌∷◌, ◌++◌, ℕ, ap, sym, ◌∙◌, append_assoc}
 use Rattle.std.specs.Prelude.{codes}
 use Rattle.std.specs.Fmt.{signed_decimal}
 use Rattle.text_core.proofs.Fronts.{then_appended}

@@ -1,4 +1,4 @@
-use Rattle.std.proofs.Common.{◌++◌, Bool, ap₂, refl, sym, ◌∙◌}
+use Rattle.std.proofs.Common.{◌++◌, Bool, ap₂, ◌∙◌}
 use Rattle.list_core.proofs.Emptiness.{back_nil}
 use Rattle.text_core.proofs.Fronts.{then_appended}
 use Rattle.frame_engines.specs.declared.engines.check.Note.TheVariants.{NotWritten, Destination}

@@ -1,7 +1,7 @@
-use Rattle.std.proofs.Common.{List, ℕ, [], ◌∷◌, ◌++◌, refl, ap, ◌∙◌}
+use Rattle.std.proofs.Common.{[], ◌∷◌, ◌++◌, refl}
 use Rattle.std.specs.Prelude.{codes}
 use Rattle.list_core.specs.EventText.{mode_text}
-use Rattle.text_core.proofs.Fronts.{appended, row_then, then_appended}
+use Rattle.text_core.proofs.Fronts.{appended, then_appended}
 use Rattle.object_core.specs.EventObject.{event_fields, counted_name}
 use Rattle.object_core.specs.Objects.{date_value, in_quotes, opened}
 use Rattle.std.specs.Fmt.{decimal}

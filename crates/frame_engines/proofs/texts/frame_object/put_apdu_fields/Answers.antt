@@ -1,5 +1,4 @@
 use Rattle.std.proofs.Common.{List, ℕ, refl, Ok, Err, Result}
-use Rattle.std.specs.Prelude.{codes}
 use Rattle.pdu_core.specs.Views.{pdu_of}
 use Rattle.pdu_core.specs.SampledViews.{sv_of}
 use Rattle.pdu_core.specs.declared.goose.GoosePdu.{GoosePdu}

@@ -1,11 +1,9 @@
-use Rattle.std.proofs.Common.{List, ℕ, [], ◌∷◌, ◌++◌, subst, refl}
+use Rattle.std.proofs.Common.{List, ℕ, subst}
 use Rattle.std.specs.Prelude.{codes}
 use Rattle.hex.specs.Hex.{encode_lower}
 use Rattle.text_core.specs.Pieces.{AppendsText, four_digits}
 use Rattle.text_core.proofs.PieceLemmas.{before}
-use Rattle.frame_core.specs.FrameViews.{frame_of}
-use Rattle.frame_engines.specs.FrameObject.{envelope_fields, tag_value}
-use Rattle.frame_engines.specs.computed.ObjectFields.{next_fields}
+use Rattle.frame_engines.specs.FrameObject.{tag_value}
 use Rattle.frame_engines.proofs.ObjectTexts.{in_quotes_before}
 use Rattle.frame_engines.proofs.texts.frame_object.put_envelope_fields.Goals as goal
 

@@ -1,4 +1,4 @@
-use Rattle.std.proofs.Common.{List, ℕ, [], ◌∷◌, ◌++◌, ap, refl, sym, ◌∙◌, append_assoc, append-nil}
+use Rattle.std.proofs.Common.{List, ℕ, ◌++◌, ap, refl}
 use Rattle.std.specs.Prelude.{codes}
 use Rattle.frame_core.specs.FrameViews.{frame_of}
 use Rattle.text_core.proofs.PieceLemmas.{then_text}

@@ -1,12 +1,6 @@
-use Rattle.std.proofs.Common.{List, ℕ, [], ◌∷◌, ◌++◌, refl}
-use Rattle.std.specs.Prelude.{codes}
-use Rattle.std.specs.Fmt.{decimal}
+use Rattle.std.proofs.Common.{[], ◌∷◌, ◌++◌, refl}
 use Rattle.pdu_core.specs.Views.{pdu_of}
-use Rattle.text_core.specs.Pieces.{boolean_text, quoted}
-use Rattle.text_core.specs.ValueText.{time_text}
 use Rattle.text_core.proofs.PieceLemmas.{done, more, row, several}
-use Rattle.object_core.specs.Objects.{date_value, in_quotes, text_or_null}
-use Rattle.object_core.specs.Times.{moment_of, quality_value}
 use Rattle.object_core.specs.MemberObject.{AreMembers}
 use Rattle.object_core.proofs.Appending.{then_some}
 use Rattle.frame_engines.specs.computed.ObjectFields.{AreGooseTexts}

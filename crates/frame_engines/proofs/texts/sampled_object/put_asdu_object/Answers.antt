@@ -1,6 +1,4 @@
-use Rattle.std.proofs.Common.{List, ℕ, [], ◌∷◌, ◌++◌, subst, refl}
-use Rattle.std.specs.Prelude.{codes}
-use Rattle.std.specs.List.{concat}
+use Rattle.std.proofs.Common.{List, ℕ, subst, refl}
 use Rattle.pdu_core.specs.SampledViews.{asdu_of}
 use Rattle.text_core.specs.Pieces.{AppendsText}
 use Rattle.text_core.proofs.Fronts.{row_then}

@@ -1,4 +1,3 @@
-use Rattle.std.proofs.Common.{List, ℕ}
 use Rattle.std.proofs.lemmas.Result.{err_from_is_err_and}
 use Rattle.frame_engines.proofs.ShowLemmas.{shown_allowed, shown_there}
 use Rattle.frame_engines.proofs.engines.show.ShowTextEventEngine.put_event.Goals as goal
