@@ -1,7 +1,7 @@
 """The documents name what there is. The tables of docs/tables are those that tools/tables writes of the sources. The words,
 modules, calls and clauses that are written by hand beside them stand in the sources; each wrong body that the gate tries
-has a row, with the call and the clause that refuse it; links lead somewhere; crates.txt names the crates that sources
-use. And the documents are short."""
+names the call and the clause that refuse it; links lead somewhere; crates.txt names the crates that sources use. And the
+documents are short."""
 import importlib.machinery
 import importlib.util
 import pathlib
@@ -184,8 +184,8 @@ class Judged:
 
 
 class Refused:
-    """Each wrong body that the gate tries stands in one row of docs/PROOFS.md, with a call of its crate and a clause of that;
-    and the count of the others is what is said of it."""
+    """Each wrong body that the gate tries says what it does, and names a call of its crate and a clause of that; the table of
+    docs/tables has it. The rows of docs/PROOFS.md are of that table, and the count of the others is what is said of it."""
 
     name = "the wrong bodies of docs/PROOFS.md"
 
@@ -193,29 +193,35 @@ class Refused:
         self.text = text
 
     def why_wrong(self, _program):
-        rows = re.findall(r"(?m)^\| .* \| `(\w+)/(\w+)` \| (.*) \|$", self.text)
-        told = [f"crates/{crate}/must-fail/{name}.edit" for crate, name, _ in rows]
-        there = [str(it.relative_to(TOP)) for it in (TOP / "crates").glob("*/must-fail/*.edit")]
-        why = [f"{it} stands {told.count(it)} times, and in the tree {there.count(it)} times"
-               for it in sorted({*told, *there}) if told.count(it) != there.count(it)]
+        table = (TOP / "docs" / "tables" / "WRONG_BODIES.md").read_text().replace("](../../", "](../").splitlines()
+        rows = re.findall(r"(?m)^\| .*\.edit\) \| .* \|$", self.text)
+        why = [f"the table has no row {it}" for it in rows if it not in table] + ([] if rows else ["there are no rows"])
         others = len(list((TOP / "wrong_bodies").glob("*/*.edit")))
         why += [] if f"\n{others} more stand in" in self.text else [f"{others} others are not told"]
-        return why + [it for row in rows for it in self.why_row_wrong(*row)]
+        for edit in sorted((TOP / "crates").glob("*/must-fail/*.edit")):
+            name = str(edit.relative_to(TOP))
+            why += [] if sum(f"](../{name})" in row for row in table) == 1 else [f"the table has not one row of {name}"]
+            why += [f"{name}: {it}" for it in self.why_edit_wrong(edit)]
+        return why
 
-    def why_row_wrong(self, crate, name, by):
-        stated = {}
-        for file in (TOP / "crates" / crate / "src").rglob("*.rt"):
+    def why_edit_wrong(self, edit):
+        said = re.match(r"# does: .+\n# refused by: (?:(\w+) of )?([\w:]+)\n", edit.read_text())
+        if not said:
+            yield "it does not begin with '# does: ..' and '# refused by: ..'"
+            return
+        crate, stated = edit.parent.parent, {}
+        for file in (crate / "src").rglob("*.rt"):
             source = file.read_text()
             for call in re.findall(r"\bfn (\w+)", source):
                 stated.setdefault(call, set())
             for _, call, contract in tables.contracts(source):
                 stated[call].update(re.findall(NAMED, contract))
-        call, clause = re.match(r"`([\w:]+)`(?:: `(\w+)`)?", by).groups()
+        clause, call = said.groups()
         clauses = stated.get(call.split("::")[-1])
         if clauses is None:
-            yield f"{name}: there is no {call} in {crate}"
+            yield f"there is no {call} in {crate.name}"
         elif clause and clause not in clauses:
-            yield f"{name}: {call} has no clause {clause}"
+            yield f"{call} has no clause {clause}"
 
 
 class StandsOn:

@@ -230,7 +230,7 @@ def why_not_applied(crate, lines):
                 yield f"its old text stands {count} times in the file: {text.strip()}"
         elif word in ("new", "new:"):
             files[path] = files.get(path, "").replace(old, text)
-        else:
+        elif not line.startswith("# "):
             yield f"a line is not read: {line}"
     if not any(line.startswith("old: ") for line in lines):
         yield "it has no old text"
