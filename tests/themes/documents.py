@@ -224,6 +224,23 @@ class Refused:
             yield f"{call} has no clause {clause}"
 
 
+class Forms:
+    """The examples of the forms of proofs in CONTRIBUTING.md are in the crates that it names: files, and words."""
+
+    name = "the forms of CONTRIBUTING.md"
+
+    def why_wrong(self, _program):
+        forms = (TOP / "CONTRIBUTING.md").read_text().partition("\n| Form | ")[2].partition("\n\n")[0]
+        rows = [re.findall(r"`([^`]+)`", row.split(" | ")[-1]) for row in forms.splitlines()[2:]]
+        return [why for row in rows for why in self.why_row_wrong(row)] or ([] if rows else ["there are no rows"])
+
+    def why_row_wrong(self, row):
+        crate = next(TOP / "crates" / it for it in row if it in tables.crates())
+        yield from (f"{crate.name} has no {it}" for it in row if "/" in it and not (crate / it).exists())
+        code = "\n".join(file.read_text() for file in crate.rglob("*") if file.suffix in COMMENTS)
+        yield from (f"{crate.name} has no {it}" for it in {*row} - {crate.name} if "/" not in it and not re.search(rf"\b{it}\b", code))
+
+
 class StandsOn:
     """A crate's line in crates.txt names the crates that its sources use, and no others."""
 
@@ -323,7 +340,7 @@ def part(text, heading):
 
 
 def cases():
-    yield from (Kit(), Commands(), Glossary(), Generated(), Whole(), Short(), Plain(), Guided(), Carried())
+    yield from (Kit(), Commands(), Glossary(), Generated(), Whole(), Short(), Plain(), Guided(), Carried(), Forms())
     folders = [TOP, TOP / "docs", TOP / "docs" / "tables", TOP / "examples", TOP / "tests", TOP / "bench",
                *(TOP / "crates").glob("*")]
     for folder in folders:
