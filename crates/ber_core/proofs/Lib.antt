@@ -15,5 +15,4 @@ pub mod Repeated
 pub mod Visible
 pub mod ContentsLaws
 pub mod FieldAnswers
-pub mod KnownFields
 pub mod StandardFacts
