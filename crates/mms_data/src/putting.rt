@@ -66,14 +66,6 @@ fn put_number<const N: usize>(out: &mut ArrayVec<u8, N>, identifier: u8, number:
     let _fits = put_integer(out, identifier, number);
 }
 
-// The element of this moment.
-fn put_time<const N: usize>(out: &mut ArrayVec<u8, N>, time: UtcTime)
-    requires room { array_vec_len out.old + length (written_element 0x91 (written_time time)) ≤ N }
-    ensures { out.new.items ≡ out.old.items ++ written_element 0x91 (written_time time) }
-{
-    put_octets(out, 0x91, &time.to_octets());
-}
-
 // The written form of a value.
 #[cycle(putting)]
 pub(crate) fn put<A: Allocator, const N: usize>(out: &mut ArrayVec<u8, N>, value: &Value<A>)
@@ -93,7 +85,7 @@ pub(crate) fn put<A: Allocator, const N: usize>(out: &mut ArrayVec<u8, N>, value
         Value::Visible(octets) => put_octets(out, 0x8A, octets.as_slice()),
         Value::BinaryTime(octets) => put_octets(out, 0x8C, octets.as_slice()),
         Value::MmsText(octets) => put_octets(out, 0x90, octets.as_slice()),
-        Value::Utc(time) => put_time(out, *time),
+        Value::Utc(time) => put_octets(out, 0x91, &time.to_octets()),
     }
 }
 

@@ -34,9 +34,9 @@ fn number(octets: &[u8], header: &Header) -> Result<u32, Fault>
     Ok(integer_in(octets, header, 0, 0xffff_ffff)? as u32)
 }
 
-// Whether the boolean behind a header is 0 or FF.
+// Whether the boolean behind a header is 0 or FF, as its written form is.
 #[inline(always)]
-fn is_plain(octets: &[u8], header: &Header) -> bool
+fn is_boolean_written(octets: &[u8], header: &Header) -> bool
     requires ordered { header.now.contents_from ≤ header.now.contents_to }
     requires inside { header.now.contents_to ≤ length octets.now }
     ensures { result ≡ true → (b : Bool) → SpellsBoolean b (contents_of octets.now header.now) → contents_of octets.now header.now ≡ written_item (a_flag b) }
@@ -275,8 +275,8 @@ fn any_flag_if_there(
     match there(octets, at, end, identifier)? {
         Some(header) => {
             let flag = boolean(octets, &header)?;
-            let plain = is_plain(octets, &header);
-            let written = written & has_short_length(&header) & plain;
+            let is_written = is_boolean_written(octets, &header);
+            let written = written & has_short_length(&header) & is_written;
             Ok((flag, header.contents_to, written))
         }
         None => Ok((false, at, false)),

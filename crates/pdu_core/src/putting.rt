@@ -4,29 +4,30 @@
 ghost use Rattle.std.specs.Prelude.{◌≡◌, ◌≤◌, ◌<◌, ◌+◌, ◌^◌, ◌++◌, length, IsOk, OnOk, Some};
 ghost use Rattle.arrayvec.specs.ArrayVec.{array_vec_len};
 ghost use Rattle.ber_core.specs.Element.{IsIdentifier};
+ghost use Rattle.ber_core.specs.Written.{written_element};
 ghost use Rattle.mms_data.specs.Spellable.{AllAreSpellable};
-ghost use Rattle.pdu_core.specs.Contents.{a_flag, a_number, a_text, a_time, some_members};
+ghost use Rattle.pdu_core.specs.Contents.{a_flag, a_number, some_members};
 ghost use Rattle.pdu_core.specs.Goose.{text_if};
 ghost use Rattle.pdu_core.specs.Views.{octets_if};
 ghost use Rattle.pdu_core.specs.Written.{written_field};
 
 use arrayvec::ArrayVec;
 use ber_core::{Full, put_integer};
-use mms_data::{Octets, UtcTime, ValueList, put_element, put_values};
+use mms_data::{ValueList, put_element, put_values};
 use std::alloc::Allocator;
 
-// Appends the field of a text.
+// Appends the field of a text, a time, a number in a stated count of octets, or octets.
 #[tactic(auto, using(mms_data::proofs::Sizes::element_size))]
-pub fn put_text<const N: usize>(
+pub fn put_octets<const N: usize>(
     out: &mut ArrayVec<u8, N>,
     identifier: u8,
-    text: &[u8],
+    octets: &[u8],
 ) -> Result<(), Full>
     requires identifier { IsIdentifier identifier }
-    ensures enough { length (written_field identifier (Some (a_text text.now))) < 2 ^ 32 → array_vec_len out.old + length (written_field identifier (Some (a_text text.now))) ≤ N → IsOk result }
-    ensures written { OnOk result (out.new.items ≡ out.old.items ++ written_field identifier (Some (a_text text.now))) }
+    ensures enough { length (written_element identifier octets.now) < 2 ^ 32 → array_vec_len out.old + length (written_element identifier octets.now) ≤ N → IsOk result }
+    ensures written { OnOk result (out.new.items ≡ out.old.items ++ written_element identifier octets.now) }
 {
-    put_element(out, identifier, text)
+    put_element(out, identifier, octets)
 }
 
 // Appends the field of a text where it stands, if there is one.
@@ -75,19 +76,6 @@ pub fn put_flag<const N: usize>(
     } else {
         put_element(out, identifier, &[0])
     }
-}
-
-// Appends the field of a time.
-pub fn put_time<const N: usize>(
-    out: &mut ArrayVec<u8, N>,
-    identifier: u8,
-    time: UtcTime,
-) -> Result<(), Full>
-    requires identifier { IsIdentifier identifier }
-    ensures enough { array_vec_len out.old + length (written_field identifier (Some (a_time time))) ≤ N → IsOk result }
-    ensures written { OnOk result (out.new.items ≡ out.old.items ++ written_field identifier (Some (a_time time))) }
-{
-    put_element(out, identifier, &time.to_octets())
 }
 
 // Appends the field of members.

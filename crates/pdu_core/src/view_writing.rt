@@ -7,7 +7,7 @@ ghost use Rattle.pdu_core.specs.Spellable.{IsSpellableGoose};
 ghost use Rattle.pdu_core.specs.Views.{pdu_of};
 ghost use Rattle.pdu_core.specs.Written.{Appends, HasWrittenGoose, goose_contents, written_fields, written_goose};
 
-use crate::putting::{put_flag, put_number, put_text, put_text_there, put_time};
+use crate::putting::{put_flag, put_number, put_octets, put_text_there};
 use crate::view::GooseView;
 use arrayvec::ArrayVec;
 use ber_core::Full;
@@ -18,11 +18,11 @@ fn put_fields<const N: usize>(out: &mut ArrayVec<u8, N>, view: &GooseView<'_>) -
     ensures enough { length (goose_contents (pdu_of {A = Unit {0}} view.now)) < 2 ^ 32 → array_vec_len out.old + length (goose_contents (pdu_of {A = Unit {0}} view.now)) ≤ N → IsOk result }
     ensures written { OnOk result (out.new.items ≡ out.old.items ++ goose_contents (pdu_of {A = Unit {0}} view.now)) }
 {
-    put_text(out, 0x80, view.gocb_ref)?;
+    put_octets(out, 0x80, view.gocb_ref)?;
     put_number(out, 0x81, u64::from(view.live))?;
-    put_text(out, 0x82, view.dat_set)?;
+    put_octets(out, 0x82, view.dat_set)?;
     put_text_there(out, 0x83, view.go_id)?;
-    put_time(out, 0x84, view.t)?;
+    put_octets(out, 0x84, &view.t.to_octets())?;
     put_numbers(out, view)
 }
 

@@ -9,7 +9,7 @@ ghost use Rattle.pdu_core.specs.Written.{HasWrittenGoose, goose_contents, writte
 
 use crate::goose::GoosePdu;
 use crate::parts::GooseParts;
-use crate::putting::{put_flag, put_members_field, put_number, put_text, put_text_there, put_time};
+use crate::putting::{put_flag, put_members_field, put_number, put_octets, put_text_there};
 use crate::spellable::are_spellable_parts;
 use arrayvec::ArrayVec;
 use ber_core::Full;
@@ -25,11 +25,11 @@ fn put_fields<A: Allocator, const N: usize>(
     ensures enough { length (goose_contents (pdu_of_parts parts.now)) < 2 ^ 32 → array_vec_len out.old + length (goose_contents (pdu_of_parts parts.now)) ≤ N → IsOk result }
     ensures written { OnOk result (out.new.items ≡ out.old.items ++ goose_contents (pdu_of_parts parts.now)) }
 {
-    put_text(out, 0x80, parts.gocb_ref)?;
+    put_octets(out, 0x80, parts.gocb_ref)?;
     put_number(out, 0x81, u64::from(parts.live))?;
-    put_text(out, 0x82, parts.dat_set)?;
+    put_octets(out, 0x82, parts.dat_set)?;
     put_text_there(out, 0x83, parts.go_id)?;
-    put_time(out, 0x84, parts.t)?;
+    put_octets(out, 0x84, &parts.t.to_octets())?;
     put_numbers(out, parts)
 }
 

@@ -8,10 +8,8 @@ ghost use Rattle.pdu_core.specs.SampledViews.{asdu_of};
 ghost use Rattle.pdu_core.specs.SampledWritten.{asdu_contents, written_asdu};
 ghost use Rattle.pdu_core.specs.Written.{written_fields};
 
-use crate::putting::{put_number, put_text, put_text_there};
-use crate::sampled::putting::{
-    put_octets, put_octets_if, put_time_if, put_u8, put_u16, put_u16_if, put_u32,
-};
+use crate::putting::{put_number, put_octets, put_text_there};
+use crate::sampled::putting::{put_octets_if, put_time_if, put_u16_if};
 use crate::sampled::view::AsduView;
 use arrayvec::ArrayVec;
 use ber_core::Full;
@@ -22,10 +20,10 @@ fn put_fields<const N: usize>(out: &mut ArrayVec<u8, N>, asdu: &AsduView<'_>) ->
     ensures enough { length (asdu_contents (asdu_of {A = Unit {0}} asdu.now)) < 2 ^ 32 → array_vec_len out.old + length (asdu_contents (asdu_of {A = Unit {0}} asdu.now)) ≤ N → IsOk result }
     ensures written { OnOk result (out.new.items ≡ out.old.items ++ asdu_contents (asdu_of {A = Unit {0}} asdu.now)) }
 {
-    put_text(out, 0x80, asdu.sv_id)?;
+    put_octets(out, 0x80, asdu.sv_id)?;
     put_text_there(out, 0x81, asdu.dat_set)?;
-    put_u16(out, 0x82, asdu.smp_cnt)?;
-    put_u32(out, 0x83, asdu.conf_rev)?;
+    put_octets(out, 0x82, &asdu.smp_cnt.to_be_bytes())?;
+    put_octets(out, 0x83, &asdu.conf_rev.to_be_bytes())?;
     put_time_if(out, 0x84, asdu.refr_tm)?;
     put_samples(out, asdu)
 }
@@ -35,7 +33,7 @@ fn put_samples<const N: usize>(out: &mut ArrayVec<u8, N>, asdu: &AsduView<'_>) -
     ensures enough { length (written_fields (drop 5 asdu_fields) (drop 5 (asdu_items (asdu_of {A = Unit {0}} asdu.now)))) < 2 ^ 32 → array_vec_len out.old + length (written_fields (drop 5 asdu_fields) (drop 5 (asdu_items (asdu_of {A = Unit {0}} asdu.now)))) ≤ N → IsOk result }
     ensures written { OnOk result (out.new.items ≡ out.old.items ++ written_fields (drop 5 asdu_fields) (drop 5 (asdu_items (asdu_of {A = Unit {0}} asdu.now)))) }
 {
-    put_u8(out, 0x85, asdu.smp_synch)?;
+    put_octets(out, 0x85, &asdu.smp_synch.to_be_bytes())?;
     put_u16_if(out, 0x86, asdu.smp_rate)?;
     put_octets(out, 0x87, asdu.sample)?;
     put_octets_if(out, 0x88, asdu.smp_mod)?;

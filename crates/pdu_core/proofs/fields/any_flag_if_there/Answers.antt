@@ -14,4 +14,4 @@ returns-in_ok-flag-in-Some-clause-stands c =
     let p : IsWithin c.args.at c.args.end c.in-Some.header = rw c.in-Some.is at c.in_ok-header.ensures.places in
     let f : IsField c.args.identifier o c.args.at c.args.end c.in-Some.header = rw c.in-Some.is at c.in_ok-header.ensures.found in
     field_stands_if o c.args.at c.args.end c.args.identifier c.in-Some.header (written_item (a_flag c.in_ok-flag-in-Some.flag)) small c.requires.inside f p c.args.written c.has_short_length.result c.has_short_length.ensures
-    c.is_plain-plain.result (λ t. c.is_plain-plain.ensures t c.in_ok-flag-in-Some.flag c.in_ok-flag-in-Some.ensures.found)
+    c.is_boolean_written-is_written.result (λ t. c.is_boolean_written-is_written.ensures t c.in_ok-flag-in-Some.flag c.in_ok-flag-in-Some.ensures.found)
