@@ -1,10 +1,10 @@
 -- Fields that stand in their written form.
-use Rattle.std.proofs.Common.{◌≡◌, ℕ, ◌-◌, ◌^◌, ◌≤◌, ◌<◌, Bool, true, List, [], ◌++◌, length, refl, sym, subst, ap₂, ◌∙◌, arith}
+use Rattle.std.proofs.Common.{◌≡◌, ℕ, ◌-◌, ◌^◌, ◌≤◌, ◌<◌, Bool, true, List, [], ◌++◌, length, refl, sym, ap, subst, ap₂, ◌∙◌, arith}
 use Rattle.std.proofs.lemmas.Bool.{and_parts}
 use Rattle.std.specs.Prelude.{◌&&◌, slice_range}
 use Rattle.ber_core.specs.Element.{contents_of}
 use Rattle.ber_core.specs.Fields.{IsField}
-use Rattle.byteorder.specs.Endian.{big_bytes}
+use Rattle.byteorder.specs.Endian.{big_bytes, big_number}
 use Rattle.byteorder.specs.Numbers.{length-bytes_high_first}
 use Rattle.ber_core.specs.Length.{AreOctets, number}
 use Rattle.ber_core.proofs.OneSize.{number_one}
@@ -37,6 +37,10 @@ pub fixed_one : (size n : ℕ) (c : List ℕ) → AreOctets c → SpellsFixed si
 fixed_one size n c small s =
     let held : n < 256 ^ size = subst (λ (m : ℕ). m < 256 ^ size) s.1 (subst (λ (m : ℕ). number c < 256 ^ m) s.0 (number_small c small)) in
     sym (number_one (big_bytes size n) c (big_bytes_octets size n) small (length-bytes_high_first size n ∙ sym s.0) (number-big_bytes size n held ∙ sym s.1))
+
+-- contents of a stated count spell their number
+pub fixed_counted : (size : ℕ) (c k : List ℕ) → (c ≡ k) × (length k ≡ size) → SpellsFixed size (big_number size k) c
+fixed_counted size c k (same, count) = rw same (count, ap (λ (n : ℕ). big_number n k) count)
 
 -- no octets
 pub nothing : (octets : List ℕ) (i j : ℕ) → j ≤ i → slice_range octets i j ≡ []

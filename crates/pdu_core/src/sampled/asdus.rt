@@ -11,12 +11,12 @@ ghost use Rattle.pdu_core.specs.declared.sampled.asdu.Asdu.{Asdu};
 
 use crate::fields::{text_field, text_if_there};
 use crate::sampled::fields::{
-    few_if_there, four_octets_field, one_octet_field, raw_field, time_if_there, two_octets_field,
-    two_octets_if_there,
+    few_if_there, fixed_field, raw_field, time_if_there, two_octets_if_there,
 };
 use crate::sampled::view::AsduView;
 use ber_core::Fault;
 use ber_core::fields::{check_end, required};
+use byteorder::{BigEndian, ByteOrder};
 use mms_data::standing::has_short_length;
 
 /// The ASDU that stands at `at`, in a region that ends at `end`, the place behind it, and where `NOTES` is true, whether it is
@@ -39,10 +39,10 @@ pub fn asdu<'a, const NOTES: bool>(
     let written = NOTES & has_short_length(&header);
     let (sv_id, place, written) = text_field(octets, header.contents_from, to, 0x80, written)?;
     let (dat_set, place, written) = text_if_there(octets, place, to, 0x81, written)?;
-    let (smp_cnt, place, written) = two_octets_field(octets, place, to, 0x82, written)?;
-    let (conf_rev, place, written) = four_octets_field(octets, place, to, 0x83, written)?;
+    let (smp_cnt, place, written) = fixed_field::<2>(octets, place, to, 0x82, written)?;
+    let (conf_rev, place, written) = fixed_field::<4>(octets, place, to, 0x83, written)?;
     let (refr_tm, place, written) = time_if_there(octets, place, to, 0x84, written)?;
-    let (smp_synch, place, written) = one_octet_field(octets, place, to, 0x85, written)?;
+    let (smp_synch, place, written) = fixed_field::<1>(octets, place, to, 0x85, written)?;
     let (smp_rate, place, written) = two_octets_if_there(octets, place, to, 0x86, written)?;
     let (sample, place, written) = raw_field(octets, place, to, 0x87, written)?;
     let (smp_mod, place, written) = few_if_there(octets, place, to, 0x88, written)?;
@@ -51,10 +51,10 @@ pub fn asdu<'a, const NOTES: bool>(
     let view = AsduView {
         sv_id,
         dat_set,
-        smp_cnt,
-        conf_rev,
+        smp_cnt: BigEndian::read_u16(smp_cnt),
+        conf_rev: BigEndian::read_u32(conf_rev),
         refr_tm,
-        smp_synch,
+        smp_synch: smp_synch[0],
         smp_rate,
         sample,
         smp_mod,

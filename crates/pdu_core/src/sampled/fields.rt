@@ -2,6 +2,7 @@
 // of their written form. Inlined as those of a GOOSE APDU are.
 
 ghost use Rattle.std.specs.Prelude.{◌≡◌, ◌<◌, ◌≤◌, length, slice_range, true, IfOk, Some};
+ghost use Rattle.byteorder.specs.Endian.{big_number};
 ghost use Rattle.ber_core.specs.Element.{IsIdentifier, contents_of};
 ghost use Rattle.ber_core.specs.computed.FieldReading.{field_as};
 ghost use Rattle.ber_core.specs.Fields.{always, optional};
@@ -22,42 +23,6 @@ use mms_data::UtcTime;
 use mms_data::standing::has_short_length;
 use mms_data::utc::utc_time;
 
-// The number of two octets behind a header.
-#[inline(always)]
-#[tactic(auto, unfolding(crate::specs::computed::ContentsReading::fixed_in))]
-fn two_octets(octets: &[u8], header: &Header) -> Result<u16, Fault>
-    requires behind { header.now.at < header.now.contents_from }
-    requires ordered { header.now.contents_from ≤ header.now.contents_to }
-    requires inside { header.now.contents_to ≤ length octets.now }
-    ensures { result ≡ fixed_in 2 octets.now header.now }
-{
-    Ok(BigEndian::read_u16(counted(octets, header, 2)?))
-}
-
-// The number of four octets behind a header.
-#[inline(always)]
-#[tactic(auto, unfolding(crate::specs::computed::ContentsReading::fixed_in))]
-fn four_octets(octets: &[u8], header: &Header) -> Result<u32, Fault>
-    requires behind { header.now.at < header.now.contents_from }
-    requires ordered { header.now.contents_from ≤ header.now.contents_to }
-    requires inside { header.now.contents_to ≤ length octets.now }
-    ensures { result ≡ fixed_in 4 octets.now header.now }
-{
-    Ok(BigEndian::read_u32(counted(octets, header, 4)?))
-}
-
-// The number of one octet behind a header.
-#[inline(always)]
-#[tactic(auto, unfolding(crate::specs::computed::ContentsReading::fixed_in))]
-fn one_octet(octets: &[u8], header: &Header) -> Result<u8, Fault>
-    requires behind { header.now.at < header.now.contents_from }
-    requires ordered { header.now.contents_from ≤ header.now.contents_to }
-    requires inside { header.now.contents_to ≤ length octets.now }
-    ensures { result ≡ fixed_in 1 octets.now header.now }
-{
-    Ok(counted(octets, header, 1)?[0])
-}
-
 // The one to sixteen octets behind a header.
 #[inline(always)]
 #[tactic(auto, unfolding(crate::specs::computed::ContentsReading::few_at))]
@@ -75,27 +40,30 @@ fn few_octets<'a>(octets: &'a [u8], header: &Header) -> Result<&'a [u8], Fault>
     }
 }
 
-/// A number of two octets that is always there. One of a length of one octet, as is usual, is read at once.
+/// The octets of a number of `N` octets that is always there. One of a length of one octet, as is usual, is read at once.
 #[inline(always)]
-pub fn two_octets_field(
-    octets: &[u8],
+#[tactic(auto, unfolding(crate::specs::computed::ContentsReading::fixed_in))]
+pub fn fixed_field<'a, const N: usize>(
+    octets: &'a [u8],
     at: usize,
     end: usize,
     identifier: u8,
     written: bool,
-) -> Result<(u16, usize, bool), Fault>
+) -> Result<(&'a [u8], usize, bool), Fault>
     requires ordered { at ≤ end }
     requires inside { end ≤ length octets.now }
     requires identifier { IsIdentifier identifier }
-    ensures exact { Gives (λ x. (Some (a_fixed 2 x.0), x.1)) result (field_as item_at identifier (fixed 2) always octets.now at end) }
+    requires few { N < 128 }
+    ensures exact { Gives (λ x. (Some (a_fixed N (big_number N x.0.now)), x.1)) result (field_as item_at identifier (fixed N) always octets.now at end) }
     ensures next { IfOk result (λ x. (at ≤ x.1) × (x.1 ≤ end)) }
-    ensures stands { IfOk result (λ x. x.2 ≡ true → (written ≡ true) × (slice_range octets.now at x.1 ≡ written_field identifier (Some (a_fixed 2 x.0)))) }
+    ensures size { IfOk result (λ x. length x.0.now ≡ N) }
+    ensures stands { IfOk result (λ x. x.2 ≡ true → (written ≡ true) × (slice_range octets.now at x.1 ≡ written_field identifier (Some (a_fixed N (big_number N x.0.now))))) }
 {
-    match contents_there::<2>(octets, at, end, identifier) {
-        Some(contents) => Ok((BigEndian::read_u16(contents), at + 4, written)),
+    match contents_there::<N>(octets, at, end, identifier) {
+        Some(number) => Ok((number, at + 2 + N, written)),
         None => {
             let header = required(octets, at, end, identifier)?;
-            let number = two_octets(octets, &header)?;
+            let number = counted(octets, &header, N)?;
             let written = written & has_short_length(&header);
             Ok((number, header.contents_to, written))
         }
@@ -104,6 +72,7 @@ pub fn two_octets_field(
 
 /// A number of two octets that may be absent.
 #[inline(always)]
+#[tactic(auto, unfolding(crate::specs::computed::ContentsReading::fixed_in))]
 pub fn two_octets_if_there(
     octets: &[u8],
     at: usize,
@@ -119,65 +88,15 @@ pub fn two_octets_if_there(
 {
     match there(octets, at, end, identifier)? {
         Some(header) => {
-            let value = two_octets(octets, &header)?;
+            let number = counted(octets, &header, 2)?;
             let written = written & has_short_length(&header);
-            Ok((Some(value), header.contents_to, written))
+            Ok((
+                Some(BigEndian::read_u16(number)),
+                header.contents_to,
+                written,
+            ))
         }
         None => Ok((None, at, written)),
-    }
-}
-
-/// A number of four octets that is always there. One of a length of one octet, as is usual, is read at once.
-#[inline(always)]
-pub fn four_octets_field(
-    octets: &[u8],
-    at: usize,
-    end: usize,
-    identifier: u8,
-    written: bool,
-) -> Result<(u32, usize, bool), Fault>
-    requires ordered { at ≤ end }
-    requires inside { end ≤ length octets.now }
-    requires identifier { IsIdentifier identifier }
-    ensures exact { Gives (λ x. (Some (a_fixed 4 x.0), x.1)) result (field_as item_at identifier (fixed 4) always octets.now at end) }
-    ensures next { IfOk result (λ x. (at ≤ x.1) × (x.1 ≤ end)) }
-    ensures stands { IfOk result (λ x. x.2 ≡ true → (written ≡ true) × (slice_range octets.now at x.1 ≡ written_field identifier (Some (a_fixed 4 x.0)))) }
-{
-    match contents_there::<4>(octets, at, end, identifier) {
-        Some(contents) => Ok((BigEndian::read_u32(contents), at + 6, written)),
-        None => {
-            let header = required(octets, at, end, identifier)?;
-            let number = four_octets(octets, &header)?;
-            let written = written & has_short_length(&header);
-            Ok((number, header.contents_to, written))
-        }
-    }
-}
-
-/// A number of one octet that is always there. One of a length of one octet, as is usual, is read at once.
-#[inline(always)]
-pub fn one_octet_field(
-    octets: &[u8],
-    at: usize,
-    end: usize,
-    identifier: u8,
-    written: bool,
-) -> Result<(u8, usize, bool), Fault>
-    requires ordered { at ≤ end }
-    requires inside { end ≤ length octets.now }
-    requires identifier { IsIdentifier identifier }
-    ensures exact { Gives (λ x. (Some (a_fixed 1 x.0), x.1)) result (field_as item_at identifier (fixed 1) always octets.now at end) }
-    ensures next { IfOk result (λ x. (at ≤ x.1) × (x.1 ≤ end)) }
-    ensures stands { IfOk result (λ x. x.2 ≡ true → (written ≡ true) × (slice_range octets.now at x.1 ≡ written_field identifier (Some (a_fixed 1 x.0)))) }
-{
-    match contents_there::<1>(octets, at, end, identifier) {
-        Some(contents) => Ok((contents[0], at + 3, written)),
-        None => {
-            let header = required(octets, at, end, identifier)?;
-            let number = one_octet(octets, &header)?;
-            let written = written & has_short_length(&header);
-            Ok((number, header.contents_to, written))
-        }
     }
 }
 

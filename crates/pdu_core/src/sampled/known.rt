@@ -2,6 +2,7 @@
 // and no reading of a field has an effect, so the compiler keeps that of those fields alone which a caller looks at.
 
 ghost use Rattle.std.specs.Prelude.{◌≡◌, ◌<◌, ◌≤◌, length, IsOk, Ok, Some};
+ghost use Rattle.byteorder.specs.Endian.{big_number};
 ghost use Rattle.ber_core.specs.computed.FieldReading.{field_as};
 ghost use Rattle.ber_core.specs.Fields.{always, optional};
 ghost use Rattle.mms_data.specs.Place.{IsPart};
@@ -58,17 +59,23 @@ fn known_text_if<'a>(
     }
 }
 
-// The number of two octets that is known to stand at `at`, and the place behind it.
+// The octets of a number of `N` octets that is known to stand at `at`, and the place behind it.
 #[inline(always)]
-fn known_two_octets(octets: &[u8], at: usize, end: usize, identifier: u8) -> (u16, usize)
+fn known_fixed<'a, const N: usize>(
+    octets: &'a [u8],
+    at: usize,
+    end: usize,
+    identifier: u8,
+) -> (&'a [u8], usize)
     requires ordered { at ≤ end }
     requires inside { end ≤ length octets.now }
-    requires known { IsOk (field_as item_at identifier (fixed 2) always octets.now at end) }
-    ensures exact { field_as item_at identifier (fixed 2) always octets.now at end ≡ Ok (Some (a_fixed 2 result.0), result.1) }
+    requires known { IsOk (field_as item_at identifier (fixed N) always octets.now at end) }
+    ensures exact { field_as item_at identifier (fixed N) always octets.now at end ≡ Ok (Some (a_fixed N (big_number N result.0.now)), result.1) }
     ensures next { (at ≤ result.1) × (result.1 ≤ end) }
+    ensures size { length result.0.now ≡ N }
 {
     let header = known_required(octets, at, end, identifier);
-    let number = BigEndian::read_u16(&octets[header.contents_from..header.contents_to]);
+    let number = &octets[header.contents_from..header.contents_to];
     (number, header.contents_to)
 }
 
@@ -88,34 +95,6 @@ fn known_two_octets_if(octets: &[u8], at: usize, end: usize, identifier: u8) -> 
         }
         None => (None, at),
     }
-}
-
-// The number of four octets that is known to stand at `at`, and the place behind it.
-#[inline(always)]
-fn known_four_octets(octets: &[u8], at: usize, end: usize, identifier: u8) -> (u32, usize)
-    requires ordered { at ≤ end }
-    requires inside { end ≤ length octets.now }
-    requires known { IsOk (field_as item_at identifier (fixed 4) always octets.now at end) }
-    ensures exact { field_as item_at identifier (fixed 4) always octets.now at end ≡ Ok (Some (a_fixed 4 result.0), result.1) }
-    ensures next { (at ≤ result.1) × (result.1 ≤ end) }
-{
-    let header = known_required(octets, at, end, identifier);
-    let number = BigEndian::read_u32(&octets[header.contents_from..header.contents_to]);
-    (number, header.contents_to)
-}
-
-// The number of one octet that is known to stand at `at`, and the place behind it.
-#[inline(always)]
-fn known_one_octet(octets: &[u8], at: usize, end: usize, identifier: u8) -> (u8, usize)
-    requires ordered { at ≤ end }
-    requires inside { end ≤ length octets.now }
-    requires known { IsOk (field_as item_at identifier (fixed 1) always octets.now at end) }
-    ensures exact { field_as item_at identifier (fixed 1) always octets.now at end ≡ Ok (Some (a_fixed 1 result.0), result.1) }
-    ensures next { (at ≤ result.1) × (result.1 ≤ end) }
-{
-    let header = known_required(octets, at, end, identifier);
-    let contents = &octets[header.contents_from..header.contents_to];
-    (contents[0], header.contents_to)
 }
 
 // The time that may stand at `at`, and the place behind it.
@@ -190,10 +169,10 @@ pub fn known_asdu<'a>(octets: &'a [u8], at: usize, end: usize) -> (AsduView<'a>,
     let to = header.contents_to;
     let (sv_id, place) = known_text(octets, header.contents_from, to, 0x80);
     let (dat_set, place) = known_text_if(octets, place, to, 0x81);
-    let (smp_cnt, place) = known_two_octets(octets, place, to, 0x82);
-    let (conf_rev, place) = known_four_octets(octets, place, to, 0x83);
+    let (smp_cnt, place) = known_fixed::<2>(octets, place, to, 0x82);
+    let (conf_rev, place) = known_fixed::<4>(octets, place, to, 0x83);
     let (refr_tm, place) = known_time_if(octets, place, to, 0x84);
-    let (smp_synch, place) = known_one_octet(octets, place, to, 0x85);
+    let (smp_synch, place) = known_fixed::<1>(octets, place, to, 0x85);
     let (smp_rate, place) = known_two_octets_if(octets, place, to, 0x86);
     let (sample, place) = known_octets(octets, place, to, 0x87);
     let (smp_mod, place) = known_few_if(octets, place, to, 0x88);
@@ -201,10 +180,10 @@ pub fn known_asdu<'a>(octets: &'a [u8], at: usize, end: usize) -> (AsduView<'a>,
     let view = AsduView {
         sv_id,
         dat_set,
-        smp_cnt,
-        conf_rev,
+        smp_cnt: BigEndian::read_u16(smp_cnt),
+        conf_rev: BigEndian::read_u32(conf_rev),
         refr_tm,
-        smp_synch,
+        smp_synch: smp_synch[0],
         smp_rate,
         sample,
         smp_mod,
