@@ -4,16 +4,17 @@ ghost use Rattle.std.specs.Prelude.{◌≡◌, ◌≤◌, ◌<◌, ◌+◌, ◌�
 ghost use Rattle.arrayvec.specs.ArrayVec.{array_vec_len};
 ghost use Rattle.frame_core.specs.Frame.{SpellsFrame};
 ghost use Rattle.frame_core.specs.GooseFrame.{frame_of_parts};
-ghost use Rattle.frame_core.specs.Written.{ApduIsSpellable, IsHeld, IsTooLong, written_frame, written_head};
+ghost use Rattle.frame_core.specs.Written.{ApduIsSpellable, IsHeld, IsTooLong, written_frame};
 ghost use Rattle.frame_core.specs.computed.WrittenTest.{fits};
 ghost use Rattle.pdu_core.specs.Parts.{pdu_of_parts};
 ghost use Rattle.pdu_core.specs.Spellable.{IsSpellableGoose};
 ghost use Rattle.pdu_core.specs.Written.{written_goose};
 
-use crate::encoding::{EncodeFault, MOST_APDU, put_body, put_tag, put_word};
-use crate::envelope::{GOOSE, MOST_OCTETS};
+use crate::encoding::{EncodeFault, MOST_APDU};
+use crate::envelope::{Envelope, GOOSE, MOST_FRAME, put_frame};
 use crate::vlan_tag::VlanTag;
 use arrayvec::ArrayVec;
+use ber_core::Full;
 use mms_data::PutFault;
 use pdu_core::{GooseParts, put_goose_parts};
 use std::alloc::Allocator;
@@ -67,50 +68,23 @@ fn write_goose<A: Allocator>(frame: &GooseFrame<'_, A>) -> Result<ArrayVec<u8, 1
     ensures held { IfOk result (λ _. IsHeld (frame_of_parts frame.now)) }
 {
     let mut apdu = ArrayVec::<u8, MOST_APDU>::new();
-    match put_parts(&mut apdu, &frame.parts) {
+    match put_goose_parts(&mut apdu, &frame.parts) {
         Ok(()) => {}
         Err(PutFault::NotSpellable) => return Err(EncodeFault::NotSpellable),
         Err(PutFault::Full) => return Err(EncodeFault::TooLong),
     }
-    let mut out = ArrayVec::<u8, MOST_OCTETS>::new();
-    put_head(&mut out, frame, apdu.len());
-    if put_body(&mut out, apdu.as_slice(), &[]).is_err() {
-        return Err(EncodeFault::TooLong);
+    let envelope = Envelope {
+        destination: frame.destination,
+        source: frame.source,
+        tag: frame.tag,
+        ether_type: GOOSE,
+        app_id: frame.app_id,
+        reserved1: frame.reserved1,
+        reserved2: frame.reserved2,
+    };
+    let mut out = ArrayVec::<u8, MOST_FRAME>::new();
+    match put_frame(&mut out, &envelope, apdu.as_slice(), &[]) {
+        Ok(()) => Ok(out),
+        Err(Full) => Err(EncodeFault::TooLong),
     }
-    Ok(out)
-}
-
-// Appends the APDU alone.
-fn put_parts<A: Allocator>(
-    out: &mut ArrayVec<u8, MOST_APDU>,
-    parts: &GooseParts<'_, A>,
-) -> Result<(), PutFault>
-    requires { array_vec_len out.old ≡ 0 }
-    ensures not_spellable { (result ≡ Err PutFault.NotSpellable) ↔ (¬ IsSpellableGoose (pdu_of_parts parts.now)) }
-    ensures full { (result ≡ Err PutFault.Full) ↔ (IsSpellableGoose (pdu_of_parts parts.now) × (1492 < length (written_goose (pdu_of_parts parts.now)))) }
-    ensures spellable { OnOk result (IsSpellableGoose (pdu_of_parts parts.now)) }
-    ensures written { OnOk result (out.new.items ≡ written_goose (pdu_of_parts parts.now)) }
-{
-    put_goose_parts(out, parts)
-}
-
-// Appends what stands before an APDU of `size` octets.
-fn put_head<A: Allocator>(
-    out: &mut ArrayVec<u8, MOST_OCTETS>,
-    frame: &GooseFrame<'_, A>,
-    size: usize,
-)
-    requires empty { out.old.items ≡ [] }
-    requires size { size ≤ 1492 }
-    ensures items { out.new.items ≡ written_head (frame_of_parts frame.now) size }
-    ensures held { IsHeld (frame_of_parts frame.now) }
-{
-    out.try_extend_from_slice(&frame.destination).unwrap();
-    out.try_extend_from_slice(&frame.source).unwrap();
-    put_tag(out, frame.tag);
-    put_word(out, GOOSE);
-    put_word(out, frame.app_id);
-    put_word(out, 8 + size as u16);
-    put_word(out, frame.reserved1);
-    put_word(out, frame.reserved2);
 }

@@ -8,7 +8,7 @@ ghost use Rattle.frame_core.specs.Envelope.{ether_place};
 ghost use Rattle.frame_core.specs.FrameFault.{FrameFault};
 ghost use Rattle.frame_core.specs.OtherType.{IsOther, other_type};
 
-use crate::envelope::{MOST_OCTETS, announces_apdu, ether_type_place, word};
+use crate::envelope::{MOST_FRAME, announces_apdu, ether_type_place, word};
 
 /// The EtherType of a frame of another protocol than GOOSE and Sampled Values (IEEE 802.3, IEEE 802.1Q): one whose first
 /// fault is its EtherType. `None` for each other frame, so where it is too long, and where it ends before its EtherType does.
@@ -19,7 +19,7 @@ pub fn other_ether_type(octets: &[u8]) -> Option<u16>
     ensures fault { IfSome result (λ t. FrameFault (fault_of (ether_place octets.now) causes.EtherType) octets.now) }
     ensures every { (f : Fault) → FrameFault f octets.now → f.cause ≡ causes.EtherType → IsSome result }
 {
-    if octets.len() > MOST_OCTETS || octets.len() < 14 {
+    if octets.len() > MOST_FRAME || octets.len() < 14 {
         return None;
     }
     let place = ether_type_place(octets);
