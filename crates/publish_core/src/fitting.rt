@@ -8,7 +8,7 @@ use crate::frames::number_length;
 use crate::table::Table;
 
 // The most octets of an APDU, and the one octet of the sequence number 0.
-const MOST_OCTETS: usize = 1493;
+const MOST_APDU_AND_NUMBER: usize = 1493;
 
 // The sequence number of the longest frame of a step: before the last step that of its one frame, at the last step the
 // greatest.
@@ -34,7 +34,7 @@ pub fn every_frame_fits(table: &Table, apdu: usize) -> bool
     ensures steps { AreSteps table.now }
 {
     let steps = table.len();
-    let most = MOST_OCTETS + number_length(table.at(0).live_ms);
+    let most = MOST_APDU_AND_NUMBER + number_length(table.at(0).live_ms);
     for i in 0..steps {
         let sequence = longest_number(i, steps);
         let octets = apdu + number_length(table.at(i).live_ms) + number_length(sequence);

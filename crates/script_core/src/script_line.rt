@@ -69,7 +69,7 @@ fn time_in(digits: &[u8]) -> Option<UtcTime>
 }
 
 // The most octets of a change's members: a line has two digits for each, and at most 4,096 octets.
-const MOST_OCTETS: usize = 2048;
+const MOST_OCTETS_OF_MEMBERS: usize = 2048;
 
 // The values that octets spell, as a change at these moments.
 fn values_in<A: Allocator + Copy>(
@@ -104,7 +104,7 @@ fn change_of_fields<A: Allocator + Copy>(
     let Some(t) = time_in(t) else {
         return Err(LineError::Cause(ScriptCause::Hex));
     };
-    let mut room = [0; MOST_OCTETS];
+    let mut room = [0; MOST_OCTETS_OF_MEMBERS];
     let octets = &mut room[..members.len() / 2];
     match hex::decode_to_slice(members, octets) {
         Ok(()) => values_in(alloc, moment, t, octets),
