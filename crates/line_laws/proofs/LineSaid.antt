@@ -137,8 +137,8 @@ sv_said (object ms) = []
 -- of which sender or stream
 abbrev pub key_words : Members → List ℕ
 key_words ms =
-    if is_there (at (codes "svID") ms) then codes " appid=" ++ word (codes "appid") ms ++ codes " source=" ++ word (codes "source") ms ++ codes " id=" ++ value_said (at (codes "svID") ms)
-    else codes " appid=" ++ word (codes "appid") ms ++ codes " ref=" ++ value_said (at (codes "gocbRef") ms) ++ codes " sim=" ++ word (codes "simulation") ms
+    if is_there (at (codes "svID") ms) then concat (codes " appid=" ∷ word (codes "appid") ms ∷ codes " source=" ∷ word (codes "source") ms ∷ codes " id=" ∷ value_said (at (codes "svID") ms) ∷ [])
+    else concat (codes " appid=" ∷ word (codes "appid") ms ∷ codes " ref=" ∷ value_said (at (codes "gocbRef") ms) ∷ codes " sim=" ∷ word (codes "simulation") ms ∷ [])
 
 -- the number under a name, behind a sign
 abbrev pub number_words : List ℕ → List ℕ → Members → List ℕ
@@ -163,7 +163,7 @@ loss_words n kind ms = n ++ (codes " " ++ (kind ++ (key_words ms ++ loss_numbers
 
 -- what has not come back at the end
 abbrev pub end_silent_words : Members → List ℕ
-end_silent_words ms = codes "end silent" ++ key_words ms ++ number_words (codes " since=") (codes "since") ms ++ number_words (codes " for=") (codes "for") ms ++ codes "\n"
+end_silent_words ms = concat (codes "end silent" ∷ key_words ms ∷ number_words (codes " since=") (codes "since") ms ∷ number_words (codes " for=") (codes "for") ms ∷ codes "\n" ∷ [])
 
 -- what frames come to
 abbrev pub total_goose_words : Members → List ℕ

@@ -1,7 +1,6 @@
 -- The lines of `losses`, as objects and as text.
-use Rattle.std.proofs.Common.{◌≡◌, ℕ, ◌-◌, List, [], ◌∷◌, ◌++◌, Option, Some, None, refl, arith, append_assoc}
+use Rattle.std.proofs.Common.{◌≡◌, ℕ, ◌-◌, List, [], ◌∷◌, Option, Some, None, refl, arith}
 use Rattle.std.specs.Prelude.{codes}
-use Rattle.std.specs.Fmt.{decimal}
 use Rattle.json.specs.Json.{object}
 use Rattle.date_core.specs.DateText.{date_text}
 use Rattle.text_core.specs.Pieces.{two_octets}
@@ -19,7 +18,7 @@ use Rattle.loss_core.specs.declared.stream_tally.StreamTotals.{StreamTotals}
 use Rattle.loss_core.specs.Sender.{over_at}
 use Rattle.loss_engine.specs.declared.finding.Finding.{Finding}
 use Rattle.loss_engine.specs.declared.finding.Finding.TheVariants.{Silent, StatesMissing, FramesMissing, Late, Restarted, SamplesMissing, SampleRepeated, SampleLate, OutOfRange, Synch}
-use Rattle.loss_engine.specs.LossLine.{end_silent_line, finding_line, key_text, numbered, samples_line, sender_total_line, stream_total_line}
+use Rattle.loss_engine.specs.LossLine.{end_silent_line, finding_line, samples_line, sender_total_line, stream_total_line}
 use Rattle.loss_engine.specs.LossObject.{end_silent_object, finding_object, samples_object, sender_total_object, stream_total_object}
 use Rattle.loss_engine.specs.LossText.{end_silent, with_end}
 use Rattle.loss_engine.specs.Sights.{Key, sender, stream}
@@ -63,49 +62,30 @@ count_named count small = decimal_field 0 (codes "smpCnt") count refl small ∷ 
 
 -- ---- what is told of an event
 
-one_said : (n w k a : List ℕ) → n ++ (codes " " ++ (w ++ (k ++ (a ++ codes "\n")))) ≡ n ++ codes " " ++ w ++ k ++ a ++ codes "\n"
-one_said n w k a = simp append_assoc
-
-two_said : (n w k a b : List ℕ) → n ++ (codes " " ++ (w ++ (k ++ (a ++ (b ++ codes "\n"))))) ≡ n ++ codes " " ++ w ++ k ++ (a ++ b) ++ codes "\n"
-two_said n w k a b = simp append_assoc
-
-three_said : (n w k a b c : List ℕ) → n ++ (codes " " ++ (w ++ (k ++ (a ++ (b ++ (c ++ codes "\n")))))) ≡ n ++ codes " " ++ w ++ k ++ (a ++ b ++ c) ++ codes "\n"
-three_said n w k a b c = simp append_assoc
-
 pub say_finding : (c : Counted) (n moment : ℕ) (key : Key) (f : Finding) → IsWide n → IsWide moment → IsGivenKey key → IsSmallFinding key f → Say (finding_object c n moment key f) (finding_line n key f)
 say_finding c n moment (sender a r s) (Silent since lasted) small past given few =
-    say_event 0 c n small (moment_then 0 moment (codes "silent") past (by_test (codes "silent") refl) (key_then (sender a r s) given (silence_named since lasted few.0 few.1))) _ (omega arith) refl refl
-    (two_said (decimal n) (codes "silent") (key_text (sender a r s)) (numbered (codes " since=") since) (numbered (codes " for=") lasted))
+    say_event 0 c n small (moment_then 0 moment (codes "silent") past (by_test (codes "silent") refl) (key_then (sender a r s) given (silence_named since lasted few.0 few.1))) _ (omega arith) refl refl refl
 say_finding c n moment (sender a r s) (StatesMissing m) small past given few =
-    say_event 0 c n small (moment_then 0 moment (codes "states-missing") past (by_test (codes "states-missing") refl) (key_then (sender a r s) given (span_named m.from m.to few.0 few.1))) _ (omega arith) refl refl
-    (two_said (decimal n) (codes "states-missing") (key_text (sender a r s)) (numbered (codes " from=") m.from) (numbered (codes " to=") m.to))
+    say_event 0 c n small (moment_then 0 moment (codes "states-missing") past (by_test (codes "states-missing") refl) (key_then (sender a r s) given (span_named m.from m.to few.0 few.1))) _ (omega arith) refl refl refl
 say_finding c n moment (sender a r s) (FramesMissing state m) small past given few =
     say_event 0 c n small
-    (moment_then 0 moment (codes "frames-missing") past (by_test (codes "frames-missing") refl) (key_then (sender a r s) given (decimal_field 0 (codes "stNum") state refl few.0 ∷ span_named m.from m.to few.1 few.2))) _ (omega arith) refl refl
-    (three_said (decimal n) (codes "frames-missing") (key_text (sender a r s)) (numbered (codes " st=") state) (numbered (codes " from=") m.from) (numbered (codes " to=") m.to))
+    (moment_then 0 moment (codes "frames-missing") past (by_test (codes "frames-missing") refl) (key_then (sender a r s) given (decimal_field 0 (codes "stNum") state refl few.0 ∷ span_named m.from m.to few.1 few.2))) _ (omega arith) refl refl refl
 say_finding c n moment (sender a r s) (Late p) small past given few =
-    say_event 0 c n small (moment_then 0 moment (codes "late") past (by_test (codes "late") refl) (key_then (sender a r s) given (pair_named p few))) _ (omega arith) refl refl
-    (two_said (decimal n) (codes "late") (key_text (sender a r s)) (numbered (codes " st=") p.state) (numbered (codes " sq=") p.sequence))
+    say_event 0 c n small (moment_then 0 moment (codes "late") past (by_test (codes "late") refl) (key_then (sender a r s) given (pair_named p few))) _ (omega arith) refl refl refl
 say_finding c n moment (sender a r s) (Restarted p) small past given few =
-    say_event 0 c n small (moment_then 0 moment (codes "restarted") past (by_test (codes "restarted") refl) (key_then (sender a r s) given (pair_named p few))) _ (omega arith) refl refl
-    (two_said (decimal n) (codes "restarted") (key_text (sender a r s)) (numbered (codes " st=") p.state) (numbered (codes " sq=") p.sequence))
+    say_event 0 c n small (moment_then 0 moment (codes "restarted") past (by_test (codes "restarted") refl) (key_then (sender a r s) given (pair_named p few))) _ (omega arith) refl refl refl
 say_finding c n moment (stream a o i) (SamplesMissing from missing) small past given few =
     say_event 0 c n small
     (moment_then 0 moment (codes "samples-missing") past (by_test (codes "samples-missing") refl)
-    (key_then (stream a o i) given (decimal_field 0 (codes "from") from refl few.0 ∷ decimal_field 0 (codes "missing") missing refl few.1 ∷ []))) _ (omega arith) refl refl
-    (two_said (decimal n) (codes "samples-missing") (key_text (stream a o i)) (numbered (codes " from=") from) (numbered (codes " missing=") missing))
+    (key_then (stream a o i) given (decimal_field 0 (codes "from") from refl few.0 ∷ decimal_field 0 (codes "missing") missing refl few.1 ∷ []))) _ (omega arith) refl refl refl
 say_finding c n moment (stream a o i) (SampleRepeated count) small past given few =
-    say_event 0 c n small (moment_then 0 moment (codes "sample-repeated") past (by_test (codes "sample-repeated") refl) (key_then (stream a o i) given (count_named count few))) _ (omega arith) refl refl
-    (one_said (decimal n) (codes "sample-repeated") (key_text (stream a o i)) (numbered (codes " cnt=") count))
+    say_event 0 c n small (moment_then 0 moment (codes "sample-repeated") past (by_test (codes "sample-repeated") refl) (key_then (stream a o i) given (count_named count few))) _ (omega arith) refl refl refl
 say_finding c n moment (stream a o i) (SampleLate count) small past given few =
-    say_event 0 c n small (moment_then 0 moment (codes "sample-late") past (by_test (codes "sample-late") refl) (key_then (stream a o i) given (count_named count few))) _ (omega arith) refl refl
-    (one_said (decimal n) (codes "sample-late") (key_text (stream a o i)) (numbered (codes " cnt=") count))
+    say_event 0 c n small (moment_then 0 moment (codes "sample-late") past (by_test (codes "sample-late") refl) (key_then (stream a o i) given (count_named count few))) _ (omega arith) refl refl refl
 say_finding c n moment (stream a o i) (OutOfRange count) small past given few =
-    say_event 0 c n small (moment_then 0 moment (codes "count-out-of-range") past (by_test (codes "count-out-of-range") refl) (key_then (stream a o i) given (count_named count few))) _ (omega arith) refl refl
-    (one_said (decimal n) (codes "count-out-of-range") (key_text (stream a o i)) (numbered (codes " cnt=") count))
+    say_event 0 c n small (moment_then 0 moment (codes "count-out-of-range") past (by_test (codes "count-out-of-range") refl) (key_then (stream a o i) given (count_named count few))) _ (omega arith) refl refl refl
 say_finding c n moment (stream a o i) (Synch from to) small past given few =
-    say_event 0 c n small (moment_then 0 moment (codes "synch") past (by_test (codes "synch") refl) (key_then (stream a o i) given (span_named from to few.0 few.1))) _ (omega arith) refl refl
-    (two_said (decimal n) (codes "synch") (key_text (stream a o i)) (numbered (codes " from=") from) (numbered (codes " to=") to))
+    say_event 0 c n small (moment_then 0 moment (codes "synch") past (by_test (codes "synch") refl) (key_then (stream a o i) given (span_named from to few.0 few.1))) _ (omega arith) refl refl refl
 say_finding c n moment (sender a r s) (SamplesMissing from missing) small past given few = absurd few
 say_finding c n moment (sender a r s) (SampleRepeated count) small past given few = absurd few
 say_finding c n moment (sender a r s) (SampleLate count) small past given few = absurd few

@@ -1,7 +1,7 @@
 -- What is missing between two pairs, and what is told of each pair of a stretch.
 use Rattle.std.proofs.Common.{◌≡◌, ℕ, zero, suc, ◌+◌, ◌-◌, ◌<◌, ◌≤◌, Bool, true, false, Option, Some, None, List, slice_get, if◌then◌else◌, sym, refl, ap, ◌∙◌, subst, arith, inl, inr}
 use Rattle.std.proofs.lemmas.Bool.{cases_Bool, cases_lt, cases_order, eq-eqb, false≢true, le-ltb, lt-ltb, ne_eqb}
-use Rattle.std.proofs.lemmas.Option.{same_Some}
+use Rattle.std.proofs.lemmas.Option.{same_Some, slice_get_within}
 use Rattle.loss_core.specs.declared.sender.Pair.{Pair}
 use Rattle.loss_core.specs.declared.sender.Arrival.{Arrival}
 use Rattle.loss_core.specs.declared.sender.Told.{Told}
@@ -11,7 +11,7 @@ use Rattle.loss_core.specs.Sender.{AreTold, IsKnown, IsNewest, is_above, standin
 use Rattle.loss_core.specs.Missing.{IsIn, IsNamed, missing_between, sequences_from, span}
 use Rattle.loss_core.specs.SenderLaws.{EachIsTold, EndsState, IsStretch, IsToldOf, MissingAreNamed}
 use Rattle.loss_core.proofs.Known.{newer_from}
-use Rattle.loss_core.proofs.Places.{below_length, get_there}
+use Rattle.loss_core.proofs.Places.{get_there}
 use Rattle.loss_core.proofs.Order.{Above, above_is, is_then_above, not_above_itself, above_both, above_lower, one_where_neither}
 
 -- a number is in a span exactly where it is from one up to another
@@ -159,7 +159,7 @@ missing_are_named frames told all first i s behind newest came there x =
 -- each pair of a stretch
 
 told_there : (frames : List Arrival) (told : List Told) → AreTold frames told → (i : ℕ) (frame : Arrival) → slice_get frames i ≡ Some frame → (t : Told) × (slice_get told i ≡ Some t)
-told_there frames told all i frame is = get_there told i (subst (λ n. i < n) (sym all.sizes) (below_length frames i frame is))
+told_there frames told all i frame is = get_there told i (subst (λ n. i < n) (sym all.sizes) (slice_get_within frames i frame is))
 
 each_below : (n : ℕ) (frames : List Arrival) (told : List Told) → AreTold frames told → (first i : ℕ) → i < n → IsStretch told first i → (begin last : Arrival) → slice_get frames first ≡ Some begin → slice_get frames i ≡ Some last
     → (x : Pair) → is_above x begin.pair ≡ true → is_above last.pair x ≡ true → IsToldOf frames told first i x

@@ -22,12 +22,7 @@ place (z ∷ zs) x zero y e = inl (omega arith, e)
 place (z ∷ zs) x (suc i) y e =
     elim (place zs x i y e) [ inl w ↦ let lt : i < length zs = w.0 in inl (omega arith, w.1) | inr w ↦ inr (ap suc w.0, w.1) ]
 
--- where an item stands is below the length, and each such position has one
-pub below_length : {X : Type 0} (xs : List X) (i : ℕ) (x : X) → slice_get xs i ≡ Some x → i < length xs
-below_length [] i x e = absurd (none-some x e)
-below_length (y ∷ ys) zero x e = omega arith
-below_length (y ∷ ys) (suc i) x e = let lt : i < length ys = below_length ys i x e in omega arith
-
+-- each position below the length has an item
 pub get_there : {X : Type 0} (xs : List X) (i : ℕ) → i < length xs → (x : X) × (slice_get xs i ≡ Some x)
 get_there [] i lt = absurd (omega arith)
 get_there (x ∷ xs) zero lt = (x, refl)

@@ -2,8 +2,7 @@
 use Rattle.std.proofs.Common.{Some, None, ◌≡◌, ℕ, false, List, [], ◌∷◌, ap, refl, ◌∙◌}
 use Rattle.std.specs.Prelude.{option_map, slice_get}
 use Rattle.std.proofs.lemmas.Option.{slice_get-map}
-use Rattle.object_core.specs.declared.counted.Form.{Form}
-use Rattle.object_core.specs.declared.counted.Form.TheVariants.{Text, Object}
+use Rattle.object_core.specs.declared.counted.Form.TheVariants.{Text}
 use Rattle.engine_core.specs.declared.style.Style.{Style}
 use Rattle.engine_core.specs.declared.style.Style.TheVariants.{Lines, Dated}
 use Rattle.engine_core.specs.EngineText.{ItemText}
@@ -14,25 +13,17 @@ use Rattle.loss_engine.specs.computed.Closing.{IsClosingAt, closing_item, is_emp
 use Rattle.loss_engine.specs.computed.Tracking.{Kept, closings}
 
 -- a line that tells something is not empty
-pub closing_some : (form : Form) (end : ℕ) (c : Closing) → is_empty_closing c ≡ false → (closing_item form end c).text ≡ [] → ⊥
-closing_some form end (told.Silent key None) some h = cc
-closing_some Text end (told.Silent key (Some since)) some h = cc
-closing_some (Object counted) end (told.Silent key (Some since)) some h = cc
-closing_some Text end (told.Frames key t) some h = cc
-closing_some (Object counted) end (told.Frames key t) some h = cc
-closing_some Text end (told.Samples key t) some h = cc
-closing_some (Object counted) end (told.Samples key t) some h = cc
-closing_some Text end (told.Counted key n) some h = cc
-closing_some (Object counted) end (told.Counted key n) some h = cc
+pub closing_some : (end : ℕ) (c : Closing) → is_empty_closing c ≡ false → (closing_item Text end c).text ≡ [] → ⊥
+closing_some end (told.Silent key None) some h = cc
+closing_some end (told.Silent key (Some since)) some h = cc
+closing_some end (told.Frames key t) some h = cc
+closing_some end (told.Samples key t) some h = cc
+closing_some end (told.Counted key n) some h = cc
 
 -- behind a dash
 pub dash_some : (xs : List ℕ) → (xs ≡ [] → ⊥) → 45 ∷ 32 ∷ xs ≡ dash_before xs
 dash_some [] some = absurd (some refl)
 dash_some (x ∷ xs) some = refl
-
-pub dashed_some : (xs : List ℕ) → dash_before xs ≡ [] → xs ≡ []
-dashed_some [] h = refl
-dashed_some (x ∷ xs) h = cc
 
 -- the line at a position in a style
 pub closing_there : (style : Style) (k : Kept) (at : ℕ) (c : Closing) → IsClosingAt k at (Some c) → slice_get (closings style k) at ≡ Some (closing_in style (closing_item (form_of style) k.moment c))
@@ -42,27 +33,3 @@ closing_there style k at c is = slice_get-map (closing_in style) _ at ∙ ap (op
 pub found_in : (style : Style) (w : ItemText) → (closing_in style w).is_finding ≡ w.is_finding
 found_in (Lines form) w = refl
 found_in Dated w = refl
-
-pub found_by : (form other : Form) (end : ℕ) (c : Closing) → (closing_item form end c).is_finding ≡ (closing_item other end c).is_finding
-found_by form other end (told.Silent key None) = refl
-found_by Text Text end (told.Silent key (Some since)) = refl
-found_by Text (Object counted) end (told.Silent key (Some since)) = refl
-found_by (Object counted) Text end (told.Silent key (Some since)) = refl
-found_by (Object counted) (Object more) end (told.Silent key (Some since)) = refl
-found_by Text Text end (told.Frames key t) = refl
-found_by Text (Object counted) end (told.Frames key t) = refl
-found_by (Object counted) Text end (told.Frames key t) = refl
-found_by (Object counted) (Object more) end (told.Frames key t) = refl
-found_by Text Text end (told.Samples key t) = refl
-found_by Text (Object counted) end (told.Samples key t) = refl
-found_by (Object counted) Text end (told.Samples key t) = refl
-found_by (Object counted) (Object more) end (told.Samples key t) = refl
-found_by Text Text end (told.Counted key n) = refl
-found_by Text (Object counted) end (told.Counted key n) = refl
-found_by (Object counted) Text end (told.Counted key n) = refl
-found_by (Object counted) (Object more) end (told.Counted key n) = refl
-
--- a line that tells something is not empty in any style
-pub styled_some : (style : Style) (w : ItemText) → (w.text ≡ [] → ⊥) → (closing_in style w).text ≡ [] → ⊥
-styled_some (Lines form) w some h = some h
-styled_some Dated w some h = some (dashed_some w.text h)

@@ -1,5 +1,5 @@
 -- What is kept of one sender or stream, and what is told of it.
-use Rattle.std.proofs.Common.{Option, Some, None, ◌≡◌, ℕ, false, ap, refl}
+use Rattle.std.proofs.Common.{Option, Some, None, ◌≡◌, ℕ, false, refl}
 use Rattle.object_core.specs.declared.counted.Form.{Form}
 use Rattle.loss_core.specs.declared.sender_tally.SenderTally.{SenderTally}
 use Rattle.loss_core.specs.declared.sender_tally.SenderTotals.{SenderTotals}
@@ -10,7 +10,7 @@ use Rattle.loss_engine.specs.LossLine.{sender_total_line}
 use Rattle.loss_engine.specs.LossObject.{sender_total_object}
 use Rattle.loss_engine.specs.LossText.{line_of, with_end}
 use Rattle.loss_engine.specs.Sights.{Key}
-use Rattle.loss_engine.specs.computed.Tracking.{CountsAs, Progress, TellsSample, frames, samples, counted, came_by, total_by}
+use Rattle.loss_engine.specs.computed.Tracking.{CountsAs, Progress, TellsSample, frames, samples, counted, total_by}
 
 -- the total of a sender
 pub total_frames : (form : Form) (end : ℕ) (k key : Key) (since : Option ℕ) (t : SenderTally) (totals : SenderTotals) → k ≡ key → since ≡ over_at t.sender.deadline end → totals ≡ with_end since t.totals →
@@ -23,10 +23,3 @@ counts_first None known s first h c = c
 counts_first (Some period) (frames t) s first h c = c
 counts_first (Some period) (samples u z) s first h c = cc
 counts_first (Some period) (counted n) s first h c = c
-
--- and else it tells by its stream
-pub counts_more : (period : ℕ) (known : Progress) (s : Sample) (came : Came) (before : ℕ) → TellsSample known s (Some (came, before)) → CountsAs (Some period) (Some known) s (Some (came, Some before))
-counts_more period (frames t) s came before h = cc
-counts_more period (samples u z) s came before h =
-    let pair : (came, before) ≡ (came_by period (Some (samples u z)) s, z) = cc in ap (λ (p : Came × ℕ). Some (p.0, Some p.1)) pair
-counts_more period (counted n) s came before h = cc

@@ -9,6 +9,7 @@ use Rattle.engine_core.specs.declared.ending.Ending.{Ending}
 use Rattle.engine_core.specs.declared.style.Style.{Style}
 use Rattle.engine_core.specs.EngineText.{Allowed, ItemText}
 use Rattle.engine_core.specs.InputRun.{EndsOnward, InputRun}
+use Rattle.loss_core.proofs.Places.{get_middle}
 use Rattle.loss_engine.specs.computed.LossRun.{LossRun}
 use Rattle.loss_engine.specs.LossText.{AreLosses}
 use Rattle.loss_engine.specs.LossWants.{ArePiecesOf, LossWants, ShowsNew, WritesLosses, for_input, for_new, for_text}
@@ -55,10 +56,6 @@ front_all : {X : Type 0} (xs ys : List X) → take (length xs) (xs ++ ys) ≡ xs
 front_all [] ys = refl
 front_all (x ∷ xs) ys = ap (λ l. x ∷ l) (front_all xs ys)
 
-next_of : {X : Type 0} (xs : List X) (y : X) (ys : List X) → slice_get (xs ++ y ∷ ys) (length xs) ≡ Some y
-next_of [] y ys = refl
-next_of (x ∷ xs) y ys = next_of xs y ys
-
 module _ {A F : Type 0} (period : Option ℕ) (is : IsPeriodOf period) (style : Style) (Keeps : List (ℕ × Event A) → Type 0) (said : Numbered (Event A) F) (pieces : Numbered ItemText F) where
   new_wanted : (written : List (ℕ × ItemText)) (events : List (ℕ × Event A)) (next : ℕ × Event A) (others : Numbered (Event A) F) → written ≡ pieces_by period style kept_none events → said ≡ put_items events (put_item next others) →
       ShowsNew events next → LossWants period style Keeps said pieces written
@@ -66,7 +63,7 @@ module _ {A F : Type 0} (period : Option ℕ) (is : IsPeriodOf period) (style : 
       let size : length written ≡ length events = ap length by ∙ pieces_sizes period is style events kept_none in
       let items : said.items ≡ events ++ next ∷ others.items = ap (λ (l : Numbered (Event A) F). l.items) says in
       let front : take (length written) said.items ≡ events = ap (λ n. take n said.items) size ∙ (ap (take (length events)) items ∙ front_all events (next ∷ others.items)) in
-      for_new next (ap (slice_get said.items) size ∙ (ap (λ l. slice_get l (length events)) items ∙ next_of events next others.items))
+      for_new next (ap (slice_get said.items) size ∙ (ap (λ l. slice_get l (length events)) items ∙ get_middle events next others.items))
       (subst (λ es. ArePiecesOf period style es written) (sym front) (subst (λ l. ArePiecesOf period style events l) (sym by) (are_pieces period is style events)))
       (subst (λ es. ShowsNew es next) (sym front) new)
 

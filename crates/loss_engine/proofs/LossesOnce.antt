@@ -3,6 +3,7 @@ use Rattle.std.proofs.Common.{Option, Some, None, ◌≡◌, ℕ, zero, suc, ◌
 use Rattle.std.specs.Prelude.{slice_get}
 use Rattle.std.specs.List.{list_any}
 use Rattle.std.proofs.lemmas.List.{map-append}
+use Rattle.std.proofs.lemmas.Option.{slice_get_within}
 use Rattle.list_core.specs.declared.event.Event.{Event}
 use Rattle.list_core.specs.Items.{Numbered}
 use Rattle.list_core.specs.Lines.{Stop, finished, unfinished, faulty}
@@ -18,7 +19,7 @@ use Rattle.loss_core.specs.Stream.{IsKnownOf}
 use Rattle.loss_core.specs.StreamTotals.{AreStreamTotals}
 use Rattle.loss_core.proofs.AddUp as streams
 use Rattle.loss_core.proofs.Once.{sample_last_once, samples_told_once, stream_totals_once, tally_once, told_last_once}
-use Rattle.loss_core.proofs.Places.{below_length, get_there}
+use Rattle.loss_core.proofs.Places.{get_there}
 use Rattle.loss_engine.specs.declared.finding.Finding.{Finding}
 use Rattle.loss_engine.specs.Findings.{TellsShown, came_told, frame_findings, has_loss, last_of, synch_told}
 use Rattle.loss_engine.specs.LossLine.{sender_total_line, stream_total_line}
@@ -35,7 +36,7 @@ same_items (x ∷ xs) (y ∷ ys) sizes h = ap₂ (λ z l. z ∷ l) (h 0 x y refl
 
 -- an item of another list at a position, where both have a length
 there : {X Y : Type 0} (xs : List X) (ys : List Y) → length xs ≡ length ys → (i : ℕ) (x : X) → slice_get xs i ≡ Some x → (y : Y) × (slice_get ys i ≡ Some y)
-there xs ys sizes i x e = let lt : i < length xs = below_length xs i x e in get_there ys i (omega arith)
+there xs ys sizes i x e = let lt : i < length xs = slice_get_within xs i x e in get_there ys i (omega arith)
 
 -- ---- events
 

@@ -1,51 +1,18 @@
 -- What is found among senders and streams by their keys.
 use Rattle.std.proofs.Common.{◌≡◌, ℕ, zero, suc, ◌<◌, Bool, true, false, Option, Some, None, List, [], ◌∷◌, length, take, get_or, slice_get, ap, sym, ◌∙◌, refl, arith}
-use Rattle.std.specs.Prelude.{◌&&◌, if◌then◌else◌}
+use Rattle.std.specs.Prelude.{if◌then◌else◌}
 use Rattle.std.proofs.lemmas.Bool.{false_from_ne_true}
-use Rattle.std.proofs.lemmas.Bool.Decides.{Decides-eqb}
-use Rattle.std.proofs.lemmas.Slice.Eq.{bytes_eq-Decides}
 use Rattle.known_core.specs.declared.runs.Runs.{Runs}
 use Rattle.known_core.specs.computed.Positions.{AreInOrder}
 use Rattle.known_core.proofs.PositionLemmas.{keys_differ, one_of}
 use Rattle.loss_engine.specs.declared.entry.Entry.{Entry}
-use Rattle.loss_engine.specs.Sights.{Key, sender, stream, same_key, same_truth}
+use Rattle.loss_engine.specs.Sights.{Key, same_key}
 use Rattle.loss_engine.specs.computed.Entries.{IsFirstAt, all_tracked, entry_key, progress_of, tracked_by}
 use Rattle.loss_engine.specs.computed.KeyOrder.{key_cmp}
 use Rattle.loss_engine.specs.computed.Roll.{HasKeyAt}
 use Rattle.loss_engine.specs.computed.Tracking.{Progress, known_of}
 use Rattle.loss_engine.proofs.KeyOrder.{key_total}
-
-both_true : (a b : Bool) → (a && b) ≡ true → (a ≡ true) × (b ≡ true)
-both_true true b e = (refl, e)
-both_true false b e = cc
-
-truth_is : (a b : Bool) → same_truth a b ≡ true → a ≡ b
-truth_is true true e = refl
-truth_is true false e = cc
-truth_is false true e = cc
-truth_is false false e = refl
-
-truth_itself : (a : Bool) → same_truth a a ≡ true
-truth_itself true = refl
-truth_itself false = refl
-
--- keys that are told to be one are one
-pub same_is : (x y : Key) → same_key x y ≡ true → x ≡ y
-same_is (sender a r s) (sender b q t) e =
-    let m = both_true _ _ e in
-    let n = both_true _ _ m.1 in
-    ap (λ (i : ℕ). sender i r s) ((Decides-eqb a b).0 m.0) ∙ ap (λ (l : List ℕ). sender b l s) ((bytes_eq-Decides r q).0 n.0) ∙ ap (sender b q) (truth_is s t n.1)
-same_is (sender a r s) (stream b o i) e = cc
-same_is (stream a o i) (sender b r s) e = cc
-same_is (stream a o i) (stream b p j) e =
-    let m = both_true _ _ e in
-    let n = both_true _ _ m.1 in
-    ap (λ (k : ℕ). stream k o i) ((Decides-eqb a b).0 m.0) ∙ ap (λ (l : List ℕ). stream b l i) ((bytes_eq-Decides o p).0 n.0) ∙ ap (stream b p) ((bytes_eq-Decides i j).0 n.1)
-
--- a key is told to be itself
-pub same_itself : (x : Key) → same_key x x ≡ true
-same_itself (sender a r s) = rw ((Decides-eqb a a).1 refl, (bytes_eq-Decides r r).1 refl) (truth_itself s)
-same_itself (stream a o i) = rw ((Decides-eqb a a).1 refl, (bytes_eq-Decides o o).1 refl) ((bytes_eq-Decides i i).1 refl)
+use Rattle.loss_engine.proofs.TrackedKeys.{same_is, same_itself}
 
 passed : (b : Bool) (p : Progress) (o : Option Progress) → (if b then Some p else o) ≡ None → o ≡ None
 passed true p o h = cc
@@ -97,7 +64,3 @@ module _ {A : Type 0} where
     where
       some : (at n : ℕ) → at < n → 0 < n
       some at n lt = omega arith
-
-  pub tracked_size : (es : List (Entry A)) → length (all_tracked es) ≡ length es
-  tracked_size [] = refl
-  tracked_size (e ∷ es) = ap suc (tracked_size es)

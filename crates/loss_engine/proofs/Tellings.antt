@@ -28,16 +28,8 @@ behind_some [] c ys h = cc
 behind_some (x ∷ xs) c ys h = cc
 
 told_some : (form : Form) (n moment : ℕ) (key : Key) (f : Finding) → told_line form n moment key f ≡ [] → ⊥
-told_some Text n moment key f h = behind_some _ 10 [] h
+told_some Text n moment key f h = behind_some _ 32 _ h
 told_some (Object counted) n moment key f h = cc
-
-first_none : (xs ys : List ℕ) → xs ++ ys ≡ [] → xs ≡ []
-first_none [] ys h = refl
-first_none (x ∷ xs) ys h = cc
-
-or_none : (b : Bool) → (b || false) ≡ b
-or_none true = refl
-or_none false = refl
 
 or_true : (b : Bool) → (b || true) ≡ true
 or_true true = refl
@@ -50,7 +42,7 @@ none_if (Some p) h = cc
 -- where nothing is written there is no finding
 pub told_none : (form : Form) (n moment : ℕ) (key : Key) (fs : List Finding) → flat_map (told_line form n moment key) fs ≡ [] → fs ≡ []
 told_none form n moment key [] h = refl
-told_none form n moment key (f ∷ fs) h = absurd (told_some form n moment key f (first_none (told_line form n moment key f) (flat_map (told_line form n moment key) fs) h))
+told_none form n moment key (f ∷ fs) h = absurd (told_some form n moment key f (front_nil (told_line form n moment key f) (flat_map (told_line form n moment key) fs) h))
 
 module _ (h : Heading) (period : Option ℕ) (k : Kept) (s : Sight) where
   -- what one sight tells
@@ -62,17 +54,6 @@ module _ (h : Heading) (period : Option ℕ) (k : Kept) (s : Sight) where
 
   one_text : sights_text h period k.tracked (s ∷ []) ≡ lines findings
   one_text = append-nil (lines findings)
-
-  pub tells_one : (fs : List Finding) (old new : List ℕ) (found : Bool) (after : Kept) → fs ≡ findings → new ≡ old ++ lines fs → found ≡ has_loss fs → after ≡ record { moment = k.moment; tracked = track period k.tracked s } →
-      TellsSights h period k (s ∷ []) old found new after
-  tells_one fs old new found after is text finds keeps = record {
-    text = text ∙ ap (λ l. old ++ l) (ap lines is ∙ sym one_text);
-    finds = finds ∙ ap has_loss is ∙ sym (or_none (has_loss findings));
-    keeps = keeps;
-  }
-
-  pub wants_new : known_of k.tracked s.key ≡ None → WantsFor h period k (s ∷ [])
-  wants_new none = inl (rw none refl)
 
   pub wants_text : (fs : List Finding) → fs ≡ findings → (fs ≡ [] → ⊥) → WantsFor h period k (s ∷ [])
   wants_text fs is some = inr (λ empty. some (told_none h.form h.number h.moment s.key fs (ap lines is ∙ sym one_text ∙ empty)))
@@ -118,10 +99,6 @@ finds-append period t [] ys = refl
 finds-append period t (x ∷ xs) ys =
     ap (λ b. has_loss (findings_by period (known_of t x.key) x.moment x.shown) || b) (finds-append period (track period t x) xs ys)
     ∙ or_assoc (has_loss (findings_by period (known_of t x.key) x.moment x.shown)) _ _
-
--- nothing was seen yet
-pub tells_none : (h : Heading) (period : Option ℕ) (k : Kept) (old : List ℕ) → TellsSights h period k [] old false old k
-tells_none h period k old = record { text = sym (append-nil old); finds = refl; keeps = refl }
 
 pub tells_then : (h : Heading) (period : Option ℕ) (k mid after : Kept) (xs ys : List Sight) (old between new : List ℕ) (f g : Bool) →
     TellsSights h period k xs old f between mid → TellsSights h period mid ys between g new after → TellsSights h period k (xs ++ ys) old (f || g) new after

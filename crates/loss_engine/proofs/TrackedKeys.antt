@@ -56,7 +56,7 @@ other_turned a b h =
 known_here : (x : Tracked) (xs : List Tracked) (key : Key) → same_key x.key key ≡ true → known_of (x ∷ xs) key ≡ Some x.progress
 known_here x xs key h = rw h refl
 
-known_behind : (x : Tracked) (xs : List Tracked) (key : Key) → same_key x.key key ≡ false → known_of (x ∷ xs) key ≡ known_of xs key
+pub known_behind : (x : Tracked) (xs : List Tracked) (key : Key) → same_key x.key key ≡ false → known_of (x ∷ xs) key ≡ known_of xs key
 known_behind x xs key h = rw h refl
 
 with_here : (x : Tracked) (xs : List Tracked) (key : Key) (first : Progress) (more : Progress → Progress) → same_key x.key key ≡ true → with_progress (x ∷ xs) key first more ≡ record { key = x.key; progress = more x.progress } ∷ xs

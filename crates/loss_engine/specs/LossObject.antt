@@ -48,19 +48,25 @@ closing_object kind key fields = object_line ((codes "kind", in_quotes kind) ∷
 abbrev pub end_silent_object : Key → ℕ → ℕ → List ℕ
 end_silent_object key since lasted = closing_object (codes "end-silent") key (silence_fields since lasted)
 
--- the object of what the frames of a sender come to
-abbrev pub sender_total_object : Key → SenderTotals → List ℕ
-sender_total_object key t =
-    closing_object (codes "total-goose") key
-    ((codes "frames", decimal t.frames) ∷ (codes "statesMissing", decimal t.states_missing) ∷ (codes "framesMissing", decimal t.frames_missing) ∷ (codes "late", decimal t.late)
-    ∷ (codes "repeated", decimal t.repeated) ∷ (codes "restarted", decimal t.restarted) ∷ (codes "silent", decimal t.silent) ∷ (codes "longest", decimal t.longest) ∷ [])
+-- what the frames of a sender come to
+abbrev pub sender_fields : SenderTotals → List Field
+sender_fields t =
+    (codes "frames", decimal t.frames) ∷ (codes "statesMissing", decimal t.states_missing) ∷ (codes "framesMissing", decimal t.frames_missing) ∷ (codes "late", decimal t.late)
+    ∷ (codes "repeated", decimal t.repeated) ∷ (codes "restarted", decimal t.restarted) ∷ (codes "silent", decimal t.silent) ∷ (codes "longest", decimal t.longest) ∷ []
 
--- the object of what the samples of a stream come to
+-- its object
+abbrev pub sender_total_object : Key → SenderTotals → List ℕ
+sender_total_object key t = closing_object (codes "total-goose") key (sender_fields t)
+
+-- what the samples of a stream come to
+abbrev pub stream_fields : StreamTotals → List Field
+stream_fields t =
+    (codes "samples", decimal t.samples) ∷ (codes "missing", decimal t.missing) ∷ (codes "late", decimal t.late) ∷ (codes "repeated", decimal t.repeated)
+    ∷ (codes "outOfRange", decimal t.out_of_range) ∷ (codes "outages", decimal t.outages) ∷ (codes "longest", decimal t.longest) ∷ []
+
+-- its object
 abbrev pub stream_total_object : Key → StreamTotals → List ℕ
-stream_total_object key t =
-    closing_object (codes "total-sv") key
-    ((codes "samples", decimal t.samples) ∷ (codes "missing", decimal t.missing) ∷ (codes "late", decimal t.late) ∷ (codes "repeated", decimal t.repeated)
-    ∷ (codes "outOfRange", decimal t.out_of_range) ∷ (codes "outages", decimal t.outages) ∷ (codes "longest", decimal t.longest) ∷ [])
+stream_total_object key t = closing_object (codes "total-sv") key (stream_fields t)
 
 -- the object of how many samples of a stream came, where no period is given
 abbrev pub samples_object : Key → ℕ → List ℕ

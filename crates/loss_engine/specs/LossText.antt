@@ -61,10 +61,14 @@ pub record TellsEvent {A : Type 0} (period : Option ℕ) (style : Style) (before
 abbrev pub nothing : ItemText
 nothing = record { text = []; is_finding = false }
 
--- a line that is a finding, or none
+-- a line or an object, by the form
+abbrev pub text_by : Form → List ℕ → List ℕ → List ℕ
+text_by forms.Text line object = line
+text_by (forms.Object counted) line object = object
+
+-- one that is a finding, or none
 abbrev pub line_of : Form → Bool → List ℕ → List ℕ → ItemText
-line_of forms.Text found line object = record { text = line; is_finding = found }
-line_of (forms.Object counted) found line object = record { text = object; is_finding = found }
+line_of form found line object = record { text = text_by form line object; is_finding = found }
 
 -- what has not come back up to the end of the input
 abbrev pub end_silent : Form → Key → ℕ → Option ℕ → ItemText

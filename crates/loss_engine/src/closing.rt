@@ -1,6 +1,7 @@
 // The lines at the end of the input.
 
-ghost use Rattle.std.specs.Prelude.{◌≡◌, ◌+◌, ◌<◌, ◌^◌, [], IfOk, IfSome, OnErr, length};
+ghost use Rattle.std.specs.Prelude.{◌≡◌, ℕ, ◌+◌, ◌<◌, ◌^◌, [], IfOk, IfSome, OnErr, length};
+ghost use Rattle.object_core.specs.declared.counted.Form.{Form};
 ghost use Rattle.text_core.specs.Pieces.{AppendsText};
 ghost use Rattle.loss_engine.specs.computed.Closing.{ClosingPut, ClosingWanted, closing_item, is_empty_closing};
 ghost use Rattle.loss_engine.specs.computed.Held.{kept_by};
@@ -39,8 +40,8 @@ impl Closing<'_> {
     }
 
     // Whether it is a finding.
-    fn is_finding(&self, form: Form, end: u64) -> bool
-        ensures { result ≡ (closing_item form end self.now).is_finding }
+    fn is_finding(&self) -> bool
+        ensures { (form : Form) (end : ℕ) → result ≡ (closing_item form end self.now).is_finding }
     {
         matches!(self, Closing::Silent(_, Some(_)))
     }
@@ -102,5 +103,5 @@ pub fn put_closing<A: Allocator + Copy>(
     };
     let end = losses.greatest();
     put_styled(out, style, end, &closing)?;
-    Ok(Some(closing.is_finding(Form::Text, end)))
+    Ok(Some(closing.is_finding()))
 }

@@ -89,9 +89,7 @@ impl<A: Allocator> Entry<A> {
             }),
         }
     }
-}
 
-impl<A: Allocator> Entry<A> {
     /// Whether this is the one with a key.
     #[inline]
     pub fn is_of(&self, key: Key<'_>) -> bool
@@ -114,6 +112,21 @@ impl<A: Allocator> Entry<A> {
             Origin::Stream(source) => {
                 self.app_id == key.app_id && source == key.source && self.name.as_slice() == key.id
             }
+        }
+    }
+
+    /// What it comes to at the end.
+    pub fn total(&self, end: u64) -> Closing<'_>
+        ensures { (form : Form) → closing_item form end result ≡ total_by form end (entry_key self.now) (progress_of self.now.progress) }
+    {
+        let key = self.key();
+        match &self.progress {
+            Progress::Frames(tally) => {
+                let since = over_at(tally.sender.deadline, end);
+                Closing::Frames(key, with_end(since, tally.totals))
+            }
+            Progress::Samples(tally, _) => Closing::Samples(key, tally.totals()),
+            Progress::Counted(count) => Closing::Counted(key, *count),
         }
     }
 }
@@ -148,6 +161,17 @@ impl Progress {
                 *count = count.saturating_add(1);
                 None
             }
+        }
+    }
+
+    /// Since when it has not come back at the end, if it has not.
+    pub fn silent_since(&self, end: u64) -> Option<u64>
+        ensures { result ≡ silent_since end (progress_of self.now) }
+    {
+        match self {
+            Progress::Frames(tally) => over_at(tally.sender.deadline, end),
+            Progress::Samples(tally, _) => stale(tally.newest(), end),
+            Progress::Counted(_) => None,
         }
     }
 }
@@ -185,36 +209,6 @@ fn with_end(since: Option<u64>, totals: SenderTotals) -> SenderTotals
             silent: totals.silent.saturating_add(1),
             ..totals
         },
-    }
-}
-
-impl Progress {
-    /// Since when it has not come back at the end, if it has not.
-    pub fn silent_since(&self, end: u64) -> Option<u64>
-        ensures { result ≡ silent_since end (progress_of self.now) }
-    {
-        match self {
-            Progress::Frames(tally) => over_at(tally.sender.deadline, end),
-            Progress::Samples(tally, _) => stale(tally.newest(), end),
-            Progress::Counted(_) => None,
-        }
-    }
-}
-
-impl<A: Allocator> Entry<A> {
-    /// What it comes to at the end.
-    pub fn total(&self, end: u64) -> Closing<'_>
-        ensures { (form : Form) → closing_item form end result ≡ total_by form end (entry_key self.now) (progress_of self.now.progress) }
-    {
-        let key = self.key();
-        match &self.progress {
-            Progress::Frames(tally) => {
-                let since = over_at(tally.sender.deadline, end);
-                Closing::Frames(key, with_end(since, tally.totals))
-            }
-            Progress::Samples(tally, _) => Closing::Samples(key, tally.totals()),
-            Progress::Counted(count) => Closing::Counted(key, *count),
-        }
     }
 }
 

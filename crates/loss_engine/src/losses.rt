@@ -1,13 +1,12 @@
 // What is kept of all senders and streams.
 
-ghost use Rattle.std.specs.Prelude.{◌≡◌, ◌∷◌, ◌++◌, IsSome, ◌+◌, ◌*◌, ◌^◌, ◌<◌, ℕ, length, max, IfSome, [], IfOk, OnErr, OnOk, None, Some, slice_get};
+ghost use Rattle.std.specs.Prelude.{◌≡◌, ◌∷◌, ◌++◌, ◌+◌, ◌*◌, ◌^◌, ◌<◌, ℕ, length, max, IfSome, [], IfOk, OnErr, OnOk, None, Some, slice_get};
 ghost use Rattle.loss_core.specs.Sender.{told_after};
 ghost use Rattle.loss_core.specs.computed.SenderTotalSteps.{first_tally};
 ghost use Rattle.loss_engine.specs.KeySaid.{key_said, sender_said, stream_said};
-ghost use Rattle.loss_engine.specs.Sights.{Key as SpecKey};
 ghost use Rattle.object_core.specs.declared.counted.Form.{Form};
 ghost use Rattle.loss_engine.specs.computed.Closing.{IsClosingAt, closing_item};
-ghost use Rattle.loss_engine.specs.computed.Entries.{Finds, IsPeriodOf, progress_of};
+ghost use Rattle.loss_engine.specs.computed.Entries.{IsPeriodOf, progress_of};
 ghost use Rattle.loss_engine.specs.computed.Tracking.{CountsAs, Progress as Known, TellsSample, frames, first_samples, known_of, more_frames, more_samples, sender_of, silences_by, totals_by, with_progress};
 
 use crate::closing::Closing;
@@ -65,21 +64,6 @@ impl<A: Allocator + Copy> Losses<A> {
         self.greatest = self.greatest.max(moment);
     }
 
-    // Where the one with a key stands.
-    fn find(&self, key: Key<'_>) -> Option<usize>
-        ensures { Finds (kept_by self.now).tracked (key_said key.entry) result }
-    {
-        self.roll.find(key)
-    }
-
-    // Where the stream with a key stands.
-    #[inline(always)]
-    fn find_stream(&self, key: StreamKey<'_>) -> Option<usize>
-        ensures { Finds (kept_by self.now).tracked (stream_said key.entry) result }
-    {
-        self.roll.find_stream(key)
-    }
-
     // Puts one more, with a key that none has.
     fn put(&mut self, alloc: A, key: Key<'_>, progress: Progress) -> Result<(), AllocError>
         requires { known_of (kept_by self.old).tracked (key_said key) ≡ None }
@@ -88,27 +72,6 @@ impl<A: Allocator + Copy> Losses<A> {
     {
         let entry = Entry::new(alloc, key, progress)?;
         self.roll.push(alloc, entry)
-    }
-
-    // Hands a frame to the sender at a position.
-    fn frame_at(&mut self, at: usize, frame: Arrival) -> Told
-        requires { at < length (kept_by self.old).tracked }
-        ensures told { (key : SpecKey) → Finds (kept_by self.old).tracked key (Some at) → result ≡ told_after (sender_of (known_of (kept_by self.old).tracked key)) frame }
-        ensures kept { (key : SpecKey) (first : Known) → Finds (kept_by self.old).tracked key (Some at) → kept_by self.new ≡ record { moment = (kept_by self.old).moment; tracked = with_progress (kept_by self.old).tracked key first (more_frames frame) } }
-        ensures period { period_by self.new ≡ period_by self.old }
-    {
-        self.roll.take_frame(at, frame)
-    }
-
-    // Hands a sample with this smpSynch to the stream at a position.
-    fn sample_at(&mut self, at: usize, sample: Sample, synch: u8) -> Option<(Came, u8)>
-        requires { at < length (kept_by self.old).tracked }
-        ensures told { (key : SpecKey) → Finds (kept_by self.old).tracked key (Some at) → IfSome (known_of (kept_by self.old).tracked key) (λ known. TellsSample known sample result) }
-        ensures kept { (key : SpecKey) (first : Known) → Finds (kept_by self.old).tracked key (Some at) → kept_by self.new ≡ record { moment = (kept_by self.old).moment; tracked = with_progress (kept_by self.old).tracked key first (more_samples sample synch) } }
-        ensures known { (key : SpecKey) → Finds (kept_by self.old).tracked key (Some at) → IsSome (known_of (kept_by self.old).tracked key) }
-        ensures period { period_by self.new ≡ period_by self.old }
-    {
-        self.roll.take_sample(at, sample, synch)
     }
 
     /// Takes a frame of a sender with this lifetime in milliseconds, and answers what it tells. Memory is wanted for a new sender
@@ -131,9 +94,9 @@ impl<A: Allocator + Copy> Losses<A> {
             moment: self.greatest,
             lifetime: 1000 * u64::from(live),
         };
-        match self.find(Key::Sender(key)) {
+        match self.roll.position_of(Key::Sender(key)) {
             Some(at) => {
-                let told = self.frame_at(at, frame);
+                let told = self.roll.take_frame(at, frame);
                 Ok((frame, told))
             }
             None => {
@@ -219,9 +182,9 @@ impl<A: Allocator + Copy> Losses<A> {
             count,
             moment: self.greatest,
         };
-        match self.find_stream(key) {
+        match self.roll.position_of_stream(key) {
             Some(at) => {
-                let answer = self.sample_at(at, sample, synch);
+                let answer = self.roll.take_sample(at, sample, synch);
                 Ok(self.came_of(answer, count))
             }
             None => self.take_first(alloc, key, sample, synch),

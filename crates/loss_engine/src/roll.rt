@@ -110,7 +110,7 @@ impl<A: Allocator + Copy> Roll<A> {
     /// The position of the one with a key. That which came last is tried first, and then the one behind it: streams often come
     /// in turns that stay.
     #[inline(never)]
-    pub fn find(&self, key: Key<'_>) -> Option<usize>
+    pub fn position_of(&self, key: Key<'_>) -> Option<usize>
         ensures { Finds self.now (key_said key.entry) result }
     {
         if has_at(self.entries.as_slice(), self.last, key) {
@@ -128,13 +128,13 @@ impl<A: Allocator + Copy> Roll<A> {
 
     /// The position of the stream with a key. That which came last is tried at once, since the ASDUs of a frame are often of one.
     #[inline(always)]
-    pub fn find_stream(&self, key: StreamKey<'_>) -> Option<usize>
+    pub fn position_of_stream(&self, key: StreamKey<'_>) -> Option<usize>
         ensures { Finds self.now (stream_said key.entry) result }
     {
         if has_stream_at(self.entries.as_slice(), self.last, key) {
             Some(self.last)
         } else {
-            self.find(Key::Stream(key))
+            self.position_of(Key::Stream(key))
         }
     }
 

@@ -5,10 +5,10 @@ ghost use Rattle.text_core.specs.Pieces.{AppendsText};
 ghost use Rattle.object_core.specs.Objects.{Field, in_quotes, opened};
 ghost use Rattle.object_core.specs.Onward.{onward};
 ghost use Rattle.loss_engine.specs.KeySaid.{key_said};
-ghost use Rattle.loss_engine.specs.LossLine.{end_silent_line, key_text, samples_line, sender_total_line, stream_total_line};
-ghost use Rattle.loss_engine.specs.LossObject.{closing_object, end_silent_object, key_fields, samples_object, sender_total_object, stream_total_object};
+ghost use Rattle.loss_engine.specs.LossLine.{closing_line, end_silent_line, samples_line, sender_numbers as numbers_of_sender, sender_total_line, stream_numbers as numbers_of_stream, stream_total_line};
+ghost use Rattle.loss_engine.specs.LossObject.{closing_object, end_silent_object, key_fields, samples_object, sender_fields as fields_of_sender, sender_total_object, stream_fields as fields_of_stream, stream_total_object};
 ghost use Rattle.loss_engine.specs.LossText.{end_silent, line_of};
-ghost use Rattle.loss_engine.specs.computed.NumberText.{number_text, sender_fields as fields_of_sender, sender_parts, stream_fields as fields_of_stream, stream_parts};
+ghost use Rattle.loss_engine.specs.computed.NumberText.{number_text};
 
 use crate::key::Key;
 use crate::texts::finding::put_silence_fields;
@@ -26,7 +26,7 @@ fn put_line<A: Allocator>(
     key: &Key<'_>,
     numbers: &[Number<'_>],
 ) -> Result<(), AllocError>
-    ensures { AppendsText result out.old.items out.new.items (concat (words.now ∷ key_text (key_said key.now) ∷ flat_map number_text numbers.now ∷ codes "\n" ∷ [])) }
+    ensures { (parts : List (List ℕ)) → flat_map number_text numbers.now ≡ concat parts → AppendsText result out.old.items out.new.items (closing_line words.now (key_said key.now) parts) }
 {
     out.extend_from_slice(words)?;
     put_key(out, key)?;
@@ -35,7 +35,7 @@ fn put_line<A: Allocator>(
 }
 
 // Appends what an object of no event begins with.
-fn put_head<A: Allocator>(
+fn put_closing_head<A: Allocator>(
     out: &mut Vec<u8, A>,
     kind: &[u8],
     key: &Key<'_>,
@@ -55,7 +55,7 @@ fn put_object<A: Allocator>(
 ) -> Result<(), AllocError>
     ensures { (fields : List Field) → flat_map number_text numbers.now ≡ onward fields → AppendsText result out.old.items out.new.items (closing_object kind.now (key_said key.now) fields) }
 {
-    put_head(out, kind, key)?;
+    put_closing_head(out, kind, key)?;
     put_numbers(out, numbers)?;
     out.extend_from_slice(b"}\n")
 }
@@ -82,7 +82,7 @@ fn put_silence_object<A: Allocator>(
 ) -> Result<(), AllocError>
     ensures { AppendsText result out.old.items out.new.items (end_silent_object (key_said key.now) since lasted) }
 {
-    put_head(out, b"end-silent", key)?;
+    put_closing_head(out, b"end-silent", key)?;
     put_silence_fields(out, since, lasted)?;
     out.extend_from_slice(b"}\n")
 }
@@ -123,7 +123,7 @@ pub fn put_end_silent<A: Allocator>(
 
 // The numbers of a sender's total in its line.
 fn sender_numbers(totals: SenderTotals) -> [Number<'static>; 8]
-    ensures { flat_map number_text result ≡ concat (sender_parts totals) }
+    ensures { flat_map number_text result ≡ concat (numbers_of_sender totals) }
 {
     [
         Number(b" frames=", totals.frames),
@@ -170,7 +170,7 @@ pub fn put_sender_total<A: Allocator>(
 
 // The numbers of a stream's total in its line.
 fn stream_numbers(totals: StreamTotals) -> [Number<'static>; 7]
-    ensures { flat_map number_text result ≡ concat (stream_parts totals) }
+    ensures { flat_map number_text result ≡ concat (numbers_of_stream totals) }
 {
     [
         Number(b" samples=", totals.samples),

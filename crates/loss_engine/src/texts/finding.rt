@@ -4,18 +4,17 @@ ghost use Rattle.std.specs.List.{concat};
 ghost use Rattle.std.specs.Fmt.{decimal};
 ghost use Rattle.text_core.specs.Pieces.{AppendsText};
 ghost use Rattle.object_core.specs.Onward.{onward};
-ghost use Rattle.loss_engine.specs.declared.finding.Finding.TheVariants.{FramesMissing, Late, SamplesMissing};
+ghost use Rattle.loss_engine.specs.declared.finding.Finding.TheVariants.{Late};
 ghost use Rattle.loss_engine.specs.KeySaid.{key_said};
-ghost use Rattle.loss_engine.specs.LossLine.{finding_line, finding_word};
+ghost use Rattle.loss_engine.specs.LossLine.{finding_line, finding_numbers, finding_word};
 ghost use Rattle.loss_engine.specs.LossObject.{finding_fields, finding_object, silence_fields};
 ghost use Rattle.loss_engine.specs.LossText.{told_line};
-ghost use Rattle.loss_engine.specs.computed.NumberText.{number_parts};
 
 use crate::finding::Finding;
 use crate::key::Key;
 use crate::texts::key::{put_key, put_key_fields};
 use crate::texts::number::{Number, put_number, put_numbers};
-use loss_core::{Pair, Span};
+use loss_core::Pair;
 use object_core::event::put_event_head;
 use object_core::fields::put_field_date;
 use object_core::{Counted, Form, Heading};
@@ -62,45 +61,35 @@ fn put_count<A: Allocator>(out: &mut Vec<u8, A>, name: &[u8], count: u16) -> Res
     put_numbers(out, &[Number(name, count as u64)])
 }
 
-// Appends the frames that are missing of a state.
-fn put_frames<A: Allocator>(out: &mut Vec<u8, A>, state: u32, span: Span) -> Result<(), AllocError>
-    ensures { AppendsText result out.old.items out.new.items (concat (number_parts (FramesMissing state span))) }
-{
-    put_number(out, b" st=", state as u64)?;
-    put_two(out, b" from=", span.from, b" to=", span.to)
-}
-
-// Appends the samples that are missing.
-fn put_samples<A: Allocator>(
-    out: &mut Vec<u8, A>,
-    from: u16,
-    missing: u64,
-) -> Result<(), AllocError>
-    ensures { AppendsText result out.old.items out.new.items (concat (number_parts (SamplesMissing from missing))) }
-{
-    let from = from as u64;
-    put_numbers(
-        out,
-        &[Number(b" from=", from), Number(b" missing=", missing)],
-    )
-}
-
 // Appends the numbers of what is told, each behind its word.
 fn put_finding_numbers<A: Allocator>(
     out: &mut Vec<u8, A>,
     finding: Finding,
 ) -> Result<(), AllocError>
-    ensures { AppendsText result out.old.items out.new.items (concat (number_parts finding)) }
+    ensures { AppendsText result out.old.items out.new.items (concat (finding_numbers finding)) }
 {
     match finding {
         Finding::Silent(since, lasted) => {
             put_numbers(out, &[Number(b" since=", since), Number(b" for=", lasted)])
         }
         Finding::StatesMissing(span) => put_two(out, b" from=", span.from, b" to=", span.to),
-        Finding::FramesMissing(state, span) => put_frames(out, state, span),
+        Finding::FramesMissing(state, span) => put_numbers(
+            out,
+            &[
+                Number(b" st=", state as u64),
+                Number(b" from=", span.from as u64),
+                Number(b" to=", span.to as u64),
+            ],
+        ),
         Finding::Late(pair) => put_two(out, b" st=", pair.state, b" sq=", pair.sequence),
         Finding::Restarted(pair) => put_two(out, b" st=", pair.state, b" sq=", pair.sequence),
-        Finding::SamplesMissing(from, missing) => put_samples(out, from, missing),
+        Finding::SamplesMissing(from, missing) => put_numbers(
+            out,
+            &[
+                Number(b" from=", from as u64),
+                Number(b" missing=", missing),
+            ],
+        ),
         Finding::SampleRepeated(count) => put_count(out, b" cnt=", count),
         Finding::SampleLate(count) => put_count(out, b" cnt=", count),
         Finding::OutOfRange(count) => put_count(out, b" cnt=", count),
@@ -119,31 +108,6 @@ pub fn put_silence_fields<A: Allocator>(
     put_number(out, b",\"since\":", since)?;
     put_field_date(out, b",\"sinceTime\":", since)?;
     put_numbers(out, &[Number(b",\"for\":", lasted)])
-}
-
-// Appends the fields of the frames that are missing of a state.
-fn put_frames_fields<A: Allocator>(
-    out: &mut Vec<u8, A>,
-    state: u32,
-    span: Span,
-) -> Result<(), AllocError>
-    ensures { AppendsText result out.old.items out.new.items (onward (finding_fields (FramesMissing state span))) }
-{
-    put_number(out, b",\"stNum\":", state as u64)?;
-    put_two(out, b",\"from\":", span.from, b",\"to\":", span.to)
-}
-
-// Appends the fields of the samples that are missing.
-fn put_samples_fields<A: Allocator>(
-    out: &mut Vec<u8, A>,
-    from: u16,
-    missing: u64,
-) -> Result<(), AllocError>
-    ensures { AppendsText result out.old.items out.new.items (onward (finding_fields (SamplesMissing from missing))) }
-{
-    let from = Number(b",\"from\":", from as u64);
-    let missing = Number(b",\"missing\":", missing);
-    put_numbers(out, &[from, missing])
 }
 
 // Appends a pair as fields.
@@ -176,10 +140,23 @@ fn put_finding_fields<A: Allocator>(
     match finding {
         Finding::Silent(since, lasted) => put_silence_fields(out, since, lasted),
         Finding::StatesMissing(span) => put_ends(out, span.from, span.to),
-        Finding::FramesMissing(state, span) => put_frames_fields(out, state, span),
+        Finding::FramesMissing(state, span) => put_numbers(
+            out,
+            &[
+                Number(b",\"stNum\":", state as u64),
+                Number(b",\"from\":", span.from as u64),
+                Number(b",\"to\":", span.to as u64),
+            ],
+        ),
         Finding::Late(pair) => put_pair_fields(out, pair),
         Finding::Restarted(pair) => put_pair_fields(out, pair),
-        Finding::SamplesMissing(from, missing) => put_samples_fields(out, from, missing),
+        Finding::SamplesMissing(from, missing) => put_numbers(
+            out,
+            &[
+                Number(b",\"from\":", from as u64),
+                Number(b",\"missing\":", missing),
+            ],
+        ),
         Finding::SampleRepeated(count) => put_count(out, b",\"smpCnt\":", count),
         Finding::SampleLate(count) => put_count(out, b",\"smpCnt\":", count),
         Finding::OutOfRange(count) => put_count(out, b",\"smpCnt\":", count),

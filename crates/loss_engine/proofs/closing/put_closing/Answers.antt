@@ -1,10 +1,9 @@
 use Rattle.std.proofs.Common.{◌∙◌, sym}
 use Rattle.std.proofs.lemmas.Result.{err_from_is_err_and}
-use Rattle.object_core.specs.declared.counted.Form.TheVariants.{Text}
 use Rattle.loss_engine.specs.LossText.{closing_in, form_of}
 use Rattle.loss_engine.specs.computed.Closing.{closing_item}
 use Rattle.loss_engine.specs.computed.Held.{kept_by}
-use Rattle.loss_engine.proofs.Closings.{closing_there, found_by, found_in}
+use Rattle.loss_engine.proofs.Closings.{closing_there, found_in}
 use Rattle.loss_engine.proofs.closing.put_closing.Goals as goal
 
 pub returns-in_err-put_styled-clause-wants : goal.returns-in_err-put_styled-clause-wants
@@ -19,5 +18,5 @@ returns-clause-put g c =
       closing_in c.args.style w,
       closing_there c.args.style (kept_by c.args.losses.now) c.args.at c.in-Some.closing c.in-Some.ensures.is,
       rw c.greatest-end.ensures at c.in_ok-put_styled.ensures.text,
-      c.is_finding.ensures ∙ rw c.greatest-end.ensures (found_by Text (form_of c.args.style) (kept_by c.args.losses.now).moment c.in-Some.closing) ∙ sym (found_in c.args.style w),
+      c.is_finding.ensures (form_of c.args.style) (kept_by c.args.losses.now).moment ∙ sym (found_in c.args.style w),
     )

@@ -1,6 +1,6 @@
 use Rattle.std.proofs.Common.{◌∙◌, ap, arith, sym}
 use Rattle.loss_engine.specs.computed.Entries.{entry_key}
-use Rattle.loss_engine.proofs.RollLemmas.{same_is}
+use Rattle.loss_engine.proofs.TrackedKeys.{same_is}
 use Rattle.loss_engine.proofs.roll.has_at.Goals as goal
 
 pub returns-in-Some : goal.returns-in-Some

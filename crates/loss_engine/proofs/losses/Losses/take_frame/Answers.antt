@@ -4,6 +4,9 @@ use Rattle.loss_engine.specs.computed.Tracking.{frames, more_frames}
 use Rattle.loss_engine.proofs.Tracks.{with_none}
 use Rattle.loss_engine.proofs.losses.Losses.take_frame.Goals as goal
 
+pub returns-in-Some-clause-kept : goal.returns-in-Some-clause-kept
+returns-in-Some-clause-kept g c = ap (λ xs. record { moment = c.args.self.now.greatest; tracked = xs }) (c.take_frame-told.ensures.kept (sender_said c.args.key) _ c.in-Some.ensures)
+
 pub returns-in_ok-put-in-None-clause-told : goal.returns-in_ok-put-in-None-clause-told
 returns-in_ok-put-in-None-clause-told g c = rw c.in-None.ensures (c.first_told.ensures (record { pair = c.args.pair; moment = c.args.self.now.greatest; lifetime = 1000 * c.from.result }))
 

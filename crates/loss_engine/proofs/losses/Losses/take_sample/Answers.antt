@@ -1,10 +1,13 @@
-use Rattle.std.proofs.Common.{◌≡◌, List, subst, sym}
+use Rattle.std.proofs.Common.{◌≡◌, List, ap, subst, sym}
 use Rattle.std.specs.Result.{OnOk}
 use Rattle.loss_engine.specs.KeySaid.{stream_said}
 use Rattle.loss_engine.specs.computed.Held.{kept_by, period_by}
 use Rattle.loss_engine.specs.computed.Tracking.{Tracked, first_samples, more_samples}
 use Rattle.loss_engine.proofs.Tracks.{with_none}
 use Rattle.loss_engine.proofs.losses.Losses.take_sample.Goals as goal
+
+pub returns-in-Some-clause-kept : goal.returns-in-Some-clause-kept
+returns-in-Some-clause-kept g c = ap (λ xs. record { moment = c.args.self.now.greatest; tracked = xs }) (c.take_sample-answer.ensures.kept (stream_said c.args.key) _ c.in-Some.ensures)
 
 pub returns-in-None-clause-kept : goal.returns-in-None-clause-kept
 returns-in-None-clause-kept g c =

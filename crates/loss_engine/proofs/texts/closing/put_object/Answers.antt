@@ -14,4 +14,4 @@ returns g c = λ fields e.
     let kind : Field = (codes "kind", in_quotes c.args.kind.now) in
     let numbers = flat_map number_text c.args.numbers.now in
     let end = then_appended c.extend_from_slice.result _ _ _ numbers (codes "}\n") _ c.in_ok-put_numbers.ensures (appended _ _ _ (codes "}\n") (codes "}\n") c.extend_from_slice.ensures.items refl) (ap (λ (l : List ℕ). l ++ codes "}\n") e) in
-    ended c.extend_from_slice.result _ _ _ kind [] (key_fields (key_said c.args.key.now)) fields c.in_ok-put_head.ensures end
+    ended c.extend_from_slice.result _ _ _ kind [] (key_fields (key_said c.args.key.now)) fields c.in_ok-put_closing_head.ensures end

@@ -13,4 +13,4 @@ returns g c =
     let kind : Field = (codes "kind", in_quotes (codes "end-silent")) in
     let fields = silence_fields c.args.since c.args.lasted in
     let end = then_appended c.extend_from_slice.result _ _ _ (onward fields) (codes "}\n") _ c.in_ok-put_silence_fields.ensures (appended _ _ _ (codes "}\n") (codes "}\n") c.extend_from_slice.ensures.items refl) refl in
-    ended c.extend_from_slice.result _ _ _ kind [] (key_fields (key_said c.args.key.now)) fields c.in_ok-put_head.ensures end
+    ended c.extend_from_slice.result _ _ _ kind [] (key_fields (key_said c.args.key.now)) fields c.in_ok-put_closing_head.ensures end

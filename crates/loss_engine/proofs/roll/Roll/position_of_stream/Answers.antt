@@ -5,7 +5,7 @@ use Rattle.loss_engine.specs.computed.Entries.{IsFirstAt}
 use Rattle.loss_engine.specs.computed.Tracking.{Tracked}
 use Rattle.loss_engine.specs.computed.Roll.{HasKeyAt}
 use Rattle.loss_engine.proofs.RollLemmas.{first_at}
-use Rattle.loss_engine.proofs.roll.Roll.find_stream.Goals as goal
+use Rattle.loss_engine.proofs.roll.Roll.position_of_stream.Goals as goal
 
 pub returns-then-has_stream_at : goal.returns-then-has_stream_at
 returns-then-has_stream_at g c =

@@ -12,7 +12,7 @@ use Rattle.loss_engine.specs.computed.KeyOrder.{key_cmp}
 use Rattle.loss_engine.specs.computed.Roll.{HasKeyAt}
 use Rattle.loss_engine.proofs.KeyOrder.{key_exact, key_total}
 use Rattle.loss_engine.proofs.RollLemmas.{first_at, none_known}
-use Rattle.loss_engine.proofs.roll.Roll.find.Goals as goal
+use Rattle.loss_engine.proofs.roll.Roll.position_of.Goals as goal
 
 pub returns-then-has_at : goal.returns-then-has_at
 returns-then-has_at g c =

@@ -1,8 +1,0 @@
-use Rattle.std.proofs.Common.{ap}
-use Rattle.loss_engine.proofs.losses.Losses.frame_at.Goals as goal
-
-pub returns-clause-told : goal.returns-clause-told
-returns-clause-told g c = λ key f. c.take_frame.ensures.told key f
-
-pub returns-clause-kept : goal.returns-clause-kept
-returns-clause-kept g c = λ key first f. ap (λ xs. record { moment = c.args.self.now.greatest; tracked = xs }) (c.take_frame.ensures.kept key first f)
