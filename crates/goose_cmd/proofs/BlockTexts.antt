@@ -9,7 +9,7 @@ use Rattle.std.proofs.lemmas.Fmt.{decimal_is_IsNumeral}
 use Rattle.std.proofs.lemmas.List.Elements.{All-get_or}
 use Rattle.std.proofs.lemmas.Option.{none-some, same_Some}
 use Rattle.std.proofs.lemmas.Str.Parse.{digit_at}
-use Rattle.hex.specs.Hex.{IsBytes, decode_sized, encode_lower, is_hex_digit}
+use Rattle.hex.specs.Hex.{decode_sized, encode_lower, is_hex_digit}
 use Rattle.hex.specs.declared.error.FromHexError.{FromHexError}
 use Rattle.hex.proofs.HexLemmas.{decode_of-encode_lower, decode_of-ok, decode_sized-ok, decode_sized-twice}
 use Rattle.ber_core.specs.Contents.{AreVisible, IsVisible}
@@ -21,12 +21,12 @@ use Rattle.block_core.specs.declared.block.Block.{Block}
 use Rattle.block_core.specs.BlockText.{block_in, block_of, block_with}
 use Rattle.block_core.specs.Commas.{number_by, text_in, word_in}
 use Rattle.pdu_core.specs.declared.goose.GoosePdu.{GoosePdu}
-use Rattle.pdu_core.specs.declared.sampled.asdu.Asdu.{Asdu}
 use Rattle.pdu_core.specs.Spellable.{IsSpellableGoose}
 use Rattle.text_core.specs.Pieces.{escaped, four_digits, quoted, quoted_or_dash, two_octets}
+use Rattle.inventory_engine.specs.Configuration.{Configuration, configuration_of}
 use Rattle.inventory_engine.specs.Sightings.{block_parts, block_text, has_fields, named_parts, stream_parts, text_or_none}
 use Rattle.inventory_engine.specs.Laws.{block_told}
-use Rattle.inventory_engine.proofs.BlockBack.{blocks_back}
+use Rattle.inventory_engine.proofs.BlockBack.{blocks_back, two_are_bytes}
 use Rattle.goose_cmd.proofs.ScriptOrder.{either}
 
 -- ---- tests
@@ -68,11 +68,6 @@ decimal_unbroken n h k l e =
     let digits : AllDigits 10 (decimal n) = (decimal_is_IsNumeral n (omega arith)).0.1 in
     let r = digit_at (decimal n) k digits l in
     omega (arith, r.0)
-
-two_are_bytes : (n : ℕ) → n < 65536 → IsBytes (two_octets n)
-two_are_bytes n h zero = omega arith
-two_are_bytes n h (suc zero) = omega arith
-two_are_bytes n h (suc (suc i)) = omega arith
 
 digits_unbroken : (n : ℕ) → n < 65536 → Unbroken (four_digits n)
 digits_unbroken n h k l e =
@@ -119,6 +114,9 @@ parts_unbroken [] h = none_unbroken
 parts_unbroken (xs ∷ parts) h = HasNo-append 10 xs (concat parts) h.0 (parts_unbroken parts h.1)
 
 module _ (app_id : ℕ) (p : GoosePdu (Unit {0})) (small : app_id < 65536) (spelled : IsSpellableGoose p) where
+  abbrev block : Configuration
+  block = configuration_of app_id p
+
   rev_small : p.conf_rev < 4294967296
   rev_small = omega (arith, spelled.conf_rev)
 
@@ -128,16 +126,16 @@ module _ (app_id : ℕ) (p : GoosePdu (Unit {0})) (small : app_id < 65536) (spel
   comma : Unbroken (codes ",")
   comma = word_unbroken (codes ",") refl
 
-  fields_unbroken : Unbroken (concat (block_parts app_id p))
-  fields_unbroken = parts_unbroken (block_parts app_id p)
+  fields_unbroken : Unbroken (concat (block_parts block))
+  fields_unbroken = parts_unbroken (block_parts block)
       (digits_unbroken app_id small, (comma, (text_unbroken p.gocb_ref spelled.gocb_ref, (comma, (text_unbroken p.dat_set spelled.dat_set, (comma, (present_unbroken p.go_id spelled.go_id, (comma, (decimal_unbroken p.conf_rev rev_small, (comma, (decimal_unbroken (length p.members) few, tt)))))))))))
 
-  names_unbroken : Unbroken (concat (named_parts app_id p))
-  names_unbroken = parts_unbroken (named_parts app_id p)
+  names_unbroken : Unbroken (concat (named_parts block))
+  names_unbroken = parts_unbroken (named_parts block)
       (word_unbroken (codes "appid=") refl, (digits_unbroken app_id small, (word_unbroken (codes " ref=") refl, (quoted_unbroken p.gocb_ref spelled.gocb_ref, (word_unbroken (codes " set=") refl, (quoted_unbroken p.dat_set spelled.dat_set, (word_unbroken (codes " id=") refl, (optional_unbroken p.go_id spelled.go_id, (word_unbroken (codes " rev=") refl, (decimal_unbroken p.conf_rev rev_small, (word_unbroken (codes " entries=") refl, (decimal_unbroken (length p.members) few, tt))))))))))))
 
-  pub block_unbroken : Unbroken (block_text app_id p)
-  block_unbroken = either (has_fields p) (concat (block_parts app_id p)) (concat (named_parts app_id p)) Unbroken (λ has. fields_unbroken) (λ lacks. names_unbroken)
+  pub block_unbroken : Unbroken (block_text block)
+  block_unbroken = either (has_fields block) (concat (block_parts block)) (concat (named_parts block)) Unbroken (λ has. fields_unbroken) (λ lacks. names_unbroken)
 
 -- ---- what is a BLOCK
 
@@ -174,17 +172,19 @@ no_block A x y rest first second k within other =
     let cut : cut_at 44 (x ∷ y ∷ rest) ≡ (x ∷ y ∷ w.0) ∷ w.1 = otherwise (x == 44) ([] ∷ cut_at 44 (y ∷ rest)) (onto_first x (cut_at 44 (y ∷ rest))) first ∙ ap (onto_first x) later in
     ap (block_of {A = A}) cut ∙ not_of (x ∷ y ∷ w.0) w.1 (no_word (x ∷ y ∷ w.0) k (omega arith) (other w.0))
 
-no_name : (A : Type 0) (app_id : ℕ) (p : GoosePdu (Unit {0})) → block_in {A = A} (concat (named_parts app_id p)) ≡ None
-no_name A app_id p = no_block A 97 112 (drop 2 (concat (named_parts app_id p))) refl refl 1 (omega arith) (λ p. refl)
+no_name : (A : Type 0) (b : Configuration) → block_in {A = A} (concat (named_parts b)) ≡ None
+no_name A b = no_block A 97 112 (drop 2 (concat (named_parts b))) refl refl 1 (omega arith) (λ p. refl)
 
-pub no_stream : (A : Type 0) (a : Asdu (Unit {0})) → block_in {A = A} (concat (stream_parts a)) ≡ None
-no_stream A a = no_block A 105 100 (drop 2 (concat (stream_parts a))) refl refl 0 (omega arith) (λ p. refl)
+pub no_stream : (A : Type 0) (conf_rev : ℕ) (sv_id : List ℕ) → block_in {A = A} (concat (stream_parts conf_rev sv_id)) ≡ None
+no_stream A conf_rev sv_id = no_block A 105 100 (drop 2 (concat (stream_parts conf_rev sv_id))) refl refl 0 (omega arith) (λ p. refl)
 
 -- where the text of a control block is a BLOCK, it says the block of its frame
-pub block_says : {A : Type 0} (app_id : ℕ) (p : GoosePdu (Unit {0})) (block : Block A) → app_id < 65536 → IsSpellableGoose p → block_in (block_text app_id p) ≡ Some block → block ≡ block_told app_id p
-block_says {A} app_id p block small spelled says = elim (cases_Bool (has_fields p)) [
-  | inl has ↦ same_Some block (block_told app_id p) (sym says ∙ blocks_back app_id p small spelled has)
-  | inr lacks ↦
-      let text : block_text app_id p ≡ concat (named_parts app_id p) = otherwise (has_fields p) (concat (block_parts app_id p)) (concat (named_parts app_id p)) lacks in
-      absurd (none-some block (sym (no_name A app_id p) ∙ (ap (λ (t : List ℕ). block_in {A = A} t) (sym text) ∙ says)))
-]
+pub block_says : {A : Type 0} (app_id : ℕ) (p : GoosePdu (Unit {0})) (block : Block A) → app_id < 65536 → IsSpellableGoose p → block_in (block_text (configuration_of app_id p)) ≡ Some block → block ≡ block_told (configuration_of app_id p)
+block_says {A} app_id p block small spelled says =
+    let b = configuration_of app_id p in
+    elim (cases_Bool (has_fields b)) [
+      | inl has ↦ same_Some block (block_told b) (sym says ∙ blocks_back app_id p small spelled has)
+      | inr lacks ↦
+          let text : block_text b ≡ concat (named_parts b) = otherwise (has_fields b) (concat (block_parts b)) (concat (named_parts b)) lacks in
+          absurd (none-some block (sym (no_name A b) ∙ (ap (λ (t : List ℕ). block_in {A = A} t) (sym text) ∙ says)))
+    ]

@@ -29,6 +29,7 @@ use Rattle.subscribe_core.specs.Apart.{AreApart}
 use Rattle.subscribe_core.proofs.Readings.{reads_one}
 use Rattle.engine_core.specs.computed.WholeText.{whole_text}
 use Rattle.exchange_engines.specs.ReplayText.{events_of}
+use Rattle.inventory_engine.specs.Configuration.{configuration_of}
 use Rattle.inventory_engine.specs.Sightings.{text_or_none}
 use Rattle.inventory_engine.specs.computed.BlocksStep.{blocks_text}
 use Rattle.inventory_engine.specs.Laws.{block_told}
@@ -51,7 +52,7 @@ id_same (Some (c ∷ cs)) = ap not (bytes_same (c ∷ cs))
 
 module _ (A : Type 0) (f : FrameRead) where
   abbrev own : Block A
-  own = block_told f.app_id f.pdu
+  own = block_told (configuration_of f.app_id f.pdu)
 
   is_own : is_of f own ≡ true
   is_own = and_from _ _ (eq-eqb f.app_id f.app_id refl) (bytes_same f.pdu.gocb_ref)

@@ -5,7 +5,6 @@ use Rattle.std.specs.Str.{bytes_eq}
 use Rattle.std.specs.Fmt.{decimal}
 use Rattle.std.proofs.lemmas.Bool.{cases_Bool}
 use Rattle.std.proofs.lemmas.List.{append-nil}
-use Rattle.std.proofs.lemmas.List.Concat.{flat_map-append}
 use Rattle.std.proofs.lemmas.Option.{none-some, same_Some}
 use Rattle.std.proofs.lemmas.Slice.Eq.{bytes_eq-Decides}
 use Rattle.ber_core.specs.Length.{AreOctets, number}
@@ -39,10 +38,12 @@ use Rattle.block_core.specs.BlockText.{block_in}
 use Rattle.subscribe_core.specs.computed.Content.{content_by, content_of, content_with}
 use Rattle.subscribe_core.specs.EventsRead.{Content, OfClock, OfFault, OfGoose, OfMode, OfSampled}
 use Rattle.engine_core.specs.computed.WholeText.{told_after}
-use Rattle.inventory_engine.specs.Sightings.{Key, Sighting, block_sighting, block_text, key_of, sightings_in, sightings_of, sightings_read, sightings_with, stream_sighting, stream_sightings}
+use Rattle.inventory_engine.specs.Configuration.{configuration_of}
+use Rattle.inventory_engine.specs.Sightings.{Key, Sighting, block_sighting, key_of, sightings_in, sightings_of, sightings_read, sightings_with, stream_sighting, stream_sightings}
 use Rattle.inventory_engine.specs.BlocksText.{IsNewest, changed_kind, first_kind, in_lines, line_after, sighting_line, spaced_word}
 use Rattle.inventory_engine.specs.computed.BlocksStep.{blocks_text, newest, written_of}
 use Rattle.inventory_engine.specs.Laws.{IsFirst, block_told}
+use Rattle.inventory_engine.proofs.Appending.{sightings-push}
 use Rattle.inventory_engine.proofs.FirstLines.{one_first}
 use Rattle.inventory_engine.proofs.Newest.{newest_is}
 use Rattle.goose_cmd.specs.ListedBlocks.{AreListed, IsBlockOf, ListedBlocksAreApart, LineTells}
@@ -54,7 +55,7 @@ use Rattle.goose_cmd.proofs.ListedItems.{AreKept, KeepsOctets, list_kept}
 -- a control block, which can stand in a list, or streams
 abbrev Shows : List Sighting → Type 0
 Shows seen =
-    ((app_id : ℕ) × (p : GoosePdu (Unit {0})) × (app_id < 65536) × IsSpellableGoose p × (seen ≡ block_sighting app_id p ∷ []))
+    ((app_id : ℕ) × (p : GoosePdu (Unit {0})) × (app_id < 65536) × IsSpellableGoose p × (seen ≡ block_sighting (configuration_of app_id p) ∷ []))
     ⊎ ((asdus : List (Asdu (Unit {0}))) × (seen ≡ stream_sightings asdus))
 
 address_small : (o : List ℕ) (f : Frame (Unit {0})) → AreOctets o → SpellsFrame f o → f.app_id < 65536
@@ -138,7 +139,7 @@ line_there text front rest n word told is starts small plain unbroken = record {
 
 -- the block of a frame of GOOSE is there
 abbrev pub IsThere : {A : Type 0} → List (Block A) → Content → Type 0
-IsThere blocks (OfGoose f) = (k : ℕ) × (slice_get blocks k ≡ Some (block_told f.app_id f.pdu))
+IsThere blocks (OfGoose f) = (k : ℕ) × (slice_get blocks k ≡ Some (block_told (configuration_of f.app_id f.pdu)))
 IsThere blocks OfSampled = Unit {0}
 IsThere blocks (OfFault fault) = Unit {0}
 IsThere blocks OfClock = Unit {0}
@@ -154,23 +155,23 @@ module _ {A : Type 0} (blocks : List (Block A)) (text : List ℕ) (listed : AreL
     -- a control block whose line stands there is listed
     module _ (app_id : ℕ) (p : GoosePdu (Unit {0})) (low : app_id < 65536) (spelled : IsSpellableGoose p) where
       abbrev seen_now : Sighting
-      seen_now = block_sighting app_id p
+      seen_now = block_sighting (configuration_of app_id p)
 
-      seen_before : (last : List ℕ) → IsNewest earlier (key_of seen_now) (Some last) → last ≡ block_text app_id p → Listed blocks seen_now
+      seen_before : (last : List ℕ) → IsNewest earlier (key_of seen_now) (Some last) → last ≡ seen_now.text → Listed blocks seen_now
       seen_before last is same =
           let w = all is.position is.is.sighting app_id is.is.there (ap (λ (k : Key). k.0) is.is.has_key) in
           record { position = w.position; block = w.block; there = w.there; says = ap (λ (t : List ℕ). block_in {A = A} t) (sym same ∙ sym is.has_text) ∙ w.says }
 
       by_newest : (o : Option (List ℕ)) → IsNewest earlier (key_of seen_now) o → text ≡ front ++ ((line_after (in_lines n) seen_now o ++ []) ++ rest) → Listed blocks seen_now
       by_newest None is stands =
-          listed.each (block_text app_id p) (line_there text front rest n (codes " block ") (block_text app_id p) stands starts small (word_unbroken (codes " block ") refl) (block_unbroken app_id p low spelled))
-      by_newest (Some last) is stands = elim (cases_Bool (bytes_eq last (block_text app_id p))) [
-        | inl same ↦ seen_before last is ((bytes_eq-Decides last (block_text app_id p)).0 same)
+          listed.each seen_now.text (line_there text front rest n (codes " block ") seen_now.text stands starts small (word_unbroken (codes " block ") refl) (block_unbroken app_id p low spelled))
+      by_newest (Some last) is stands = elim (cases_Bool (bytes_eq last seen_now.text)) [
+        | inl same ↦ seen_before last is ((bytes_eq-Decides last seen_now.text).0 same)
         | inr other ↦
-            let line : line_after (in_lines n) seen_now (Some last) ≡ sighting_line n (codes " block-changed ") (block_text app_id p) =
-            otherwise (bytes_eq last (block_text app_id p)) [] (sighting_line n (codes " block-changed ") (block_text app_id p)) other in
-            absurd (listed.none_changes (block_text app_id p)
-            (line_there text front rest n (codes " block-changed ") (block_text app_id p) (stands ∙ ap (λ (l : List ℕ). front ++ ((l ++ []) ++ rest)) line) starts small (word_unbroken (codes " block-changed ") refl) (block_unbroken app_id p low spelled)))
+            let line : line_after (in_lines n) seen_now (Some last) ≡ sighting_line n (codes " block-changed ") seen_now.text =
+            otherwise (bytes_eq last seen_now.text) [] (sighting_line n (codes " block-changed ") seen_now.text) other in
+            absurd (listed.none_changes seen_now.text
+            (line_there text front rest n (codes " block-changed ") seen_now.text (stands ∙ ap (λ (l : List ℕ). front ++ ((l ++ []) ++ rest)) line) starts small (word_unbroken (codes " block-changed ") refl) (block_unbroken app_id p low spelled)))
       ]
 
       now_listed : text ≡ front ++ (written_of (in_lines n) earlier (seen_now ∷ []) ++ rest) → Listed blocks seen_now
@@ -179,7 +180,7 @@ module _ {A : Type 0} (blocks : List (Block A)) (text : List ℕ) (listed : AreL
     -- so are all control blocks of the event
     shown_listed : (seen : List Sighting) → Shows seen → text ≡ front ++ (written_of (in_lines n) earlier seen ++ rest) → AllListed blocks seen
     shown_listed seen (inl w) stands =
-        subst (AllListed blocks) (sym w.4) (λ i s app_id at own. only (block_sighting w.0 w.1) (now_listed w.0 w.1 w.2 w.3 (stands ∙ ap (λ (l : List Sighting). front ++ (written_of (in_lines n) earlier l ++ rest)) w.4)) i s at)
+        subst (AllListed blocks) (sym w.4) (λ i s app_id at own. only (block_sighting (configuration_of w.0 w.1)) (now_listed w.0 w.1 w.2 w.3 (stands ∙ ap (λ (l : List Sighting). front ++ (written_of (in_lines n) earlier l ++ rest)) w.4)) i s at)
       where
         only : (x : Sighting) → Listed blocks x → (i : ℕ) (s : Sighting) → slice_get (x ∷ []) i ≡ Some s → Listed blocks s
         only x l zero s at = subst (Listed blocks) (same_Some x s at) l
@@ -193,7 +194,7 @@ module _ {A : Type 0} (blocks : List (Block A)) (text : List ℕ) (listed : AreL
 
   apdu_there : (app_id : ℕ) (a : Apdu (Unit {0})) → app_id < 65536 → ApduIsSpellable a → AllListed blocks (sightings_with app_id a) → IsThere blocks (content_with app_id a)
   apdu_there app_id (apdus.Goose p) small spelled all =
-      let w = all 0 (block_sighting app_id p) app_id refl refl in
+      let w = all 0 (block_sighting (configuration_of app_id p)) app_id refl refl in
       (w.position, w.there ∙ ap (λ (b : Block A). Some b) (block_says app_id p w.block small spelled w.says))
   apdu_there app_id (apdus.Sampled p) small spelled all = tt
 
@@ -218,9 +219,6 @@ module _ {A : Type 0} (blocks : List (Block A)) (text : List ℕ) (listed : AreL
   both_listed : (xs ys : List Sighting) → AllListed blocks xs → AllListed blocks ys → AllListed blocks (xs ++ ys)
   both_listed xs ys h g i s app_id at own = elim (get_parts xs ys i s at) [ inl old ↦ h i s app_id old own | inr new ↦ g new.0 s app_id new.1 own ]
 
-  sightings_push : (before : List (ℕ × Event A)) (e : ℕ × Event A) → sightings_in (before ++ e ∷ []) ≡ sightings_in before ++ sightings_of e.1.kind
-  sightings_push before e = flat_map-append (λ (e : ℕ × Event A). sightings_of e.1.kind) before (e ∷ []) ∙ ap (λ (l : List Sighting). sightings_in before ++ l) (append-nil (sightings_of e.1.kind))
-
   pub events_there : (stop : Stop (ItemFault ListCause)) (before items : List (ℕ × Event A)) (front : List ℕ) → AreKept 1000000 items → AllListed blocks (sightings_in before) → Starts front → text ≡ front ++ (told_after blocks_text before items stop).text → AreThere blocks items
   unfolding told_after
   events_there stop before [] front kept all starts stands = tt
@@ -228,7 +226,7 @@ module _ {A : Type 0} (blocks : List (Block A)) (text : List ℕ) (listed : AreL
       let now = written_of (in_lines e.0) (sightings_in before) (sightings_of e.1.kind) in
       let rest = (told_after blocks_text (before ++ e ∷ []) items stop).text in
       let shown = shown_listed (sightings_in before) all e.0 kept.0 front rest starts (sightings_of e.1.kind) (event_shows e.1.kind kept.1) stands in
-      let next = subst (AllListed blocks) (sym (sightings_push before e)) (both_listed (sightings_in before) (sightings_of e.1.kind) all shown) in (
+      let next = subst (AllListed blocks) (sym (sightings-push before e)) (both_listed (sightings_in before) (sightings_of e.1.kind) all shown) in (
         event_there e.1.kind kept.1 shown,
         events_there stop (before ++ e ∷ []) items (front ++ now) kept.2 next (written_ends front e.0 (sightings_in before) (sightings_of e.1.kind) starts) (stands ∙ sym (append_assoc front now rest)),
       )
@@ -248,7 +246,7 @@ SayKeys A (s ∷ seen) = SaysKey A s × SayKeys A seen
 
 streams_say : (A : Type 0) (asdus : List (Asdu (Unit {0}))) → SayKeys A (stream_sightings asdus)
 streams_say A [] = tt
-streams_say A (a ∷ asdus) = (λ block is. absurd (none-some block (sym (no_stream A a) ∙ is)), streams_say A asdus)
+streams_say A (a ∷ asdus) = (λ block is. absurd (none-some block (sym (no_stream A a.conf_rev a.sv_id) ∙ is)), streams_say A asdus)
 
 shown_say : (A : Type 0) (seen : List Sighting) → Shows seen → SayKeys A seen
 shown_say A seen (inl w) =

@@ -10,6 +10,7 @@ use Rattle.list_core.specs.declared.line_rules.ItemFault.{ItemFault}
 use Rattle.list_core.specs.declared.line_rules.ItemFault.TheVariants as fault
 use Rattle.list_core.specs.Items.{Listing}
 use Rattle.list_core.specs.Lines.{Stop, faulty}
+use Rattle.list_core.proofs.Emptiness.{back_nil, front_nil}
 use Rattle.publish_core.specs.declared.table.Step.{Step}
 use Rattle.publish_core.specs.Frames.{Change, Setup, setup}
 use Rattle.publish_core.specs.Refusal.{Accepts}
@@ -223,14 +224,6 @@ unfolding told_after
 none_told t before [] stop none = refl
 none_told t before (e ∷ es) stop none = absurd cc
 
-pub no_front : {X : Type 0} (xs ys : List X) → xs ++ ys ≡ [] → xs ≡ []
-no_front [] ys e = refl
-no_front (x ∷ xs) ys e = absurd cc
-
-no_back : {X : Type 0} (xs ys : List X) → xs ++ ys ≡ [] → ys ≡ []
-no_back [] ys e = e
-no_back (x ∷ xs) ys e = absurd cc
-
 gives_list : {A : Type 0} (B : Type 0) (p : Setup A) (calls : List Call) (answers : List (Option (Frame A))) (z : InputEnd) (text : List ℕ) (t : Text (ScriptItem A) ScriptCause) →
     AreAnswers p calls answers → (says : SaysRun p calls (script_of_text z text)) → IsPublishText t → GivesList B p calls says.calls_left answers (script_of_text z text) t
 gives_list {A} B p calls answers z text t are says is = record {
@@ -250,8 +243,8 @@ gives_list {A} B p calls answers z text t are says is = record {
     by_setup : (calls ++ says.calls_left ≡ []) ⊎ IsScriptSound p → Stops B p t is calls says.calls_left left.0 left.1 script (sent_from 0 calls answers)
     by_setup (inl none) = (
       script.stop,
-      none_told t left.0 left.1 script.stop (left.4 ∙ ap (map item_of_call) none) ∙ ap (λ (cs : List Call). sent_told B t (sent_from 0 cs answers) script.stop) (sym (no_front calls says.calls_left none)),
-      subst (λ (more : List Call). TellsStop p calls more script script.stop) (sym (no_back calls says.calls_left none)) refl,
+      none_told t left.0 left.1 script.stop (left.4 ∙ ap (map item_of_call) none) ∙ ap (λ (cs : List Call). sent_told B t (sent_from 0 cs answers) script.stop) (sym (front_nil calls says.calls_left none)),
+      subst (λ (more : List Call). TellsStop p calls more script script.stop) (sym (back_nil calls says.calls_left none)) refl,
     )
     by_setup (inr sound) =
         calls_told B p t is calls [] says.calls_left answers left.0 left.1 script sound left.2 left.3 left.4 are.sizes says.accepted (λ i a at.

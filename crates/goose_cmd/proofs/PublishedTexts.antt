@@ -9,6 +9,7 @@ use Rattle.list_core.specs.declared.device.InputEnd.{InputEnd}
 use Rattle.list_core.specs.declared.line_rules.ItemFault.{ItemFault}
 use Rattle.list_core.specs.declared.list_fault.ListCause.{ListCause}
 use Rattle.list_core.specs.Lines.{Stop, faulty, finished, unfinished}
+use Rattle.list_core.proofs.Emptiness.{front_nil}
 use Rattle.frame_core.specs.Written.{written_frame}
 use Rattle.publish_core.specs.Frames.{Setup}
 use Rattle.publish_core.specs.Run.{Request, Call, IsAnswer, trace_of_calls}
@@ -35,7 +36,7 @@ use Rattle.goose_cmd.proofs.CommentLines.{comment_listed, script_comment}
 use Rattle.goose_cmd.proofs.ScriptOrder.{script_set_up}
 use Rattle.goose_cmd.proofs.WrittenOctets.{frame_octets}
 use Rattle.goose_cmd.proofs.WrittenLists.{EndsList, ended_lists_replay, ended_runs_replay, nothing_ends}
-use Rattle.goose_cmd.proofs.PublishedScripts.{no_front, scripts_give_lists}
+use Rattle.goose_cmd.proofs.PublishedScripts.{scripts_give_lists}
 
 with_count : {A : Type 0} (m : ℕ) (request : Request) (a : Option (Frame A)) (rest : List (Sent A)) → length (with_frame m request a rest) ≤ suc (length rest)
 with_count m request None rest = omega arith
@@ -97,7 +98,7 @@ published_replay {A} {B} p block calls answers z text t r run says is replay =
 
     by_setup : (calls ++ says.calls_left ≡ []) ⊎ IsScriptSound p → ReplayGives r (list_text (published_events {B = B} (sent_from 0 calls answers)) ++ last_text t stop) (one_entry_each (sent_from 0 calls answers))
     by_setup (inl none) =
-        subst (λ (cs : List Call). ReplayGives r (list_text (published_events {B = B} (sent_from 0 cs answers)) ++ last_text t stop) (one_entry_each (sent_from 0 cs answers))) (sym (no_front calls says.calls_left none))
+        subst (λ (cs : List Call). ReplayGives r (list_text (published_events {B = B} (sent_from 0 cs answers)) ++ last_text t stop) (one_entry_each (sent_from 0 cs answers))) (sym (front_nil calls says.calls_left none))
         (nothing_replays block (last_text t stop) r replay (how_it_ends t 1 stop is (omega arith)))
     by_setup (inr sound) =
         let some : 1 ≤ length p.table = sound.steps.some in

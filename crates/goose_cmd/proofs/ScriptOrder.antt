@@ -4,7 +4,7 @@ use Rattle.std.specs.Prelude.{◌⊎◌, ◌==◌, nat_le, nat_lt, option_and_th
 use Rattle.std.specs.List.{list_all}
 use Rattle.std.specs.Str.{bytes_eq}
 use Rattle.std.proofs.lemmas.Bool.{and_from, and_parts, eqb-false, leb-true, ltb-true}
-use Rattle.std.proofs.lemmas.List.{append-nil, length_push}
+use Rattle.std.proofs.lemmas.List.{append-nil, length_push, map-append}
 use Rattle.ber_core.specs.declared.fault.Fault.{Fault}
 use Rattle.mms_data.specs.Data.{Data}
 use Rattle.mms_data.specs.computed.Reading.{members_at}
@@ -47,19 +47,15 @@ use Rattle.goose_cmd.specs.PublishedReplay.{script_of_text}
 
 -- ---- scripts that grow
 
-map-push : {X Y : Type 0} (f : X → Y) (xs : List X) (x : X) → map f (xs ++ x ∷ []) ≡ map f xs ++ f x ∷ []
-map-push f [] x = refl
-map-push f (y ∷ xs) x = ap (λ (l : List _). f y ∷ l) (map-push f xs x)
-
 call-push : {A : Type 0} (p : Setup A) (calls : List Call) (c : Call) → script_of p calls ++ item_of_call c ∷ [] ≡ script_of p (calls ++ c ∷ [])
 call-push p calls c =
     ap (λ (l : List (ScriptItem _)). item.Control p.control p.first ∷ l)
-    (append_assoc (map item.Step p.table) (map item_of_call calls) (item_of_call c ∷ []) ∙ ap (λ (l : List (ScriptItem _)). map item.Step p.table ++ l) (sym (map-push item_of_call calls c)))
+    (append_assoc (map item.Step p.table) (map item_of_call calls) (item_of_call c ∷ []) ∙ ap (λ (l : List (ScriptItem _)). map item.Step p.table ++ l) (sym (map-append item_of_call calls (c ∷ []))))
 
 step-push : {A : Type 0} (p : Setup A) (s : Step) → script_of p [] ++ item.Step s ∷ [] ≡ script_of (with_step p s) []
 step-push p s =
     ap (λ (l : List (ScriptItem _)). item.Control p.control p.first ∷ l)
-    (ap (λ (l : List (ScriptItem _)). l ++ item.Step s ∷ []) (append-nil (map item.Step p.table)) ∙ sym (map-push item.Step p.table s) ∙ sym (append-nil (map item.Step (p.table ++ s ∷ []))))
+    (ap (λ (l : List (ScriptItem _)). l ++ item.Step s ∷ []) (append-nil (map item.Step p.table)) ∙ sym (map-append item.Step p.table (s ∷ [])) ∙ sym (append-nil (map item.Step (p.table ++ s ∷ []))))
 
 good-push : (steps : List Step) (s : Step) → list_all is_good steps ≡ true → is_good s ≡ true → list_all is_good (steps ++ s ∷ []) ≡ true
 good-push [] s e g = and_from (is_good s) true g refl

@@ -15,6 +15,7 @@ use Rattle.pdu_core.specs.SampledViews.{asdu_of}
 use Rattle.pdu_core.specs.declared.sampled.asdu.Asdu.{Asdu}
 use Rattle.pdu_core.specs.declared.sampled.view.AsduView.{AsduView}
 use Rattle.text_core.proofs.NonEmpty.{ends}
+use Rattle.text_core.proofs.PieceLemmas.{concat-append}
 use Rattle.std.specs.Fmt.{decimal}
 use Rattle.object_core.specs.declared.counted.Form.{Form}
 use Rattle.object_core.specs.declared.counted.Form.TheVariants.{Text as Lines, Object}
@@ -29,14 +30,10 @@ use Rattle.inventory_engine.specs.declared.known.Known.{Known}
 use Rattle.inventory_engine.specs.Sightings.{Sighting, key_of, sightings_in, sightings_of, stream_sighting, stream_sightings}
 use Rattle.inventory_engine.specs.BlocksText.{Telling, changed_kind, first_kind, line_after, sighting_line, spaced_word, telling}
 use Rattle.inventory_engine.specs.computed.BlocksStep.{Keeps, Tells, AppendsLines, HasLines, blocks_event, lines_by, newest, written_of}
-use Rattle.inventory_engine.specs.computed.KnownTexts.{InOrder, Inventory, WritesText, by_key, key_cmp, known_key, known_text, same_key, text_by}
+use Rattle.inventory_engine.specs.computed.KnownTexts.{InOrder, Inventory, WritesText, by_key, key_cmp, known_key, known_text, same_key}
 use Rattle.inventory_engine.proofs.KnownLemmas.{Updates, absent, has_key, present, updates_insert, updates_same, updates_set}
 use Rattle.inventory_engine.proofs.KeyLemmas.{key_total}
 use Rattle.inventory_engine.proofs.Newest.{newest-push}
-
-concat-append : (xs ys : List (List ℕ)) → concat (xs ++ ys) ≡ concat xs ++ concat ys
-concat-append [] ys = refl
-concat-append (x ∷ xs) ys = ap (λ (l : List ℕ). x ++ l) (concat-append xs ys) ∙ sym (append_assoc x (concat xs) (concat ys))
 
 lines-append : (how : Telling) (e xs ys : List Sighting) → lines_by how e (xs ++ ys) ≡ lines_by how e xs ++ lines_by how (e ++ xs) ys
 lines-append how e [] ys = ap (λ (l : List Sighting). lines_by how l ys) (sym (append-nil e))
@@ -46,10 +43,6 @@ lines-append how e (x ∷ xs) ys =
 
 written_of-append : (how : Telling) (e xs ys : List Sighting) → written_of how e (xs ++ ys) ≡ written_of how e xs ++ written_of how (e ++ xs) ys
 written_of-append how e xs ys = ap concat (lines-append how e xs ys) ∙ concat-append (lines_by how e xs) (lines_by how (e ++ xs) ys)
-
--- nothing was seen
-pub appends_none : {A : Type 0} (how : Telling) (known : Inventory A) (text : List ℕ) → AppendsLines how [] known known text text
-appends_none how known text = λ e k. (sym (append-nil text), subst (λ (l : List Sighting). Keeps known l) (sym (append-nil e)) k)
 
 -- sightings, and others behind them
 pub appends_then : {A : Type 0} (how : Telling) (xs ys : List Sighting) (a b c : Inventory A) (o m t : List ℕ) → AppendsLines how xs a b o m → AppendsLines how ys b c m t → AppendsLines how (xs ++ ys) a c o t
@@ -76,10 +69,6 @@ on_error (Err e) P p = p
 pub on_success : {T E : Type 0} (r : Result T E) (P Q : Type 0) → (P → Q) → OnOk r P → OnOk r Q
 on_success (Ok t) P Q f p = f p
 on_success (Err e) P Q f p = p
-
-pub on_failure : {T E : Type 0} (r : Result T E) (P Q : Type 0) → (P → Q) → OnErr r P → OnErr r Q
-on_failure (Ok t) P Q f p = p
-on_failure (Err e) P Q f p = f p
 
 -- the same of sightings that are these by an equation
 pub appends_as : {A T E : Type 0} (r : Result T E) (how : Telling) (xs ys : List Sighting) (a b : Inventory A) (o m : List ℕ) → xs ≡ ys → OnOk r (AppendsLines how xs a b o m) → OnOk r (AppendsLines how ys a b o m)
@@ -168,9 +157,6 @@ module _ {A : Type 0} (how : Telling) (s : Sighting) (known : Inventory A) where
   pub wanted_first : Tells how → (at : ℕ) → (NoneEmpty known → InOrderFor (by_key (key_of s)) (held known) → IsGap (by_key (key_of s)) (held known) at) → HasLines how (s ∷ []) known
   wanted_first tells at gap = λ e k none. tells.of_first s (sym (written_of_one e ∙ ap (line_after how s) (newest_gap e at k (gap (none_empty known k.runs) (in_order_for key_cmp key_total known_key (held known) k.order (key_of s))))) ∙ none)
 
-map-push : {X Y : Type 0} (f : X → Y) (xs : List X) (x : X) → map f (xs ++ x ∷ []) ≡ map f xs ++ f x ∷ []
-map-push f xs x = map-append f xs (x ∷ [])
-
 -- one ASDU more
 pub stream_more : {A : Type 0} (how : Telling) (yielded : List AsduView) (asdu : AsduView) (all rest others : List (Asdu (Unit {0}))) (a b c : Inventory A) (o m t : List ℕ) → map (asdu_of {A = Unit {0}}) yielded ++ rest ≡ all → rest ≡ asdu_of asdu ∷ others
     → AppendsLines how (stream_sightings (map (asdu_of {A = Unit {0}}) yielded)) a b o m → AppendsLines how (stream_sighting (asdu_of {A = Unit {0}} asdu) ∷ []) b c m t
@@ -178,9 +164,9 @@ pub stream_more : {A : Type 0} (how : Telling) (yielded : List AsduView) (asdu :
 stream_more how yielded asdu all rest others a b c o m t parts first f g =
     let one = asdu_of {A = Unit {0}} asdu in
     let seen = map (asdu_of {A = Unit {0}}) yielded in
-    let pushed : map (asdu_of {A = Unit {0}}) (yielded ++ asdu ∷ []) ≡ seen ++ one ∷ [] = map-push asdu_of yielded asdu in (
+    let pushed : map (asdu_of {A = Unit {0}}) (yielded ++ asdu ∷ []) ≡ seen ++ one ∷ [] = map-append asdu_of yielded (asdu ∷ []) in (
       ap (λ (l : List (Asdu (Unit {0}))). l ++ others) pushed ∙ append_assoc seen (one ∷ []) others ∙ ap (λ (l : List (Asdu (Unit {0}))). seen ++ l) (sym first) ∙ parts,
-      subst (λ (l : List Sighting). AppendsLines how l a c o t) (sym (map-push stream_sighting seen one) ∙ ap stream_sightings (sym pushed))
+      subst (λ (l : List Sighting). AppendsLines how l a c o t) (sym (map-append stream_sighting seen (one ∷ [])) ∙ ap stream_sightings (sym pushed))
           (appends_then how (stream_sightings seen) (stream_sighting one ∷ []) a b c o m t f g),
     )
 
@@ -201,7 +187,7 @@ by_test b x y t c e f g = g ∙ sym (rw (sym e ∙ f) refl)
 pub by_test_not : (b : Bool) (x y t : List ℕ) (c : Bool) → c ≡ b → c ≡ false → t ≡ y → t ≡ (if b then x else y)
 by_test_not b x y t c e f g = g ∙ sym (rw (sym e ∙ f) refl)
 
-sightings-push : {A : Type 0} (before : List (ℕ × Event A)) (e : ℕ × Event A) → sightings_in (before ++ e ∷ []) ≡ sightings_in before ++ sightings_of e.1.kind
+pub sightings-push : {A : Type 0} (before : List (ℕ × Event A)) (e : ℕ × Event A) → sightings_in (before ++ e ∷ []) ≡ sightings_in before ++ sightings_of e.1.kind
 sightings-push before e =
     flat_map-append (λ x. sightings_of x.1.kind) before (e ∷ []) ∙ ap (λ (l : List Sighting). sightings_in before ++ l) (append-nil (sightings_of e.1.kind))
 
@@ -227,14 +213,3 @@ takes_event {A} form n before event known after old new wrote k =
       appended = p.0;
       stands_after = subst (λ (l : List Sighting). Keeps after l) (sym (sightings-push before (n, event))) p.1;
     }
-
--- nothing is held at first
-pub keeps_none : {A : Type 0} (known : Inventory A) → held known ≡ [] → IsCompact known → Keeps known []
-keeps_none {A} known none compact = record {
-  runs = compact;
-  order = subst (λ (l : List (Known A)). InOrder l) (sym none) (λ i j d lt within. absurd (none_below within));
-  same = λ key. ap (λ (l : List (Known A)). text_by known_key known_text l key) none;
-}
-  where
-    none_below : {j : ℕ} → j < 0 → ⊥
-    none_below h = omega arith

@@ -21,12 +21,13 @@ use Rattle.list_core.proofs.MomentDigits.{digits_test}
 use Rattle.block_core.specs.BlockText.{block_in, block_of}
 use Rattle.block_core.specs.Commas.{comma_fields, number_by, octets_in, text_in, word_in}
 use Rattle.text_core.specs.Pieces.{four_digits, two_octets}
+use Rattle.inventory_engine.specs.Configuration.{configuration_of}
 use Rattle.inventory_engine.specs.Sightings.{block_parts, has_fields, is_field, is_field_octet, named_parts, text_or_none}
 use Rattle.inventory_engine.specs.Laws.{BlocksReadBack}
 
 -- ---- a number in four hexadecimal digits
 
-two_are_bytes : (n : ℕ) → n < 65536 → IsBytes (two_octets n)
+pub two_are_bytes : (n : ℕ) → n < 65536 → IsBytes (two_octets n)
 two_are_bytes n h zero = omega arith
 two_are_bytes n h (suc zero) = omega arith
 two_are_bytes n h (suc (suc i)) = omega arith
@@ -103,15 +104,16 @@ chosen b x y e = rw e refl
 
 pub blocks_back : {A : Type 0} → BlocksReadBack A
 blocks_back {A} app_id p small spelled has =
+    let b = configuration_of app_id p in
     let id = text_or_none p.go_id in
     let both = and_parts _ _ has in
     let texts = and_parts _ _ both.0 in
     let n = length p.members in
     let rev : p.conf_rev < 4294967296 = omega (arith, spelled.conf_rev) in
     let few : n < 4294967296 = omega (arith, spelled.entries) in
-    let cut : comma_fields (concat (block_parts app_id p)) ≡ four_digits app_id ∷ p.gocb_ref ∷ p.dat_set ∷ id ∷ decimal p.conf_rev ∷ decimal n ∷ [] =
+    let cut : comma_fields (concat (block_parts b)) ≡ four_digits app_id ∷ p.gocb_ref ∷ p.dat_set ∷ id ∷ decimal p.conf_rev ∷ decimal n ∷ [] =
     six_cut (four_digits app_id) p.gocb_ref p.dat_set id (decimal p.conf_rev) (decimal n)
     (word_no_comma app_id small) (field_no_comma p.gocb_ref texts.0) (field_no_comma p.dat_set texts.1) (field_no_comma id both.1) (decimal_no_comma p.conf_rev rev) (decimal_no_comma n few) in
-    ap (λ (t : List ℕ). block_in {A = A} t) (chosen (has_fields p) (concat (block_parts app_id p)) (concat (named_parts app_id p)) has)
+    ap (λ (t : List ℕ). block_in {A = A} t) (chosen (has_fields b) (concat (block_parts b)) (concat (named_parts b)) has)
     ∙ ap (block_of {A = A}) cut
     ∙ rw (word_back app_id small, text_back p.gocb_ref texts.0, text_back p.dat_set texts.1, text_back id both.1, number_back p.conf_rev rev, number_back n few) refl

@@ -26,7 +26,7 @@ newest_one seen key (Some t) (Some u) h g = elim (cases_lt h.position g.position
 ]
 
 -- the lines behind the first one
-behind : (t : Telling) (earlier seen : List Sighting) (s : Sighting) (x : List ℕ) (xs : List (List ℕ)) → AreLines t earlier (s ∷ seen) (x ∷ xs) → AreLines t (earlier ++ s ∷ []) seen xs
+pub behind : (t : Telling) (earlier seen : List Sighting) (s : Sighting) (x : List ℕ) (xs : List (List ℕ)) → AreLines t earlier (s ∷ seen) (x ∷ xs) → AreLines t (earlier ++ s ∷ []) seen xs
 behind t earlier seen s x xs h = record {
   sizes = let size = h.sizes in omega arith;
   each = λ i r line e f. subst (λ (l : List Sighting). IsLineAfter t l r line) (sym (append_assoc earlier (s ∷ []) (take i seen))) (h.each (suc i) r line e f);

@@ -1,11 +1,11 @@
 -- Texts at the start of others.
-use Rattle.std.proofs.Common.{◌≡◌, ℕ, ◌+◌, ◌<◌, true, false, eqb, List, [], ◌∷◌, ◌++◌, length, take, drop, get_or, suc, Option, Some, None, ap, sym, ◌∙◌, append_assoc, arith, drop-cons}
+use Rattle.std.proofs.Common.{◌≡◌, ℕ, ◌+◌, ◌<◌, true, false, eqb, List, [], ◌∷◌, ◌++◌, length, take, drop, get_or, suc, Option, Some, None, ap, sym, ◌∙◌, append_assoc, arith, drop-cons, subst}
 use Rattle.std.specs.Borrow.{Bor}
-use Rattle.std.specs.List.{flat_map}
+use Rattle.std.specs.List.{concat, flat_map}
 use Rattle.std.specs.Str.{bytes_eq}
 use Rattle.std.proofs.lemmas.Bool.{false_from_ne_true}
 use Rattle.std.proofs.lemmas.Bool.Decides.{nat_tests}
-use Rattle.std.proofs.lemmas.List.{append-nil, get_or_default, take_more, length-append, take-append-drop}
+use Rattle.std.proofs.lemmas.List.{append-nil, get_or_default, length-append, take-append-drop}
 use Rattle.std.proofs.lemmas.List.Concat.{flat_map-append}
 use Rattle.std.proofs.lemmas.Slice.Eq.{bytes_eq-Decides, strip_prefix_is}
 use Rattle.std.proofs.lemmas.Bool.Decides.{Decides-eqb}
@@ -32,20 +32,24 @@ after_both text a b rest None e h = λ more f. h more (append_cancel a rest (b +
 after_both text a b rest (Some x) e h = e ∙ ap (λ (l : List ℕ). a ++ l) h ∙ sym (append_assoc a b x.now)
 
 -- where the first is not at the start, both are not
-pub not_both : (text a b : List ℕ) → ((rest : List ℕ) → text ≡ a ++ rest → ⊥) → (rest : List ℕ) → text ≡ (a ++ b) ++ rest → ⊥
+not_both : (text a b : List ℕ) → ((rest : List ℕ) → text ≡ a ++ rest → ⊥) → (rest : List ℕ) → text ≡ (a ++ b) ++ rest → ⊥
 not_both text a b h rest e = h (b ++ rest) (e ∙ append_assoc a b rest)
 
+-- a text goes on with each of these texts in its turn, and then so
+pub data Steps (end : List ℕ) : List ℕ → List (List ℕ) → Type 0 where
+  here : {text : List ℕ} → text ≡ end → Steps end text []
+  step : {text behind x : List ℕ} {xs : List (List ℕ)} → text ≡ x ++ behind → Steps end behind xs → Steps end text (x ∷ xs)
+
+-- what follows others behind several texts follows all of them
+pub after_steps : (end text : List ℕ) (xs ys : List (List ℕ)) (r : Option (Bor (List ℕ))) → Steps end text xs → IsAfter end (concat ys) r → IsAfter text (concat (xs ++ ys)) r
+after_steps end text [] ys r (here e) h = subst (λ (t : List ℕ). IsAfter t (concat ys) r) (sym e) h
+after_steps end text (x ∷ xs) ys r (step {behind = behind} e s) h = after_both text x (concat (xs ++ ys)) behind r e (after_steps end behind xs ys r s h)
+
+-- where one of several texts does not follow, all of them do not
+pub stopped : (end text : List ℕ) (xs : List (List ℕ)) (y : List ℕ) (ys : List (List ℕ)) (r : Option (Bor (List ℕ))) → r ≡ None → Steps end text xs → IsAfter end y None → IsAfter text (concat (xs ++ y ∷ ys)) r
+stopped end text xs y ys r e s h = subst (IsAfter text (concat (xs ++ y ∷ ys))) (sym e) (after_steps end text xs (y ∷ ys) None s (not_both end y (concat ys) h))
+
 module _ {X : Type 0} (f : X → List ℕ) (xs : List X) (i : ℕ) (x : X) (within : i < length xs) (is : x ≡ get_or xs i x) (text rest : List ℕ) (so_far : text ≡ flat_map f (take i xs) ++ rest) where
-  one_more : flat_map f (take (i + 1) xs) ≡ flat_map f (take i xs) ++ f x
-  one_more =
-      ap (flat_map f) (take_more xs i x within ∙ ap (λ (y : X). take i xs ++ y ∷ []) (sym is))
-      ∙ flat_map-append f (take i xs) (x ∷ []) ∙ ap (λ (l : List ℕ). flat_map f (take i xs) ++ l) (append-nil (f x))
-
-  -- the text of one thing more
-  pub goes_on : (behind : List ℕ) → rest ≡ f x ++ behind → text ≡ flat_map f (take (i + 1) xs) ++ behind
-  goes_on behind e =
-      so_far ∙ ap (λ (l : List ℕ). flat_map f (take i xs) ++ l) e ∙ sym (append_assoc (flat_map f (take i xs)) (f x) behind) ∙ ap (λ (l : List ℕ). l ++ behind) (sym one_more)
-
   parts : flat_map f xs ≡ flat_map f (take i xs) ++ (f x ++ flat_map f (drop (suc i) xs))
   parts =
       ap (flat_map f) (sym (take-append-drop i xs)) ∙ flat_map-append f (take i xs) (drop i xs)

@@ -1,5 +1,5 @@
 -- The objects of a few control blocks and streams, computed: a wrong definition does not check.
-use Rattle.std.proofs.Common.{◌≡◌, ℕ, List, false, Option, Some, None, [], refl}
+use Rattle.std.proofs.Common.{◌≡◌, ℕ, List, Option, Some, None, [], refl}
 use Rattle.std.specs.Prelude.{codes}
 use Rattle.std.specs.Fmt.{digits}
 use Rattle.hex.specs.Hex.{encode_with}
@@ -9,21 +9,9 @@ use Rattle.object_core.specs.declared.counted.Form.TheVariants.{Object}
 use Rattle.inventory_engine.specs.BlocksText.{telling}
 use Rattle.inventory_engine.specs.Sightings.{Sighting, block_sighting}
 
--- what a frame of a control block with this gocbRef and goID shows
+-- a control block with this gocbRef and goID
 abbrev shown : List ℕ → Option (List ℕ) → Sighting
-shown gocb_ref go_id = block_sighting {A = Unit {0}} 1 (record {
-  gocb_ref = gocb_ref;
-  live = 2000;
-  dat_set = codes "D";
-  go_id = go_id;
-  t = record { seconds = 0; fraction = 0; quality = 0 };
-  st_num = 1;
-  sq_num = 0;
-  simulation = false;
-  conf_rev = 1;
-  nds_com = false;
-  members = [];
-})
+shown gocb_ref go_id = block_sighting (record { app_id = 1; gocb_ref = gocb_ref; dat_set = codes "D"; go_id = go_id; conf_rev = 1; entries = 0 })
 
 pub record AreBlockObjects : Type 0 where
   pub first : (telling (Object Line) 2 1700000000000000).of_first (shown (codes "G") None)

@@ -1,9 +1,10 @@
 -- What holds of the lines of sightings.
-use Rattle.std.specs.Prelude.{◌≡◌, ℕ, ◌<◌, ◌≤◌, true, List, Some, None, length, take}
+use Rattle.std.specs.Prelude.{◌≡◌, ℕ, ◌<◌, ◌≤◌, true, List, Some, None, take}
 use Rattle.block_core.specs.declared.block.Block.{Block}
 use Rattle.block_core.specs.BlockText.{block_in, go_id_of}
 use Rattle.pdu_core.specs.declared.goose.GoosePdu.{GoosePdu}
 use Rattle.pdu_core.specs.Spellable.{IsSpellableGoose}
+use Rattle.inventory_engine.specs.Configuration.{Configuration, configuration_of}
 use Rattle.inventory_engine.specs.Sightings.{Key, Sighting, block_text, has_fields, text_or_none}
 use Rattle.inventory_engine.specs.BlocksText.{AreLines, HasKeyAt, IsNewest, Telling}
 
@@ -27,11 +28,12 @@ pub record HasOneFirst (seen : List Sighting) (key : Key) (j : ℕ) : Type 0 whe
 abbrev pub OneFirstLine : Type 0
 OneFirstLine = (seen : List Sighting) (key : Key) (j : ℕ) → HasKeyAt seen key j → HasOneFirst seen key j
 
--- the control block that the frame shows, as replay awaits it: an empty goID is not compared
-abbrev pub block_told : {A : Type 0} → ℕ → GoosePdu (Unit {0}) → Block A
-block_told app_id p =
-    record { app_id = app_id; gocb_ref = p.gocb_ref; dat_set = p.dat_set; go_id = go_id_of (text_or_none p.go_id); conf_rev = p.conf_rev; entries = length p.members }
+-- the control block that is configured so, as replay awaits it: an empty goID is not compared
+abbrev pub block_told : {A : Type 0} → Configuration → Block A
+block_told c = record { app_id = c.app_id; gocb_ref = c.gocb_ref; dat_set = c.dat_set; go_id = go_id_of (text_or_none c.go_id); conf_rev = c.conf_rev; entries = c.entries }
 
--- the text of a control block that is a BLOCK says that block; an APDU that octets spell is spellable
+-- the text of a control block that is a BLOCK says the block that the frame shows; an APDU that octets spell is spellable
 abbrev pub BlocksReadBack : Type 0 → Type 0
-BlocksReadBack A = (app_id : ℕ) (p : GoosePdu (Unit {0})) → app_id < 65536 → IsSpellableGoose p → has_fields p ≡ true → block_in {A = A} (block_text app_id p) ≡ Some (block_told app_id p)
+BlocksReadBack A =
+    (app_id : ℕ) (p : GoosePdu (Unit {0})) → app_id < 65536 → IsSpellableGoose p → has_fields (configuration_of app_id p) ≡ true →
+    block_in {A = A} (block_text (configuration_of app_id p)) ≡ Some (block_told (configuration_of app_id p))

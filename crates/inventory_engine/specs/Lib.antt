@@ -1,3 +1,4 @@
+pub mod Configuration
 pub mod SightingObject
 pub mod Sightings
 pub mod BlocksText

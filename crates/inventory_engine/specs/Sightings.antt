@@ -1,10 +1,9 @@
 -- What the frames of a list show: each frame of GOOSE a control block, and each ASDU of Sampled Values a stream.
-use Rattle.std.specs.Prelude.{ℕ, Bool, not, ◌&&◌, ◌==◌, List, [], ◌∷◌, length, map, Option, Some, None, Result, Ok, Err, codes, if◌then◌else◌}
+use Rattle.std.specs.Prelude.{ℕ, Bool, not, ◌&&◌, ◌==◌, List, [], ◌∷◌, map, Option, Some, None, Result, Ok, Err, codes, if◌then◌else◌}
 use Rattle.std.specs.List.{concat, flat_map, list_all}
 use Rattle.std.specs.Fmt.{decimal}
 use Rattle.ber_core.specs.Contents.{is_visible}
 use Rattle.ber_core.specs.declared.fault.Fault.{Fault}
-use Rattle.pdu_core.specs.declared.goose.GoosePdu.{GoosePdu}
 use Rattle.pdu_core.specs.declared.sampled.asdu.Asdu.{Asdu}
 use Rattle.list_core.specs.declared.event.Event.{Event}
 use Rattle.list_core.specs.declared.event.EventKind.{EventKind}
@@ -15,6 +14,7 @@ use Rattle.frame_core.specs.declared.frame.Frame.{Frame}
 use Rattle.frame_core.specs.computed.FrameReading.{frame_at}
 use Rattle.text_core.specs.Pieces.{four_digits, quoted, quoted_or_dash}
 use Rattle.object_core.specs.Objects.{Field}
+use Rattle.inventory_engine.specs.Configuration.{Configuration, configuration_of}
 use Rattle.inventory_engine.specs.SightingObject.{block_fields, stream_fields}
 
 -- A control block by its APPID and its gocbRef (IEC 61850-8-1), or a stream, which has no APPID here, by its svID (IEC 61850-9-2), the text that tells how it is configured, and the same by named fields.
@@ -45,58 +45,62 @@ abbrev pub text_or_none : Option (List ℕ) → List ℕ
 text_or_none None = []
 text_or_none (Some text) = text
 
--- the three texts of an APDU can stand in a BLOCK
-abbrev pub has_fields : {A : Type 0} → GoosePdu A → Bool
-has_fields p = is_field p.gocb_ref && is_field p.dat_set && is_field (text_or_none p.go_id)
+-- the three texts of a control block can stand in a BLOCK
+abbrev pub has_fields : Configuration → Bool
+has_fields c = is_field c.gocb_ref && is_field c.dat_set && is_field (text_or_none c.go_id)
 
--- the BLOCK of a frame with this APPID and APDU: APPID, gocbRef, datSet, goID, confRev and the count of members
-abbrev pub block_parts : {A : Type 0} → ℕ → GoosePdu A → List (List ℕ)
-block_parts app_id p =
-    four_digits app_id
+-- the BLOCK of a control block: APPID, gocbRef, datSet, goID, confRev and the count of members
+abbrev pub block_parts : Configuration → List (List ℕ)
+block_parts c =
+    four_digits c.app_id
     ∷ codes ","
-    ∷ p.gocb_ref
+    ∷ c.gocb_ref
     ∷ codes ","
-    ∷ p.dat_set
+    ∷ c.dat_set
     ∷ codes ","
-    ∷ text_or_none p.go_id
+    ∷ text_or_none c.go_id
     ∷ codes ","
-    ∷ decimal p.conf_rev
+    ∷ decimal c.conf_rev
     ∷ codes ","
-    ∷ decimal (length p.members)
+    ∷ decimal c.entries
     ∷ []
 
 -- the same fields by their names, with texts between quotation marks
-abbrev pub named_parts : {A : Type 0} → ℕ → GoosePdu A → List (List ℕ)
-named_parts app_id p =
+abbrev pub named_parts : Configuration → List (List ℕ)
+named_parts c =
     codes "appid="
-    ∷ four_digits app_id
+    ∷ four_digits c.app_id
     ∷ codes " ref="
-    ∷ quoted p.gocb_ref
+    ∷ quoted c.gocb_ref
     ∷ codes " set="
-    ∷ quoted p.dat_set
+    ∷ quoted c.dat_set
     ∷ codes " id="
-    ∷ quoted_or_dash p.go_id
+    ∷ quoted_or_dash c.go_id
     ∷ codes " rev="
-    ∷ decimal p.conf_rev
+    ∷ decimal c.conf_rev
     ∷ codes " entries="
-    ∷ decimal (length p.members)
+    ∷ decimal c.entries
     ∷ []
 
 -- the text of a control block: a BLOCK, where its texts can stand in one
-abbrev pub block_text : {A : Type 0} → ℕ → GoosePdu A → List ℕ
-block_text app_id p = if has_fields p then concat (block_parts app_id p) else concat (named_parts app_id p)
+abbrev pub block_text : Configuration → List ℕ
+block_text c = if has_fields c then concat (block_parts c) else concat (named_parts c)
+
+-- a control block that is configured so
+abbrev pub block_sighting : Configuration → Sighting
+block_sighting c = record { app_id = Some c.app_id; name = c.gocb_ref; text = block_text c; fields = block_fields (block_text c) c }
 
 -- the text of a stream: svID and confRev
-abbrev pub stream_parts : {A : Type 0} → Asdu A → List (List ℕ)
-stream_parts a = codes "id=" ∷ quoted a.sv_id ∷ codes " rev=" ∷ decimal a.conf_rev ∷ []
+abbrev pub stream_parts : ℕ → List ℕ → List (List ℕ)
+stream_parts conf_rev sv_id = codes "id=" ∷ quoted sv_id ∷ codes " rev=" ∷ decimal conf_rev ∷ []
 
--- the control block of a frame with this APPID and APDU
-abbrev pub block_sighting : {A : Type 0} → ℕ → GoosePdu A → Sighting
-block_sighting app_id p = record { app_id = Some app_id; name = p.gocb_ref; text = block_text app_id p; fields = block_fields (block_text app_id p) app_id p }
+-- a stream of this confRev and svID
+abbrev pub stream_by : ℕ → List ℕ → Sighting
+stream_by conf_rev sv_id = record { app_id = None; name = sv_id; text = concat (stream_parts conf_rev sv_id); fields = stream_fields conf_rev sv_id }
 
 -- the stream of an ASDU
 abbrev pub stream_sighting : {A : Type 0} → Asdu A → Sighting
-stream_sighting a = record { app_id = None; name = a.sv_id; text = concat (stream_parts a); fields = stream_fields a }
+stream_sighting a = stream_by a.conf_rev a.sv_id
 
 -- the streams of several ASDUs, in their order
 abbrev pub stream_sightings : {A : Type 0} → List (Asdu A) → List Sighting
@@ -104,7 +108,7 @@ stream_sightings asdus = map stream_sighting asdus
 
 -- what an APDU in a frame with this APPID shows
 abbrev pub sightings_with : {A : Type 0} → ℕ → Apdu A → List Sighting
-sightings_with app_id (apdus.Goose p) = block_sighting app_id p ∷ []
+sightings_with app_id (apdus.Goose p) = block_sighting (configuration_of app_id p) ∷ []
 sightings_with app_id (apdus.Sampled p) = stream_sightings p.asdus
 
 -- what octets show, which read so

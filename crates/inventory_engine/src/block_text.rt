@@ -6,8 +6,9 @@ ghost use Rattle.std.specs.Str.{bytes_eq};
 ghost use Rattle.std.specs.Fmt.{decimal};
 ghost use Rattle.pdu_core.specs.Views.{octets_if, pdu_of};
 ghost use Rattle.inventory_engine.specs.computed.PieceText.{IsAfter, piece_text};
-ghost use Rattle.inventory_engine.specs.computed.ShownFields.{shown_can, shown_named, shown_parts, shown_sighting, shown_text};
-ghost use Rattle.inventory_engine.specs.Sightings.{block_sighting, is_field as field_is, is_field_octet as octet_is, text_or_none};
+ghost use Rattle.inventory_engine.specs.computed.ShownFields.{configuration_shown};
+ghost use Rattle.inventory_engine.specs.Configuration.{configuration_of};
+ghost use Rattle.inventory_engine.specs.Sightings.{block_parts, block_text, has_fields as fields_are, is_field as field_is, is_field_octet as octet_is, named_parts, text_or_none};
 
 use crate::pieces::{Piece, after, after_decimal, after_digits, after_one, is_text};
 use pdu_core::GooseView;
@@ -31,7 +32,7 @@ pub struct ShownBlock<'a> {
 
 /// What a frame with this APPID and APDU says of its control block.
 pub fn block_shown<'a>(app_id: u16, goose: &GooseView<'a>) -> ShownBlock<'a>
-    ensures { shown_sighting result ≡ block_sighting app_id (pdu_of {A = Unit {0}} goose.now) }
+    ensures { configuration_shown result ≡ configuration_of app_id (pdu_of {A = Unit {0}} goose.now) }
 {
     ShownBlock {
         app_id,
@@ -95,14 +96,14 @@ pub fn present(text: Option<&[u8]>) -> &[u8]
 
 /// Whether the three texts of a control block can stand in a BLOCK.
 pub fn has_fields(block: &ShownBlock<'_>) -> bool
-    ensures { result ≡ shown_can block.now }
+    ensures { result ≡ fields_are (configuration_shown block.now) }
 {
     is_field(block.gocb_ref) && is_field(block.dat_set) && is_field(present(block.go_id))
 }
 
 /// The text of a BLOCK.
 pub fn block_pieces<'a>(block: &ShownBlock<'a>) -> [Piece<'a>; 11]
-    ensures { flat_map piece_text result ≡ concat (shown_parts block.now) }
+    ensures { flat_map piece_text result ≡ concat (block_parts (configuration_shown block.now)) }
 {
     [
         Piece::Digits(block.app_id),
@@ -121,7 +122,7 @@ pub fn block_pieces<'a>(block: &ShownBlock<'a>) -> [Piece<'a>; 11]
 
 /// The same fields by their names.
 pub fn named_pieces<'a>(block: &ShownBlock<'a>) -> [Piece<'a>; 12]
-    ensures { flat_map piece_text result ≡ concat (shown_named block.now) }
+    ensures { flat_map piece_text result ≡ concat (named_parts (configuration_shown block.now)) }
 {
     [
         Piece::Octets(b"appid="),
@@ -157,7 +158,7 @@ fn after_number(text: &[u8], number: u64) -> Option<&[u8]>
 
 // What follows the text of a BLOCK.
 fn after_block<'a>(text: &'a [u8], block: &ShownBlock<'_>) -> Option<&'a [u8]>
-    ensures { IsAfter text.now (concat (shown_parts block.now)) result }
+    ensures { IsAfter text.now (concat (block_parts (configuration_shown block.now))) result }
 {
     let behind_app_id = after_digits(text, block.app_id)?;
     let behind_ref = after_field(behind_app_id, block.gocb_ref)?;
@@ -170,7 +171,7 @@ fn after_block<'a>(text: &'a [u8], block: &ShownBlock<'_>) -> Option<&'a [u8]>
 // Whether a text is that of a BLOCK. It is compared field by field, and no pieces are put together: nearly every frame shows
 // what is known.
 fn is_fields_text(text: &[u8], block: &ShownBlock<'_>) -> bool
-    ensures { result ≡ bytes_eq text.now (concat (shown_parts block.now)) }
+    ensures { result ≡ bytes_eq text.now (concat (block_parts (configuration_shown block.now))) }
 {
     match after_block(text, block) {
         Some(rest) => rest.is_empty(),
@@ -182,14 +183,14 @@ fn is_fields_text(text: &[u8], block: &ShownBlock<'_>) -> bool
 // all others nothing has to stand in memory.
 #[inline(never)]
 fn is_named_text(text: &[u8], block: ShownBlock<'_>) -> bool
-    ensures { result ≡ bytes_eq text.now (concat (shown_named block.entry)) }
+    ensures { result ≡ bytes_eq text.now (concat (named_parts (configuration_shown block.entry))) }
 {
     is_text(text, &named_pieces(&block))
 }
 
 /// Whether a text is that of the control block of a frame.
 pub fn is_block_text(text: &[u8], block: &ShownBlock<'_>) -> bool
-    ensures { result ≡ bytes_eq text.now (shown_text block.now) }
+    ensures { result ≡ bytes_eq text.now (block_text (configuration_shown block.now)) }
 {
     if has_fields(block) {
         is_fields_text(text, block)

@@ -8,10 +8,11 @@ ghost use Rattle.pdu_core.specs.Views.{pdu_of};
 ghost use Rattle.list_core.specs.declared.event.EventKind.{EventKind as SpecKind};
 ghost use Rattle.text_core.specs.Pieces.{AppendsText};
 ghost use Rattle.object_core.specs.Onward.{onward};
-ghost use Rattle.inventory_engine.specs.SightingObject.{fields_of_stream, sighting_object};
-ghost use Rattle.inventory_engine.specs.computed.ShownFields.{shown_block, shown_fields, shown_names, shown_sighting, shown_stream, sighting_by};
+ghost use Rattle.inventory_engine.specs.Configuration.{configuration_of};
+ghost use Rattle.inventory_engine.specs.SightingObject.{block_fields, name_fields, sighting_object, stream_fields};
+ghost use Rattle.inventory_engine.specs.computed.ShownFields.{configuration_shown, shown_fields, sighting_by};
 ghost use Rattle.inventory_engine.specs.computed.PieceText.{piece_text};
-ghost use Rattle.inventory_engine.specs.Sightings.{block_sighting, key_of, sightings_of, stream_sighting, stream_sightings};
+ghost use Rattle.inventory_engine.specs.Sightings.{block_sighting, sightings_of, stream_by, stream_sighting, stream_sightings};
 ghost use Rattle.inventory_engine.specs.BlocksText.{changed_kind, first_kind, sighting_line, spaced_word, told_by};
 ghost use Rattle.inventory_engine.specs.computed.BlocksStep.{AppendsLines, HasLines, telling_at};
 ghost use Rattle.inventory_engine.specs.computed.KnownTexts.{by_key};
@@ -100,7 +101,7 @@ fn put_name_fields<A: Allocator>(
     line: &mut Vec<u8, A>,
     block: &ShownBlock<'_>,
 ) -> Result<(), AllocError>
-    ensures { AppendsText result line.old.items line.new.items (onward (shown_names block.now)) }
+    ensures { AppendsText result line.old.items line.new.items (onward (name_fields (configuration_shown block.now))) }
 {
     let octets = [(block.app_id / 256) as u8, (block.app_id % 256) as u8];
     put_field_octets(line, b",\"appid\":", &octets)?;
@@ -118,7 +119,7 @@ fn put_block_fields<A: Allocator>(
     block: &ShownBlock<'_>,
     pieces: &[Piece<'_>],
 ) -> Result<(), AllocError>
-    ensures { AppendsText result line.old.items line.new.items (onward (shown_block (flat_map piece_text pieces.now) block.now)) }
+    ensures { AppendsText result line.old.items line.new.items (onward (block_fields (flat_map piece_text pieces.now) (configuration_shown block.now))) }
 {
     line.extend_from_slice(b",\"text\":")?;
     put_quoted_pieces(line, pieces)?;
@@ -131,7 +132,7 @@ fn put_stream_fields<A: Allocator>(
     conf_rev: u32,
     sv_id: &[u8],
 ) -> Result<(), AllocError>
-    ensures { AppendsText result line.old.items line.new.items (onward (fields_of_stream conf_rev sv_id.now)) }
+    ensures { AppendsText result line.old.items line.new.items (onward (stream_fields conf_rev sv_id.now)) }
 {
     put_number(line, b",\"confRev\":", conf_rev)?;
     put_text(line, b",\"svID\":", sv_id)
@@ -255,9 +256,9 @@ fn put_other_block<A: Allocator + Copy>(
     heading: Heading,
     block: ShownBlock<'_>,
 ) -> Result<(), AllocError>
-    requires found { AnswersPlace (by_key (key_of (shown_sighting block))) known.old found }
-    ensures written { OnOk result (AppendsLines (telling_at heading) (shown_sighting block.entry ∷ []) known.old known.new line.old.items line.new.items) }
-    ensures wants { OnErr result (HasLines (telling_at heading) (shown_sighting block.entry ∷ []) known.old) }
+    requires found { AnswersPlace (by_key (Some block.app_id, block.gocb_ref.now)) known.old found }
+    ensures written { OnOk result (AppendsLines (telling_at heading) (block_sighting (configuration_shown block.entry) ∷ []) known.old known.new line.old.items line.new.items) }
+    ensures wants { OnErr result (HasLines (telling_at heading) (block_sighting (configuration_shown block.entry) ∷ []) known.old) }
     ensures kept { take (length line.old.items) line.new.items ≡ line.old.items }
 {
     let app_id = Some(block.app_id);
@@ -285,11 +286,11 @@ fn put_block<A: Allocator + Copy>(
     app_id: u16,
     goose: &GooseView<'_>,
 ) -> Result<(), AllocError>
-    ensures written { OnOk result (AppendsLines (telling_at heading) (block_sighting app_id (pdu_of {A = Unit {0}} goose.now) ∷ []) known.old known.new line.old.items line.new.items) }
-    ensures wants { OnErr result (HasLines (telling_at heading) (block_sighting app_id (pdu_of {A = Unit {0}} goose.now) ∷ []) known.old) }
+    ensures written { OnOk result (AppendsLines (telling_at heading) (block_sighting (configuration_of app_id (pdu_of {A = Unit {0}} goose.now)) ∷ []) known.old known.new line.old.items line.new.items) }
+    ensures wants { OnErr result (HasLines (telling_at heading) (block_sighting (configuration_of app_id (pdu_of {A = Unit {0}} goose.now)) ∷ []) known.old) }
     ensures kept { take (length line.old.items) line.new.items ≡ line.old.items }
 {
-    let found = known.find(&Sought {
+    let found = known.place_of(&Sought {
         app_id: Some(app_id),
         name: goose.gocb_ref,
     });
@@ -312,8 +313,8 @@ fn put_other_stream<A: Allocator + Copy>(
     sv_id: &[u8],
 ) -> Result<(), AllocError>
     requires found { AnswersPlace (by_key (None, sv_id.now)) known.old found }
-    ensures written { OnOk result (AppendsLines (telling_at heading) (shown_stream conf_rev sv_id.now ∷ []) known.old known.new line.old.items line.new.items) }
-    ensures wants { OnErr result (HasLines (telling_at heading) (shown_stream conf_rev sv_id.now ∷ []) known.old) }
+    ensures written { OnOk result (AppendsLines (telling_at heading) (stream_by conf_rev sv_id.now ∷ []) known.old known.new line.old.items line.new.items) }
+    ensures wants { OnErr result (HasLines (telling_at heading) (stream_by conf_rev sv_id.now ∷ []) known.old) }
     ensures kept { take (length line.old.items) line.new.items ≡ line.old.items }
 {
     let pieces = stream_pieces(conf_rev, sv_id);
@@ -335,7 +336,7 @@ fn put_stream<A: Allocator + Copy>(
     ensures wants { OnErr result (HasLines (telling_at heading) (stream_sighting (asdu_of {A = Unit {0}} asdu.now) ∷ []) known.old) }
     ensures kept { take (length line.old.items) line.new.items ≡ line.old.items }
 {
-    let found = known.find(&Sought {
+    let found = known.place_of(&Sought {
         app_id: None,
         name: asdu.sv_id,
     });

@@ -4,13 +4,13 @@ ghost use Rattle.std.specs.Prelude.{◌≡◌};
 ghost use Rattle.std.specs.List.{concat, flat_map};
 ghost use Rattle.std.specs.Str.{bytes_eq};
 ghost use Rattle.inventory_engine.specs.computed.PieceText.{IsAfter, piece_text};
-ghost use Rattle.inventory_engine.specs.computed.ShownFields.{shown_stream_parts};
+ghost use Rattle.inventory_engine.specs.Sightings.{stream_parts};
 
 use crate::pieces::{Piece, after, after_decimal, after_quoted};
 
 /// The text of a stream.
 pub fn stream_pieces<'a>(conf_rev: u32, sv_id: &'a [u8]) -> [Piece<'a>; 4]
-    ensures { flat_map piece_text result ≡ concat (shown_stream_parts conf_rev sv_id.now) }
+    ensures { flat_map piece_text result ≡ concat (stream_parts conf_rev sv_id.now) }
 {
     [
         Piece::Octets(b"id="),
@@ -22,7 +22,7 @@ pub fn stream_pieces<'a>(conf_rev: u32, sv_id: &'a [u8]) -> [Piece<'a>; 4]
 
 // What follows the text of a stream.
 fn after_stream<'a>(text: &'a [u8], conf_rev: u32, sv_id: &[u8]) -> Option<&'a [u8]>
-    ensures { IsAfter text.now (concat (shown_stream_parts conf_rev sv_id.now)) result }
+    ensures { IsAfter text.now (concat (stream_parts conf_rev sv_id.now)) result }
 {
     let id = after(text, b"id=")?;
     let behind_id = after_quoted(id, sv_id)?;
@@ -32,7 +32,7 @@ fn after_stream<'a>(text: &'a [u8], conf_rev: u32, sv_id: &[u8]) -> Option<&'a [
 
 /// Whether a text is that of a stream with this confRev and svID. It is compared field by field, as that of a block.
 pub fn is_stream_text(text: &[u8], conf_rev: u32, sv_id: &[u8]) -> bool
-    ensures { result ≡ bytes_eq text.now (concat (shown_stream_parts conf_rev sv_id.now)) }
+    ensures { result ≡ bytes_eq text.now (concat (stream_parts conf_rev sv_id.now)) }
 {
     match after_stream(text, conf_rev, sv_id) {
         Some(rest) => rest.is_empty(),

@@ -11,7 +11,7 @@ use Rattle.std.proofs.lemmas.List.{get_or_append_left, length-append}
 use Rattle.std.proofs.lemmas.List.Edits.{length-insert, get_or-insert_below, get_or-insert_at, get_or-insert_above}
 use Rattle.known_core.specs.declared.runs.Runs.{Runs}
 use Rattle.known_core.specs.declared.runs.Place.{Place}
-use Rattle.known_core.specs.computed.Held.{HoldsSame, InOrderFor, IsAt, IsCompact, IsGap, PutsOne, held, position_of}
+use Rattle.known_core.specs.computed.Held.{HoldsSame, InOrderFor, IsAt, IsGap, PutsOne, held, position_of}
 use Rattle.known_core.specs.computed.Order.{Ascends}
 use Rattle.known_core.specs.computed.Positions.{AreInOrder, stands_at}
 use Rattle.known_core.proofs.OrderLemmas.{ascends_insert, in_order_for, less_differs}
@@ -188,15 +188,3 @@ module _ {E K : Type 0} (cmp : K → K → Ordering) (total : IsTotalOrder cmp) 
             let size : length (insert (held positions) at (length entries)) ≡ length (held positions) + 1 = length-insert (held positions) at (length entries) le in
             let last : length entries ≡ p = omega arith in
             (at, omega arith, λ d. get_or-insert_at (held positions) at (length entries) d le ∙ last)
-
-  -- nothing is held of no entries
-  pub none_indexed : {A : Type 0} (positions : Runs ℕ A) → held positions ≡ [] → IsCompact positions → AreInOrder cmp key [] positions
-  none_indexed positions none compact = record {
-    compact = compact;
-    within = λ i d lt. absurd (none_there i lt);
-    all = λ p lt. absurd (omega arith);
-    order = λ e i j d lt within. absurd (none_there j within);
-  }
-    where
-      none_there : (i : ℕ) → i < length (held positions) → ⊥
-      none_there i lt = let size : length (held positions) ≡ 0 = ap length none in omega arith

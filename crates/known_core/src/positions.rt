@@ -36,7 +36,7 @@ pub fn find_position<E, A: Allocator + Copy, P: Probe<E>>(
 ) -> Result<usize, Place>
     ensures { AnswersPosition (P.cmp probe.now) entries.now positions.now result }
 {
-    match positions.find(&Sought { entries, probe }) {
+    match positions.place_of(&Sought { entries, probe }) {
         Ok(place) => Ok(*positions.get(place)),
         Err(place) => Err(place),
     }

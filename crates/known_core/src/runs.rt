@@ -19,7 +19,7 @@ const RUNS_AN_ENTRY: usize = 32;
 // A run that has no room left gets room for so many entries more. Fewer would move it more often; more would lie idle in each.
 const MORE: usize = 8;
 
-/// Entries that are held. They stand where they were put: who puts each at the place that `find` answers keeps them in order.
+/// Entries that are held. They stand where they were put: who puts each at the place that `place_of` answers keeps them in order.
 #[derive(Drop)]
 pub struct Runs<E, A: Allocator> {
     runs: Vec<Vec<E, A>, A>,
@@ -130,7 +130,7 @@ impl<E: Drop, A: Allocator + Copy> Runs<E, A> {
     }
 
     /// The place of one that is looked for, or that which it would have.
-    pub fn find<P: Probe<E>>(&self, probe: &P) -> Result<Place, Place>
+    pub fn place_of<P: Probe<E>>(&self, probe: &P) -> Result<Place, Place>
         ensures { AnswersPlace (P.cmp probe.now) self.now result }
     {
         let run = run_of(self.runs.as_slice(), probe);

@@ -32,9 +32,10 @@ use Rattle.object_laws.proofs.Containers.{Named}
 use Rattle.object_laws.proofs.Fields.{by, decimal_field, octets_field, string_or_null, text_field}
 use Rattle.object_laws.proofs.Lines.{moment_then}
 use Rattle.engine_core.specs.EventsText.{EventText, exactly_each}
+use Rattle.inventory_engine.specs.Configuration.{configuration_of}
 use Rattle.inventory_engine.specs.Sightings.{Sighting, block_parts, block_sighting, block_text, has_fields, named_parts, sightings_in, sightings_of, sightings_read, sightings_with, stream_sighting, stream_sightings, text_or_none}
 use Rattle.inventory_engine.specs.BlocksText.{AreBlocksTexts, AreLines, IsLineAfter, ShowsEvent, Telling, line_after, telling}
-use Rattle.inventory_engine.proofs.FirstLines.{lines_one}
+use Rattle.inventory_engine.proofs.FirstLines.{behind, lines_one}
 use Rattle.line_laws.specs.Given.{IsGivenKind, IsWide}
 use Rattle.line_laws.specs.JsonLines.{AreJsonLines, EventsAreJson, BlocksIsJson}
 use Rattle.line_laws.proofs.SpokenLines.{Say, SayEach, json_lines, say_both, say_none, say_same}
@@ -56,8 +57,8 @@ none_visible : (id : Option (List ℕ)) → IfSome id AreVisible → AreVisible 
 none_visible None h = tt
 none_visible (Some id) h = h
 
-block_visible : {A : Type 0} (app_id : ℕ) (p : GoosePdu A) → app_id < 65536 → IsSpellableGoose p → AreVisible (block_text app_id p)
-block_visible app_id p small spelled = go (has_fields p)
+block_visible : {A : Type 0} (app_id : ℕ) (p : GoosePdu A) → app_id < 65536 → IsSpellableGoose p → AreVisible (block_text (configuration_of app_id p))
+block_visible app_id p small spelled = go (has_fields (configuration_of app_id p))
   where
     app : AreVisible (four_digits app_id)
     app = four_visible app_id small
@@ -71,9 +72,9 @@ block_visible app_id p small spelled = go (has_fields p)
     count : AreVisible (decimal (length p.members))
     count = decimal_visible (length p.members) (omega (arith, spelled.entries))
 
-    go : (b : Bool) → AreVisible (if b then concat (block_parts app_id p) else concat (named_parts app_id p))
-    go true = words_visible (block_parts app_id p) (app, (comma, (spelled.gocb_ref, (comma, (spelled.dat_set, (comma, (none_visible p.go_id spelled.go_id, (comma, (rev, (comma, (count, tt)))))))))))
-    go false = words_visible (named_parts app_id p) (
+    go : (b : Bool) → AreVisible (if b then concat (block_parts (configuration_of app_id p)) else concat (named_parts (configuration_of app_id p)))
+    go true = words_visible (block_parts (configuration_of app_id p)) (app, (comma, (spelled.gocb_ref, (comma, (spelled.dat_set, (comma, (none_visible p.go_id spelled.go_id, (comma, (rev, (comma, (count, tt)))))))))))
+    go false = words_visible (named_parts (configuration_of app_id p)) (
       all_visible (codes "appid=") refl,
       (
         app,
@@ -97,7 +98,7 @@ block_visible app_id p small spelled = go (has_fields p)
 
 abbrev block_named : {A : Type 0} (app_id : ℕ) (p : GoosePdu A) → app_id < 65536 → IsSpellableGoose p → List (Named 0)
 block_named app_id p small spelled =
-    text_field 0 (codes "text") (block_text app_id p) refl (block_visible app_id p small spelled)
+    text_field 0 (codes "text") (block_text (configuration_of app_id p)) refl (block_visible app_id p small spelled)
     ∷ octets_field 0 (codes "appid") (two_octets app_id) refl (two_are_octets app_id small)
     ∷ text_field 0 (codes "gocbRef") p.gocb_ref refl spelled.gocb_ref
     ∷ text_field 0 (codes "datSet") p.dat_set refl spelled.dat_set
@@ -114,7 +115,7 @@ record IsTold (c : Counted) (n moment : ℕ) (s : Sighting) : Type 0 where
   first : Say ((telling (forms.Object c) n moment).of_first s) ((telling forms.Text n moment).of_first s)
   changed : Say ((telling (forms.Object c) n moment).of_changed s) ((telling forms.Text n moment).of_changed s)
 
-block_told : {A : Type 0} (c : Counted) (n moment app_id : ℕ) (p : GoosePdu A) → IsWide n → IsWide moment → app_id < 65536 → IsSpellableGoose p → IsTold c n moment (block_sighting app_id p)
+block_told : {A : Type 0} (c : Counted) (n moment app_id : ℕ) (p : GoosePdu A) → IsWide n → IsWide moment → app_id < 65536 → IsSpellableGoose p → IsTold c n moment (block_sighting (configuration_of app_id p))
 block_told c n moment app_id p wide past small spelled = record {
   first = say_event 0 c n wide (moment_then 0 moment (codes "block") past (by_test (codes "block") refl) (block_named app_id p small spelled)) _ (omega arith) refl refl refl;
   changed = say_event 0 c n wide (moment_then 0 moment (codes "block-changed") past (by_test (codes "block-changed") refl) (block_named app_id p small spelled)) _ (omega arith) refl refl refl;
@@ -154,13 +155,6 @@ say_after c n moment s (Some newest) told = go (bytes_eq newest s.text)
     go : (b : Bool) → Say (if b then [] else (telling (forms.Object c) n moment).of_changed s) (if b then [] else (telling forms.Text n moment).of_changed s)
     go true = say_none
     go false = told.changed
-
--- the lines behind the first one
-behind : (t : Telling) (earlier seen : List Sighting) (s : Sighting) (x : List ℕ) (xs : List (List ℕ)) → AreLines t earlier (s ∷ seen) (x ∷ xs) → AreLines t (earlier ++ s ∷ []) seen xs
-behind t earlier seen s x xs h = record {
-  sizes = let size = h.sizes in omega arith;
-  each = λ i r line e f. subst (λ (l : List Sighting). IsLineAfter t l r line) (sym (append_assoc earlier (s ∷ []) (take i seen))) (h.each (suc i) r line e f);
-}
 
 in_front : (t : Telling) (earlier seen : List Sighting) (s : Sighting) (x : List ℕ) (xs : List (List ℕ)) → IsLineAfter t (earlier ++ []) s x → AreLines t (earlier ++ s ∷ []) seen xs → AreLines t earlier (s ∷ seen) (x ∷ xs)
 in_front t earlier seen s x xs first h = record {

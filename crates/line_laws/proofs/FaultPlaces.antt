@@ -18,7 +18,7 @@ use Rattle.mms_data.specs.declared.kinds.SimpleKind.TheVariants as kinds
 use Rattle.pdu_core.specs.Contents.{ContentsFault, Kind, contents_grammar}
 use Rattle.pdu_core.specs.Contents as contents
 use Rattle.pdu_core.specs.Goose.{GooseFault, apdu_grammar, in_entry_count, in_fields}
-use Rattle.pdu_core.specs.Sampled.{SvContentsFault, SvFault, SvKind, asdu_grammar, in_asdu_count, in_sv_fields, sv_apdu_grammar, sv_grammar}
+use Rattle.pdu_core.specs.Sampled.{SvFault, asdu_grammar, in_asdu_count, in_sv_fields, sv_apdu_grammar, sv_grammar}
 use Rattle.pdu_core.specs.Sampled as sampled
 use Rattle.frame_core.specs.Apdu.{ApduFault, in_goose, in_sampled}
 use Rattle.frame_core.specs.Envelope.{apdu_from, apdu_to}

@@ -1,12 +1,13 @@
 use Rattle.std.proofs.Common.{◌∙◌}
 use Rattle.std.specs.List.{concat}
-use Rattle.inventory_engine.specs.computed.ShownFields.{shown_parts}
+use Rattle.inventory_engine.specs.computed.ShownFields.{configuration_shown}
+use Rattle.inventory_engine.specs.Sightings.{block_parts}
 use Rattle.inventory_engine.proofs.Fronts.{is_other, is_whole}
 use Rattle.inventory_engine.proofs.block_text.is_fields_text.Goals as goal
 
 pub returns-in-Some : goal.returns-in-Some
 returns-in-Some c =
-    c.is_empty.ensures ∙ is_whole c.args.text.now (concat (shown_parts c.args.block.now)) c.in-Some.rest.now c.in-Some.ensures
+    c.is_empty.ensures ∙ is_whole c.args.text.now (concat (block_parts (configuration_shown c.args.block.now))) c.in-Some.rest.now c.in-Some.ensures
 
 pub returns-in-None : goal.returns-in-None
-returns-in-None c = is_other c.args.text.now (concat (shown_parts c.args.block.now)) c.in-None.ensures
+returns-in-None c = is_other c.args.text.now (concat (block_parts (configuration_shown c.args.block.now))) c.in-None.ensures

@@ -4,6 +4,7 @@ use Rattle.pdu_core.specs.SampledViews.{asdus_left}
 use Rattle.frame_core.specs.computed.FrameReading.{frame_at}
 use Rattle.frame_core.specs.FrameViews.{apdu_of}
 use Rattle.frame_core.specs.declared.frame_view.ApduView.{ApduView}
+use Rattle.inventory_engine.specs.Configuration.{configuration_of}
 use Rattle.inventory_engine.specs.Sightings.{block_sighting, sightings_of, sightings_read, sightings_with, stream_sightings}
 use Rattle.inventory_engine.specs.computed.BlocksStep.{telling_at}
 use Rattle.inventory_engine.proofs.Appending.{appends_as, wanted_as}
@@ -12,7 +13,7 @@ use Rattle.inventory_engine.proofs.sighting.put_event.Goals as goal
 pub returns-in-Goose-clause-written : goal.returns-in-Goose-clause-written
 returns-in-Goose-clause-written g c =
     let view = c.in-Ok.view in
-    let shown : sightings_of c.args.kind.now ≡ block_sighting view.app_id (pdu_of {A = Unit {0}} c.in-Goose.goose) ∷ [] =
+    let shown : sightings_of c.args.kind.now ≡ block_sighting (configuration_of view.app_id (pdu_of {A = Unit {0}} c.in-Goose.goose)) ∷ [] =
     ap sightings_of c.in-Frame.is ∙ ap (λ (o : List ℕ). sightings_read {A = Unit {0}} (frame_at o)) (sym c.as_slice.ensures)
     ∙ ap (sightings_read {A = Unit {0}}) c.in-Ok.ensures.exact ∙ ap (λ (a : ApduView). sightings_with view.app_id (apdu_of {A = Unit {0}} a)) c.in-Goose.is in
     appends_as c.put_block.result (telling_at c.args.heading) _ (sightings_of c.args.kind.now) c.args.known.now c.put_block.new.known c.args.line.now.items c.put_block.new.line.items (sym shown) c.put_block.ensures.written
@@ -20,7 +21,7 @@ returns-in-Goose-clause-written g c =
 pub returns-in-Goose-clause-wants : goal.returns-in-Goose-clause-wants
 returns-in-Goose-clause-wants g c =
     let view = c.in-Ok.view in
-    let shown : sightings_of c.args.kind.now ≡ block_sighting view.app_id (pdu_of {A = Unit {0}} c.in-Goose.goose) ∷ [] =
+    let shown : sightings_of c.args.kind.now ≡ block_sighting (configuration_of view.app_id (pdu_of {A = Unit {0}} c.in-Goose.goose)) ∷ [] =
     ap sightings_of c.in-Frame.is ∙ ap (λ (o : List ℕ). sightings_read {A = Unit {0}} (frame_at o)) (sym c.as_slice.ensures)
     ∙ ap (sightings_read {A = Unit {0}}) c.in-Ok.ensures.exact ∙ ap (λ (a : ApduView). sightings_with view.app_id (apdu_of {A = Unit {0}} a)) c.in-Goose.is in
     wanted_as c.put_block.result (telling_at c.args.heading) _ (sightings_of c.args.kind.now) c.args.known.now (sym shown) c.put_block.ensures.wants

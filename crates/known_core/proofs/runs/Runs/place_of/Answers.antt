@@ -4,7 +4,7 @@ use Rattle.known_core.specs.computed.Held.{InOrderFor, IsAt, IsGap, in_run}
 use Rattle.known_core.specs.computed.RunSteps.{IsRunOf}
 use Rattle.known_core.proofs.RunLemmas.{read_any}
 use Rattle.known_core.proofs.SearchLemmas.{found_at, gap_at}
-use Rattle.known_core.proofs.runs.Runs.find.Goals as goal
+use Rattle.known_core.proofs.runs.Runs.place_of.Goals as goal
 
 pub returns-in-Ok : goal.returns-in-Ok
 returns-in-Ok g c =
