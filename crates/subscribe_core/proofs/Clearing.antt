@@ -110,9 +110,3 @@ due_within rs at now e =
           let size : length (helds rs) ≡ length rs = length-map rs (λ (r : Register). r.held) in
           absurd (false≢true (sym (ap (λ (h : Option LiveState). is_dead h now) (get_or_past (helds rs) at None (omega arith))) ∙ e))
     ]
-
--- after a change of the deadlines alone
-pub indexed_kept : {A : Type 0} → (blocks : List (Block A)) (registers : List Register) (names : List (Name A)) (deadlines deadlines' : Deadlines A)
-    → KeepsDeadlinesOf deadlines' (helds registers) → IsIndexed blocks registers names deadlines → IsIndexed blocks registers names deadlines'
-indexed_kept blocks registers names deadlines deadlines' k i =
-    record { sizes = i.sizes; apart = i.apart; sorted = i.sorted; named = i.named; timed = k }

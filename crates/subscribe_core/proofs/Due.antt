@@ -1,5 +1,5 @@
 -- The blocks that are due, and the entries that say so.
-use Rattle.std.proofs.Common.{◌≡◌, ℕ, suc, ◌+◌, ◌≤◌, false, None, List, [], ◌∷◌, ◌++◌, length, map, get_or, sym, ap, ◌∙◌, arith, refl, inl, inr}
+use Rattle.std.proofs.Common.{◌≡◌, ℕ, ◌+◌, ◌≤◌, List, [], ◌∷◌, ◌++◌, length, map, sym, ap, ◌∙◌, arith, refl, inl, inr}
 use Rattle.std.proofs.lemmas.Bool.{cases_Bool}
 use Rattle.std.proofs.lemmas.List.{length-map, nil_from_length}
 use Rattle.subscribe_core.specs.declared.entry.Entry.{Entry}
@@ -27,14 +27,6 @@ positions_none A now rs none =
     let size : length (due_positions now 0 (helds rs)) ≡ 0 =
     sym (length-map (due_positions now 0 (helds rs)) (expired_at A)) ∙ ap length (entries_are A now 0 rs ∙ none) in
     nil_from_length (due_positions now 0 (helds rs)) size
-
--- where none is due, no entry is said
-pub expired_none : {A : Type 0} (now b : ℕ) (rs : List Register) → ((p : ℕ) → is_dead (get_or (helds rs) p None) now ≡ false) → expired_entries {A = A} now b rs ≡ []
-expired_none now b [] none = refl
-expired_none {A} now b (r ∷ rs) none =
-    let rest : expired_entries {A = A} now (b + 1) rs ≡ [] = expired_none now (b + 1) rs (λ p. none (suc p)) in
-    let first : is_dead r.held now ≡ false = none 0 in
-    rw first rest
 
 -- how many expire
 pub expired_counted : {A : Type 0} (now b : ℕ) (rs : List Register) (said : List (Entry A)) → due_count now (helds rs) ≤ expired_count (expired_entries now b rs ++ said)

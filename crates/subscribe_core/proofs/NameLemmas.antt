@@ -139,7 +139,7 @@ absent {A} names (b ∷ bs) f all none =
     rw (last, le-ltb (length blocks) (length blocks) (omega arith)) refl
 
 -- what is found is the position of the frame's block
-pub find_is : {A : Type 0} → (names : List (Name A)) (blocks : List (Block A)) (f : FrameRead) (o : Option ℕ) → AreNamesOf names blocks → AreApart blocks
+pub position_is : {A : Type 0} → (names : List (Name A)) (blocks : List (Block A)) (f : FrameRead) (o : Option ℕ) → AreNamesOf names blocks → AreApart blocks
     → MatchOption o (All (λ n. key_of n ≡ (f.app_id, f.pdu.gocb_ref) → ⊥) names) (HasName names (f.app_id, f.pdu.gocb_ref)) → o ≡ position (is_of f) blocks
-find_is {A} names blocks f None all apart w = sym (absent names blocks f all w)
-find_is {A} names blocks f (Some at) all apart w = sym (found_at names blocks f at all apart w)
+position_is {A} names blocks f None all apart w = sym (absent names blocks f all w)
+position_is {A} names blocks f (Some at) all apart w = sym (found_at names blocks f at all apart w)

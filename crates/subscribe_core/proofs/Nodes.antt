@@ -1,8 +1,8 @@
 -- The nodes above the deadlines: each has the least of those below it.
-use Rattle.std.proofs.Common.{◌≡◌, ◌⊎◌, ℕ, zero, suc, ◌+◌, ◌-◌, ◌*◌, ◌/◌, ◌%◌, ◌^◌, ◌<◌, ◌≤◌, min, true, false, ltb, Option, Some, None, List, [], ◌∷◌, ◌++◌, length, drop, get_or, set, replicate, sym, ap, ◌∙◌, arith, subst, refl, inl, inr}
+use Rattle.std.proofs.Common.{◌≡◌, ◌⊎◌, ℕ, zero, suc, ◌+◌, ◌-◌, ◌*◌, ◌/◌, ◌%◌, ◌^◌, ◌<◌, ◌≤◌, min, true, false, ltb, Option, Some, None, List, [], ◌∷◌, ◌++◌, length, drop, get_or, set, sym, ap, ◌∙◌, arith, subst, refl, inl, inr}
 use Rattle.std.specs.Prelude.{IfSome, IfNone}
 use Rattle.std.proofs.lemmas.Bool.{cases_Bool, cases_eq, cases_lt, le-leb, le-ltb, lt-leb, lt-ltb}
-use Rattle.std.proofs.lemmas.List.{get_or-set_same, get_or-set_other, get_or_past, get_or-replicate, length-set, length-replicate}
+use Rattle.std.proofs.lemmas.List.{get_or-set_same, get_or-set_other, get_or_past, length-set}
 use Rattle.std.proofs.lemmas.Nat.{pow_pos}
 use Rattle.std.proofs.Math.Nat.{mul-le-mul_left, two-pow-succ}
 use Rattle.std.proofs.Math.Seq.{drop-cons}
@@ -143,12 +143,6 @@ next_within (suc k) (suc n) m some lt =
 pub covers_some : (nodes : List ℕ) (node b k : ℕ) → Covers nodes node b k → 0 < node
 covers_some nodes zero b k c = (let some_width : 0 < 2 ^ k = pow_pos k in omega (arith, c.0, c.1))
 covers_some nodes (suc node) b k c = omega arith
-
-pub covers_within : (nodes : List ℕ) (node b k : ℕ) → Covers nodes node b k → node < 2 * half nodes
-covers_within nodes node b k c =
-    let some_width : 0 < 2 ^ k = pow_pos k in
-    let width : node * 1 ≤ node * 2 ^ k = mul-le-mul_left node (omega arith) in
-    omega (arith, c.0, c.1)
 
 -- the way down to the first block that is due: it is below the node, and none before those below the node is
 pub record IsBelow (nodes : List ℕ) (now b node : ℕ) : Type 0 where
@@ -305,14 +299,6 @@ passed_right n nodes now at node power w inner odd =
       none = λ p before lt. w.none p before (omega arith);
     }
 
--- at node 1 all are passed
-pub passed_all : (nodes : List ℕ) (now at node : ℕ) → IsPassed nodes now at node → node ≤ 1 → (p : ℕ) → at < p → p < half nodes → now ≤ get_or nodes (half nodes + p) 0
-passed_all nodes now at node w top p before lt =
-    let some = covers_some nodes node w.from w.width w.covers in
-    let one : node ≡ 1 = omega arith in
-    let width : 1 * 2 ^ w.width ≡ half nodes + w.from = subst (λ (i : ℕ). i * 2 ^ w.width ≡ half nodes + w.from) one w.covers.0 in
-    w.none p before (omega (arith, w.covers.1))
-
 -- the first block that is due below the node beside is the next one
 pub next_behind : (nodes : List ℕ) (now at node next : ℕ) → (w : IsBeside nodes now at node) → IsNextDue nodes now w.from next → IsNextDue nodes now (at + 1) next
 next_behind nodes now at node next w n =
@@ -462,24 +448,3 @@ pub let_go : {A : Type 0} → (d n : Deadlines A) (held : List (Option LiveState
     → KeepsDeadlinesOf d held → KeepsDeadlinesOf n (set held at None)
 let_go d n held at size lesser here others k =
     keeps_put d n held at (2 ^ 64 - 1) None (cleared_at held at) none_held size lesser here others k
-
--- nothing is held
-pub keeps_none : {A : Type 0} → (d : Deadlines A) (held : List (Option LiveState)) (room count : ℕ) → d.nodes.items ≡ replicate (2 * room) (2 ^ 64 - 1) → count ≤ room
-    → (0 < room → (k : ℕ) × (room ≡ 2 ^ k)) → length held ≡ count → ((p : ℕ) → get_or held p None ≡ None) → KeepsDeadlinesOf d held
-keeps_none d held room count is fits power size none =
-    let long : length d.nodes.items ≡ 2 * room = ap length is ∙ length-replicate (2 * room) (2 ^ 64 - 1) in
-    let every : (i : ℕ) → i < 2 * room → get_or d.nodes.items i 0 ≡ 2 ^ 64 - 1 = λ i lt. ap (λ (ns : List ℕ). get_or ns i 0) is ∙ get_or-replicate (2 * room) i (2 ^ 64 - 1) 0 lt in
-    record {
-      room = omega arith;
-      tree = record {
-        power = λ some. let w = power (omega arith) in let e : half d.nodes.items ≡ room = omega arith in (w.0, e ∙ w.1);
-        lesser = λ i some within.
-            let a = every i (omega arith) in
-            let b = every (2 * i) (omega arith) in
-            let c = every (2 * i + 1) (omega arith) in
-            omega arith;
-      };
-      each = λ p now lt within.
-          ap (λ (o : Option LiveState). is_dead o now) (none p)
-          ∙ (none_held now within ∙ ap (λ (m : ℕ). ltb m now) (sym (every (half d.nodes.items + p) (omega arith))));
-    }

@@ -132,12 +132,12 @@ impl<A: Allocator + Copy> Keeper<A> {
     }
 
     // The position of the frame's block.
-    fn find(&self, frame: &Received<'_>) -> Option<usize>
+    fn position_of(&self, frame: &Received<'_>) -> Option<usize>
         ensures found { result ≡ position (is_of (received_frame frame.now)) self.now.state.blocks }
         ensures sizes { length self.now.state.registers ≡ length self.now.state.blocks }
         ensures apart { AreApart self.now.state.blocks }
     {
-        names::find(&self.names, frame.app_id, frame.goose.gocb_ref)
+        names::position_named(&self.names, frame.app_id, frame.goose.gocb_ref)
     }
 
     // Reaches for the block at a position.
@@ -230,7 +230,7 @@ impl<A: Allocator + Copy> Keeper<A> {
         ensures err { OnErr result (self.new.state ≡ self.old.state) }
         ensures err_looks { OnErr result (self.new.looks ≡ self.old.looks) }
     {
-        let Some(at) = self.find(frame) else {
+        let Some(at) = self.position_of(frame) else {
             entries.push(Entry::NotSubscribed)?;
             return Ok(());
         };

@@ -111,7 +111,11 @@ pub(crate) fn first_twice<A: Allocator>(names: &[Name<A>]) -> Option<usize>
 }
 
 // The position of the block with this name.
-pub(crate) fn find<A: Allocator>(names: &[Name<A>], app_id: u16, gocb_ref: &[u8]) -> Option<usize>
+pub(crate) fn position_named<A: Allocator>(
+    names: &[Name<A>],
+    app_id: u16,
+    gocb_ref: &[u8],
+) -> Option<usize>
     requires { AreSorted names.now }
     ensures { MatchOption result
         (All (λ n. key_of n ≡ (app_id, gocb_ref.now) → ⊥) names.now)

@@ -18,7 +18,7 @@ returns-in_default-clause-entries g c =
 pub returns-in_default-clause-registers : goal.returns-in_default-clause-registers
 returns-in_default-clause-registers g c =
     let s = c.args.self.now.state in
-    registers_kept c.args.now s.mode s.blocks s.registers (received_frame c.args.frame.now) c.find.ensures.sizes (sym c.in_default.ensures.found)
+    registers_kept c.args.now s.mode s.blocks s.registers (received_frame c.args.frame.now) c.position_of.ensures.sizes (sym c.in_default.ensures.found)
 
 pub returns-in-Some-first_reason-clause-entries : goal.returns-in-Some-first_reason-clause-entries
 returns-in-Some-first_reason-clause-entries g c =
@@ -31,7 +31,7 @@ returns-in-Some-first_reason-clause-entries g c =
     let told = reason_told x f c.is_other_kind-is_other_kind.result s.mode c.is_simulating-mode.result r.takes_simulated (Some c.in-Some-first_reason.reason) c.is_other_kind-is_other_kind.ensures c.is_simulating-mode.ensures c.in-Some-first_reason.ensures in
     c.in_ok-push-2.ensures.items
     ∙ ap (λ (es : List (Entry _)). c.args.entries.now.items ++ es)
-    (answer_refused c.args.now s.mode s.blocks s.registers f c.in-Some.at x r c.in-Some-first_reason.reason c.find.ensures.apart (sym c.in-Some.ensures.found) block register_is told)
+    (answer_refused c.args.now s.mode s.blocks s.registers f c.in-Some.at x r c.in-Some-first_reason.reason c.position_of.ensures.apart (sym c.in-Some.ensures.found) block register_is told)
 
 pub returns-in-Some-first_reason-clause-registers : goal.returns-in-Some-first_reason-clause-registers
 returns-in-Some-first_reason-clause-registers g c =
@@ -43,7 +43,7 @@ returns-in-Some-first_reason-clause-registers g c =
     let register_is = sym (ap₂ (λ (t : State _) (n : ℕ). slice_get t.registers n) c.reach-reach.ensures.state c.reach-reach.ensures.at) ∙ c.look.ensures.register in
     let told = reason_told x f c.is_other_kind-is_other_kind.result s.mode c.is_simulating-mode.result r.takes_simulated (Some c.in-Some-first_reason.reason) c.is_other_kind-is_other_kind.ensures c.is_simulating-mode.ensures c.in-Some-first_reason.ensures in
     ap (λ (t : State _). registers_after_clock c.args.now t.registers) c.reach-reach.ensures.state
-    ∙ registers_refused c.args.now s.mode s.blocks s.registers f c.in-Some.at x r c.in-Some-first_reason.reason c.find.ensures.sizes c.find.ensures.apart (sym c.in-Some.ensures.found) block register_is told
+    ∙ registers_refused c.args.now s.mode s.blocks s.registers f c.in-Some.at x r c.in-Some-first_reason.reason c.position_of.ensures.sizes c.position_of.ensures.apart (sym c.in-Some.ensures.found) block register_is told
 
 pub returns-in-None-clause-entries : goal.returns-in-None-clause-entries
 returns-in-None-clause-entries g c =
@@ -56,7 +56,7 @@ returns-in-None-clause-entries g c =
     let told = reason_told x f c.is_other_kind-is_other_kind.result s.mode c.is_simulating-mode.result r.takes_simulated None c.is_other_kind-is_other_kind.ensures c.is_simulating-mode.ensures c.in_default-first_reason.ensures in
     c.in_ok-push_good.ensures.entries
     ∙ ap (λ (es : List (Entry _)). c.args.entries.now.items ++ es)
-    (answer_good c.args.now s.mode s.blocks s.registers f c.in-Some.at x r c.find.ensures.apart (sym c.in-Some.ensures.found) block register_is told)
+    (answer_good c.args.now s.mode s.blocks s.registers f c.in-Some.at x r c.position_of.ensures.apart (sym c.in-Some.ensures.found) block register_is told)
 
 pub returns-in-None-clause-registers : goal.returns-in-None-clause-registers
 returns-in-None-clause-registers g c =
@@ -70,7 +70,7 @@ returns-in-None-clause-registers g c =
     let renewal = sym c.in_ok-push_good.ensures.held ∙ c.in-None.is in
     ap (λ (t : State _). registers_after_clock c.args.now t.registers) c.reach-reach.ensures.state
     ∙ (written_none c.args.now s.registers c.in-Some.at r f register_is renewal
-    ∙ registers_good c.args.now s.mode s.blocks s.registers f c.in-Some.at x r c.find.ensures.sizes c.find.ensures.apart (sym c.in-Some.ensures.found) block register_is told)
+    ∙ registers_good c.args.now s.mode s.blocks s.registers f c.in-Some.at x r c.position_of.ensures.sizes c.position_of.ensures.apart (sym c.in-Some.ensures.found) block register_is told)
 
 pub hold-requires-clause-live : goal.hold-requires-clause-live
 hold-requires-clause-live g c =
@@ -94,7 +94,7 @@ returns-after-old-clause-entries g c =
     let entries =
     c.in_ok-push_good.ensures.entries
     ∙ ap (λ (es : List (Entry _)). c.args.entries.now.items ++ es)
-    (answer_good c.args.now s.mode s.blocks s.registers f c.in-Some.at x r c.find.ensures.apart (sym c.in-Some.ensures.found) block register_is told) in
+    (answer_good c.args.now s.mode s.blocks s.registers f c.in-Some.at x r c.position_of.ensures.apart (sym c.in-Some.ensures.found) block register_is told) in
     entries
 
 pub returns-after-old-clause-registers : goal.returns-after-old-clause-registers
@@ -117,7 +117,7 @@ returns-after-old-clause-registers g c =
     let after =
     ap (λ (b : Bool). registers_after_clock c.args.now (set s.registers c.in-Some.at (record { held = Some new; takes_simulated = b }))) flag
     ∙ (written_new c.args.now s.registers c.in-Some.at r f new fresh renewal
-    ∙ registers_good c.args.now s.mode s.blocks s.registers f c.in-Some.at x r c.find.ensures.sizes c.find.ensures.apart (sym c.in-Some.ensures.found) block register_is told) in
+    ∙ registers_good c.args.now s.mode s.blocks s.registers f c.in-Some.at x r c.position_of.ensures.sizes c.position_of.ensures.apart (sym c.in-Some.ensures.found) block register_is told) in
     let moved = ap (λ (t : State _). set t.registers c.in-Some.at (record { held = Some new; takes_simulated = c.if-old.takes_simulated })) c.reach-reach.ensures.state in
     ap (registers_after_clock c.args.now) (c.hold.ensures.registers ∙ moved) ∙ after
 

@@ -4,7 +4,7 @@ use Rattle.std.proofs.lemmas.List.Sorted.{searchable_from_sorted}
 use Rattle.subscribe_core.specs.declared.names.Name.{Name}
 use Rattle.subscribe_core.specs.computed.Names.{key_cmp, key_of}
 use Rattle.subscribe_core.proofs.NameLemmas.{key_total, key_exact, not_found}
-use Rattle.subscribe_core.proofs.names.find.Goals as goal
+use Rattle.subscribe_core.proofs.names.position_named.Goals as goal
 
 pub returns-in-Ok : goal.returns-in-Ok
 returns-in-Ok g c =
