@@ -1,39 +1,16 @@
 -- What an engine owes for an answer, by what its own answer says; and engines that may write the same owe the same.
-use Rattle.std.proofs.Common.{Option, Some, None, Ok, Err, Result, ◌≡◌, ℕ, Bool, List, [], inl, inr, ap, sym, ◌∙◌, refl}
+use Rattle.std.proofs.Common.{Option, Some, None, Ok, Err, Result, ◌≡◌, ℕ, Bool, List, inl, inr, sym, ◌∙◌, refl}
 use Rattle.list_core.specs.ReadItems.{AnswerOf}
 use Rattle.engine_core.specs.declared.stopped.Halt.{Halt}
 use Rattle.engine_core.specs.declared.stopped.Halt.TheVariants as halt
 use Rattle.engine_core.specs.EngineText.{Alike, Allowed, step_text_to}
 use Rattle.engine_core.specs.RunOver.{IsDue, Stops, WantsFor, step_fault}
-use Rattle.engine_core.specs.computed.EngineStep.{IsRefused, ItemWritten}
+use Rattle.engine_core.specs.computed.EngineStep.{ItemWritten}
 
 module _ {X C F : Type 0} (refused : ℕ → C → F) (t : Allowed X C F) (before : List (ℕ × X)) (e : ℕ × X) where
   -- a step that is allowed is due
   pub step_due : (written : Result (List ℕ × Bool) C) → t.of_item before e written → IsDue refused t before (Ok (Some e)) (step_text_to refused t e.0 written) (step_fault refused e.0 written)
   step_due written is = record { written = written; is_allowed = is; has_text = refl; has_fault = refl }
-
-  -- memory was wanted for an item
-  pub step_wanted : ((written : Result (List ℕ × Bool) C) → t.of_item before e written → step_text_to refused t e.0 written ≡ [] → ⊥) → WantsFor refused t before (Ok (Some e))
-  step_wanted some = inr (λ text closing is none. some is.written is.is_allowed (sym is.has_text ∙ none))
-
-  -- an item was refused, and the run stopped with the last text on that
-  pub refused_stops : (why : C) → IsRefused t before e why → (f : F) → f ≡ refused e.0 why → (last : List ℕ) → last ≡ t.last f → (h : Halt F) (old new : Option (List ℕ)) →
-      Stops (last ≡ [] → ⊥) (λ text closing. (text ≡ last) × (closing ≡ Some f)) h old new → Stops (WantsFor refused t before (Ok (Some e))) (IsDue refused t before (Ok (Some e))) h old new
-  refused_stops why is f by last told (halt.Fault g) old new s =
-      (s.0, record { written = Err why; is_allowed = is.is_allowed; has_text = s.1.0 ∙ told ∙ ap t.last by; has_fault = s.1.1 ∙ ap Some by }, s.2)
-  refused_stops why is f by last told halt.WriteFault old new s =
-      (s.0, s.1, record { written = Err why; is_allowed = is.is_allowed; has_text = s.2.0 ∙ told ∙ ap t.last by; has_fault = s.2.1 ∙ ap Some by }, s.3)
-  refused_stops why is f by last told halt.Memory old new s = (
-    inr (λ text closing due none. s.0 (told ∙ ap t.last by ∙ sym (due.has_text ∙ ap (step_text_to refused t e.0) (is.only due.written due.is_allowed)) ∙ none)),
-    s.1,
-  )
-
--- the input has a fault, and the run stopped with the last text on that
-pub faulty_stops : {X C F : Type 0} (refused : ℕ → C → F) (t : Allowed X C F) (before : List (ℕ × X)) (f : F) (h : Halt F) (old new : Option (List ℕ)) →
-    Stops (t.last f ≡ [] → ⊥) (λ text closing. (text ≡ t.last f) × (closing ≡ Some f)) h old new → Stops (WantsFor refused t before (Err (Some f))) (IsDue refused t before (Err (Some f))) h old new
-faulty_stops refused t before f (halt.Fault g) old new s = s
-faulty_stops refused t before f halt.WriteFault old new s = s
-faulty_stops refused t before f halt.Memory old new s = (inr (λ text closing due none. s.0 (sym due.0 ∙ none)), s.1)
 
 -- ---- engines that may write the same
 

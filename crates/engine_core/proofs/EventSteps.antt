@@ -1,7 +1,7 @@
 -- An engine over events answers as one over an input of events.
-use Rattle.std.proofs.Common.{◌≡◌, ℕ, Bool, List, [], ◌∷◌, ◌++◌, Result, Ok, Err, ap, sym, ◌∙◌, refl, subst}
+use Rattle.std.proofs.Common.{◌≡◌, ℕ, Bool, List, [], ◌++◌, Result, Ok, Err, ap, sym, ◌∙◌, refl}
 use Rattle.list_core.specs.declared.event.Event.{Event}
-use Rattle.engine_core.specs.EngineText.{Alike, exactly, step_text_to}
+use Rattle.engine_core.specs.EngineText.{Alike, exactly}
 use Rattle.engine_core.specs.declared.style.Style.{Style}
 use Rattle.engine_core.specs.declared.style.Style.TheVariants.{Lines, Dated}
 use Rattle.object_core.specs.declared.counted.Form.{Form}
@@ -9,24 +9,7 @@ use Rattle.object_core.specs.declared.counted.Form.TheVariants as forms
 use Rattle.engine_core.specs.Dated.{dated, without_dates}
 use Rattle.engine_core.specs.EventsText.{AgreesOnNothing, AlikeEvents, AllowsStep, EventAllows, EventText, exactly_event, in_style, over_allowed, over_events}
 use Rattle.engine_core.proofs.DatesAway.{dates_go_away, without_none}
-use Rattle.engine_core.specs.computed.EngineStep.{ItemTaken}
 use Rattle.engine_core.specs.computed.EventStep.{EventTaken}
-
-module _ {A C F : Type 0} (allows : EventAllows A) (last_line : F → List ℕ) where
-  pub takes_as_item : (stands : List (ℕ × Event A) → Type 0) (before : List (ℕ × Event A)) (e : ℕ × Event A) (found : Bool) (old new : List ℕ) →
-      EventTaken allows stands before e found old new → ItemTaken (over_allowed {C = C} allows last_line) stands before e found old new
-  takes_as_item stands before e found old new w = record {
-    text = w.text;
-    has_text = w.is_allowed;
-    appended = w.appended;
-    stands_after = w.stands_after;
-  }
-
-  -- whatever may be written of an event is not empty
-  pub wants_as_item : (refused : ℕ → C → F) (before : List (ℕ × Event A)) (e : ℕ × Event A) → ((written : List ℕ × Bool) → allows before e written → written.0 ≡ [] → ⊥) →
-      (written : Result (List ℕ × Bool) C) → AllowsStep allows before e written → step_text_to refused (over_allowed {C = C} allows last_line) e.0 written ≡ [] → ⊥
-  wants_as_item refused before e some (Ok written) is none = some written is none
-  wants_as_item refused before e some (Err why) is none = absurd is
 
 -- two engines that may write the same of events may do so over an input of events
 pub alike_over : {A C F : Type 0} (a b : EventAllows A) (last_line : F → List ℕ) → AlikeEvents a b → Alike (over_allowed {C = C} a last_line) (over_allowed {C = C} b last_line)
@@ -53,26 +36,9 @@ exactly_over {A} {C} text last_line = record { first = refl; there = there; back
     back before e (Err why) is = cc
 
 module _ {A : Type 0} (text : EventText A) (before : List (ℕ × Event A)) (e : ℕ × Event A) where
-  -- an event of which the text that is fixed was appended
-  pub taken_exactly : (stands : List (ℕ × Event A) → Type 0) (found : Bool) (old new : List ℕ) → new ≡ old ++ (text before e).0 → found ≡ (text before e).1 → stands (before ++ e ∷ []) →
-      EventTaken (exactly_event text) stands before e found old new
-  taken_exactly stands found old new appended finds after = record {
-    text = (text before e).0;
-    is_allowed = ap (λ (f : Bool). ((text before e).0, f)) (sym finds);
-    appended = appended;
-    stands_after = after;
-  }
-
   -- a text that is fixed and not empty
   pub wanted_exactly : ((text before e).0 ≡ [] → ⊥) → (written : List ℕ × Bool) → exactly_event text before e written → written.0 ≡ [] → ⊥
   wanted_exactly some written is none = some (ap (λ (w : List ℕ × Bool). w.0) is ∙ none)
-
--- texts of events that are the same
-pub same_events : {A : Type 0} (s t : EventText A) → s ≡ t → AlikeEvents (exactly_event s) (exactly_event t)
-same_events s t same = record {
-  there = λ before e written is. subst (λ (o : EventText _). o before e ≡ written) same is;
-  back = λ before e written is. subst (λ (o : EventText _). o before e ≡ written) (sym same) is;
-}
 
 -- of an event a text that is fixed is nothing, or is not
 pub exactly_agrees : {A : Type 0} (text : EventText A) → AgreesOnNothing (exactly_event text)
@@ -93,18 +59,6 @@ pub dated_nothing : (moment : ℕ) (text : List ℕ) → dated moment text ≡ [
 dated_nothing moment text none = sym (dates_go_away moment text) ∙ ap without_dates none ∙ without_none
 
 module _ {A : Type 0} (by_form : Form → EventAllows A) (stands : List (ℕ × Event A) → Type 0) (before : List (ℕ × Event A)) (e : ℕ × Event A) where
-  -- an event was written behind its date
-  pub taken_dated : (found : Bool) (held text old new : List ℕ) → held ≡ [] → EventTaken (by_form forms.Text) stands before e found held text → new ≡ old ++ dated e.1.moment text →
-      EventTaken (in_style Dated by_form) stands before e found old new
-  taken_dated found held text old new none took appended =
-      let same : text ≡ took.text = took.appended ∙ ap (λ l. l ++ took.text) none in
-      record {
-        text = dated e.1.moment took.text;
-        is_allowed = record { text = took.text; is_allowed = took.is_allowed; is_dated = refl };
-        appended = appended ∙ ap (λ l. old ++ dated e.1.moment l) same;
-        stands_after = took.stands_after;
-      }
-
   -- memory was wanted to write of it
   pub wanted_dated : ((written : List ℕ × Bool) → by_form forms.Text before e written → written.0 ≡ [] → ⊥) → (written : List ℕ × Bool) → in_style Dated by_form before e written → written.0 ≡ [] → ⊥
   wanted_dated some written is none = some (is.text, written.1) is.is_allowed (dated_nothing e.1.moment is.text (sym is.is_dated ∙ none))
