@@ -1,5 +1,5 @@
 -- Where memory is wanted for the octets of a packet, what stands there is a frame.
-use Rattle.std.proofs.Common.{◌≡◌, ℕ, ◌+◌, ◌-◌, ◌<◌, ◌≤◌, Bool, true, false, ltb, eqb, List, [], ◌++◌, length, take, drop, Result, Ok, Err, ap, sym, ◌∙◌, refl, subst, arith, append_assoc}
+use Rattle.std.proofs.Common.{◌≡◌, ℕ, ◌+◌, ◌-◌, ◌<◌, ◌≤◌, Bool, true, false, ltb, eqb, List, [], ◌++◌, length, take, drop, Result, Ok, Err, ap, sym, ◌∙◌, refl, subst, arith}
 use Rattle.std.specs.Prelude.{◌==◌, if◌then◌else◌}
 use Rattle.std.proofs.lemmas.List.{append-nil, length-append, drop_at, length-take-le, take-append-drop, take-append-le}
 use Rattle.std.proofs.Math.Seq.{take-append-add}
@@ -10,7 +10,7 @@ use Rattle.list_core.specs.Lines.{finished}
 use Rattle.capture_core.specs.Numbers.{number_at}
 use Rattle.capture_core.specs.Capture.{captured_size, cut}
 use Rattle.capture_core.specs.Packets.{Packet}
-use Rattle.capture_core.specs.Blocks.{Block, Settled, block_in, block_with, body_said, captures, head_size, is_bad_length, packet_in}
+use Rattle.capture_core.specs.Blocks.{Block, Settled, block_in, block_with, body_said, captures, is_bad_length, packet_in}
 use Rattle.capture_core.specs.computed.OneRead.{Front, IsFrameBlock, IsFramePacket, IsKept, record_front}
 use Rattle.capture_core.specs.computed.Sections.{TellsFrameOf, block_rest}
 use Rattle.capture_core.specs.declared.form.CaptureForm.{CaptureForm}

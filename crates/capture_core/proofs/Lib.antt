@@ -7,7 +7,6 @@ pub mod NumberPlaces
 pub mod Parts
 pub mod Fronts
 pub mod OptionsRead
-pub mod OptionValues
 pub mod BlocksRead
 pub mod PacketsRead
 pub mod FramesKept

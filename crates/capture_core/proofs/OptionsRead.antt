@@ -128,8 +128,3 @@ interface_read order head options h =
     let snapshot : number_at order 4 (head ++ options) 4 ≡ number_at order 4 head 4 = number_front order 4 head options 4 (omega (arith, h)) in
     let behind : drop 8 (head ++ options) ≡ options = drop_at head options 8 h in
     rw (long, link, snapshot, behind) refl
-
-pub interface_short : (order : OctetOrder) (body : List ℕ) → length body < 8 → None ≡ interface_in order body
-interface_short order body h =
-    let short : ltb (length body) 8 ≡ true = grind (arith, nat_tests) in
-    rw short refl

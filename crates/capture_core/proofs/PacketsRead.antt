@@ -1,11 +1,11 @@
 -- Packets that are read part by part, in blocks and as records, and their events.
-use Rattle.std.proofs.Common.{◌≡◌, ◌⊎◌, ℕ, ◌+◌, ◌<◌, ◌≤◌, true, false, ltb, eqb, inl, inr, List, [], ◌∷◌, ◌++◌, length, take, drop, Option, Some, None, Result, Ok, Err, ap, sym, ◌∙◌, refl, arith, append_assoc}
+use Rattle.std.proofs.Common.{◌≡◌, ℕ, ◌+◌, ◌<◌, ◌≤◌, true, false, ltb, eqb, List, [], ◌∷◌, ◌++◌, length, take, drop, Option, Some, None, Result, Ok, Err, ap, sym, ◌∙◌, refl, arith, append_assoc}
 use Rattle.std.specs.Prelude.{◌*◌, ◌^◌, slice_get, nat_lt, if◌then◌else◌}
 use Rattle.std.proofs.lemmas.List.{length-append, drop_at, take_at}
 use Rattle.std.proofs.lemmas.Bool.Decides.{nat_tests}
 use Rattle.list_core.specs.declared.device.InputEnd.{InputEnd}
 use Rattle.list_core.specs.declared.device.InputEnd.TheVariants.{Open}
-use Rattle.list_core.specs.declared.event.EventKind.TheVariants.{Frame, Clock}
+use Rattle.list_core.specs.declared.event.EventKind.TheVariants.{Frame}
 use Rattle.list_core.specs.Lines.{unfinished}
 use Rattle.capture_core.specs.Numbers.{number_at}
 use Rattle.capture_core.specs.Capture.{captured_size, cut, fault_in, moment_in_head}
@@ -25,14 +25,6 @@ use Rattle.capture_core.specs.declared.capture_fault.CaptureCause.TheVariants as
 use Rattle.capture_core.proofs.NumberPlaces.{number_front}
 
 -- ---- events
-
--- no octets, or another link, tell only that time has passed
-pub clock_is : {A : Type 0} (link : ℕ) (octets : List ℕ) → (link ≡ 1 → ⊥) ⊎ (length octets ≡ 0) → Clock ≡ kind_of {A = A} link octets
-clock_is link [] c = refl
-clock_is link (x ∷ xs) (inr e) = absurd (omega (arith, e))
-clock_is link (x ∷ xs) (inl n) =
-    let other : eqb link 1 ≡ false = grind (arith, nat_tests) in
-    rw other refl
 
 -- octets on Ethernet are a frame
 pub frame_is : {A : Type 0} (link : ℕ) (octets : List ℕ) → link ≡ 1 → 0 < length octets → Frame octets ≡ kind_of {A = A} link octets
@@ -84,12 +76,6 @@ head_alone kind s head rest size h =
     let judge = λ (r : Result PacketHead CaptureCause). if nat_lt size (head_size kind) then Err cause.BlockForm else r in
     ap (λ (k : ℕ). judge (head_on kind s (head ++ rest) size (slice_get s.interfaces k))) (interface_same s head rest kind h)
     ∙ ap judge (on_alone s head rest kind size (slice_get s.interfaces (interface_number kind s.order head)) h)
-
--- a body that is shorter than what stands before the captured octets
-pub packet_short : (kind : PacketBlock) (s : Settled) (body : List ℕ) → length body < head_size kind → packet_in kind s body ≡ Err cause.BlockForm
-packet_short kind s body few =
-    let short : ltb (length body) (head_size kind) ≡ true = grind (arith, nat_tests) in
-    rw short refl
 
 -- a packet that is refused
 pub packet_refused : (kind : PacketBlock) (s : Settled) (head rest : List ℕ) (size : ℕ) (why : CaptureCause) → length head ≡ head_size kind → length (head ++ rest) ≡ size →

@@ -19,10 +19,6 @@ use Rattle.capture_core.proofs.InterfacesSpelled.{padded_least}
 
 -- ---- moments
 
--- the moment of microseconds forth and back
-abbrev moment_by : ℕ → ℕ → Option ℕ
-moment_by forth back = if ltb forth back then None else (if ltb (forth - back) (10 ^ 18) then Some (forth - back) else None)
-
 moment_told : (forth back limit m : ℕ) → m + back ≡ forth → m < limit → (if ltb forth back then None else (if ltb (forth - back) limit then Some (forth - back) else None)) ≡ Some m
 moment_told forth back limit m e h =
     let late : ltb forth back ≡ false = grind (arith, nat_tests) in

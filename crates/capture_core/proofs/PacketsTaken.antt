@@ -1,5 +1,5 @@
 -- What a reader of packets says by the events that it gave one after another, and by its next answer.
-use Rattle.std.proofs.Common.{◌≡◌, ℕ, List, [], ◌∷◌, ◌++◌, Option, Some, Ok, ap, sym, ◌∙◌, refl, append_assoc}
+use Rattle.std.proofs.Common.{◌≡◌, ℕ, List, [], ◌∷◌, ◌++◌, Some, Ok, ap, sym, ◌∙◌, refl, append_assoc}
 use Rattle.std.specs.Io.KnownBytes.{Consumes}
 use Rattle.list_core.specs.declared.device.InputEnd.{InputEnd}
 use Rattle.list_core.specs.declared.device.InputEnd.TheVariants.{Open}
@@ -8,14 +8,12 @@ use Rattle.list_core.specs.Device.{OnlyOpen}
 use Rattle.list_core.specs.Lines.{WhateverComes, unfinished}
 use Rattle.std.proofs.lemmas.List.{append-nil}
 use Rattle.list_core.specs.Items.{put_items}
-use Rattle.list_core.specs.ReadItems.{Gave}
 use Rattle.list_core.proofs.Devices.{Consumes-append, Consumes-none}
 use Rattle.list_core.proofs.Readers.{CanFollow-given, OnlyOpen-append, OnlyOpen-none}
 use Rattle.capture_core.specs.Packets.{Numbered, events_of, put_numbered}
 use Rattle.capture_core.specs.Captured.{captured_events}
 use Rattle.capture_core.specs.Asked.{OnlyWhile}
-use Rattle.capture_core.specs.PacketReader.{AnswersPacket, GivesPacket, PacketAnswer, PacketState, TellsPacket, at_start, events_behind, packet_state, packets_from}
-use Rattle.capture_core.specs.declared.packet_reader.PacketReader.{PacketReader}
+use Rattle.capture_core.specs.PacketReader.{AnswersPacket, GivesPacket, PacketAnswer, PacketState, TellsPacket, at_start, events_behind, packets_from}
 use Rattle.capture_core.proofs.Fronts.{asked_none}
 use Rattle.capture_core.proofs.StepsTogether.{asked_after, gives_after}
 
@@ -88,19 +86,3 @@ pub taken_before : {A : Type 0} (a b c : PacketState) (items : List (ℕ × Even
     WhateverComes c.ending (λ y more. events_behind a y ((p.given ++ q.given) ++ more) ≡ put_items items (events_behind b y (q.given ++ more)))
 taken_before a b c items answer p q = λ more y f.
     ap (events_behind a y) (append_assoc p.given q.given more) ∙ p.reads (q.given ++ more) y (CanFollow-given b.ending c.ending q.given more y q.only_open f)
-
-module _ {R A : Type 0} (left : R → Option (List ℕ)) (ending : R → InputEnd) where
-  -- an answer leads from how a reader of packets stood to how it stands
-  abbrev pub answers : PacketReader R A → PacketAnswer A → PacketReader R A → Type 0
-  answers old answer new = AnswersPacket (packet_state left ending old) answer (packet_state left ending new)
-
-  -- a reader that gave these events
-  pub gave_taken : (start : PacketReader R A) (items : List (ℕ × Event A)) (before : PacketReader R A) → Gave answers start items before → TookPackets (packet_state left ending start) items (packet_state left ending before)
-  unfolding Gave
-  gave_taken start [] before e = rw e (taken_none (packet_state left ending before))
-  gave_taken start (e ∷ es) before (next, a, g) = taken_more _ (packet_state left ending next) _ e es a (gave_taken next es before g)
-
-  -- a reader that gave these events, and then this answer
-  pub gave_then : (start : PacketReader R A) (items : List (ℕ × Event A)) (before new : PacketReader R A) (answer : PacketAnswer A) → Gave answers start items before → answers before answer new →
-      RanPackets (packet_state left ending start) items answer (packet_state left ending new)
-  gave_then start items before new answer g a = taken_then _ _ _ items answer (gave_taken start items before g) a

@@ -11,13 +11,6 @@ use Rattle.capture_core.specs.declared.filling.Unread.{Unread}
 use Rattle.capture_core.specs.declared.filling.Unread.TheVariants as unread
 use Rattle.capture_core.specs.computed.Filling.{IsShort, IsWanted, IsWhole, ReadsKept, ReadsPart}
 
--- less than a part is less than the whole
-pub short_within : (old new : Option (List ℕ)) (z w : InputEnd) (k size : ℕ) → k ≤ size → IsShort k old z new w → IsShort size old z new w
-short_within old new z w k size h (given, few, took, o, shut) = (given, omega (arith, few), took, o, shut)
-
-pub wanted_within : (Wants : List ℕ → Type 0) (old new : Option (List ℕ)) (z w : InputEnd) (k size : ℕ) → k ≤ size → IsWanted Wants k old z new w → IsWanted Wants size old z new w
-wanted_within Wants old new z w k size h (given, few, took, o, same, is) = (given, omega (arith, few), took, o, same, is)
-
 -- a part was read, and the source ended within the next one
 pub short_behind : (part : List ℕ) (old mid new : Option (List ℕ)) (z m w : InputEnd) (k size : ℕ) → length part + k ≤ size → Consumes old mid part → OnlyOpen z part m → IsShort k mid m new w → IsShort size old z new w
 short_behind part old mid new z m w k size h took o (given, few, gave, p, shut) =
@@ -34,10 +27,6 @@ pub whole_behind : (Is Both : List ℕ → Type 0) (part : List ℕ) (old mid ne
     ((given : List ℕ) → length given ≡ k → Is given → Both (part ++ given)) → IsWhole Is k mid m new w → IsWhole Both size old z new w
 whole_behind Is Both part old mid new z m w k size h took o same f (given, all, gave, p, still, is) =
     (part ++ given, simp length-append (omega (arith, all, h)), Consumes-append old mid new part given took gave, OnlyOpen-append z m w part given o p, still ∙ same, f given all is)
-
--- of what was read this is so too
-pub whole_as : (Is Other : List ℕ → Type 0) (old new : Option (List ℕ)) (z w : InputEnd) (k size : ℕ) → k ≡ size → ((given : List ℕ) → length given ≡ k → Is given → Other given) → IsWhole Is k old z new w → IsWhole Other size old z new w
-whole_as Is Other old new z w k size h f (given, all, took, o, same, is) = (given, all ∙ h, took, o, same, f given all is)
 
 -- a part was read, and the next one or less of it
 pub part_behind : {T : Type 0} (Is Both : T → List ℕ → Type 0) (part : List ℕ) (old mid new : Option (List ℕ)) (z m w : InputEnd) (k size : ℕ) → length part + k ≡ size → Consumes old mid part → OnlyOpen z part m → m ≡ z →

@@ -1,16 +1,16 @@
 -- How a capture stops tells how its source stands.
-use Rattle.std.proofs.Common.{◌≡◌, ℕ, ◌+◌, ◌-◌, zero, suc, Bool, true, false, List, [], ◌∷◌, drop, Option, Some, None, Result, Ok, Err, refl, subst, ap, sym, ◌∙◌}
+use Rattle.std.proofs.Common.{◌≡◌, ℕ, ◌+◌, ◌-◌, zero, suc, Bool, true, false, List, [], ◌∷◌, drop, Option, Some, None, Result, Ok, Err, refl, sym, ◌∙◌}
 use Rattle.std.specs.Prelude.{if◌then◌else◌, ⊤, slice_get, take, length, nat_lt, ◌==◌}
 use Rattle.list_core.specs.declared.device.InputEnd.{InputEnd}
 use Rattle.list_core.specs.declared.device.InputEnd.TheVariants.{Open, End, Failed}
 use Rattle.list_core.specs.Lines.{Stop, finished, unfinished, faulty}
 use Rattle.capture_core.specs.Numbers.{number_at}
 use Rattle.capture_core.specs.Header.{form_of, header_of}
-use Rattle.capture_core.specs.Capture.{Capture, captured_size, cut, ended, fault_in, no_records, read_one, records_of}
-use Rattle.capture_core.specs.Packets.{Numbered, Packet, is_by_source, is_failed_read, packets_of_records, stopped}
+use Rattle.capture_core.specs.Capture.{Capture, captured_size, cut, ended, fault_in, read_one, records_of}
+use Rattle.capture_core.specs.Packets.{Numbered, Packet, is_by_source, is_failed_read}
 use Rattle.capture_core.specs.Interfaces.{interface_in, padded}
 use Rattle.capture_core.specs.Blocks.{Block, BlockRead, Settled, before_others, begins, block_in, block_with, body_said, captured_behind, captured_length, captures, count_after, describes, first_block, head_at, head_on, head_size, interface_number, interface_said, is_bad_length, next_block, packet_block_of, packet_head, packet_in, packet_moment, packets_of_blocks, passes, put_block, said_by_kind, section_header, section_in, section_order, section_said, settled_after}
-use Rattle.capture_core.specs.Captured.{captured_packets, classic_packets, packets_behind_header, packets_behind_section, packets_by_magic, section_packets, unsettled}
+use Rattle.capture_core.specs.Captured.{captured_packets, packets_behind_header, packets_behind_section, packets_by_magic, unsettled}
 use Rattle.capture_core.specs.declared.form.CaptureForm.{CaptureForm}
 use Rattle.capture_core.specs.declared.form.OctetOrder.{OctetOrder}
 use Rattle.capture_core.specs.declared.form.OctetOrder.TheVariants.{BigEndian}
