@@ -12,6 +12,7 @@ pub mod FieldSound
 pub mod FieldSequence
 pub mod FieldNested
 pub mod Repeated
+pub mod LookingLemmas
 pub mod Visible
 pub mod ContentsLaws
 pub mod FieldAnswers

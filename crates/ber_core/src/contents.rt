@@ -1,6 +1,6 @@
 //! The contents of one element: a boolean, an integer, a visible text, octets of a stated count.
 
-ghost use Rattle.std.specs.Prelude.{◌≡◌, ◌≤◌, ◌<◌, ◌+◌, ◌-◌, ◌^◌, ◌≤ℤ◌, ℤ, Bool, List, ℕ, Ok, Err, length, IfOk, IfErr, IsOk, true};
+ghost use Rattle.std.specs.Prelude.{◌≡◌, ◌≤◌, ◌<◌, ◌+◌, ◌-◌, ◌^◌, ◌≤ℤ◌, ℤ, Bool, List, ℕ, Ok, Err, length, IfOk, IfErr, IsOk, false};
 ghost use Rattle.std.specs.List.{list_all};
 ghost use Rattle.ber_core.specs.Contents.{AreVisible, SpellsBoolean, BooleanFault, SpellsInteger, IntegerFault, SpellsVisible, VisibleFault, SpellsCounted, CountedFault, IsContents};
 ghost use Rattle.ber_core.specs.computed.ContentsReading.{all_visible_at, boolean_at, counted_at, integer_at, visible_at};
@@ -11,6 +11,7 @@ ghost use Rattle.ber_core.specs.declared.fault.Fault.{Fault};
 
 use crate::element::Header;
 use crate::fault::{Cause, Fault};
+use crate::looking::{Visible, are_all, front_count};
 use crate::reading::any_integer;
 
 /// The boolean that the contents behind `header` spell (ISO/IEC 8825-1, 8.2).
@@ -184,101 +185,26 @@ fn each_visible(octets: &[u8], from: usize) -> Result<(), Fault>
     if is_visible_text(octets) {
         return Ok(());
     }
-    first_not_visible(octets, from)
+    Err(first_not_visible(octets, from))
 }
 
-// How many octets of a long text are looked at together.
-const PIECE: usize = 16;
-
-// Whether all octets are visible: of a short text its first ones and its last ones, of which some may be the same, and of a
-// long one those in front piece by piece. The compiler looks at so many together. Never inlined, so that readers of texts are
-// small enough to be.
+// Whether all octets are visible. Never inlined, so that readers of texts are small enough to be.
 #[inline(never)]
 fn is_visible_text(octets: &[u8]) -> bool
-    ensures { result ≡ true → list_all is_visible octets.now ≡ true }
-{
-    let mut others = octets;
-    'pieces: while 2 * PIECE < others.len() {
-        let (piece, rest) = others.split_at(PIECE);
-        if !are_visible(piece) {
-            return false;
-        }
-        others = rest;
-    }
-    match others.len() {
-        0..=3 => are_visible(others),
-        4..=7 => has_visible_ends::<4>(others),
-        8..=15 => has_visible_ends::<8>(others),
-        _ => has_visible_ends::<PIECE>(others),
-    }
-}
-
-// Whether the first `N` octets and the last `N` are visible, which are all, some of them perhaps twice.
-#[inline(always)]
-fn has_visible_ends<const N: usize>(octets: &[u8]) -> bool
-    requires least { N ≤ length octets.now }
-    requires most { length octets.now ≤ N + N }
-    ensures { result ≡ true → list_all is_visible octets.now ≡ true }
-{
-    let Some((first, _)) = octets.split_first_chunk::<N>() else {
-        unreachable!()
-    };
-    let Some((_, last)) = octets.split_last_chunk::<N>() else {
-        unreachable!()
-    };
-    are_visible(first) && are_visible(last)
-}
-
-// The same as `check_visible` answers, octet by octet where one may be at fault.
-#[cold]
-#[inline(never)]
-fn first_not_visible(octets: &[u8], from: usize) -> Result<(), Fault>
-    requires { from + length octets.now < 2 ^ 64 }
-    ensures exact { result ≡ all_visible_at from octets.now }
-{
-    let others = behind_eights(octets);
-    let first = from + (octets.len() - others.len());
-    for i in 0..others.len() {
-        if !is_visible_octet(others[i]) {
-            return Err(Cause::NotVisible.at(first + i));
-        }
-    }
-    Ok(())
-}
-
-// What stands behind the visible octets that are passed eight at a time, which the compiler looks at together.
-fn behind_eights(octets: &[u8]) -> &[u8]
-    ensures fewer { length result.now ≤ length octets.now }
-    ensures same { (from : ℕ) → all_visible_at (from + (length octets.now - length result.now)) result.now ≡ all_visible_at from octets.now }
-{
-    let mut others = octets;
-    'eights: while 8 <= others.len() {
-        let (eight, rest) = others.split_at(8);
-        if !are_visible(eight) {
-            return others;
-        }
-        others = rest;
-    }
-    others
-}
-
-// Whether each of the octets is visible. It looks at each, also behind one that is not.
-#[inline(always)]
-fn are_visible(octets: &[u8]) -> bool
     ensures { result ≡ list_all is_visible octets.now }
 {
-    let mut good = true;
-    for octet in octets {
-        good &= is_visible_octet(*octet);
-    }
-    good
+    are_all(octets, Visible)
 }
 
-// Whether an octet is visible.
-fn is_visible_octet(octet: u8) -> bool
-    ensures { result ≡ is_visible octet }
+// The fault of octets of which one is not visible.
+#[cold]
+#[inline(never)]
+fn first_not_visible(octets: &[u8], from: usize) -> Fault
+    requires fits { from + length octets.now < 2 ^ 64 }
+    requires some { list_all is_visible octets.now ≡ false }
+    ensures { all_visible_at from octets.now ≡ Err result }
 {
-    0x20 <= octet && octet <= 0x7e
+    Cause::NotVisible.at(from + front_count(octets, Visible))
 }
 
 /// The contents behind `header`, a part of `octets`, which have to be `count` octets.

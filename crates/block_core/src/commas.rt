@@ -1,10 +1,9 @@
 //! Fields of a text that commas divide, and what one of them says.
 ghost use Rattle.std.specs.Prelude.{◌≡◌, ◌<◌, length, map, MatchOption, option_map};
-ghost use Rattle.std.specs.List.{list_all};
-ghost use Rattle.ber_core.specs.Contents.{is_visible as visible};
 ghost use Rattle.block_core.specs.Commas.{comma_fields, number_by, text_in, word_in};
 
 use arrayvec::ArrayVec;
+use ber_core::looking::{Visible, are_all};
 use byteorder::{BigEndian, ByteOrder};
 use list_core::{cut_first, decimal_in};
 
@@ -51,25 +50,11 @@ pub fn number_by(digits: &[u8]) -> Option<u32>
     }
 }
 
-/// Whether an octet is one of a visible text.
-fn is_visible(octet: u8) -> bool
-    ensures { result ≡ visible octet }
-{
-    octet >= 0x20 && octet <= 0x7E
-}
-
-/// Whether each octet is one of a visible text.
-fn are_visible(octets: &[u8]) -> bool
-    ensures { result ≡ list_all visible octets.now }
-{
-    octets.iter().all(|octet| is_visible(*octet))
-}
-
 /// A text of octets from 20 to 7E.
 pub fn text_in(field: &[u8]) -> Option<&[u8]>
     ensures { option_map (λ text. text.now) result ≡ text_in field.now }
 {
-    if are_visible(field) {
+    if are_all(field, Visible) {
         Some(field)
     } else {
         None

@@ -8,7 +8,7 @@ ghost use Rattle.list_core.specs.Lines.{without_cr};
 ghost use Rattle.list_core.specs.Device.{ending_after, KeepsOrForgets, GivesOctets, OnlyOpen};
 ghost use Rattle.list_core.specs.computed.PrivateOctets.{TakesTo};
 
-use crate::cutting::find;
+use crate::cutting::first_place;
 use crate::device::{DeviceFault, InputEnd, Source};
 use crate::first_line::{LONGEST_LINE, judge, size_without_cr};
 use crate::list_fault::{ListCause, ListFault};
@@ -117,7 +117,7 @@ impl<R: Source> LineReader<R> {
         ensures { IsFirstPlace 10 (held self.now) result }
     {
         let held = &self.buffer[self.start..self.end];
-        match find(&held[scanned..], b'\n') {
+        match first_place(&held[scanned..], b'\n') {
             Some(at) => Some(scanned + at),
             None => None,
         }

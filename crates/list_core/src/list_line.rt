@@ -3,7 +3,7 @@ ghost use Rattle.std.specs.Prelude.{◌≡◌, ℕ, List, Option, None, Err, ◌
 ghost use Rattle.list_core.specs.EventLine.{event_of, event_of_fields, fields, fields_keep, frame_event, is_moment, mode_of, moment_of, frame_octets_by};
 ghost use Rattle.list_core.specs.computed.LineAnswer.{Answers, OctetsAreRead, fields_after};
 
-use crate::cutting::{cut_short, find};
+use crate::cutting::{cut_short, first_place};
 use crate::decimal::decimal_in;
 use crate::event::{Event, EventKind};
 use crate::event_lines::MomentUnit;
@@ -170,7 +170,7 @@ fn why_no_frame<A: Allocator>(unit: MomentUnit, moment: &[u8], rest: &[u8]) -> L
     if rest.is_empty() {
         return ListCause::LineForm;
     }
-    match (find(rest, b' '), moment_in(unit, moment)) {
+    match (first_place(rest, b' '), moment_in(unit, moment)) {
         (Some(_), _) => ListCause::LineForm,
         (None, None) => ListCause::Moment,
         (None, Some(_)) => ListCause::Hex,
