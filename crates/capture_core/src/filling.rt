@@ -34,16 +34,16 @@ pub(crate) fn fill<R: Source>(reader: &mut R, into: &mut [u8]) -> Filled
 }
 
 /// How many octets are read over at a time.
-const PIECE: usize = 4096;
+const READ_OVER: usize = 4096;
 
 // Reads over so many octets, a piece at a time, and answers whether they were there.
 pub(crate) fn skip<R: Source>(reader: &mut R, size: usize) -> bool
     ensures { Passes (R.left reader.old) (R.ending reader.old) size result (R.left reader.new) (R.ending reader.new) }
 {
-    let mut piece = [0u8; PIECE];
+    let mut piece = [0u8; READ_OVER];
     let mut left = size;
     'pieces: while left > 0 {
-        let count = left.min(PIECE);
+        let count = left.min(READ_OVER);
         match fill(reader, &mut piece[..count]) {
             Filled::Whole => left -= count,
             Filled::Short(_) => return false,

@@ -7,8 +7,8 @@ use std::alloc::{AllocError, Global};
 /// From how many octets on they are mixed in.
 const BLOCK: usize = 16384;
 
-/// How many octets are mixed in at once.
-const PIECE: usize = 32;
+/// How many octets are mixed in at once, eight in each lane.
+const MIXED: usize = 32;
 
 /// Octets that are mixed together, in whatever pieces they come.
 #[derive(Drop)]
@@ -50,7 +50,7 @@ impl Mixture {
     // Mixes in the pieces that are held whole.
     fn mix(&mut self) {
         let [mut a, mut b, mut c, mut d] = self.lanes;
-        let (pieces, _) = self.held.as_chunks::<PIECE>();
+        let (pieces, _) = self.held.as_chunks::<MIXED>();
         for piece in pieces {
             a = mixed(a, word(&piece[..8]));
             b = mixed(b, word(&piece[8..16]));
@@ -58,7 +58,7 @@ impl Mixture {
             d = mixed(d, word(&piece[24..]));
         }
         self.lanes = [a, b, c, d];
-        let rest = self.held.len() % PIECE;
+        let rest = self.held.len() % MIXED;
         let from = self.held.len() - rest;
         self.held.copy_within(from.., 0);
         self.held.truncate(rest);
@@ -77,7 +77,7 @@ impl Mixture {
     // The number of all octets.
     fn told(&mut self) -> Result<u64, AllocError> {
         let mut told = self.count;
-        self.take(&[0; PIECE])?;
+        self.take(&[0; MIXED])?;
         self.mix();
         for lane in self.lanes {
             told = folded(told, lane);
