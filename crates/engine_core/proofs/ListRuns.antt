@@ -5,22 +5,20 @@ use Rattle.std.proofs.lemmas.List.{append-nil, append_assoc}
 use Rattle.std.specs.Io.KnownBytes.{Appends}
 use Rattle.list_core.specs.declared.device.InputEnd.{InputEnd}
 use Rattle.list_core.specs.declared.device.InputEnd.TheVariants.{Open}
-use Rattle.list_core.specs.declared.list_fault.ListCause.{ListCause}
-use Rattle.list_core.specs.declared.list_fault.ListCause.TheVariants.{LineTooLong, LineForm, Moment, Hex, ListTooLong, ReadFailed}
 use Rattle.list_core.specs.declared.line_rules.ItemFault.{ItemFault}
 use Rattle.list_core.specs.declared.line_rules.ItemFault.TheVariants as fault
 use Rattle.list_core.specs.Device.{AppendsPrefix, GivesOctets}
 use Rattle.list_core.specs.Items.{Rules, Listing, listing}
 use Rattle.list_core.specs.ItemReader.{ReaderState, Answer, AnswersItem, CountsTo, OnlyKept, Tells, lines_before}
 use Rattle.list_core.specs.computed.PrivateCalls.{TakesItems}
-use Rattle.list_core.specs.ReadItems.{AnswerOf, Gave, is_failed_read, is_of_source}
+use Rattle.list_core.specs.ReadItems.{AnswerOf, Gave, is_failed_read}
 use Rattle.list_core.specs.Reader.{IsWanting}
 use Rattle.list_core.proofs.Devices.{Consumes-none, Gives-from_Consumes}
 use Rattle.list_core.proofs.Readers.{CanFollow-none, off_after, starts_after}
 use Rattle.list_core.proofs.ItemReaders.{TakesItems-push, TakesItems-none, gives_both, list_whole}
 use Rattle.engine_core.specs.declared.ending.Ending.{Ending}
 use Rattle.engine_core.specs.declared.ending.Ending.TheVariants.{Done, Findings, InputFault, ReadFault, WriteFault, Memory}
-use Rattle.engine_core.specs.Ending.{ending_of, ending_at, ending_by_fault}
+use Rattle.engine_core.specs.Ending.{ending_by_fault}
 use Rattle.engine_core.specs.EngineText.{Text, ItemText, AreItemTexts, exactly, has_finding, joined_texts, next_text, step_text}
 use Rattle.engine_core.specs.declared.stopped.Halt.{Halt}
 use Rattle.engine_core.specs.declared.stopped.Halt.TheVariants as halt
@@ -106,7 +104,7 @@ module _ {X C : Type 0} (t : Text X C) (es : List (ℕ × X)) where
 
   -- an answer by which the text ends, in its line
   ends_by : (ending : Ending) (answer : Answer X C) (onward rest : Listing X C) (taken n : ℕ) → Tells answer onward rest → CountsTo answer taken n → (f : ItemFault C) (text : List ℕ) → IsDue fault.Line (exactly t) es answer text (Some f) →
-      ending_at f ≡ ending → (old new : Option (List ℕ)) → Appends old new text → (ends : EndsByFault t ending es (lines_before answer n) onward old new) × (ends.why ≡ f)
+      ending_by_fault is_failed_read f ≡ ending → (old new : Option (List ℕ)) → Appends old new text → (ends : EndsByFault t ending es (lines_before answer n) onward old new) × (ends.why ≡ f)
   ends_by ending (Ok (Some e)) onward rest taken n h counted f text due is old new w =
       let s = step_refused e.0 due.written f due.has_fault in (
         record {
@@ -135,55 +133,25 @@ module _ {X C : Type 0} (t : Text X C) (es : List (ℕ × X)) where
 
 module _ {S X C : Type 0} {r : Rules S X C} {s : S} {z : InputEnd} {read : List ℕ} {items : List (ℕ × X)} (t : Text X C) (texts : List ItemText) (line : AtLine r s z read items) (held new : Option (List ℕ)) where
   -- a fault ends a run by its own ending
-  by_cause : (why : ListCause) → EndsByFault t (ending_of why) items line.lines_before (said_onward z line) held new → EndsAt t (ending_of why) z texts line held new
-  by_cause ReadFailed w = w
-  by_cause LineTooLong w = w
-  by_cause LineForm w = w
-  by_cause Moment w = w
-  by_cause Hex w = w
-  by_cause ListTooLong w = w
-
-  by_fault : (f : ItemFault C) → EndsByFault t (ending_at f) items line.lines_before (said_onward z line) held new → EndsAt t (ending_at f) z texts line held new
-  by_fault (fault.Lines f) w = by_cause f.cause w
-  by_fault (fault.Line k why) w = w
+  by_fault : (failed : Bool) → EndsByFault t (if failed then ReadFault else InputFault) items line.lines_before (said_onward z line) held new → EndsAt t (if failed then ReadFault else InputFault) z texts line held new
+  by_fault true w = w
+  by_fault false w = w
 
   by_end : (found : Bool) → EndsWell found texts (said_onward z line) held new → EndsAt t (if found then Findings else Done) z texts line held new
   by_end true w = w
   by_end false w = w
 
   -- that fault is the one by which it ended
-  of_cause : (why : ListCause) (w : EndsByFault t (ending_of why) items line.lines_before (said_onward z line) held new) → fault_at t (ending_of why) z texts line held new (by_cause why w) ≡ Some w.why
-  unfolding by_cause
-  of_cause ReadFailed w = refl
-  of_cause LineTooLong w = refl
-  of_cause LineForm w = refl
-  of_cause Moment w = refl
-  of_cause Hex w = refl
-  of_cause ListTooLong w = refl
-
-  of_fault : (f : ItemFault C) (w : EndsByFault t (ending_at f) items line.lines_before (said_onward z line) held new) → fault_at t (ending_at f) z texts line held new (by_fault f w) ≡ Some w.why
+  of_fault : (failed : Bool) (w : EndsByFault t (if failed then ReadFault else InputFault) items line.lines_before (said_onward z line) held new) → fault_at t (if failed then ReadFault else InputFault) z texts line held new (by_fault failed w) ≡ Some w.why
   unfolding by_fault
-  of_fault (fault.Lines f) w = of_cause f.cause w
-  of_fault (fault.Line k why) w = refl
+  of_fault true w = refl
+  of_fault false w = refl
 
   -- at the end there is none
   of_end : (found : Bool) (w : EndsWell found texts (said_onward z line) held new) → fault_at t (if found then Findings else Done) z texts line held new (by_end found w) ≡ None
   unfolding by_end
   of_end true w = refl
   of_end false w = refl
-
--- a fault is the reader's where its source failed
-same_cause : (why : ListCause) → (if is_of_source why then ReadFault else InputFault) ≡ ending_of why
-same_cause ReadFailed = refl
-same_cause LineTooLong = refl
-same_cause LineForm = refl
-same_cause Moment = refl
-same_cause Hex = refl
-same_cause ListTooLong = refl
-
-same_ending : {C : Type 0} (f : ItemFault C) → ending_by_fault is_failed_read f ≡ ending_at f
-same_ending (fault.Lines f) = same_cause f.cause
-same_ending (fault.Line k why) = refl
 
 -- a run that began with no line and no octet held
 module _ {S X C : Type 0} (r : Rules S X C) (t : Text X C) (a b c : ReaderState S) (es : List (ℕ × X)) (texts : List ItemText) (old mid new : Option (List ℕ))
@@ -223,8 +191,8 @@ module _ {S X C : Type 0} (r : Rules S X C) (t : Text X C) (a b c : ReaderState 
     stopped : (h : Halt (ItemFault C)) → Stops (WantsFor fault.Line (exactly t) es answer) (IsDue fault.Line (exactly t) es answer) h mid new → Leaves (ending_by_halt is_failed_read h) (fault_by_halt h)
     unfolding line answered_line
     stopped (halt.Fault why) x =
-        let ends = ends_by t es (ending_at why) answer _ _ b.taken c.taken tells q.lines.counted why x.0 x.1 refl mid new x.2 in
-        rw (same_ending why) (leaves (ending_at why) (Some why) (by_fault t texts line mid new why ends.0) (ap Some (sym ends.1) ∙ sym (of_fault t texts line mid new why ends.0)))
+        let ends = ends_by t es (ending_by_fault is_failed_read why) answer _ _ b.taken c.taken tells q.lines.counted why x.0 x.1 refl mid new x.2 in
+        leaves (ending_by_fault is_failed_read why) (Some why) (by_fault t texts line mid new (is_failed_read why) ends.0) (ap Some (sym ends.1) ∙ sym (of_fault t texts line mid new (is_failed_read why) ends.0))
     stopped halt.WriteFault x = leaves WriteFault None (subst (λ l. AppendsPrefix mid new l) (due_next t es answer _ _ tells x.0 x.1 x.2) x.3) refl
     stopped halt.Memory x = leaves Memory None (record {
       wanted = elim (wants_next t es answer _ _ tells x.0) [

@@ -1,9 +1,5 @@
 -- How a run ends: by which fault, and with which exit status.
 use Rattle.std.specs.Prelude.{ℕ, Bool, true, false, if◌then◌else◌}
-use Rattle.list_core.specs.declared.list_fault.ListCause.{ListCause}
-use Rattle.list_core.specs.declared.list_fault.ListCause.TheVariants.{LineTooLong, LineForm, Moment, Hex, ListTooLong, ReadFailed}
-use Rattle.list_core.specs.declared.line_rules.ItemFault.{ItemFault}
-use Rattle.list_core.specs.declared.line_rules.ItemFault.TheVariants as fault
 use Rattle.engine_core.specs.declared.ending.Ending.{Ending}
 use Rattle.engine_core.specs.declared.ending.Ending.TheVariants.{Done, Findings, InputFault, ReadFault, WriteFault, Memory}
 
@@ -15,20 +11,6 @@ status_of InputFault = 3
 status_of ReadFault = 4
 status_of WriteFault = 4
 status_of Memory = 5
-
--- a fault of the lines is the reader's where it failed, and else the input's
-abbrev pub ending_of : ListCause → Ending
-ending_of ReadFailed = ReadFault
-ending_of LineTooLong = InputFault
-ending_of LineForm = InputFault
-ending_of Moment = InputFault
-ending_of Hex = InputFault
-ending_of ListTooLong = InputFault
-
--- a line that is refused for what it says is the input's fault
-abbrev pub ending_at : {C : Type 0} → ItemFault C → Ending
-ending_at (fault.Lines f) = ending_of f.cause
-ending_at (fault.Line n why) = InputFault
 
 -- a fault is the reader's where its source failed, and else the input's
 abbrev pub ending_by_fault : {F : Type 0} → (F → Bool) → F → Ending

@@ -6,9 +6,10 @@ use Rattle.list_core.specs.declared.line_rules.ItemFault.{ItemFault}
 use Rattle.list_core.specs.Device.{AppendsPrefix}
 use Rattle.list_core.specs.Items.{Rules, Listing, listing}
 use Rattle.list_core.specs.Lines.{finished, faulty}
+use Rattle.list_core.specs.ReadItems.{is_failed_read}
 use Rattle.engine_core.specs.declared.ending.Ending.{Ending}
 use Rattle.engine_core.specs.declared.ending.Ending.TheVariants.{Done, Findings, InputFault, ReadFault, WriteFault, Memory}
-use Rattle.engine_core.specs.Ending.{ending_at}
+use Rattle.engine_core.specs.Ending.{ending_by_fault}
 use Rattle.engine_core.specs.EngineText.{Text}
 use Rattle.engine_core.specs.Run.{Writes}
 use Rattle.engine_core.specs.computed.WholeText.{told, whole_text}
@@ -23,7 +24,7 @@ pub record LeavesWhole {X C : Type 0} (t : Text X C) (found : Bool) (l : Listing
 pub record LeavesFaulty {X C : Type 0} (t : Text X C) (ending : Ending) (l : Listing X C) (old new : Option (List ℕ)) : Type 0 where
   pub why : ItemFault C
   pub ends : (told t l).stop ≡ faulty why
-  pub has_ending : ending_at why ≡ ending
+  pub has_ending : ending_by_fault is_failed_read why ≡ ending
   pub written : Appends old new (whole_text t l)
 
 -- what stands written of the whole text of a list, by the ending

@@ -11,9 +11,10 @@ use Rattle.list_core.specs.Lines.{StartsLine, finished, faulty}
 use Rattle.list_core.specs.Items.{Rules, Listing, listing, put_item, put_items, stops}
 use Rattle.list_core.specs.ItemReader.{OnlyKept, line_of}
 use Rattle.list_core.specs.Reader.{IsWanting}
+use Rattle.list_core.specs.ReadItems.{is_failed_read}
 use Rattle.engine_core.specs.declared.ending.Ending.{Ending}
 use Rattle.engine_core.specs.declared.ending.Ending.TheVariants.{Done, Findings, InputFault, ReadFault, WriteFault, Memory}
-use Rattle.engine_core.specs.Ending.{ending_at}
+use Rattle.engine_core.specs.Ending.{ending_by_fault}
 use Rattle.engine_core.specs.EngineText.{Text, ItemText, AreItemTexts, has_finding, joined_texts, next_text}
 
 -- ---- where a run ended
@@ -60,7 +61,7 @@ pub record EndsByFault {X C : Type 0} (t : Text X C) (ending : Ending) (items : 
   pub why : ItemFault C
   pub is_next : (onward ≡ stops (faulty why)) ⊎ RefusesNext t items onward why
   pub in_line : line_of why ≡ lines_before + 1
-  pub has_ending : ending_at why ≡ ending
+  pub has_ending : ending_by_fault is_failed_read why ≡ ending
   pub told : Appends held new (t.last why)
 
 -- the line has something to keep in memory

@@ -165,8 +165,8 @@ pub fn ending_where(found: bool) -> Ending
     }
 }
 
-// How a run ends that stops early, and the fault by which it does.
-fn stopped<F: InputFault>(halt: Halt<F>) -> (Ending, Option<F>)
+/// How a run ends that stops early, and the fault by which it does.
+pub fn ended_by<F: InputFault>(halt: Halt<F>) -> (Ending, Option<F>)
     ensures ending { result.0 ≡ ending_by_halt F.failed halt }
     ensures fault { result.1 ≡ fault_by_halt halt }
 {
@@ -194,7 +194,7 @@ fn run_on<
 {
     match put_all(writer, first) {
         Ok(()) => {}
-        Err(_) => return stopped(Halt::WriteFault),
+        Err(_) => return ended_by(Halt::WriteFault),
     }
     let mut line = Vec::new(alloc);
     let mut spare = None;
@@ -203,7 +203,7 @@ fn run_on<
         match answer_next(alloc, engine, &mut line, items, &mut spare, writer) {
             Next::Wrote(is_finding) => found |= is_finding,
             Next::Ended => return (ending_where(found), None),
-            Next::Stop(halt) => return stopped(halt),
+            Next::Stop(halt) => return ended_by(halt),
         }
     }
 }

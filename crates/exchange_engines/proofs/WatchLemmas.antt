@@ -1,7 +1,7 @@
 -- The counts of a stream, event by event and ASDU by ASDU.
 use Rattle.std.proofs.Common.{◌≡◌, ℕ, suc, ◌+◌, ◌≤◌, min, add-zero, zero-add, List, [], ◌∷◌, ◌++◌, length, map, Bool, ◌||◌, Option, None, Result, Ok, Err, ap, ap₂, subst, sym, ◌∙◌, refl, append_assoc, arith}
 use Rattle.std.specs.List.{list_any}
-use Rattle.std.proofs.lemmas.List.{append-nil, length-append, length_push}
+use Rattle.std.proofs.lemmas.List.{append-nil, length-append, length-map, length_push, map_push}
 use Rattle.std.proofs.lemmas.List.Folds.{list_any-append}
 use Rattle.ber_core.specs.declared.fault.Fault.{Fault}
 use Rattle.pdu_core.specs.declared.sampled.asdu.Asdu.{Asdu}
@@ -43,8 +43,7 @@ counts-append [] ys = refl
 counts-append (x ∷ xs) ys = ap (λ (l : List ℕ). x.count ∷ l) (counts-append xs ys)
 
 counts-length : (xs : List Sample) → length (counts xs) ≡ length xs
-counts-length [] = refl
-counts-length (x ∷ xs) = ap suc (counts-length xs)
+counts-length xs = length-map xs (λ (s : Sample). s.count)
 
 -- the ASDUs behind others
 pub samples-append : {A : Type 0} (k : ℕ) (id : List ℕ) (xs ys : List (Asdu A)) → samples_from k id (xs ++ ys) ≡ samples_from k id xs ++ samples_from (k + length xs) id ys
@@ -137,14 +136,6 @@ no_samples p how tells id last (kinds.Frame octets) none = of_frame (frame_at oc
     of_frame (Ok f) none = no_sample how tells (samples_in id f.apdu) _ (seen-length p last (counts (samples_in id f.apdu)) ∙ counts-length (samples_in id f.apdu)) none
     of_frame (Err f) none = absurd (tells.of_fault f none)
 
-map-push : {X Y : Type 0} (f : X → Y) (xs : List X) (x : X) → map f (xs ++ x ∷ []) ≡ map f xs ++ f x ∷ []
-map-push f [] x = refl
-map-push f (y ∷ xs) x = ap (λ (l : List _). f y ∷ l) (map-push f xs x)
-
-map-length : {X Y : Type 0} (f : X → Y) (xs : List X) → length (map f xs) ≡ length xs
-map-length f [] = refl
-map-length f (x ∷ xs) = ap suc (map-length f xs)
-
 -- one ASDU more
 pub asdu_more : (p q : ℕ) (how : Telling) (id : List ℕ) (v : SvView) (yielded : List AsduView) (asdu : AsduView) (rest others : List (Asdu (Unit {0}))) (last mid after : Option ℕ) (a b c : List ℕ) (f g : Bool) (position next : ℕ)
     → map (asdu_of {A = Unit {0}}) yielded ++ rest ≡ asdus_left v.asdus → rest ≡ asdu_of asdu ∷ others
@@ -156,9 +147,9 @@ pub asdu_more : (p q : ℕ) (how : Telling) (id : List ℕ) (v : SvView) (yielde
 asdu_more p q how id v yielded asdu rest others last mid after a b c f g position next parts first said same at more goes =
     let one = asdu_of {A = Unit {0}} asdu in
     let seen = map (asdu_of {A = Unit {0}}) yielded in
-    let pushed : map (asdu_of {A = Unit {0}}) (yielded ++ asdu ∷ []) ≡ seen ++ one ∷ [] = map-push asdu_of yielded asdu in
+    let pushed : map (asdu_of {A = Unit {0}}) (yielded ++ asdu ∷ []) ≡ seen ++ one ∷ [] = map_push asdu_of yielded asdu in
     let whole : seen ++ one ∷ others ≡ asdus_left v.asdus = ap (λ (l : List (Asdu (Unit {0}))). seen ++ l) (sym first) ∙ parts in
-    let here : position ≡ length seen = at ∙ sym (map-length (asdu_of {A = Unit {0}}) yielded) in
+    let here : position ≡ length seen = at ∙ sym (length-map yielded (asdu_of {A = Unit {0}})) in
     let mine : SamplesAppended p how mid (sample_at (length seen) id one) b c g after =
     subst (λ (k : ℕ). SamplesAppended p how mid (sample_at k id one) b c g after) here (subst (λ (k : ℕ). SamplesAppended k how mid (sample_at position id one) b c g after) same more) in
     let both = said_after p how last mid after (samples_from 0 id seen) (sample_at (length seen) id one) a b c f g said mine in

@@ -3,6 +3,6 @@
 pub mod entry;
 pub mod entry_object;
 pub mod names;
+pub mod sample;
 pub mod sample_object;
 pub mod script;
-pub mod watched;

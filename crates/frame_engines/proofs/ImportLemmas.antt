@@ -16,14 +16,17 @@ use Rattle.capture_core.specs.declared.capture_fault.CaptureFault.{CaptureFault}
 use Rattle.capture_core.specs.declared.capture_fault.CaptureCause.{CaptureCause}
 use Rattle.capture_core.specs.declared.capture_fault.CaptureCause.TheVariants.{CaptureHeader, CaptureShort, RecordLength, TooManyRecords, ReadFailed, BlockForm, BlockLength, Interface, PacketTime}
 use Rattle.capture_core.specs.Capture.{Capture, CaptureRecord, capture, records_after, no_records}
+use Rattle.capture_core.specs.Packets.{is_by_source, is_failed_read}
 use Rattle.capture_core.specs.RecordAnswers.{ReadsHeader, ReadsRecord, TakesFor, behind_record}
 use Rattle.engine_core.specs.declared.ending.Ending.{Ending}
 use Rattle.engine_core.specs.declared.stopped.Halt.{Halt}
 use Rattle.engine_core.specs.declared.stopped.Halt.TheVariants as halt
-use Rattle.engine_core.specs.RunOver.{fault_by_halt}
-use Rattle.engine_core.specs.declared.ending.Ending.TheVariants.{Done, Findings, ReadFault, WriteFault}
-use Rattle.frame_engines.specs.ImportText.{AtRecord, EndsBehind, FailsBehind, ImportsTo, ImportsToFault, capture_fault_line, ending_of_capture, is_left_out, last_line, put_records, record_line, text_behind}
-use Rattle.frame_engines.specs.computed.ImportStep.{ImportHalts, ending_of_halt, import_due}
+use Rattle.engine_core.specs.RunOver.{ending_by_halt, fault_by_halt}
+use Rattle.engine_core.specs.declared.ending.Ending.TheVariants.{Done, Findings, InputFault, ReadFault, WriteFault}
+use Rattle.engine_core.specs.Ending.{ending_by_fault}
+use Rattle.engine_core.proofs.ItemTexts.{or_false}
+use Rattle.frame_engines.specs.ImportText.{AtRecord, EndsBehind, FailsBehind, ImportsTo, ImportsToFault, capture_fault_line, is_left_out, last_line, put_records, record_line, text_behind}
+use Rattle.frame_engines.specs.computed.ImportStep.{ImportHalts, import_due}
 
 -- ---- texts
 
@@ -40,10 +43,6 @@ text_more rs e = flat_map-append record_line rs (e ∷ []) ∙ ap (λ l. text_to
 -- a line more
 pub wrote_more : (rs : List (ℕ × CaptureRecord)) (n : ℕ) (r : CaptureRecord) (old mid new : Option (List ℕ)) → Appends old mid (text_to rs) → Appends mid new (record_line (n, r)) → Appends old new (text_to (rs ++ (n, r) ∷ []))
 wrote_more rs n r old mid new p q = subst (Appends old new) (sym (text_more rs (n, r))) (Appends-append old mid new (text_to rs) (record_line (n, r)) p q)
-
-or_false : (b : Bool) → (b || false) ≡ b
-or_false true = refl
-or_false false = refl
 
 -- a finding more
 pub found_more : (rs : List (ℕ × CaptureRecord)) (n : ℕ) (r : CaptureRecord) (found more : Bool) → found ≡ list_any is_left_out rs → more ≡ is_left_out (n, r) → (found || more) ≡ list_any is_left_out (rs ++ (n, r) ∷ [])
@@ -132,20 +131,13 @@ module _ (z v : InputEnd) (given : List ℕ) (start held new : Option (List ℕ)
   well true s f w = (record { capture_ends = s; finds = f; written = Appends-append start held new (codes "V2\n") (text_behind (capture v given)) first w }, refl)
   well false s f w = (record { capture_ends = s; finds = f; written = Appends-append start held new (codes "V2\n") (text_behind (capture v given)) first w }, refl)
 
-  by_cause : (why : CaptureCause) (w : ImportsToFault (ending_of_capture why) v given start new) → ImportsTo z (ending_of_capture why) v given start new (Some w.why)
-  by_cause ReadFailed w = (w, refl)
-  by_cause CaptureHeader w = (w, refl)
-  by_cause CaptureShort w = (w, refl)
-  by_cause RecordLength w = (w, refl)
-  by_cause TooManyRecords w = (w, refl)
-  by_cause BlockForm w = (w, refl)
-  by_cause BlockLength w = (w, refl)
-  by_cause Interface w = (w, refl)
-  by_cause PacketTime w = (w, refl)
+  by_fault : (failed : Bool) (w : ImportsToFault (if failed then ReadFault else InputFault) v given start new) → ImportsTo z (if failed then ReadFault else InputFault) v given start new (Some w.why)
+  by_fault true w = (w, refl)
+  by_fault false w = (w, refl)
 
-  badly : (f : CaptureFault) → (capture v given).stop ≡ faulty f → Appends held new (text_behind (capture v given)) → EndsBehind v given (capture v given).records → ImportsTo z (ending_of_capture f.cause) v given start new (Some f)
+  badly : (f : CaptureFault) → (capture v given).stop ≡ faulty f → Appends held new (text_behind (capture v given)) → EndsBehind v given (capture v given).records → ImportsTo z (ending_by_fault is_failed_read f) v given start new (Some f)
   badly f s w i =
-      by_cause f.cause (record { why = f; has_fault = s; has_ending = refl; written = Appends-append start held new (codes "V2\n") (text_behind (capture v given)) first w; none_behind = i })
+      by_fault (is_failed_read f) (record { why = f; has_fault = s; has_ending = refl; written = Appends-append start held new (codes "V2\n") (text_behind (capture v given)) first w; none_behind = i })
 
   in_part : (rs : List (ℕ × CaptureRecord)) (others : Capture) (mid : Option (List ℕ)) → EndsBehind v given rs → capture v given ≡ put_records rs others → Appends held mid (text_to rs) → AppendsPrefix mid new (text_behind others) → ImportsTo z WriteFault v given start new None
   in_part rs others mid i e w p =
@@ -157,7 +149,7 @@ module _ (z v : InputEnd) (given : List ℕ) (start held new : Option (List ℕ)
 
 -- a fault ends the text behind these records
 faulted : (rs : List (ℕ × CaptureRecord)) (z v : InputEnd) (given : List ℕ) (f : CaptureFault) (start held mid new : Option (List ℕ)) → Appends start held (codes "V2\n") →
-    capture v given ≡ put_records rs (no_records (faulty f)) → EndsBehind v given rs → Appends held mid (text_to rs) → Appends mid new (capture_fault_line f) → ImportsTo z (ending_of_capture f.cause) v given start new (Some f)
+    capture v given ≡ put_records rs (no_records (faulty f)) → EndsBehind v given rs → Appends held mid (text_to rs) → Appends mid new (capture_fault_line f) → ImportsTo z (ending_by_fault is_failed_read f) v given start new (Some f)
 faulted rs z v given f start held mid new first e i w q =
     let text : text_behind (capture v given) ≡ text_to rs ++ capture_fault_line f = ap text_behind e ∙ text_parts rs (no_records (faulty f)) in
     let all : (capture v given).records ≡ rs = ap (λ (c : Capture). c.records) e ∙ append-nil rs in
@@ -165,7 +157,7 @@ faulted rs z v given f start held mid new first e i w q =
 
 -- the header has a fault
 pub bad_header : (a b : Option (List ℕ)) (z w : InputEnd) (f : CaptureFault) (h : Halt CaptureFault) (start held new : Option (List ℕ)) → ReadsHeader a z (Err f) b w → Appends start held (codes "V2\n") → ImportHalts 0 (Err f) h held new →
-    Imported z (ending_of_halt h) (fault_by_halt h) a b w start new
+    Imported z (ending_by_halt is_failed_read h) (fault_by_halt h) a b w start new
 bad_header a b z w f (halt.Fault why) start held new read first p =
     let same : f ≡ why = cc in
     rw (← same) (read.given, read.took, faulted [] z w read.given f start held held new first (ap (capture w) (sym (append-nil read.given)) ∙ read.reads [] w (CanFollow-none w)) (inl (refl, read.few)) (Appends-none held) (rw (← same) at p.1))
@@ -183,7 +175,7 @@ module _ (form : CaptureForm) (a b c : Option (List ℕ)) (z w v : InputEnd) (rs
       (g.given, g.gives, well z v g.given start held new first found (ap (λ (k : Capture). k.stop) g.is) all (subst (Appends held new) (sym text) (rw same so_far)))
 
   -- the run stops at an answer
-  pub import_stopped : (answer : Result (Option CaptureRecord) CaptureFault) (h : Halt CaptureFault) → ReadsRecord form n [] b w answer c v → ImportHalts n answer h mid new → Imported z (ending_of_halt h) (fault_by_halt h) a c v start new
+  pub import_stopped : (answer : Result (Option CaptureRecord) CaptureFault) (h : Halt CaptureFault) → ReadsRecord form n [] b w answer c v → ImportHalts n answer h mid new → Imported z (ending_by_halt is_failed_read h) (fault_by_halt h) a c v start new
   import_stopped answer (halt.Fault why) q s =
       let g = given_all form a b c z w v rs n answer p q in
       (g.given, g.gives, faulted rs z v g.given why start held mid new first (g.is ∙ ap (λ o. put_records rs (behind_record form n o v [])) s.0) (inr g.at_record) so_far s.1)
@@ -194,7 +186,7 @@ module _ (form : CaptureForm) (a b c : Option (List ℕ)) (z w v : InputEnd) (rs
       (g.given, g.gives, in_part z v g.given start held new first rs (behind_record form n answer v []) mid (inr g.at_record) g.is so_far front)
   import_stopped answer halt.Memory q s = absurd s
 
-by_reading : (why : CaptureCause) → ending_of_capture why ≡ ReadFault → why ≡ ReadFailed
+by_reading : (why : CaptureCause) → (if is_by_source why then ReadFault else InputFault) ≡ ReadFault → why ≡ ReadFailed
 by_reading ReadFailed e = refl
 by_reading CaptureHeader e = cc
 by_reading CaptureShort e = cc
@@ -206,7 +198,7 @@ by_reading Interface e = cc
 by_reading PacketTime e = cc
 
 -- a run that stops at a fault ends by a read fault only where the source failed
-pub read_failed : (n : ℕ) (f : CaptureFault) (h : Halt CaptureFault) (old new : Option (List ℕ)) → ImportHalts n (Err f) h old new → ending_of_halt h ≡ ReadFault → f.cause ≡ ReadFailed
+pub read_failed : (n : ℕ) (f : CaptureFault) (h : Halt CaptureFault) (old new : Option (List ℕ)) → ImportHalts n (Err f) h old new → ending_by_halt is_failed_read h ≡ ReadFault → f.cause ≡ ReadFailed
 read_failed n f (halt.Fault why) old new p e = let same : f ≡ why = cc in rw same (by_reading why.cause e)
 read_failed n f halt.WriteFault old new p e = cc
 read_failed n f halt.Memory old new p e = absurd p

@@ -9,11 +9,11 @@ use Rattle.list_core.specs.EventText.{event_text}
 use Rattle.list_core.specs.Lines.{Stop, finished, unfinished, faulty}
 use Rattle.list_core.specs.declared.event.EventKind.TheVariants.{Frame}
 use Rattle.capture_core.specs.Capture.{Capture, CaptureRecord, capture, records_after}
+use Rattle.capture_core.specs.Packets.{is_failed_read}
 use Rattle.capture_core.specs.RecordAnswers.{WithinRecord}
 use Rattle.capture_core.specs.declared.form.CaptureForm.{CaptureForm}
-use Rattle.capture_core.specs.declared.capture_fault.CaptureCause.{CaptureCause}
-use Rattle.capture_core.specs.declared.capture_fault.CaptureCause.TheVariants.{CaptureHeader, CaptureShort, RecordLength, TooManyRecords, ReadFailed, BlockForm, BlockLength, Interface, PacketTime}
 use Rattle.capture_core.specs.declared.capture_fault.CaptureFault.{CaptureFault}
+use Rattle.engine_core.specs.Ending.{ending_by_fault}
 use Rattle.engine_core.specs.Run.{IsUntouched}
 use Rattle.engine_core.specs.declared.ending.Ending.{Ending}
 use Rattle.engine_core.specs.declared.ending.Ending.TheVariants.{Done, Findings, InputFault, ReadFault, WriteFault, Memory}
@@ -57,18 +57,6 @@ text_behind c = flat_map record_line c.records ++ last_line c.stop
 abbrev pub import_text : Capture → List ℕ
 import_text c = codes "V2\n" ++ text_behind c
 
--- the ending at a fault: the reader's where it failed, and else the input's
-abbrev pub ending_of_capture : CaptureCause → Ending
-ending_of_capture ReadFailed = ReadFault
-ending_of_capture CaptureHeader = InputFault
-ending_of_capture CaptureShort = InputFault
-ending_of_capture RecordLength = InputFault
-ending_of_capture TooManyRecords = InputFault
-ending_of_capture BlockForm = InputFault
-ending_of_capture BlockLength = InputFault
-ending_of_capture Interface = InputFault
-ending_of_capture PacketTime = InputFault
-
 -- A record of the octets given, or what stands in its place: before it stand the header and these records. From its start on stand at most the octets of one record, and they read as the records after `number` others.
 pub record AtRecord (z : InputEnd) (given : List ℕ) (records : List (ℕ × CaptureRecord)) : Type 0 where
   pub number : ℕ
@@ -87,7 +75,7 @@ EndsBehind z given records = ((records ≡ []) × (length given ≤ 24)) ⊎ AtR
 pub record ImportsToFault (ending : Ending) (z : InputEnd) (given : List ℕ) (old new : Option (List ℕ)) : Type 0 where
   pub why : CaptureFault
   pub has_fault : (capture z given).stop ≡ faulty why
-  pub has_ending : ending_of_capture why.cause ≡ ending
+  pub has_ending : ending_by_fault is_failed_read why ≡ ending
   pub written : Appends old new (import_text (capture z given))
   pub none_behind : EndsBehind z given (capture z given).records
 

@@ -1,6 +1,5 @@
 //! The texts and objects that these engines alone write.
 
-pub mod event_object;
 pub mod frame;
 pub mod frame_object;
 pub mod sampled;

@@ -23,12 +23,6 @@ pub some_then : {T E : Type 0} (r : Result T E) (old mid new y : List ℕ) (Is B
 some_then (Ok t) old mid new y Is Both p q both = (p.0 ++ y, then_text old p.0 y (p.0 ++ y) mid new p.1 q refl, both p.0 p.2)
 some_then (Err f) old mid new y Is Both p q both = grown old mid new p.0 p.1 q
 
--- a text of a kind was appended, and then one of another
-pub some_then_some : {T E : Type 0} (r : Result T E) (old mid new : List ℕ) (One Other Both : List ℕ → Type 0) → (x : List ℕ) × (mid ≡ old ++ x) × One x → AppendsSome r mid new Other
-    → ((x y : List ℕ) → One x → Other y → Both (x ++ y)) → AppendsSome r old new Both
-some_then_some (Ok t) old mid new One Other Both p q both = (p.0 ++ q.0, then_text old p.0 q.0 (p.0 ++ q.0) mid new p.1 q.1 refl, both p.0 q.0 p.2 q.2)
-some_then_some (Err f) old mid new One Other Both p q both = grown old mid new p.0 p.1 q
-
 -- the same, where no octet of it was appended for want of memory
 pub extended : {T E : Type 0} (r : Result T E) (old new text : List ℕ) (Is : List ℕ → Type 0) → Is text → new ≡ (if is_ok r then old ++ text else old) → AppendsSome r old new Is
 extended r old new text Is is e = exactly r old new text Is is (appended r old new text text e refl)

@@ -53,10 +53,6 @@ members_written o a b c all rest d split first others end =
       subst (λ ds. AreMembers ds (objects.array (m ∷ texts))) (sym split) (m ∷ texts, refl, (first.2.2, others.2.2)),
     )
 
--- there is no member
-pub none_written : (all : List Data) → all ≡ [] → AreMembers all (objects.array [])
-none_written all none = subst (λ ds. AreMembers ds (objects.array [])) (sym none) ([], refl, tt)
-
 -- what stands in front stays there
 pub kept_more : (o out new x : List ℕ) → take (length o) out ≡ o → new ≡ out ++ x → take (length o) new ≡ o
 kept_more o out new x kept put = ap (take (length o)) put ∙ front_grows o out x kept

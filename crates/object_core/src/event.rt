@@ -3,7 +3,7 @@ ghost use Rattle.std.specs.Prelude.{◌≡◌, ◌+◌, ◌≤◌, ◌++◌, ◌
 ghost use Rattle.std.specs.Fmt.{decimal};
 ghost use Rattle.text_core.specs.Pieces.{AppendsText};
 ghost use Rattle.object_core.specs.EventObject.{counted_name, event_fields, fault_object};
-ghost use Rattle.object_core.specs.Objects.{date_value, field_text, opened};
+ghost use Rattle.object_core.specs.Objects.{date_value, field_text, object_line, opened};
 
 use crate::counted::Counted;
 use crate::fields::put_field_word;
@@ -63,6 +63,22 @@ pub fn put_event_head<A: Allocator>(
     prepend_number(&mut text, counted, number);
     text.append_to(out)?;
     put_field_word(out, b",\"kind\":", kind)
+}
+
+/// Appends the object of an event of which no more is told than what it is, as a line. Never inlined, so that lines of text keep
+/// their registers.
+#[inline(never)]
+pub fn put_event_object<A: Allocator>(
+    out: &mut Vec<u8, A>,
+    counted: Counted,
+    number: u64,
+    moment: u64,
+    kind: &[u8],
+) -> Result<(), AllocError>
+    ensures { AppendsText result out.old.items out.new.items (object_line (event_fields counted number moment kind.now)) }
+{
+    put_event_head(out, counted, number, moment, kind)?;
+    out.extend_from_slice(b"}\n")
 }
 
 /// Appends the object of a faulty frame, as a line.

@@ -18,7 +18,7 @@ use text_core::value::put_float;
 
 // Appends a sign and an integer.
 #[inline(always)]
-pub(crate) fn put_integer<A: Allocator>(
+pub(crate) fn put_integer_object<A: Allocator>(
     out: &mut Vec<u8, A>,
     sign: u8,
     number: i64,
@@ -33,7 +33,7 @@ pub(crate) fn put_integer<A: Allocator>(
 
 // Appends a sign and an unsigned number.
 #[inline(always)]
-pub(crate) fn put_unsigned<A: Allocator>(
+pub(crate) fn put_unsigned_object<A: Allocator>(
     out: &mut Vec<u8, A>,
     sign: u8,
     number: u64,
@@ -48,7 +48,7 @@ pub(crate) fn put_unsigned<A: Allocator>(
 
 // Appends a float and the number that it is.
 #[inline(always)]
-pub(crate) fn put_floating<A: Allocator>(
+pub(crate) fn put_floating_object<A: Allocator>(
     out: &mut Vec<u8, A>,
     sign: u8,
     octets: &[u8],
@@ -81,7 +81,7 @@ pub(crate) fn put_named_octets<A: Allocator>(
 
 // Appends a sign and octets.
 #[inline(always)]
-pub(crate) fn put_octets<A: Allocator>(
+pub(crate) fn put_octets_object<A: Allocator>(
     out: &mut Vec<u8, A>,
     sign: u8,
     octets: &[u8],
@@ -97,7 +97,7 @@ pub(crate) fn put_octets<A: Allocator>(
 
 // Appends a sign and the octets of a binary time.
 #[inline(always)]
-pub(crate) fn put_binary_time<A: Allocator>(
+pub(crate) fn put_binary_time_object<A: Allocator>(
     out: &mut Vec<u8, A>,
     sign: u8,
     octets: &[u8],
@@ -115,7 +115,7 @@ pub(crate) fn put_binary_time<A: Allocator>(
 
 // Appends a sign and the octets of an MMS string.
 #[inline(always)]
-pub(crate) fn put_mms_text<A: Allocator>(
+pub(crate) fn put_mms_text_object<A: Allocator>(
     out: &mut Vec<u8, A>,
     sign: u8,
     octets: &[u8],
@@ -131,7 +131,7 @@ pub(crate) fn put_mms_text<A: Allocator>(
 
 // Appends a sign and a moment in UTC.
 #[inline(always)]
-pub(crate) fn put_moment<A: Allocator>(
+pub(crate) fn put_utc_object<A: Allocator>(
     out: &mut Vec<u8, A>,
     sign: u8,
     time: UtcTime,

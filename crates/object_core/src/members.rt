@@ -8,7 +8,8 @@ ghost use Rattle.object_core.specs.MemberObject.{AreMembers, AreOthers, Behind, 
 ghost use Rattle.object_core.specs.Objects.{AppendsSome, in_quotes};
 
 use crate::leaves::{
-    put_binary_time, put_floating, put_integer, put_mms_text, put_moment, put_octets, put_unsigned,
+    put_binary_time_object, put_floating_object, put_integer_object, put_mms_text_object,
+    put_octets_object, put_unsigned_object, put_utc_object,
 };
 use mms_data::{BitView, Members, View};
 use std::alloc::{AllocError, Allocator};
@@ -16,7 +17,7 @@ use text_core::value::{put_bit_view, put_truth, put_visible};
 
 // Appends a sign and bits.
 #[inline(always)]
-fn put_bits<A: Allocator>(
+fn put_bits_object<A: Allocator>(
     out: &mut Vec<u8, A>,
     sign: u8,
     seen: &BitView<'_>,
@@ -32,7 +33,7 @@ fn put_bits<A: Allocator>(
 // nothing stands before the choice.
 #[inline(always)]
 #[cycle(objects)]
-fn put_member<A: Allocator>(
+fn put_member_object<A: Allocator>(
     out: &mut Vec<u8, A>,
     sign: u8,
     view: &View<'_>,
@@ -41,24 +42,24 @@ fn put_member<A: Allocator>(
 {
     match view {
         View::Boolean(is_true) => put_truth(out, sign, *is_true),
-        View::Bits(seen) => put_bits(out, sign, seen),
-        View::Integer(number) => put_integer(out, sign, *number),
-        View::Unsigned(number) => put_unsigned(out, sign, *number),
-        View::Floating(octets) => put_floating(out, sign, octets),
-        View::Octets(octets) => put_octets(out, sign, octets),
-        View::BinaryTime(octets) => put_binary_time(out, sign, octets),
-        View::MmsText(octets) => put_mms_text(out, sign, octets),
-        View::Utc(time) => put_moment(out, sign, *time),
+        View::Bits(seen) => put_bits_object(out, sign, seen),
+        View::Integer(number) => put_integer_object(out, sign, *number),
+        View::Unsigned(number) => put_unsigned_object(out, sign, *number),
+        View::Floating(octets) => put_floating_object(out, sign, octets),
+        View::Octets(octets) => put_octets_object(out, sign, octets),
+        View::BinaryTime(octets) => put_binary_time_object(out, sign, octets),
+        View::MmsText(octets) => put_mms_text_object(out, sign, octets),
+        View::Utc(time) => put_utc_object(out, sign, *time),
         View::Visible(text) => put_visible(out, sign, text),
-        View::Array(members) => put_array(out, sign, members),
-        View::Structure(members) => put_structure(out, sign, members),
+        View::Array(members) => put_array_object(out, sign, members),
+        View::Structure(members) => put_structure_object(out, sign, members),
     }
 }
 
 // Appends a sign and the members of an array.
 #[inline(always)]
 #[cycle(objects)]
-fn put_array<A: Allocator>(
+fn put_array_object<A: Allocator>(
     out: &mut Vec<u8, A>,
     sign: u8,
     members: &Members<'_>,
@@ -74,7 +75,7 @@ fn put_array<A: Allocator>(
 // Appends a sign and the members of a structure.
 #[inline(always)]
 #[cycle(objects)]
-fn put_structure<A: Allocator>(
+fn put_structure_object<A: Allocator>(
     out: &mut Vec<u8, A>,
     sign: u8,
     members: &Members<'_>,
@@ -101,7 +102,7 @@ pub fn put_members_object<A: Allocator>(
     let Some(first) = others.next() else {
         return out.extend_from_slice(b"[]");
     };
-    put_member(out, b'[', &first)?;
+    put_member_object(out, b'[', &first)?;
     put_others(out, others)?;
     out.push(b']')?;
     Ok(())
@@ -123,6 +124,6 @@ fn put_others<A: Allocator>(out: &mut Vec<u8, A>, others: Members<'_>) -> Result
         let Some(view) = others.next() else {
             return Ok(());
         };
-        put_member(out, b',', &view)?;
+        put_member_object(out, b',', &view)?;
     }
 }

@@ -7,15 +7,17 @@ ghost use Rattle.object_core.specs.MemberObject.{AreMembers, AreOthers, Behind, 
 ghost use Rattle.object_core.specs.Objects.{AppendsSome, in_quotes};
 
 use crate::leaves::{
-    put_binary_time, put_floating, put_integer, put_mms_text, put_moment, put_octets, put_unsigned,
+    put_binary_time_object, put_floating_object, put_integer_object, put_mms_text_object,
+    put_octets_object, put_unsigned_object, put_utc_object,
 };
 use mms_data::{BitText, Value, ValueList};
 use std::alloc::{AllocError, Allocator};
+use text_core::pieces::put_bits;
 use text_core::value::{put_truth, put_visible};
 
 // Appends a sign and bits.
 #[inline(always)]
-fn put_bits<A: Allocator>(
+fn put_bits_object<A: Allocator>(
     out: &mut Vec<u8, A>,
     sign: u8,
     bits: &BitText<A>,
@@ -23,13 +25,13 @@ fn put_bits<A: Allocator>(
     ensures { AppendsText result out.old.items out.new.items (sign ∷ one_field (codes "bits") (in_quotes (bits_text bits.now.unused bits.now.octets))) }
 {
     out.extend_from_slice(&[sign, b'{', b'"', b'b', b'i', b't', b's', b'"', b':', b'"'])?;
-    text_core::pieces::put_bits(out, bits.unused, bits.octets.as_slice())?;
+    put_bits(out, bits.unused, bits.octets.as_slice())?;
     out.extend_from_slice(b"\"}")
 }
 
 // Appends a sign and a value.
 #[cycle(owned)]
-fn put_value<A: Allocator>(
+fn put_value_object<A: Allocator>(
     out: &mut Vec<u8, A>,
     sign: u8,
     value: &Value<A>,
@@ -38,23 +40,23 @@ fn put_value<A: Allocator>(
 {
     match value {
         Value::Boolean(is_true) => put_truth(out, sign, *is_true),
-        Value::Bits(bits) => put_bits(out, sign, bits),
-        Value::Integer(number) => put_integer(out, sign, *number),
-        Value::Unsigned(number) => put_unsigned(out, sign, *number),
-        Value::Floating(octets) => put_floating(out, sign, octets.as_slice()),
-        Value::Octets(octets) => put_octets(out, sign, octets.as_slice()),
-        Value::BinaryTime(octets) => put_binary_time(out, sign, octets.as_slice()),
-        Value::MmsText(octets) => put_mms_text(out, sign, octets.as_slice()),
-        Value::Utc(time) => put_moment(out, sign, *time),
+        Value::Bits(bits) => put_bits_object(out, sign, bits),
+        Value::Integer(number) => put_integer_object(out, sign, *number),
+        Value::Unsigned(number) => put_unsigned_object(out, sign, *number),
+        Value::Floating(octets) => put_floating_object(out, sign, octets.as_slice()),
+        Value::Octets(octets) => put_octets_object(out, sign, octets.as_slice()),
+        Value::BinaryTime(octets) => put_binary_time_object(out, sign, octets.as_slice()),
+        Value::MmsText(octets) => put_mms_text_object(out, sign, octets.as_slice()),
+        Value::Utc(time) => put_utc_object(out, sign, *time),
         Value::Visible(text) => put_visible(out, sign, text.as_slice()),
-        Value::Array(values) => put_array(out, sign, values),
-        Value::Structure(values) => put_structure(out, sign, values),
+        Value::Array(values) => put_array_object(out, sign, values),
+        Value::Structure(values) => put_structure_object(out, sign, values),
     }
 }
 
 // Appends a sign and the values of an array.
 #[cycle(owned)]
-fn put_array<A: Allocator>(
+fn put_array_object<A: Allocator>(
     out: &mut Vec<u8, A>,
     sign: u8,
     values: &ValueList<A>,
@@ -69,7 +71,7 @@ fn put_array<A: Allocator>(
 
 // Appends a sign and the values of a structure.
 #[cycle(owned)]
-fn put_structure<A: Allocator>(
+fn put_structure_object<A: Allocator>(
     out: &mut Vec<u8, A>,
     sign: u8,
     values: &ValueList<A>,
@@ -95,7 +97,7 @@ pub fn put_values_object<A: Allocator>(
     let Some((first, others)) = values.as_slice().split_first() else {
         return out.extend_from_slice(b"[]");
     };
-    put_value(out, b'[', first)?;
+    put_value_object(out, b'[', first)?;
     put_others(out, others)?;
     out.push(b']')?;
     Ok(())
@@ -107,7 +109,7 @@ fn put_others<A: Allocator>(out: &mut Vec<u8, A>, others: &[Value<A>]) -> Result
     ensures { AppendsSome result out.old.items out.new.items (AreOthers (datas others.now)) }
 {
     for value in others {
-        put_value(out, b',', value)?;
+        put_value_object(out, b',', value)?;
     }
     Ok(())
 }

@@ -98,7 +98,7 @@ fn numbers_of(
 }
 
 // The control block that twelve fields say, where they stand.
-fn view_fields<'a>(
+fn view_control_fields<'a>(
     destination: &[u8],
     source: &[u8],
     tag: &[u8],
@@ -182,7 +182,7 @@ fn view_control<'a>(fields: Option<&'a [u8]>) -> Option<ControlView<'a>>
     let (dat_set, fields) = cut_first(fields?, b',');
     let (go_id, fields) = cut_first(fields?, b',');
     let numbers = view_numbers(fields);
-    view_fields(
+    view_control_fields(
         destination,
         source,
         tag,

@@ -1,5 +1,5 @@
 //! The short lines: of a clock moment, of a faulty frame, and the last one, of a fault of the list.
-ghost use Rattle.std.specs.Prelude.{◌++◌};
+ghost use Rattle.std.specs.Prelude.{◌≡◌, ◌++◌};
 ghost use Rattle.list_core.specs.EventText.{mode_text};
 ghost use Rattle.text_core.specs.LineText.{clock_line, fault_line, list_fault_line};
 ghost use Rattle.text_core.specs.Pieces.{AppendsText};
@@ -56,13 +56,9 @@ pub fn put_list_fault_line<A: Allocator>(
     out.extend_from_slice(b"\n")
 }
 
-/// Appends the word for a mode.
-pub fn put_mode_word<A: Allocator>(out: &mut Vec<u8, A>, on: bool) -> Result<(), AllocError>
-    ensures { AppendsText result out.old.items out.new.items (mode_text on) }
+/// The word for a mode.
+pub fn mode_word(on: bool) -> &'static [u8]
+    ensures { result.now ≡ mode_text on }
 {
-    if on {
-        out.extend_from_slice(b"on")
-    } else {
-        out.extend_from_slice(b"off")
-    }
+    if on { b"on" } else { b"off" }
 }

@@ -13,7 +13,7 @@ use std::alloc::{AllocError, Allocator};
 // Appends the text of a value.
 #[tactic(auto, using(crate::proofs::ValueLemmas::item_texts_items_of, crate::proofs::Fronts::front_before))]
 #[cycle(owned)]
-fn put_value<A: Allocator>(out: &mut Vec<u8, A>, value: &Value<A>) -> Result<(), AllocError>
+fn put_value_text<A: Allocator>(out: &mut Vec<u8, A>, value: &Value<A>) -> Result<(), AllocError>
     ensures { AppendsText result out.old.items out.new.items (value_text (data_of value.now)) }
 {
     match value {
@@ -65,7 +65,7 @@ fn put_spaced<A: Allocator>(out: &mut Vec<u8, A>, values: &ValueList<A>) -> Resu
     let Some((first, others)) = values.as_slice().split_first() else {
         return Ok(());
     };
-    put_value(out, first)?;
+    put_value_text(out, first)?;
     put_others(out, others)
 }
 
@@ -76,13 +76,13 @@ fn put_others<A: Allocator>(out: &mut Vec<u8, A>, others: &[Value<A>]) -> Result
 {
     for value in others {
         out.push(b' ')?;
-        put_value(out, value)?;
+        put_value_text(out, value)?;
     }
     Ok(())
 }
 
 /// Appends the members of a data set.
-pub fn put_values<A: Allocator>(
+pub fn put_values_text<A: Allocator>(
     out: &mut Vec<u8, A>,
     values: &ValueList<A>,
 ) -> Result<(), AllocError>

@@ -117,7 +117,7 @@ impl ShortText {
 
     /// Puts a moment in front.
     #[inline(always)]
-    pub fn put_time(&mut self, time: UtcTime)
+    pub fn put_utc(&mut self, time: UtcTime)
         requires { length self.old + 16 ≤ 160 }
         ensures text { self.new ≡ time_text time ++ self.old }
         ensures size { length self.new ≡ length self.old + 16 }
@@ -127,15 +127,23 @@ impl ShortText {
 
     /// Puts a moment in front, or a dash.
     #[inline(always)]
-    pub fn put_time_if(&mut self, time: Option<UtcTime>)
+    pub fn put_utc_if(&mut self, time: Option<UtcTime>)
         requires { length self.old + 16 ≤ 160 }
         ensures text { self.new ≡ time_or_dash time ++ self.old }
         ensures size { length self.new ≤ length self.old + 16 }
     {
         match time {
-            Some(time) => self.put_time(time),
+            Some(time) => self.put_utc(time),
             None => self.put(b"-"),
         }
+    }
+
+    /// The text.
+    #[inline(always)]
+    pub fn as_slice(&self) -> &[u8]
+        ensures { result.now ≡ self.now }
+    {
+        &self.octets[self.start..]
     }
 
     /// Appends the text to a line.
@@ -143,6 +151,6 @@ impl ShortText {
     pub fn append_to<A: Allocator>(&self, out: &mut Vec<u8, A>) -> Result<(), AllocError>
         ensures { AppendsText result out.old.items out.new.items self.now }
     {
-        out.extend_from_slice(&self.octets[self.start..])
+        out.extend_from_slice(self.as_slice())
     }
 }

@@ -8,10 +8,9 @@ ghost use Rattle.mms_data.specs.Data.{bits, boolean, floating, integer, unsigned
 ghost use Rattle.text_core.specs.Pieces.{AppendsText, after_space, bits_text, spaced};
 ghost use Rattle.text_core.specs.ValueText.{simple_text, time_text, value_text, members_text};
 
-use crate::fields::{put_octets, put_time};
+use crate::fields::put_octets;
 use crate::pieces::{
-    put_boolean, put_decimal, put_few_bits, put_hexadecimal, put_quoted, put_short_hexadecimal,
-    put_signed,
+    put_decimal, put_few_bits, put_hexadecimal, put_quoted, put_short_hexadecimal, put_signed,
 };
 use mms_data::{BitView, Members, UtcTime, View};
 use std::alloc::{AllocError, Allocator};
@@ -41,37 +40,6 @@ pub fn put_float<A: Allocator>(out: &mut Vec<u8, A>, octets: &[u8]) -> Result<()
     }
 }
 
-/// Appends the text of a value. Inlined, so that a member is told apart by its kind without another call.
-#[inline(always)]
-#[tactic(auto, using(crate::proofs::ValueLemmas::item_texts_items_of, crate::proofs::Fronts::front_before))]
-pub fn put_view<A: Allocator>(out: &mut Vec<u8, A>, view: &View<'_>) -> Result<(), AllocError>
-    ensures { AppendsText result out.old.items out.new.items (value_text (meaning view.now)) }
-{
-    match view {
-        View::Boolean(is_true) => put_boolean(out, *is_true),
-        View::Bits(bits) => {
-            out.extend_from_slice(b"bits:")?;
-            put_bit_view(out, *bits)
-        }
-        View::Integer(number) => {
-            out.extend_from_slice(b"int:")?;
-            put_signed(out, *number)
-        }
-        View::Unsigned(number) => {
-            out.extend_from_slice(b"uint:")?;
-            put_decimal(out, *number)
-        }
-        View::Floating(octets) => put_octets(out, b"float:", octets),
-        View::Octets(octets) => put_octets(out, b"oct:", octets),
-        View::BinaryTime(octets) => put_octets(out, b"btime:", octets),
-        View::MmsText(octets) => put_octets(out, b"mms:", octets),
-        View::Utc(t) => put_time(out, b"utc:", *t),
-        View::Visible(text) => put_quoted(out, text),
-        View::Array(members) => put_between(out, b'[', *members, b']'),
-        View::Structure(members) => put_between(out, b'(', *members, b')'),
-    }
-}
-
 /// Appends a sign and the text of a truth value.
 #[inline(always)]
 pub fn put_truth<A: Allocator>(
@@ -90,7 +58,7 @@ pub fn put_truth<A: Allocator>(
 
 // Appends a sign and the text of bits.
 #[inline(always)]
-fn put_bits_seen<A: Allocator>(
+fn put_bits_text<A: Allocator>(
     out: &mut Vec<u8, A>,
     sign: u8,
     seen: &BitView<'_>,
@@ -103,7 +71,11 @@ fn put_bits_seen<A: Allocator>(
 
 // Appends a sign and the text of an integer.
 #[inline(always)]
-fn put_integer<A: Allocator>(out: &mut Vec<u8, A>, sign: u8, number: i64) -> Result<(), AllocError>
+fn put_integer_text<A: Allocator>(
+    out: &mut Vec<u8, A>,
+    sign: u8,
+    number: i64,
+) -> Result<(), AllocError>
     ensures { AppendsText result out.old.items out.new.items (sign ∷ simple_text (integer number)) }
 {
     out.extend_from_slice(&[sign, b'i', b'n', b't', b':'])?;
@@ -112,7 +84,11 @@ fn put_integer<A: Allocator>(out: &mut Vec<u8, A>, sign: u8, number: i64) -> Res
 
 // Appends a sign and the text of an unsigned number.
 #[inline(always)]
-fn put_unsigned<A: Allocator>(out: &mut Vec<u8, A>, sign: u8, number: u64) -> Result<(), AllocError>
+fn put_unsigned_text<A: Allocator>(
+    out: &mut Vec<u8, A>,
+    sign: u8,
+    number: u64,
+) -> Result<(), AllocError>
     ensures { AppendsText result out.old.items out.new.items (sign ∷ simple_text (unsigned number)) }
 {
     out.extend_from_slice(&[sign, b'u', b'i', b'n', b't', b':'])?;
@@ -121,7 +97,7 @@ fn put_unsigned<A: Allocator>(out: &mut Vec<u8, A>, sign: u8, number: u64) -> Re
 
 // Appends a sign and the text of a float.
 #[inline(always)]
-fn put_floating<A: Allocator>(
+fn put_floating_text<A: Allocator>(
     out: &mut Vec<u8, A>,
     sign: u8,
     octets: &[u8],
@@ -134,7 +110,7 @@ fn put_floating<A: Allocator>(
 
 // Appends a sign and the text of a moment in UTC.
 #[inline(always)]
-fn put_moment<A: Allocator>(
+fn put_utc_text<A: Allocator>(
     out: &mut Vec<u8, A>,
     sign: u8,
     time: &UtcTime,
@@ -163,7 +139,7 @@ pub fn put_visible<A: Allocator>(
 #[inline(always)]
 #[tactic(auto, using(crate::proofs::ValueLemmas::item_texts_items_of, crate::proofs::Fronts::front_before))]
 #[cycle(texts)]
-fn put_member<A: Allocator>(
+fn put_member_text<A: Allocator>(
     out: &mut Vec<u8, A>,
     sign: u8,
     view: &View<'_>,
@@ -172,16 +148,16 @@ fn put_member<A: Allocator>(
 {
     match view {
         View::Boolean(is_true) => put_truth(out, sign, *is_true),
-        View::Bits(seen) => put_bits_seen(out, sign, seen),
-        View::Integer(number) => put_integer(out, sign, *number),
-        View::Unsigned(number) => put_unsigned(out, sign, *number),
-        View::Floating(octets) => put_floating(out, sign, octets),
+        View::Bits(seen) => put_bits_text(out, sign, seen),
+        View::Integer(number) => put_integer_text(out, sign, *number),
+        View::Unsigned(number) => put_unsigned_text(out, sign, *number),
+        View::Floating(octets) => put_floating_text(out, sign, octets),
         View::Octets(octets) => put_octets(out, &[sign, b'o', b'c', b't', b':'], octets),
         View::BinaryTime(octets) => {
             put_octets(out, &[sign, b'b', b't', b'i', b'm', b'e', b':'], octets)
         }
         View::MmsText(octets) => put_octets(out, &[sign, b'm', b'm', b's', b':'], octets),
-        View::Utc(time) => put_moment(out, sign, time),
+        View::Utc(time) => put_utc_text(out, sign, time),
         View::Visible(text) => put_visible(out, sign, text),
         View::Array(members) => put_nested(out, sign, b'[', members, b']'),
         View::Structure(members) => put_nested(out, sign, b'(', members, b')'),
@@ -218,7 +194,7 @@ fn put_between<A: Allocator>(
     let Some(first) = others.next() else {
         return out.extend_from_slice(&[before, after]);
     };
-    put_member(out, before, &first)?;
+    put_member_text(out, before, &first)?;
     put_others(out, others)?;
     out.push(after)?;
     Ok(())
@@ -240,7 +216,7 @@ fn put_others<A: Allocator>(out: &mut Vec<u8, A>, others: Members<'_>) -> Result
         let Some(view) = others.next() else {
             return Ok(());
         };
-        put_member(out, b' ', &view)?;
+        put_member_text(out, b' ', &view)?;
     }
 }
 

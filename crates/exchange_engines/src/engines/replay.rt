@@ -13,7 +13,7 @@ ghost use Rattle.exchange_engines.specs.EntryObject.{twice_object};
 ghost use Rattle.exchange_engines.specs.computed.ReplayAgrees.{replay_agrees};
 ghost use Rattle.exchange_engines.specs.computed.ReplayStep.{IsSaid, kept_after, replay_allows};
 
-use crate::texts::entry::put_entries;
+use crate::texts::entry::put_entry_lines;
 use crate::texts::entry_object::{EntryHeading, put_entry_objects, put_twice_object};
 use engine_core::{Ending, EventEngine, OfEvents, Stopped, Style, refuse, run_over, run_to_stop};
 use frame_core::{Event, EventLines, ItemFault, ItemReader, ListCause, Sink, Source};
@@ -39,7 +39,7 @@ fn block_of<A: Allocator>(entry: &Entry<A>) -> Option<usize> {
 }
 
 // Sets the flags of the blocks that entries speak of.
-fn note<A: Allocator>(heard: &mut [bool], entries: &[Entry<A>]) {
+fn mark_heard<A: Allocator>(heard: &mut [bool], entries: &[Entry<A>]) {
     for entry in entries {
         if let Some(block) = block_of(entry) {
             if let Some(flag) = heard.get_mut(block) {
@@ -72,7 +72,7 @@ fn put_said<A: Allocator>(
     ensures quiet { entries.now ≡ [] → IsOk result }
 {
     match form {
-        Form::Text => put_entries(line, number, entries),
+        Form::Text => put_entry_lines(line, number, entries),
         Form::Object(counted) => {
             let heading = EntryHeading {
                 counted,
@@ -104,7 +104,7 @@ impl<A: Allocator + Copy> EventEngine<A> for Replaying<'_, A> {
         let blocks = self.subscriber.blocks();
         let entries = self.entries.as_slice();
         put_said(line, form, number, event.moment, blocks, entries)?;
-        note(self.heard, self.entries.as_slice());
+        mark_heard(self.heard, self.entries.as_slice());
         Ok(false)
     }
 }

@@ -16,8 +16,8 @@ ghost use Rattle.text_core.specs.Pieces.{AppendsText};
 ghost use Rattle.exchange_engines.specs.WatchText.{AreWatchTexts, IsWatchText, counts, counts_of, is_unexpected as unexpected, sample_at, samples_from, samples_of, watched};
 ghost use Rattle.exchange_engines.specs.computed.WatchStep.{SamplesAppended, last_of, telling_at, watch_event};
 
+use crate::texts::sample::put_sample_line;
 use crate::texts::sample_object::put_sample_object;
-use crate::texts::watched::put_sample;
 use ber_core::Fault;
 use engine_core::{Ending, EventEngine, OfEvents, Stopped, Style, run_over, run_to_stop};
 use frame_core::{
@@ -45,7 +45,7 @@ fn is_unexpected(seen: Seen) -> bool
 
 // Appends what is told of a sample.
 #[inline(always)]
-fn put_told<A: Allocator>(
+fn put_told_sample<A: Allocator>(
     line: &mut Vec<u8, A>,
     heading: Heading,
     position: u64,
@@ -60,7 +60,7 @@ fn put_told<A: Allocator>(
         moment,
     } = heading;
     match form {
-        Form::Text => put_sample(line, number, position, count, seen),
+        Form::Text => put_sample_line(line, number, position, count, seen),
         Form::Object(counted) => {
             put_sample_object(line, counted, number, moment, position, count, seen)
         }
@@ -89,7 +89,7 @@ fn put_told_fault<A: Allocator>(
 // Appends what is told of an ASDU's count, if it is of the stream, and answers whether the count is unexpected. Inlined, so that
 // of an ASDU no more is read than its name and its count.
 #[inline(always)]
-fn put_asdu<A: Allocator>(
+fn put_asdu_sample<A: Allocator>(
     watch: &mut Watch,
     id: &[u8],
     line: &mut Vec<u8, A>,
@@ -107,12 +107,12 @@ fn put_asdu<A: Allocator>(
         return Ok(false);
     }
     let seen = watch.see(asdu.smp_cnt);
-    put_told(line, heading, position, asdu.smp_cnt, seen)?;
+    put_told_sample(line, heading, position, asdu.smp_cnt, seen)?;
     Ok(is_unexpected(seen))
 }
 
 // Appends what is told of the stream's ASDUs, and answers whether one of their counts is unexpected.
-fn put_asdus<A: Allocator>(
+fn put_asdu_samples<A: Allocator>(
     watch: &mut Watch,
     id: &[u8],
     line: &mut Vec<u8, A>,
@@ -129,7 +129,7 @@ fn put_asdus<A: Allocator>(
     let mut position = 0;
     let mut found = false;
     for asdu in sampled.asdus {
-        found |= put_asdu(watch, id, line, heading, position, &asdu)?;
+        found |= put_asdu_sample(watch, id, line, heading, position, &asdu)?;
         position = count.min(position + 1);
     }
     Ok(found)
@@ -161,7 +161,7 @@ fn put_watched<A: Allocator>(
         }
         Ok(view) => match &view.apdu {
             ApduView::Goose(_) => Ok(false),
-            ApduView::Sampled(sampled) => put_asdus(watch, id, line, heading, sampled),
+            ApduView::Sampled(sampled) => put_asdu_samples(watch, id, line, heading, sampled),
         },
     }
 }

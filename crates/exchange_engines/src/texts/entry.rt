@@ -10,15 +10,14 @@ use crate::texts::names::reason_name;
 use mms_data::{UtcTime, ValueList};
 use std::alloc::{AllocError, Allocator};
 use subscribe_core::{Entry, Reason};
-use text_core::fields::put_number;
+use text_core::fields::{put_number, put_time};
 use text_core::line::put_fault_line;
-use text_core::owned::put_values;
+use text_core::owned::put_values_text;
 use text_core::pieces::put_decimal;
 use text_core::short::ShortText;
-use text_core::value::put_utc;
 
 // Appends the number of a line, a word, and the position of a block.
-fn put_head<A: Allocator>(
+fn put_entry_head<A: Allocator>(
     out: &mut Vec<u8, A>,
     number: u64,
     word: &[u8],
@@ -33,7 +32,7 @@ fn put_head<A: Allocator>(
 }
 
 // Appends a line of a word and the position of a block.
-fn put_word<A: Allocator>(
+fn put_word_line<A: Allocator>(
     out: &mut Vec<u8, A>,
     number: u64,
     word: &[u8],
@@ -41,17 +40,8 @@ fn put_word<A: Allocator>(
 ) -> Result<(), AllocError>
     ensures { AppendsText result out.old.items out.new.items (entry_head number word.now block ++ codes "\n") }
 {
-    put_head(out, number, word, block)?;
+    put_entry_head(out, number, word, block)?;
     out.extend_from_slice(b"\n")
-}
-
-// Appends a frame's stNum and sqNum.
-fn put_pair<A: Allocator>(out: &mut Vec<u8, A>, state: u32, sequence: u32) -> Result<(), AllocError>
-    ensures { AppendsText result out.old.items out.new.items (pair_text state sequence) }
-{
-    put_number(out, b" st=", state)?;
-    put_number(out, b" sq=", sequence)?;
-    Ok(())
 }
 
 // Appends a line about a frame's numbers.
@@ -78,26 +68,8 @@ fn put_pair_line<A: Allocator>(
     text.append_to(out)
 }
 
-// Appends the time at which a state was published first.
-fn put_time<A: Allocator>(out: &mut Vec<u8, A>, t: UtcTime) -> Result<(), AllocError>
-    ensures { AppendsText result out.old.items out.new.items (codes " t=" ++ time_text t) }
-{
-    out.extend_from_slice(b" t=")?;
-    put_utc(out, t)?;
-    Ok(())
-}
-
-// Appends the members that were published with it.
-fn put_members<A: Allocator>(out: &mut Vec<u8, A>, members: &ValueList<A>) -> Result<(), AllocError>
-    ensures { AppendsText result out.old.items out.new.items (codes " " ++ members_text members.now) }
-{
-    out.extend_from_slice(b" ")?;
-    put_values(out, members)?;
-    Ok(())
-}
-
 // Appends the line of an action.
-fn put_act<A: Allocator>(
+fn put_act_line<A: Allocator>(
     out: &mut Vec<u8, A>,
     number: u64,
     block: usize,
@@ -108,15 +80,17 @@ fn put_act<A: Allocator>(
 ) -> Result<(), AllocError>
     ensures { AppendsText result out.old.items out.new.items (entry_head number (codes " act ") block ++ pair_text state sequence ++ (codes " t=" ++ time_text t) ++ (codes " " ++ members_text members.now) ++ codes "\n") }
 {
-    put_head(out, number, b" act ", block)?;
-    put_pair(out, state, sequence)?;
-    put_time(out, t)?;
-    put_members(out, members)?;
+    put_entry_head(out, number, b" act ", block)?;
+    put_number(out, b" st=", state)?;
+    put_number(out, b" sq=", sequence)?;
+    put_time(out, b" t=", t)?;
+    out.push(b' ')?;
+    put_values_text(out, members)?;
     out.extend_from_slice(b"\n")
 }
 
 // Appends the line of a frame that is refused.
-fn put_refused<A: Allocator>(
+fn put_refused_line<A: Allocator>(
     out: &mut Vec<u8, A>,
     number: u64,
     block: usize,
@@ -124,14 +98,18 @@ fn put_refused<A: Allocator>(
 ) -> Result<(), AllocError>
     ensures { AppendsText result out.old.items out.new.items (entry_line {A = Unit {0}} number (Refused block reason)) }
 {
-    put_head(out, number, b" refused ", block)?;
+    put_entry_head(out, number, b" refused ", block)?;
     out.extend_from_slice(b" ")?;
     out.extend_from_slice(reason_name(reason))?;
     out.extend_from_slice(b"\n")
 }
 
 // Appends the number of a line and what follows it.
-fn put_alone<A: Allocator>(out: &mut Vec<u8, A>, number: u64, text: &[u8]) -> Result<(), AllocError>
+fn put_alone_line<A: Allocator>(
+    out: &mut Vec<u8, A>,
+    number: u64,
+    text: &[u8],
+) -> Result<(), AllocError>
     ensures { AppendsText result out.old.items out.new.items (decimal number ++ text.now) }
 {
     put_decimal(out, number)?;
@@ -139,7 +117,7 @@ fn put_alone<A: Allocator>(out: &mut Vec<u8, A>, number: u64, text: &[u8]) -> Re
 }
 
 // Appends the line of an entry.
-fn put_entry<A: Allocator>(
+fn put_entry_line<A: Allocator>(
     out: &mut Vec<u8, A>,
     number: u64,
     entry: &Entry<A>,
@@ -147,15 +125,15 @@ fn put_entry<A: Allocator>(
     ensures { AppendsText result out.old.items out.new.items (entry_line number entry.now) }
 {
     match entry {
-        Entry::Expired { block } => put_word(out, number, b" expired ", *block),
-        Entry::Switched { block } => put_word(out, number, b" switched ", *block),
+        Entry::Expired { block } => put_word_line(out, number, b" expired ", *block),
+        Entry::Switched { block } => put_word_line(out, number, b" switched ", *block),
         Entry::Act {
             block,
             state,
             sequence,
             t,
             members,
-        } => put_act(out, number, *block, *state, *sequence, *t, members),
+        } => put_act_line(out, number, *block, *state, *sequence, *t, members),
         Entry::Refreshed {
             block,
             state,
@@ -171,15 +149,15 @@ fn put_entry<A: Allocator>(
             state,
             sequence,
         } => put_pair_line(out, number, b" old ", *block, *state, *sequence),
-        Entry::Refused { block, reason } => put_refused(out, number, *block, *reason),
-        Entry::NotSubscribed => put_alone(out, number, b" not-subscribed\n"),
-        Entry::Sampled => put_alone(out, number, b" sampled\n"),
+        Entry::Refused { block, reason } => put_refused_line(out, number, *block, *reason),
+        Entry::NotSubscribed => put_alone_line(out, number, b" not-subscribed\n"),
+        Entry::Sampled => put_alone_line(out, number, b" sampled\n"),
         Entry::Faulty(fault) => put_fault_line(out, number, *fault),
     }
 }
 
 /// Appends the lines of the entries of an event.
-pub fn put_entries<A: Allocator>(
+pub fn put_entry_lines<A: Allocator>(
     out: &mut Vec<u8, A>,
     number: u64,
     entries: &[Entry<A>],
@@ -188,7 +166,7 @@ pub fn put_entries<A: Allocator>(
     ensures quiet { entries.now ≡ [] → IsOk result }
 {
     for entry in entries {
-        put_entry(out, number, entry)?;
+        put_entry_line(out, number, entry)?;
     }
     Ok(())
 }

@@ -13,7 +13,7 @@ ghost use Rattle.exchange_engines.specs.ExchangeNames.{name_of_reason};
 use crate::texts::names::reason_name;
 use mms_data::{UtcTime, ValueList};
 use object_core::Counted;
-use object_core::event::{put_event_head, put_fault_object};
+use object_core::event::{put_event_head, put_event_object, put_fault_object};
 use object_core::fields::{put_field_octets, put_field_word};
 use object_core::owned::put_values_object;
 use object_core::times::{microseconds, put_time_fields};
@@ -38,7 +38,7 @@ pub struct EntryHeading<'a, A: Allocator> {
 }
 
 // Appends APPID and gocbRef of a block.
-fn put_name<A: Allocator>(out: &mut Vec<u8, A>, block: &Block<A>) -> Result<(), AllocError>
+fn put_name_fields<A: Allocator>(out: &mut Vec<u8, A>, block: &Block<A>) -> Result<(), AllocError>
     ensures { AppendsText result out.old.items out.new.items (onward (name_fields (Some block.now))) }
 {
     let app_id = [(block.app_id / 256) as u8, (block.app_id % 256) as u8];
@@ -47,7 +47,7 @@ fn put_name<A: Allocator>(out: &mut Vec<u8, A>, block: &Block<A>) -> Result<(), 
 }
 
 // Appends the position of a block, and its APPID and gocbRef.
-fn put_block<A: Allocator>(
+fn put_block_fields<A: Allocator>(
     out: &mut Vec<u8, A>,
     blocks: &[Block<A>],
     position: usize,
@@ -57,13 +57,13 @@ fn put_block<A: Allocator>(
     out.extend_from_slice(b",\"block\":")?;
     put_decimal(out, position as u64)?;
     match blocks.get(position) {
-        Some(block) => put_name(out, block),
+        Some(block) => put_name_fields(out, block),
         None => Ok(()),
     }
 }
 
 // Appends what the object of an entry of a block begins with.
-fn put_head<A: Allocator>(
+fn put_entry_object_head<A: Allocator>(
     out: &mut Vec<u8, A>,
     heading: &EntryHeading<'_, A>,
     kind: &[u8],
@@ -72,11 +72,11 @@ fn put_head<A: Allocator>(
     ensures { AppendsText result out.old.items out.new.items (opened (event_fields heading.now.counted heading.now.number heading.now.moment kind.now) ++ onward (block_fields heading.now.blocks.now block)) }
 {
     put_event_head(out, heading.counted, heading.number, heading.moment, kind)?;
-    put_block(out, heading.blocks, block)
+    put_block_fields(out, heading.blocks, block)
 }
 
 // Appends the object of an entry that says no more than its block.
-fn put_word<A: Allocator>(
+fn put_word_object<A: Allocator>(
     out: &mut Vec<u8, A>,
     heading: &EntryHeading<'_, A>,
     kind: &[u8],
@@ -84,7 +84,7 @@ fn put_word<A: Allocator>(
 ) -> Result<(), AllocError>
     ensures { AppendsText result out.old.items out.new.items (object_line (entry_fields heading.now.counted heading.now.blocks.now heading.now.number heading.now.moment kind.now block)) }
 {
-    put_head(out, heading, kind, block)?;
+    put_entry_object_head(out, heading, kind, block)?;
     out.extend_from_slice(b"}\n")
 }
 
@@ -106,7 +106,7 @@ fn put_pair_end<A: Allocator>(
 }
 
 // Appends the object of an entry about a frame's numbers.
-fn put_pair<A: Allocator>(
+fn put_pair_object<A: Allocator>(
     out: &mut Vec<u8, A>,
     heading: &EntryHeading<'_, A>,
     kind: &[u8],
@@ -116,7 +116,7 @@ fn put_pair<A: Allocator>(
 ) -> Result<(), AllocError>
     ensures { AppendsText result out.old.items out.new.items (pair_object heading.now.counted heading.now.blocks.now heading.now.number heading.now.moment kind.now block state sequence) }
 {
-    put_head(out, heading, kind, block)?;
+    put_entry_object_head(out, heading, kind, block)?;
     put_pair_end(out, state, sequence)
 }
 
@@ -136,7 +136,7 @@ fn prepend_delay(text: &mut ShortText, t: u64, moment: u64)
 }
 
 // Appends the microseconds from t to a moment, the frame's numbers, and the name of its members.
-fn put_delay<A: Allocator>(
+fn put_delay_fields<A: Allocator>(
     out: &mut Vec<u8, A>,
     t: UtcTime,
     moment: u64,
@@ -157,7 +157,7 @@ fn put_delay<A: Allocator>(
 }
 
 // Appends t, the delay, the frame's numbers, and the name of its members.
-fn put_state<A: Allocator>(
+fn put_act_fields<A: Allocator>(
     out: &mut Vec<u8, A>,
     t: UtcTime,
     moment: u64,
@@ -167,11 +167,14 @@ fn put_state<A: Allocator>(
     ensures { AppendsText result out.old.items out.new.items (onward (time_fields (codes "t") (codes "tTime") (codes "tQuality") t ++ (codes "delay", signed_decimal (delay_from t moment)) ∷ pair_fields state sequence) ++ codes ",\"members\":") }
 {
     put_time_fields(out, b",\"t\":", b",\"tTime\":", b",\"tQuality\":", t)?;
-    put_delay(out, t, moment, state, sequence)
+    put_delay_fields(out, t, moment, state, sequence)
 }
 
 // Appends the members that were published with a state, and the end of an object.
-fn put_members<A: Allocator>(out: &mut Vec<u8, A>, members: &ValueList<A>) -> Result<(), AllocError>
+fn put_act_members<A: Allocator>(
+    out: &mut Vec<u8, A>,
+    members: &ValueList<A>,
+) -> Result<(), AllocError>
     ensures { AppendsSome result out.old.items out.new.items (λ text. (held : List ℕ) × AreMembers members.now held × (text ≡ held ++ codes "}\n")) }
 {
     put_values_object(out, members)?;
@@ -179,7 +182,7 @@ fn put_members<A: Allocator>(out: &mut Vec<u8, A>, members: &ValueList<A>) -> Re
 }
 
 // Appends the object of an action.
-fn put_act<A: Allocator>(
+fn put_act_object<A: Allocator>(
     out: &mut Vec<u8, A>,
     heading: &EntryHeading<'_, A>,
     block: usize,
@@ -190,13 +193,13 @@ fn put_act<A: Allocator>(
 ) -> Result<(), AllocError>
     ensures { AppendsSome result out.old.items out.new.items (IsActObject heading.now.counted heading.now.blocks.now heading.now.number heading.now.moment block state sequence t members.now) }
 {
-    put_head(out, heading, b"act", block)?;
-    put_state(out, t, heading.moment, state, sequence)?;
-    put_members(out, members)
+    put_entry_object_head(out, heading, b"act", block)?;
+    put_act_fields(out, t, heading.moment, state, sequence)?;
+    put_act_members(out, members)
 }
 
 // Appends the object of a frame that is refused.
-fn put_refused<A: Allocator>(
+fn put_refused_object<A: Allocator>(
     out: &mut Vec<u8, A>,
     heading: &EntryHeading<'_, A>,
     block: usize,
@@ -204,25 +207,13 @@ fn put_refused<A: Allocator>(
 ) -> Result<(), AllocError>
     ensures { AppendsText result out.old.items out.new.items (object_line (entry_fields heading.now.counted heading.now.blocks.now heading.now.number heading.now.moment (codes "refused") block ++ (codes "reason", in_quotes (name_of_reason reason)) ∷ [])) }
 {
-    put_head(out, heading, b"refused", block)?;
+    put_entry_object_head(out, heading, b"refused", block)?;
     put_field_word(out, b",\"reason\":", reason_name(reason))?;
     out.extend_from_slice(b"}\n")
 }
 
-// Appends the object of an entry of no block.
-fn put_alone<A: Allocator>(
-    out: &mut Vec<u8, A>,
-    heading: &EntryHeading<'_, A>,
-    kind: &[u8],
-) -> Result<(), AllocError>
-    ensures { AppendsText result out.old.items out.new.items (object_line (event_fields heading.now.counted heading.now.number heading.now.moment kind.now)) }
-{
-    put_event_head(out, heading.counted, heading.number, heading.moment, kind)?;
-    out.extend_from_slice(b"}\n")
-}
-
 // Appends the object of an entry.
-fn put_entry<A: Allocator>(
+fn put_entry_object<A: Allocator>(
     out: &mut Vec<u8, A>,
     heading: &EntryHeading<'_, A>,
     entry: &Entry<A>,
@@ -230,33 +221,45 @@ fn put_entry<A: Allocator>(
     ensures { AppendsSome result out.old.items out.new.items (IsEntryObject heading.now.counted heading.now.blocks.now heading.now.number heading.now.moment entry.now) }
 {
     match entry {
-        Entry::Expired { block } => put_word(out, heading, b"expired", *block),
-        Entry::Switched { block } => put_word(out, heading, b"switched", *block),
+        Entry::Expired { block } => put_word_object(out, heading, b"expired", *block),
+        Entry::Switched { block } => put_word_object(out, heading, b"switched", *block),
         Entry::Act {
             block,
             state,
             sequence,
             t,
             members,
-        } => put_act(out, heading, *block, *state, *sequence, *t, members),
+        } => put_act_object(out, heading, *block, *state, *sequence, *t, members),
         Entry::Refreshed {
             block,
             state,
             sequence,
-        } => put_pair(out, heading, b"refreshed", *block, *state, *sequence),
+        } => put_pair_object(out, heading, b"refreshed", *block, *state, *sequence),
         Entry::Repeated {
             block,
             state,
             sequence,
-        } => put_pair(out, heading, b"repeated", *block, *state, *sequence),
+        } => put_pair_object(out, heading, b"repeated", *block, *state, *sequence),
         Entry::Older {
             block,
             state,
             sequence,
-        } => put_pair(out, heading, b"old", *block, *state, *sequence),
-        Entry::Refused { block, reason } => put_refused(out, heading, *block, *reason),
-        Entry::NotSubscribed => put_alone(out, heading, b"not-subscribed"),
-        Entry::Sampled => put_alone(out, heading, b"sampled"),
+        } => put_pair_object(out, heading, b"old", *block, *state, *sequence),
+        Entry::Refused { block, reason } => put_refused_object(out, heading, *block, *reason),
+        Entry::NotSubscribed => put_event_object(
+            out,
+            heading.counted,
+            heading.number,
+            heading.moment,
+            b"not-subscribed",
+        ),
+        Entry::Sampled => put_event_object(
+            out,
+            heading.counted,
+            heading.number,
+            heading.moment,
+            b"sampled",
+        ),
         Entry::Faulty(fault) => put_fault_object(
             out,
             heading.counted,
@@ -277,7 +280,7 @@ pub fn put_entry_objects<A: Allocator>(
     ensures quiet { entries.now ≡ [] → IsOk result }
 {
     for entry in entries {
-        put_entry(out, heading, entry)?;
+        put_entry_object(out, heading, entry)?;
     }
     Ok(())
 }
@@ -291,6 +294,6 @@ pub fn put_twice_object<A: Allocator>(
     ensures { AppendsText result out.old.items out.new.items (twice_object blocks.now position) }
 {
     out.extend_from_slice(b"{\"kind\":\"blocks\"")?;
-    put_block(out, blocks, position)?;
+    put_block_fields(out, blocks, position)?;
     out.extend_from_slice(b",\"error\":\"SameBlockTwice\"}\n")
 }

@@ -12,7 +12,7 @@ use subscribe_core::Seen;
 use text_core::short::ShortText;
 
 // What a count is after those before it, as a word.
-fn kind_of(seen: Seen) -> &'static [u8]
+fn kind_of_seen(seen: Seen) -> &'static [u8]
     ensures { result.now ≡ seen_kind seen }
 {
     match seen {
@@ -39,7 +39,7 @@ fn prepend_missing(text: &mut ShortText, seen: Seen)
 }
 
 // Appends the position of an ASDU, its count, how many are missing before it, and the end of an object.
-fn put_count<A: Allocator>(
+fn put_sample_fields<A: Allocator>(
     out: &mut Vec<u8, A>,
     position: u64,
     count: u16,
@@ -70,6 +70,6 @@ pub fn put_sample_object<A: Allocator>(
 ) -> Result<(), AllocError>
     ensures { AppendsText result out.old.items out.new.items (sample_object counted number moment (record { position = position; count = count }) seen) }
 {
-    put_event_head(out, counted, number, moment, kind_of(seen))?;
-    put_count(out, position, count, seen)
+    put_event_head(out, counted, number, moment, kind_of_seen(seen))?;
+    put_sample_fields(out, position, count, seen)
 }

@@ -12,7 +12,10 @@ use text_core::names::{cause_name, list_cause_name};
 use text_core::pieces::put_decimal;
 
 // Appends the place and cause of a fault in the members.
-fn put_detail<A: Allocator>(out: &mut Vec<u8, A>, cause: ScriptCause) -> Result<(), AllocError>
+fn put_cause_detail<A: Allocator>(
+    out: &mut Vec<u8, A>,
+    cause: ScriptCause,
+) -> Result<(), AllocError>
     ensures { AppendsText result out.old.items out.new.items (cause_detail cause) }
 {
     match cause {
@@ -27,7 +30,7 @@ fn put_detail<A: Allocator>(out: &mut Vec<u8, A>, cause: ScriptCause) -> Result<
 }
 
 // Appends how the line begins: that it is a comment, and the number of the bad line.
-fn put_start<A: Allocator>(out: &mut Vec<u8, A>, number: u64) -> Result<(), AllocError>
+fn put_script_fault_head<A: Allocator>(out: &mut Vec<u8, A>, number: u64) -> Result<(), AllocError>
     ensures { AppendsText result out.old.items out.new.items (codes "# " ++ decimal number ++ codes " script ") }
 {
     out.extend_from_slice(b"# ")?;
@@ -44,13 +47,13 @@ pub fn put_script_fault_line<A: Allocator>(
 {
     match fault {
         ItemFault::Lines(fault) => {
-            put_start(out, fault.line)?;
+            put_script_fault_head(out, fault.line)?;
             out.extend_from_slice(list_cause_name(fault.cause))?;
         }
         ItemFault::Line(number, cause) => {
-            put_start(out, *number)?;
+            put_script_fault_head(out, *number)?;
             out.extend_from_slice(script_cause_name(*cause))?;
-            put_detail(out, *cause)?;
+            put_cause_detail(out, *cause)?;
         }
     }
     out.extend_from_slice(b"\n")

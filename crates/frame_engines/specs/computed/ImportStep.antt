@@ -4,13 +4,11 @@ use Rattle.std.specs.Io.KnownBytes.{Appends}
 use Rattle.list_core.specs.Device.{AppendsPrefix}
 use Rattle.capture_core.specs.Capture.{CaptureRecord}
 use Rattle.capture_core.specs.declared.capture_fault.CaptureFault.{CaptureFault}
-use Rattle.engine_core.specs.declared.ending.Ending.{Ending}
-use Rattle.engine_core.specs.declared.ending.Ending.TheVariants.{WriteFault, Memory}
 use Rattle.engine_core.specs.declared.running.Next.{Next}
 use Rattle.engine_core.specs.declared.running.Next.TheVariants as next
 use Rattle.engine_core.specs.declared.stopped.Halt.{Halt}
 use Rattle.engine_core.specs.declared.stopped.Halt.TheVariants as halt
-use Rattle.frame_engines.specs.ImportText.{capture_fault_line, ending_of_capture, is_left_out, record_line}
+use Rattle.frame_engines.specs.ImportText.{capture_fault_line, is_left_out, record_line}
 
 -- the text that an answer behind n records asks for
 abbrev pub import_due : ℕ → Result (Option CaptureRecord) CaptureFault → List ℕ
@@ -23,12 +21,6 @@ abbrev pub ImportHalts : ℕ → Result (Option CaptureRecord) CaptureFault → 
 ImportHalts n answer (halt.Fault why) old new = (answer ≡ Err why) × Appends old new (capture_fault_line why)
 ImportHalts n answer halt.WriteFault old new = AppendsPrefix old new (import_due n answer)
 ImportHalts n answer halt.Memory old new = ⊥
-
--- the ending of a run that stops
-abbrev pub ending_of_halt : Halt CaptureFault → Ending
-ending_of_halt (halt.Fault why) = ending_of_capture why.cause
-ending_of_halt halt.WriteFault = WriteFault
-ending_of_halt halt.Memory = Memory
 
 -- what is written after an answer behind n records, and how the run goes on
 abbrev pub ImportWrites : ℕ → Result (Option CaptureRecord) CaptureFault → Next CaptureFault → Option (List ℕ) → Option (List ℕ) → Type 0

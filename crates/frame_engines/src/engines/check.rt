@@ -20,7 +20,6 @@ ghost use Rattle.engine_core.specs.Run.{Writes, WritesTo};
 ghost use Rattle.engine_core.specs.RunOver.{RunsOver};
 ghost use Rattle.frame_engines.specs.WrittenForm.{fitting_form};
 
-use crate::texts::event_object::put_note_object;
 use arrayvec::ArrayVec;
 use ber_core::Fault;
 use byteorder::{BigEndian, ByteOrder};
@@ -30,7 +29,7 @@ use frame_core::{
     Source, encode_view, see_frame, written_length,
 };
 use list_core::{InputFault, ReadItems};
-use object_core::event::put_fault_object;
+use object_core::event::{put_event_object, put_fault_object};
 use object_core::{Form, LastObject};
 use std::alloc::{AllocError, Allocator};
 use text_core::LastLine;
@@ -105,7 +104,7 @@ enum Note {
 }
 
 // The end of the line of a note.
-fn end_of_line(note: Note) -> &'static [u8]
+fn end_of_note(note: Note) -> &'static [u8]
     ensures { result.now ≡ note_end note }
 {
     match note {
@@ -115,7 +114,7 @@ fn end_of_line(note: Note) -> &'static [u8]
 }
 
 // The kind of a note.
-fn kind_of(note: Note) -> &'static [u8]
+fn kind_of_note(note: Note) -> &'static [u8]
     ensures { result.now ≡ note_kind note }
 {
     match note {
@@ -133,7 +132,7 @@ fn put_note_line<A: Allocator>(
     ensures { AppendsText result line.old.items line.new.items (decimal number ++ note_end note) }
 {
     put_decimal(line, number)?;
-    line.extend_from_slice(end_of_line(note))
+    line.extend_from_slice(end_of_note(note))
 }
 
 // Appends a note in a form where something does not hold. Inlined, so that where it holds no call is made.
@@ -154,7 +153,13 @@ fn put_note<A: Allocator>(
     }
     match form {
         Form::Text => put_note_line(line, number, note),
-        Form::Object(counted) => put_note_object(line, counted, number, moment, kind_of(note)),
+        Form::Object(counted) => put_event_object(
+            line,
+            counted,
+            number,
+            moment,
+            kind_of_note(note),
+        ),
     }
 }
 
@@ -182,7 +187,7 @@ fn put_view_notes<A: Allocator>(
 }
 
 // Appends the fault of a frame in a form.
-fn put_fault_in<A: Allocator>(
+fn put_told_fault<A: Allocator>(
     line: &mut Vec<u8, A>,
     form: Form,
     number: u64,
@@ -210,7 +215,7 @@ fn put_notes<A: Allocator>(
 {
     let viewed = see_frame(octets, true);
     match &viewed {
-        Err(fault) => put_fault_in(line, form, number, moment, *fault),
+        Err(fault) => put_told_fault(line, form, number, moment, *fault),
         Ok(view) => put_view_notes(line, form, number, moment, view, octets),
     }
 }

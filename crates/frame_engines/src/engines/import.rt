@@ -3,73 +3,45 @@ ghost use Rattle.std.specs.Prelude.{◌≡◌, ◌≤◌, ℕ, List, Option, Res
 ghost use Rattle.list_core.specs.declared.device.InputEnd.{InputEnd};
 ghost use Rattle.list_core.specs.Device.{GivesOctets};
 ghost use Rattle.capture_core.specs.Capture.{CaptureRecord};
+ghost use Rattle.capture_core.specs.Packets.{is_failed_read};
 ghost use Rattle.capture_core.specs.RecordAnswers.{ReadsRecord};
 ghost use Rattle.capture_core.specs.declared.capture_fault.CaptureFault as fault;
 ghost use Rattle.engine_core.specs.computed.EngineStep.{is_failed_write, stops_by};
-ghost use Rattle.engine_core.specs.RunOver.{fault_by_halt};
-ghost use Rattle.engine_core.specs.Ending.{is_write_fault};
-ghost use Rattle.frame_engines.specs.computed.ImportStep.{ImportHalts, ImportWrites, ending_of_halt};
-ghost use Rattle.frame_engines.specs.ImportText.{Imports, ImportsTo, capture_fault_line, ending_of_capture, left_out_line};
+ghost use Rattle.engine_core.specs.Ending.{ending_by_fault, is_write_fault};
+ghost use Rattle.frame_engines.specs.computed.ImportStep.{ImportHalts, ImportWrites};
+ghost use Rattle.frame_engines.specs.ImportText.{Imports, ImportsTo, capture_fault_line, left_out_line};
 
-use arrayvec::ArrayVec;
-use capture_core::{
-    CaptureCause, CaptureFault, CaptureForm, Captured, LONGEST_FRAME, read_header, read_record,
-};
-use engine_core::{Ending, Halt, Next, Stopped, ending_where};
+use capture_core::{CaptureFault, CaptureForm, Captured, LONGEST_FRAME, read_header, read_record};
+use engine_core::{Ending, Halt, Next, Stopped, ended_by, ending_where};
 use frame_core::{FrameLines, Sink, Source, put_all};
-use itoa::Buffer;
 use std::alloc::Allocator;
 use text_core::names::capture_cause_name;
-
-/// The most octets of a comment.
-const LONGEST_COMMENT: usize = 80;
+use text_core::short::ShortText;
 
 // The comment on a record that is left out.
-#[tactic(auto, using(list_core::proofs::Decimals::decimal_fits))]
-fn left_out_comment(number: u64, size: u64) -> ArrayVec<u8, LONGEST_COMMENT>
-    ensures { result.items ≡ left_out_line number size }
+fn left_out_comment(number: u64, size: u64) -> ShortText
+    ensures { result ≡ left_out_line number size }
 {
-    let mut comment = ArrayVec::new();
-    comment.try_extend_from_slice(b"# record ").unwrap();
-    comment
-        .try_extend_from_slice(Buffer::new().format(number).as_bytes())
-        .unwrap();
-    comment.try_extend_from_slice(b" of ").unwrap();
-    comment
-        .try_extend_from_slice(Buffer::new().format(size).as_bytes())
-        .unwrap();
-    comment
-        .try_extend_from_slice(b" octets left out\n")
-        .unwrap();
+    let mut comment = ShortText::new();
+    comment.put(b" octets left out\n");
+    comment.put_decimal(size);
+    comment.put(b" of ");
+    comment.put_decimal(number);
+    comment.put(b"# record ");
     comment
 }
 
 // The comment on a fault.
-#[tactic(auto, using(list_core::proofs::Decimals::decimal_fits))]
-fn fault_comment(fault: CaptureFault) -> ArrayVec<u8, LONGEST_COMMENT>
-    ensures { result.items ≡ capture_fault_line fault }
+fn fault_comment(fault: CaptureFault) -> ShortText
+    ensures { result ≡ capture_fault_line fault }
 {
-    let mut comment = ArrayVec::new();
-    comment.try_extend_from_slice(b"# ").unwrap();
+    let mut comment = ShortText::new();
+    comment.put(b"\n");
+    comment.put(capture_cause_name(fault.cause));
+    comment.put(b" capture ");
+    comment.put_decimal(fault.number);
+    comment.put(b"# ");
     comment
-        .try_extend_from_slice(Buffer::new().format(fault.number).as_bytes())
-        .unwrap();
-    comment.try_extend_from_slice(b" capture ").unwrap();
-    comment
-        .try_extend_from_slice(capture_cause_name(fault.cause))
-        .unwrap();
-    comment.try_extend_from_slice(b"\n").unwrap();
-    comment
-}
-
-// The ending at a fault.
-fn ending_by(cause: CaptureCause) -> Ending
-    ensures { result ≡ ending_of_capture cause }
-{
-    match cause {
-        CaptureCause::ReadFailed => Ending::ReadFault,
-        _ => Ending::InputFault,
-    }
 }
 
 // Writes the comment on a fault, with which the text ends.
@@ -81,18 +53,6 @@ fn answer_fault<W: Sink>(fault: CaptureFault, writer: &mut W) -> Halt<CaptureFau
     match put_all(writer, fault_comment(fault).as_slice()) {
         Ok(()) => Halt::Fault(fault),
         Err(_) => Halt::WriteFault,
-    }
-}
-
-// How a run ends that stops so, and by which fault.
-fn ending_at_halt(halt: Halt<CaptureFault>) -> (Ending, Option<CaptureFault>)
-    ensures ending { result.0 ≡ ending_of_halt halt }
-    ensures fault { result.1 ≡ fault_by_halt halt }
-{
-    match halt {
-        Halt::Fault(fault) => (ending_by(fault.cause), Some(fault)),
-        Halt::WriteFault => (Ending::WriteFault, None),
-        Halt::Memory => (Ending::Memory, None),
     }
 }
 
@@ -110,7 +70,7 @@ fn answer_record<R: Source, W: Sink>(
     ensures step { (answer : Result (Option CaptureRecord) fault.CaptureFault)
         × ReadsRecord form before [] (R.left reader.old) (R.ending reader.old) answer (R.left reader.new) (R.ending reader.new)
         × ImportWrites before answer result (W.contents writer.old) (W.contents writer.new) }
-    ensures read_fault { (why : fault.CaptureFault) → result ≡ Next.Stop (Halt.Fault why) → ending_of_capture why.cause ≡ Ending.ReadFault → R.ending reader.new ≡ InputEnd.Failed }
+    ensures read_fault { (why : fault.CaptureFault) → result ≡ Next.Stop (Halt.Fault why) → ending_by_fault is_failed_read why ≡ Ending.ReadFault → R.ending reader.new ≡ InputEnd.Failed }
     ensures fails { W.failed writer.new ≡ stops_by is_failed_write result }
 {
     match read_record(reader, form, before, frame) {
@@ -145,7 +105,7 @@ fn import_all<R: Source, W: Sink>(reader: &mut R, writer: &mut W) -> (Ending, Op
     }
     let form = match read_header(reader) {
         Ok(form) => form,
-        Err(fault) => return ending_at_halt(answer_fault(fault, writer)),
+        Err(fault) => return ended_by(answer_fault(fault, writer)),
     };
     let mut frame = [0u8; LONGEST_FRAME];
     let mut lines = FrameLines::new();
@@ -158,7 +118,7 @@ fn import_all<R: Source, W: Sink>(reader: &mut R, writer: &mut W) -> (Ending, Op
                 count += 1;
             }
             Next::Ended => return (ending_where(found), None),
-            Next::Stop(halt) => return ending_at_halt(halt),
+            Next::Stop(halt) => return ended_by(halt),
         }
     }
 }

@@ -27,11 +27,11 @@ use frame_core::{
 };
 use std::alloc::{AllocError, Allocator};
 use text_core::event::put_frame_event;
-use text_core::line::{put_list_fault_line, put_mode_word};
+use text_core::line::{mode_word, put_list_fault_line};
 use text_core::pieces::put_decimal;
 
 // Appends the line of a clock moment in a list.
-fn put_clock<A: Allocator>(line: &mut Vec<u8, A>, moment: u64) -> Result<(), AllocError>
+fn put_clock_event<A: Allocator>(line: &mut Vec<u8, A>, moment: u64) -> Result<(), AllocError>
     ensures { AppendsText result line.old.items line.new.items (codes "C " ++ decimal moment ++ codes "\n") }
 {
     line.extend_from_slice(b"C ")?;
@@ -40,7 +40,7 @@ fn put_clock<A: Allocator>(line: &mut Vec<u8, A>, moment: u64) -> Result<(), All
 }
 
 // Appends the line of a frame with its own octets, and answers what is handed in.
-fn put_own<A: Allocator>(
+fn put_own_event<A: Allocator>(
     line: &mut Vec<u8, A>,
     moment: u64,
     octets: &[u8],
@@ -57,7 +57,7 @@ fn put_own<A: Allocator>(
 // Appends the line of the frame that the view stands for in its written form, or else of its own octets, and answers
 // whether it keeps these. Never inlined, so that room for the form is made only where one is written.
 #[inline(never)]
-fn put_form<A: Allocator>(
+fn put_written_form<A: Allocator>(
     line: &mut Vec<u8, A>,
     moment: u64,
     octets: &[u8],
@@ -71,7 +71,7 @@ fn put_form<A: Allocator>(
 {
     let mut form = ArrayVec::new();
     if encode_view(view, &mut form).is_err() {
-        return put_own(line, moment, octets, true);
+        return put_own_event(line, moment, octets, true);
     }
     put_frame_event(line, moment, form.as_slice())?;
     Ok(false)
@@ -89,12 +89,12 @@ fn put_rewritten<A: Allocator>(
     ensures kept { IfOk result (λ kept. kept ≡ not (is_some (written_form octets.now))) }
 {
     let Ok(view) = see_frame(octets, true) else {
-        return put_own(line, moment, octets, true);
+        return put_own_event(line, moment, octets, true);
     };
     if view.apdu.is_written() {
-        return put_own(line, moment, octets, false);
+        return put_own_event(line, moment, octets, false);
     }
-    put_form(line, moment, octets, &view)
+    put_written_form(line, moment, octets, &view)
 }
 
 // Appends the line of a mode in a list.
@@ -108,19 +108,22 @@ fn put_mode_event<A: Allocator>(
     line.extend_from_slice(b"M ")?;
     put_decimal(line, moment)?;
     line.extend_from_slice(b" ")?;
-    put_mode_word(line, on)?;
+    line.extend_from_slice(mode_word(on))?;
     line.extend_from_slice(b"\n")
 }
 
 // Appends the line of an event, a frame in its written form, and answers whether a frame keeps its own octets.
-fn put_event<A: Allocator>(line: &mut Vec<u8, A>, event: &Event<A>) -> Result<bool, AllocError>
+fn put_rewritten_event<A: Allocator>(
+    line: &mut Vec<u8, A>,
+    event: &Event<A>,
+) -> Result<bool, AllocError>
     ensures { MatchResult result
         (λ found. (line.new.items ≡ line.old.items ++ kind_text (decimal event.now.moment) (rewritten event.now.kind)) × (found ≡ is_kept event.now.kind))
         (λ _. take (length line.old.items) line.new.items ≡ line.old.items) }
 {
     match &event.kind {
         EventKind::Clock => {
-            put_clock(line, event.moment)?;
+            put_clock_event(line, event.moment)?;
             Ok(false)
         }
         EventKind::Frame(octets) => put_rewritten(line, event.moment, octets.as_slice()),
@@ -149,7 +152,7 @@ impl<A: Allocator> Engine<A, ItemFault<ListCause>> for RewriteText {
         event: Event<A>,
         spare: &mut Option<Event<A>>,
     ) -> Result<bool, LineError<ListCause>> {
-        let put = put_event(line, &event);
+        let put = put_rewritten_event(line, &event);
         *spare = Some(event);
         match put {
             Ok(kept) => Ok(kept),

@@ -15,13 +15,12 @@ ghost use Rattle.engine_core.specs.RunOver.{RunsOver};
 ghost use Rattle.text_core.specs.Pieces.{AppendsText};
 ghost use Rattle.frame_core.specs.computed.FrameReading.{frame_at};
 ghost use Rattle.object_core.specs.Objects.{AppendsSome};
-ghost use Rattle.frame_engines.specs.ShowObject.{IsAnswerObject, show_allows};
+ghost use Rattle.frame_engines.specs.ShowObject.{IsAnswerObject, mode_object, show_allows};
 ghost use Rattle.frame_engines.specs.ShowText.{octets_line, show_text};
 ghost use Rattle.frame_engines.specs.computed.ShownObjects.{shown_agrees};
 ghost use Rattle.frame_engines.specs.computed.InForm.{IsAnswerIn, IsKindIn};
 
-use crate::texts::event_object::{put_clock_object, put_mode_object};
-use crate::texts::frame::put_frame;
+use crate::texts::frame::put_frame_line;
 use crate::texts::frame_object::put_frame_object;
 use ber_core::Fault;
 use engine_core::{Ending, EventEngine, OfEvents, Stopped, Style, run_over, run_to_stop};
@@ -29,11 +28,12 @@ use frame_core::{
     Event, EventKind, EventLines, ItemFault, ItemReader, ListCause, Sink, Source, view_frame,
 };
 use list_core::{InputFault, ReadItems};
-use object_core::event::put_fault_object;
+use object_core::event::{put_event_head, put_event_object, put_fault_object};
+use object_core::fields::put_field_word;
 use object_core::{Counted, Form, LastObject};
 use std::alloc::{AllocError, Allocator};
 use text_core::LastLine;
-use text_core::line::{put_clock_line, put_fault_line, put_mode_word};
+use text_core::line::{mode_word, put_clock_line, put_fault_line};
 use text_core::pieces::put_decimal;
 
 // Appends the line of the octets of a frame.
@@ -47,7 +47,7 @@ fn put_octets_line<A: Allocator>(
 {
     let viewed = view_frame(octets);
     match &viewed {
-        Ok(frame) => put_frame(line, number, frame),
+        Ok(frame) => put_frame_line(line, number, frame),
         Err(fault) => put_fault_line(line, number, *fault),
     }
 }
@@ -85,7 +85,7 @@ fn put_octets_object<A: Allocator>(
 
 // Appends the octets of a frame in a form.
 #[inline(always)]
-fn put_octets<A: Allocator>(
+fn put_shown_octets<A: Allocator>(
     line: &mut Vec<u8, A>,
     form: Form,
     number: u64,
@@ -101,7 +101,7 @@ fn put_octets<A: Allocator>(
 }
 
 // Appends a clock moment in a form.
-fn put_clock<A: Allocator>(
+fn put_shown_clock<A: Allocator>(
     line: &mut Vec<u8, A>,
     form: Form,
     number: u64,
@@ -111,7 +111,7 @@ fn put_clock<A: Allocator>(
 {
     match form {
         Form::Text => put_clock_line(line, number, moment),
-        Form::Object(counted) => put_clock_object(line, counted, number, moment),
+        Form::Object(counted) => put_event_object(line, counted, number, moment, b"clock"),
     }
 }
 
@@ -129,12 +129,28 @@ fn put_mode_line<A: Allocator>(
     line.extend_from_slice(b" mode ")?;
     put_decimal(line, moment)?;
     line.extend_from_slice(b" ")?;
-    put_mode_word(line, on)?;
+    line.extend_from_slice(mode_word(on))?;
     line.extend_from_slice(b"\n")
 }
 
+// Appends the object of a mode, as a line. Never inlined, so that lines of text keep their registers.
+#[inline(never)]
+fn put_mode_object<A: Allocator>(
+    line: &mut Vec<u8, A>,
+    counted: Counted,
+    number: u64,
+    moment: u64,
+    on: bool,
+) -> Result<(), AllocError>
+    ensures { AppendsText result line.old.items line.new.items (mode_object counted number moment on) }
+{
+    put_event_head(line, counted, number, moment, b"mode")?;
+    put_field_word(line, b",\"mode\":", mode_word(on))?;
+    line.extend_from_slice(b"}\n")
+}
+
 // Appends a mode in a form.
-fn put_mode<A: Allocator>(
+fn put_shown_mode<A: Allocator>(
     line: &mut Vec<u8, A>,
     form: Form,
     number: u64,
@@ -160,9 +176,9 @@ fn put_shown<A: Allocator>(
 {
     let moment = event.moment;
     match &event.kind {
-        EventKind::Clock => put_clock(line, form, number, moment),
-        EventKind::Frame(octets) => put_octets(line, form, number, moment, octets.as_slice()),
-        EventKind::Mode(on) => put_mode(line, form, number, moment, *on),
+        EventKind::Clock => put_shown_clock(line, form, number, moment),
+        EventKind::Frame(octets) => put_shown_octets(line, form, number, moment, octets.as_slice()),
+        EventKind::Mode(on) => put_shown_mode(line, form, number, moment, *on),
     }
 }
 

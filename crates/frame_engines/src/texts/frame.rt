@@ -8,7 +8,7 @@ ghost use Rattle.text_core.specs.Pieces.{AppendsText, boolean_text};
 ghost use Rattle.text_core.specs.ValueText.{time_text};
 ghost use Rattle.frame_engines.specs.FrameText.{tag_text, trailer_text, envelope_text, goose_text, apdu_word, apdu_text, frame_line};
 
-use crate::texts::sampled::put_sampled;
+use crate::texts::sampled::put_sampled_text;
 use frame_core::{ApduView, FrameView, VlanTag};
 use pdu_core::GooseView;
 use std::alloc::{AllocError, Allocator};
@@ -18,7 +18,7 @@ use text_core::value::put_members_text;
 
 // Puts the control of a tag in front, or a dash.
 #[inline(always)]
-fn put_tag(text: &mut ShortText, tag: Option<VlanTag>)
+fn prepend_tag_text(text: &mut ShortText, tag: Option<VlanTag>)
     requires { length text.old + 4 ≤ 160 }
     ensures text { text.new ≡ tag_text tag ++ text.old }
     ensures size { length text.new ≤ length text.old + 4 }
@@ -31,7 +31,7 @@ fn put_tag(text: &mut ShortText, tag: Option<VlanTag>)
 
 // Puts the word for the kind of APDU in front.
 #[inline(always)]
-fn put_kind(text: &mut ShortText, apdu: &ApduView<'_>)
+fn prepend_apdu_word(text: &mut ShortText, apdu: &ApduView<'_>)
     requires { length text.old + 7 ≤ 160 }
     ensures text { text.new ≡ apdu_word (apdu_of {A = Unit {0}} apdu.now) ++ text.old }
     ensures size { length text.new ≤ length text.old + 7 }
@@ -44,7 +44,7 @@ fn put_kind(text: &mut ShortText, apdu: &ApduView<'_>)
 
 // Puts the envelope into a text of no octets, which stays where it is: to hand out one would copy it.
 #[inline(always)]
-fn put_envelope(text: &mut ShortText, frame: &FrameView<'_>)
+fn prepend_envelope_text(text: &mut ShortText, frame: &FrameView<'_>)
     requires { text.old ≡ [] }
     ensures text { text.new ≡ envelope_text (frame_of {A = Unit {0}} frame.now) }
     ensures size { length text.new ≤ 100 }
@@ -55,7 +55,7 @@ fn put_envelope(text: &mut ShortText, frame: &FrameView<'_>)
     text.put(b" r1=");
     text.put_four_digits(frame.app_id);
     text.put(b" appid=");
-    put_tag(text, frame.tag);
+    prepend_tag_text(text, frame.tag);
     text.put(b" tag=");
     text.put_hexadecimal(&frame.source);
     text.put(b" ");
@@ -63,7 +63,7 @@ fn put_envelope(text: &mut ShortText, frame: &FrameView<'_>)
 }
 
 // Appends what stands before the APDU: the number of the line, the kind of APDU, and the envelope.
-fn put_head<A: Allocator>(
+fn put_frame_head<A: Allocator>(
     out: &mut Vec<u8, A>,
     number: u64,
     frame: &FrameView<'_>,
@@ -72,14 +72,17 @@ fn put_head<A: Allocator>(
         (decimal number ++ (apdu_word (apdu_of {A = Unit {0}} frame.now.apdu) ++ envelope_text (frame_of {A = Unit {0}} frame.now))) }
 {
     let mut text = ShortText::new();
-    put_envelope(&mut text, frame);
-    put_kind(&mut text, &frame.apdu);
+    prepend_envelope_text(&mut text, frame);
+    prepend_apdu_word(&mut text, &frame.apdu);
     text.put_decimal(number);
     text.append_to(out)
 }
 
 // Appends the fields of a GOOSE APDU from its time up to ndsCom, and the space before its members.
-fn put_state<A: Allocator>(out: &mut Vec<u8, A>, goose: &GooseView<'_>) -> Result<(), AllocError>
+fn put_goose_state_text<A: Allocator>(
+    out: &mut Vec<u8, A>,
+    goose: &GooseView<'_>,
+) -> Result<(), AllocError>
     ensures { AppendsText result out.old.items out.new.items (concat (codes " t=" ∷ time_text goose.now.t
         ∷ (codes " st=" ++ decimal goose.now.st_num) ∷ (codes " sq=" ++ decimal goose.now.sq_num)
         ∷ (codes " sim=" ++ boolean_text goose.now.simulation) ∷ (codes " rev=" ++ decimal goose.now.conf_rev)
@@ -97,35 +100,38 @@ fn put_state<A: Allocator>(out: &mut Vec<u8, A>, goose: &GooseView<'_>) -> Resul
     text.put(b" sq=");
     text.put_decimal(goose.st_num as u64);
     text.put(b" st=");
-    text.put_time(goose.t);
+    text.put_utc(goose.t);
     text.put(b" t=");
     text.append_to(out)
 }
 
 // Appends the fields of a GOOSE APDU.
-fn put_goose<A: Allocator>(out: &mut Vec<u8, A>, goose: &GooseView<'_>) -> Result<(), AllocError>
+fn put_goose_text<A: Allocator>(
+    out: &mut Vec<u8, A>,
+    goose: &GooseView<'_>,
+) -> Result<(), AllocError>
     ensures { AppendsText result out.old.items out.new.items (goose_text (pdu_of {A = Unit {0}} goose.now)) }
 {
     put_text(out, b" ref=", goose.gocb_ref)?;
     put_number(out, b" live=", goose.live)?;
     put_text(out, b" set=", goose.dat_set)?;
     put_optional(out, b" id=", goose.go_id)?;
-    put_state(out, goose)?;
+    put_goose_state_text(out, goose)?;
     put_members_text(out, goose.members)
 }
 
 // Appends the APDU.
-fn put_apdu<A: Allocator>(out: &mut Vec<u8, A>, apdu: &ApduView<'_>) -> Result<(), AllocError>
+fn put_apdu_text<A: Allocator>(out: &mut Vec<u8, A>, apdu: &ApduView<'_>) -> Result<(), AllocError>
     ensures { AppendsText result out.old.items out.new.items (apdu_text (apdu_of {A = Unit {0}} apdu.now)) }
 {
     match apdu {
-        ApduView::Goose(goose) => put_goose(out, goose),
-        ApduView::Sampled(sampled) => put_sampled(out, sampled),
+        ApduView::Goose(goose) => put_goose_text(out, goose),
+        ApduView::Sampled(sampled) => put_sampled_text(out, sampled),
     }
 }
 
 // Appends the octets behind the APDU, and the end of the line.
-fn put_end<A: Allocator>(out: &mut Vec<u8, A>, trailer: &[u8]) -> Result<(), AllocError>
+fn put_frame_end<A: Allocator>(out: &mut Vec<u8, A>, trailer: &[u8]) -> Result<(), AllocError>
     ensures { AppendsText result out.old.items out.new.items (codes " trailer=" ++ trailer_text trailer.now ++ codes "\n") }
 {
     match trailer {
@@ -138,14 +144,14 @@ fn put_end<A: Allocator>(out: &mut Vec<u8, A>, trailer: &[u8]) -> Result<(), All
 }
 
 /// Appends the line of a frame.
-pub fn put_frame<A: Allocator>(
+pub fn put_frame_line<A: Allocator>(
     out: &mut Vec<u8, A>,
     number: u64,
     frame: &FrameView<'_>,
 ) -> Result<(), AllocError>
     ensures { AppendsText result out.old.items out.new.items (frame_line number (frame_of {A = Unit {0}} frame.now)) }
 {
-    put_head(out, number, frame)?;
-    put_apdu(out, &frame.apdu)?;
-    put_end(out, frame.trailer)
+    put_frame_head(out, number, frame)?;
+    put_apdu_text(out, &frame.apdu)?;
+    put_frame_end(out, frame.trailer)
 }

@@ -10,7 +10,7 @@ ghost use Rattle.object_core.specs.Objects.{AppendsSome, opened};
 ghost use Rattle.frame_engines.specs.FrameObject.{IsFrameObject, apdu_kind, envelope_fields, tag_value, trailer_value};
 ghost use Rattle.frame_engines.specs.computed.ObjectFields.{AreApduTexts, AreGooseTexts, next_fields};
 
-use crate::texts::sampled_object::put_sampled_object;
+use crate::texts::sampled_object::put_sampled_fields;
 use frame_core::{ApduView, FrameView, VlanTag};
 use object_core::Counted;
 use object_core::event::put_event_head;
@@ -24,7 +24,7 @@ use text_core::short::ShortText;
 
 // Puts the control of a tag in front, or null.
 #[inline(always)]
-fn put_tag_value(text: &mut ShortText, tag: Option<VlanTag>)
+fn prepend_tag_value(text: &mut ShortText, tag: Option<VlanTag>)
     requires { length text.old + 6 ≤ 160 }
     ensures text { text.new ≡ tag_value tag ++ text.old }
     ensures size { length text.new ≤ length text.old + 6 }
@@ -54,7 +54,7 @@ fn put_envelope_fields<A: Allocator>(
     text.put(b"\",\"reserved1\":\"");
     text.put_four_digits(frame.app_id);
     text.put(b",\"appid\":\"");
-    put_tag_value(&mut text, frame.tag);
+    prepend_tag_value(&mut text, frame.tag);
     text.put(b"\",\"tag\":");
     text.put_hexadecimal(&frame.source);
     text.put(b"\",\"source\":\"");
@@ -64,7 +64,7 @@ fn put_envelope_fields<A: Allocator>(
 }
 
 // Appends the fields of a GOOSE APDU from its status number up to ndsCom, and the name of its members.
-fn put_state_fields<A: Allocator>(
+fn put_goose_state_fields<A: Allocator>(
     out: &mut Vec<u8, A>,
     goose: &GooseView<'_>,
 ) -> Result<(), AllocError>
@@ -99,7 +99,7 @@ fn put_goose_fields<A: Allocator>(
     put_text(out, b",\"datSet\":", goose.dat_set)?;
     put_field_text_if(out, b",\"goID\":", goose.go_id)?;
     put_time_fields(out, b",\"t\":", b",\"tTime\":", b",\"tQuality\":", goose.t)?;
-    put_state_fields(out, goose)?;
+    put_goose_state_fields(out, goose)?;
     put_members_object(out, goose.members)
 }
 
@@ -112,13 +112,13 @@ fn put_apdu_fields<A: Allocator>(
 {
     match apdu {
         ApduView::Goose(goose) => put_goose_fields(out, goose),
-        ApduView::Sampled(sampled) => put_sampled_object(out, sampled),
+        ApduView::Sampled(sampled) => put_sampled_fields(out, sampled),
     }
 }
 
 // Appends what the object of a frame begins with.
 #[inline(always)]
-fn put_head<A: Allocator>(
+fn put_frame_object_head<A: Allocator>(
     out: &mut Vec<u8, A>,
     counted: Counted,
     number: u64,
@@ -134,7 +134,10 @@ fn put_head<A: Allocator>(
 }
 
 // Appends the octets behind the APDU, and the end of the object and of its line.
-fn put_end<A: Allocator>(out: &mut Vec<u8, A>, trailer: &[u8]) -> Result<(), AllocError>
+fn put_frame_object_end<A: Allocator>(
+    out: &mut Vec<u8, A>,
+    trailer: &[u8],
+) -> Result<(), AllocError>
     ensures { AppendsText result out.old.items out.new.items (codes ",\"trailer\":" ++ trailer_value trailer.now ++ codes "}\n") }
 {
     match trailer {
@@ -158,8 +161,8 @@ pub fn put_frame_object<A: Allocator>(
 ) -> Result<(), AllocError>
     ensures { AppendsSome result out.old.items out.new.items (IsFrameObject counted number moment (frame_of {A = Unit {0}} frame.now)) }
 {
-    put_head(out, counted, number, moment, &frame.apdu)?;
+    put_frame_object_head(out, counted, number, moment, &frame.apdu)?;
     put_envelope_fields(out, frame)?;
     put_apdu_fields(out, &frame.apdu)?;
-    put_end(out, frame.trailer)
+    put_frame_object_end(out, frame.trailer)
 }

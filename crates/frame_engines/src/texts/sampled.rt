@@ -14,7 +14,10 @@ use text_core::fields::{put_octets, put_octets_if, put_optional, put_text};
 use text_core::short::ShortText;
 
 // Appends the fields of an ASDU between its data set and its sample.
-fn put_counts<A: Allocator>(out: &mut Vec<u8, A>, asdu: &AsduView<'_>) -> Result<(), AllocError>
+fn put_counts_text<A: Allocator>(
+    out: &mut Vec<u8, A>,
+    asdu: &AsduView<'_>,
+) -> Result<(), AllocError>
     ensures { AppendsText result out.old.items out.new.items (concat ((codes " cnt=" ++ decimal asdu.now.smp_cnt) ∷ (codes " rev=" ++ decimal asdu.now.conf_rev)
         ∷ (codes " t=" ++ time_or_dash asdu.now.refr_tm) ∷ (codes " synch=" ++ decimal asdu.now.smp_synch) ∷ (codes " rate=" ++ decimal_or_dash asdu.now.smp_rate) ∷ [])) }
 {
@@ -23,7 +26,7 @@ fn put_counts<A: Allocator>(out: &mut Vec<u8, A>, asdu: &AsduView<'_>) -> Result
     text.put(b" rate=");
     text.put_decimal(asdu.smp_synch as u64);
     text.put(b" synch=");
-    text.put_time_if(asdu.refr_tm);
+    text.put_utc_if(asdu.refr_tm);
     text.put(b" t=");
     text.put_decimal(asdu.conf_rev as u64);
     text.put(b" rev=");
@@ -33,7 +36,7 @@ fn put_counts<A: Allocator>(out: &mut Vec<u8, A>, asdu: &AsduView<'_>) -> Result
 }
 
 // Appends the last fields of an ASDU, which are absent from nearly all.
-fn put_end<A: Allocator>(out: &mut Vec<u8, A>, asdu: &AsduView<'_>) -> Result<(), AllocError>
+fn put_asdu_end<A: Allocator>(out: &mut Vec<u8, A>, asdu: &AsduView<'_>) -> Result<(), AllocError>
     ensures { AppendsText result out.old.items out.new.items (concat ((codes " mod=" ++ octets_or_dash (octets_if asdu.now.smp_mod))
         ∷ (codes " f89=" ++ octets_or_dash (octets_if asdu.now.field_89)) ∷ codes ")" ∷ [])) }
 {
@@ -48,48 +51,51 @@ fn put_end<A: Allocator>(out: &mut Vec<u8, A>, asdu: &AsduView<'_>) -> Result<()
 }
 
 // Appends the text of an ASDU.
-fn put_asdu<A: Allocator>(out: &mut Vec<u8, A>, asdu: &AsduView<'_>) -> Result<(), AllocError>
+fn put_asdu_text<A: Allocator>(out: &mut Vec<u8, A>, asdu: &AsduView<'_>) -> Result<(), AllocError>
     ensures { AppendsText result out.old.items out.new.items (asdu_text (asdu_of {A = Unit {0}} asdu.now)) }
 {
     put_text(out, b"(id=", asdu.sv_id)?;
     put_optional(out, b" set=", asdu.dat_set)?;
-    put_counts(out, asdu)?;
+    put_counts_text(out, asdu)?;
     put_octets(out, b" sample=", asdu.sample)?;
-    put_end(out, asdu)
+    put_asdu_end(out, asdu)
 }
 
 // Appends the texts of ASDUs, divided by one space.
-fn put_spaced<A: Allocator>(out: &mut Vec<u8, A>, asdus: Asdus<'_>) -> Result<(), AllocError>
+fn put_asdu_texts<A: Allocator>(out: &mut Vec<u8, A>, asdus: Asdus<'_>) -> Result<(), AllocError>
     ensures { AppendsText result out.old.items out.new.items (spaced asdu_text (asdus_left {A = Unit {0}} asdus.entry)) }
 {
     let mut others = asdus;
     let Some(first) = others.next() else {
         return Ok(());
     };
-    put_asdu(out, &first)?;
-    put_others(out, others)
+    put_asdu_text(out, &first)?;
+    put_other_asdu_texts(out, others)
 }
 
 // Appends the text of each ASDU after a space.
-fn put_others<A: Allocator>(out: &mut Vec<u8, A>, others: Asdus<'_>) -> Result<(), AllocError>
+fn put_other_asdu_texts<A: Allocator>(
+    out: &mut Vec<u8, A>,
+    others: Asdus<'_>,
+) -> Result<(), AllocError>
     ensures { AppendsText result out.old.items out.new.items (flat_map (after_space asdu_text) (asdus_left {A = Unit {0}} others.entry)) }
 {
     for asdu in others {
         out.push(b' ')?;
-        put_asdu(out, &asdu)?;
+        put_asdu_text(out, &asdu)?;
     }
     Ok(())
 }
 
 /// Appends the ASDUs of an APDU.
-pub fn put_sampled<A: Allocator>(
+pub fn put_sampled_text<A: Allocator>(
     out: &mut Vec<u8, A>,
     sampled: &SvView<'_>,
 ) -> Result<(), AllocError>
     ensures { AppendsText result out.old.items out.new.items (sv_text (sv_of {A = Unit {0}} sampled.now)) }
 {
     out.extend_from_slice(b" {")?;
-    put_spaced(out, sampled.asdus)?;
+    put_asdu_texts(out, sampled.asdus)?;
     out.push(b'}')?;
     Ok(())
 }

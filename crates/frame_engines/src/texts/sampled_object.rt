@@ -38,7 +38,10 @@ fn put_refresh_fields<A: Allocator>(
 }
 
 // Appends the fields of an ASDU between its data set and its sample.
-fn put_counts<A: Allocator>(out: &mut Vec<u8, A>, asdu: &AsduView<'_>) -> Result<(), AllocError>
+fn put_counts_fields<A: Allocator>(
+    out: &mut Vec<u8, A>,
+    asdu: &AsduView<'_>,
+) -> Result<(), AllocError>
     ensures { AppendsText result out.old.items out.new.items (concat ((codes ",\"smpCnt\":" ++ decimal asdu.now.smp_cnt) ∷ (codes ",\"confRev\":" ++ decimal asdu.now.conf_rev)
         ∷ next_fields (refresh_fields asdu.now.refr_tm) ∷ (codes ",\"smpSynch\":" ++ decimal asdu.now.smp_synch) ∷ (codes ",\"smpRate\":" ++ decimal_or_null asdu.now.smp_rate) ∷ [])) }
 {
@@ -50,7 +53,10 @@ fn put_counts<A: Allocator>(out: &mut Vec<u8, A>, asdu: &AsduView<'_>) -> Result
 }
 
 // Appends the last fields of an ASDU, which are absent from nearly all, and the end of its object.
-fn put_end<A: Allocator>(out: &mut Vec<u8, A>, asdu: &AsduView<'_>) -> Result<(), AllocError>
+fn put_asdu_object_end<A: Allocator>(
+    out: &mut Vec<u8, A>,
+    asdu: &AsduView<'_>,
+) -> Result<(), AllocError>
     ensures { AppendsText result out.old.items out.new.items (concat ((codes ",\"smpMod\":" ++ octets_or_null (octets_if asdu.now.smp_mod))
         ∷ (codes ",\"field89\":" ++ octets_or_null (octets_if asdu.now.field_89)) ∷ codes "}" ∷ [])) }
 {
@@ -73,13 +79,13 @@ fn put_asdu_object<A: Allocator>(
 {
     put_text(out, b"{\"svID\":", asdu.sv_id)?;
     put_field_text_if(out, b",\"datSet\":", asdu.dat_set)?;
-    put_counts(out, asdu)?;
+    put_counts_fields(out, asdu)?;
     put_field_octets(out, b",\"sample\":", asdu.sample)?;
-    put_end(out, asdu)
+    put_asdu_object_end(out, asdu)
 }
 
 // Appends the objects of ASDUs, divided by commas.
-fn put_divided<A: Allocator>(out: &mut Vec<u8, A>, asdus: Asdus<'_>) -> Result<(), AllocError>
+fn put_asdu_objects<A: Allocator>(out: &mut Vec<u8, A>, asdus: Asdus<'_>) -> Result<(), AllocError>
     ensures { AppendsText result out.old.items out.new.items (join_with_byte 44 (map asdu_object (asdus_left {A = Unit {0}} asdus.entry))) }
 {
     let mut others = asdus;
@@ -87,11 +93,14 @@ fn put_divided<A: Allocator>(out: &mut Vec<u8, A>, asdus: Asdus<'_>) -> Result<(
         return Ok(());
     };
     put_asdu_object(out, &first)?;
-    put_others(out, others)
+    put_other_asdu_objects(out, others)
 }
 
 // Appends the object of each ASDU behind a comma.
-fn put_others<A: Allocator>(out: &mut Vec<u8, A>, others: Asdus<'_>) -> Result<(), AllocError>
+fn put_other_asdu_objects<A: Allocator>(
+    out: &mut Vec<u8, A>,
+    others: Asdus<'_>,
+) -> Result<(), AllocError>
     ensures { AppendsText result out.old.items out.new.items (flat_map (after_comma asdu_object) (asdus_left {A = Unit {0}} others.entry)) }
 {
     for asdu in others {
@@ -102,14 +111,14 @@ fn put_others<A: Allocator>(out: &mut Vec<u8, A>, others: Asdus<'_>) -> Result<(
 }
 
 /// Appends the field of the ASDUs of an APDU.
-pub fn put_sampled_object<A: Allocator>(
+pub fn put_sampled_fields<A: Allocator>(
     out: &mut Vec<u8, A>,
     sampled: &SvView<'_>,
 ) -> Result<(), AllocError>
     ensures { AppendsText result out.old.items out.new.items (next_fields ((codes "asdus", array (map asdu_object (sv_of {A = Unit {0}} sampled.now).asdus)) ∷ [])) }
 {
     out.extend_from_slice(b",\"asdus\":[")?;
-    put_divided(out, sampled.asdus)?;
+    put_asdu_objects(out, sampled.asdus)?;
     out.push(b']')?;
     Ok(())
 }

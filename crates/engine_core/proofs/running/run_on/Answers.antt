@@ -5,7 +5,7 @@ use Rattle.engine_core.proofs.running.run_on.Goals as goal
 
 pub returns-in-Err-clause-text : goal.returns-in-Err-clause-text
 returns-in-Err-clause-text g c =
-    rw (c.stopped.ensures.ending, c.stopped.ensures.fault)
+    rw (c.ended_by.ensures.ending, c.ended_by.ensures.fault)
     (not_begun _ _ _ _ _ _ _ (rw (← c.requires.first) c.in-Err.ensures.written.1))
 
 pub answers-init : goal.answers-init
@@ -42,4 +42,4 @@ returns-in-Stop-clause-text g c =
     let s = c.in-Stop.ensures.step in
     let w = stops_alike g.F.InputFault.refused _ _ c.answers.invariant.same p.0 s.0 c.in-Stop.halt _ _ (s.2 p.0 p.1) in
     let r = stopped _ _ _ _ _ _ _ p.0 _ _ _ _ _ (rw c.requires.first at c.in-Ok.ensures.written) p.2 s.0 s.1 _ w in
-    rw (c.stopped-in-Stop.ensures.ending, c.stopped-in-Stop.ensures.fault) r
+    rw (c.ended_by-in-Stop.ensures.ending, c.ended_by-in-Stop.ensures.fault) r

@@ -7,7 +7,7 @@ use Rattle.object_core.proofs.members.+objects.Goals as goal
 
 pub put_members_object-returns : goal.put_members_object-returns
 put_members_object-returns g t c =
-    members_written _ _ _ _ _ _ _ c.in-Some.ensures.steps.0 c.in_ok-put_member.ensures c.in_ok-put_others.ensures c.in_ok-push.ensures.items
+    members_written _ _ _ _ _ _ _ c.in-Some.ensures.steps.0 c.in_ok-put_member_object.ensures c.in_ok-put_others.ensures c.in_ok-push.ensures.items
 
 pub put_others-members-init : goal.put_others-members-init
 put_others-members-init g t c = record {
@@ -30,7 +30,7 @@ put_others-members-preserved-in-Some g t c =
 pub put_others-members-preserved : goal.put_others-members-preserved
 put_others-members-preserved g t c =
     let split = ap left (sym c.in_default.ensures.found) ∙ c.in-Some-next.ensures.steps.0 in
-    let put = c.in_ok-put_member.ensures in
+    let put = c.in_ok-put_member_object.ensures in
     let weights = ap weight_of_all split in
     record {
       kept = kept_more c.args.out.now.items c.members.out.items _ _ c.members.invariant.kept put.1;

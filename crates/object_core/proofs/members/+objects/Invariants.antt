@@ -7,14 +7,14 @@ use Rattle.object_core.proofs.members.+objects.Given as goal
 abbrev pub decreases-put_members_object : goal.decreases-put_members_object
 decreases-put_members_object g l = 4 * weight_of_all (left l.members) + 1
 
-abbrev pub decreases-put_member : goal.decreases-put_member
-decreases-put_member g l = 4 * weight (meaning l.view.now) + 4
+abbrev pub decreases-put_member_object : goal.decreases-put_member_object
+decreases-put_member_object g l = 4 * weight (meaning l.view.now) + 4
 
-abbrev pub decreases-put_array : goal.decreases-put_array
-decreases-put_array g l = 4 * weight_of_all (left l.members.now) + 2
+abbrev pub decreases-put_array_object : goal.decreases-put_array_object
+decreases-put_array_object g l = 4 * weight_of_all (left l.members.now) + 2
 
-abbrev pub decreases-put_structure : goal.decreases-put_structure
-decreases-put_structure g l = 4 * weight_of_all (left l.members.now) + 2
+abbrev pub decreases-put_structure_object : goal.decreases-put_structure_object
+decreases-put_structure_object g l = 4 * weight_of_all (left l.members.now) + 2
 
 abbrev pub decreases-put_others : goal.decreases-put_others
 decreases-put_others g l = 4 * weight_of_all (left l.others) + 1

@@ -10,21 +10,21 @@ use Rattle.object_core.proofs.MemberTexts.{finished, kept_more, members_written,
 use Rattle.object_core.proofs.OwnedMembers.{split_at}
 use Rattle.object_core.proofs.owned.+owned.Goals as goal
 
-pub put_others-put_value-requires : goal.put_others-put_value-requires
-put_others-put_value-requires g t c κs within =
+pub put_others-put_value_object-requires : goal.put_others-put_value_object-requires
+put_others-put_value_object-requires g t c κs within =
     let v = c.value-item.result in
     let small : weight (data_of v) + 1 ≤ weight_of_all (datas c.args.others.now) = rw c.value-item.is (weight_at c.args.others.now c.loop-value.value-index v c.loop-value-test.true) in
     let dec = c.decreases in
     (omega (arith, small, dec), within)
 
-pub put_others-returns-in_err-put_value : goal.put_others-returns-in_err-put_value
-put_others-returns-in_err-put_value g t c =
+pub put_others-returns-in_err-put_value_object : goal.put_others-returns-in_err-put_value_object
+put_others-returns-in_err-put_value_object g t c =
     let p = err_from_is_err_and c.from_residual.result c.from_residual.ensures.1 in
-    rw p.1 (front_twice c.args.out.now.items c.loop-value.out.items c.put_value.new.out.items c.loop-value.invariant.kept c.in_err-put_value.ensures)
+    rw p.1 (front_twice c.args.out.now.items c.loop-value.out.items c.put_value_object.new.out.items c.loop-value.invariant.kept c.in_err-put_value_object.ensures)
 
 pub put_others-loop-value-preserved : goal.put_others-loop-value-preserved
 put_others-loop-value-preserved g t c =
-    let put = c.in_ok-put_value.ensures in
+    let put = c.in_ok-put_value_object.ensures in
     let split = split_at c.args.others.now c.loop-value.value-index c.value-item.result c.loop-value-test.true c.value-item.is in
     record {
       within = omega arith;
@@ -39,5 +39,5 @@ put_others-returns g t c =
 
 pub put_values_object-returns : goal.put_values_object-returns
 put_values_object-returns g t c =
-    members_written _ _ _ _ _ _ _ (sym c.as_slice.ensures ∙ ap (λ (vs : List (Value g.row.A.Denot)). datas vs) c.in-Some.ensures.cases.0) c.in_ok-put_value.ensures c.in_ok-put_others.ensures
+    members_written _ _ _ _ _ _ _ (sym c.as_slice.ensures ∙ ap (λ (vs : List (Value g.row.A.Denot)). datas vs) c.in-Some.ensures.cases.0) c.in_ok-put_value_object.ensures c.in_ok-put_others.ensures
     c.in_ok-push.ensures.items

@@ -11,14 +11,14 @@ invariant-put_others-loop-value g l = record {
   so_far : Continues l.initial.out.items (datas l.others) l.out.items (datas (drop l.value-index l.others));
 }
 
-abbrev pub decreases-put_value : goal.decreases-put_value
-decreases-put_value g l = 4 * weight (data_of l.value.now) + 3
+abbrev pub decreases-put_value_object : goal.decreases-put_value_object
+decreases-put_value_object g l = 4 * weight (data_of l.value.now) + 3
 
-abbrev pub decreases-put_array : goal.decreases-put_array
-decreases-put_array g l = 4 * weight_of_all l.values.now + 2
+abbrev pub decreases-put_array_object : goal.decreases-put_array_object
+decreases-put_array_object g l = 4 * weight_of_all l.values.now + 2
 
-abbrev pub decreases-put_structure : goal.decreases-put_structure
-decreases-put_structure g l = 4 * weight_of_all l.values.now + 2
+abbrev pub decreases-put_structure_object : goal.decreases-put_structure_object
+decreases-put_structure_object g l = 4 * weight_of_all l.values.now + 2
 
 abbrev pub decreases-put_values_object : goal.decreases-put_values_object
 decreases-put_values_object g l = 4 * weight_of_all l.values.now + 1

@@ -12,8 +12,8 @@ invariant-put_others-loop-value g l = record {
   text : l.out.items ≡ l.initial.out.items ++ flat_map (after_space value_text) (datas (take l.value-index l.others));
 }
 
-abbrev pub decreases-put_value : goal.decreases-put_value
-decreases-put_value g l = 3 * weight (data_of l.value.now) + 2
+abbrev pub decreases-put_value_text : goal.decreases-put_value_text
+decreases-put_value_text g l = 3 * weight (data_of l.value.now) + 2
 
 abbrev pub decreases-put_between : goal.decreases-put_between
 decreases-put_between g l = 3 * weight_of_all l.values.now + 1

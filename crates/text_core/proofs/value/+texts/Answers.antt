@@ -4,4 +4,4 @@ use Rattle.text_core.proofs.value.+texts.Goals as goal
 
 pub put_between-returns : goal.put_between-returns
 put_between-returns g t c =
-    between-written value_text c.args.before c.args.after _ _ _ _ _ _ _ c.in-Some.ensures.steps.0 c.in_ok-put_member.ensures c.in_ok-put_others.ensures c.in_ok-push.ensures.items
+    between-written value_text c.args.before c.args.after _ _ _ _ _ _ _ c.in-Some.ensures.steps.0 c.in_ok-put_member_text.ensures c.in_ok-put_others.ensures c.in_ok-push.ensures.items

@@ -9,8 +9,8 @@ use Rattle.text_core.proofs.value.+texts.Given as goal
 abbrev pub decreases-put_between : goal.decreases-put_between
 decreases-put_between g l = 4 * weight_of_all (left l.members) + 1
 
-abbrev pub decreases-put_member : goal.decreases-put_member
-decreases-put_member g l = 4 * weight (meaning l.view.now) + 4
+abbrev pub decreases-put_member_text : goal.decreases-put_member_text
+decreases-put_member_text g l = 4 * weight (meaning l.view.now) + 4
 
 abbrev pub decreases-put_nested : goal.decreases-put_nested
 decreases-put_nested g l = 4 * weight_of_all (left l.members.now) + 2

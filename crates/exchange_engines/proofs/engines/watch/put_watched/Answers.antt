@@ -6,7 +6,7 @@ use Rattle.exchange_engines.proofs.engines.watch.put_watched.Goals as goal
 pub returns-in-Sampled-clause-quiet : goal.returns-in-Sampled-clause-quiet
 returns-in-Sampled-clause-quiet g c = λ none.
     let no = no_samples c.args.watch.now.period (telling_at c.args.heading) (each_told c.args.heading.form c.args.heading.number c.args.heading.moment) c.args.id.now c.args.watch.now.last c.args.kind.now none in
-    c.put_asdus.ensures.quiet (rw (c.in-Frame.is, ← c.as_slice.ensures, c.in-Ok.ensures.exact, c.in-Sampled.is) at no)
+    c.put_asdu_samples.ensures.quiet (rw (c.in-Frame.is, ← c.as_slice.ensures, c.in-Ok.ensures.exact, c.in-Sampled.is) at no)
 
 pub returns-in_err-put_told_fault-in-Err-clause-quiet : goal.returns-in_err-put_told_fault-in-Err-clause-quiet
 returns-in_err-put_told_fault-in-Err-clause-quiet g c = λ none.

@@ -15,7 +15,7 @@ pub loop-entry-preserved : goal.loop-entry-preserved
 loop-entry-preserved g c =
     let h = c.args.heading.now in
     let i = c.loop-entry.invariant.text in
-    let w = c.in_ok-put_entry.ensures in
+    let w = c.in_ok-put_entry_object.ensures in
     let at = c.loop-entry.entry-index in
     let entry = c.entry-item.result in
     let seen = take at c.args.entries.now in
@@ -29,10 +29,10 @@ loop-entry-preserved g c =
       );
     }
 
-pub returns-in_err-put_entry-clause-text : goal.returns-in_err-put_entry-clause-text
-returns-in_err-put_entry-clause-text g c =
+pub returns-in_err-put_entry_object-clause-text : goal.returns-in_err-put_entry_object-clause-text
+returns-in_err-put_entry_object-clause-text g c =
     let p = err_from_is_err_and c.from_residual.result c.from_residual.ensures.1 in
-    rw p.1 (grown _ c.loop-entry.out.items _ _ c.loop-entry.invariant.text.1 c.in_err-put_entry.ensures)
+    rw p.1 (grown _ c.loop-entry.out.items _ _ c.loop-entry.invariant.text.1 c.in_err-put_entry_object.ensures)
 
 pub returns-clause-text : goal.returns-clause-text
 returns-clause-text g c =

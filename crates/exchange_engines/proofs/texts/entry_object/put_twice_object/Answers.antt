@@ -14,5 +14,5 @@ returns g c =
     let error : Field = (codes "error", in_quotes (codes "SameBlockTwice")) in
     let block = block_fields c.args.blocks.now c.args.position in
     let end = codes ",\"error\":\"SameBlockTwice\"}\n" in
-    ended c.extend_from_slice-2.result _ _ _ kind [] block (error ∷ []) (then_text _ (opened (kind ∷ [])) (onward block) (opened (kind ∷ []) ++ onward block) _ _ c.in_ok-extend_from_slice.ensures.items c.in_ok-put_block.ensures refl)
+    ended c.extend_from_slice-2.result _ _ _ kind [] block (error ∷ []) (then_text _ (opened (kind ∷ [])) (onward block) (opened (kind ∷ []) ++ onward block) _ _ c.in_ok-extend_from_slice.ensures.items c.in_ok-put_block_fields.ensures refl)
     (appended _ _ _ end end c.extend_from_slice-2.ensures.items refl)

@@ -8,11 +8,11 @@ returns-in-Err-clause-text g c = not_begun _ _ _ _ c.in-Err.ensures.written.1
 
 pub returns-in-Err-read_header-clause-text : goal.returns-in-Err-read_header-clause-text
 returns-in-Err-read_header-clause-text g c =
-    rw (c.ending_at_halt.ensures.ending, c.ending_at_halt.ensures.fault) (bad_header _ _ _ _ c.in-Err-read_header.fault _ _ _ _ c.in-Err-read_header.ensures.header c.in-Ok.ensures.written (c.answer_fault.ensures.writes 0))
+    rw (c.ended_by.ensures.ending, c.ended_by.ensures.fault) (bad_header _ _ _ _ c.in-Err-read_header.fault _ _ _ _ c.in-Err-read_header.ensures.header c.in-Ok.ensures.written (c.answer_fault.ensures.writes 0))
 
 pub returns-in-Err-read_header-clause-read_fault : goal.returns-in-Err-read_header-clause-read_fault
 returns-in-Err-read_header-clause-read_fault g c = λ e.
-    c.in-Err-read_header.ensures.failed (read_failed 0 _ _ _ _ (c.answer_fault.ensures.writes 0) (sym c.ending_at_halt.ensures.ending ∙ e))
+    c.in-Err-read_header.ensures.failed (read_failed 0 _ _ _ _ (c.answer_fault.ensures.writes 0) (sym c.ended_by.ensures.ending ∙ e))
 
 pub records-init : goal.records-init
 records-init g c = record {
@@ -49,4 +49,4 @@ pub returns-in-Stop-clause-text : goal.returns-in-Stop-clause-text
 returns-in-Stop-clause-text g c =
     let so_far = c.records.invariant.so_far in
     let step = c.in-Stop.ensures.step in
-    rw (c.ending_at_halt-in-Stop.ensures.ending, c.ending_at_halt-in-Stop.ensures.fault) (import_stopped c.in-Ok-read_header.form _ _ _ _ _ _ so_far.0 c.records.count _ _ _ _ so_far.1 c.in-Ok.ensures.written so_far.2 step.0 c.in-Stop.halt step.1 step.2)
+    rw (c.ended_by-in-Stop.ensures.ending, c.ended_by-in-Stop.ensures.fault) (import_stopped c.in-Ok-read_header.form _ _ _ _ _ _ so_far.0 c.records.count _ _ _ _ so_far.1 c.in-Ok.ensures.written so_far.2 step.0 c.in-Stop.halt step.1 step.2)

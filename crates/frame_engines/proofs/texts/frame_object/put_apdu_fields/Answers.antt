@@ -17,4 +17,4 @@ pub returns-in-Goose : goal.returns-in-Goose
 returns-in-Goose g c = rw c.in-Goose.is (of_goose c.put_goose_fields.result _ _ (pdu_of {A = Unit {0}} c.in-Goose.goose) c.put_goose_fields.ensures)
 
 pub returns-in-Sampled : goal.returns-in-Sampled
-returns-in-Sampled g c = rw c.in-Sampled.is (exactly c.put_sampled_object.result _ _ _ (AreApduTexts (apdu.Sampled (sv_of {A = Unit {0}} c.in-Sampled.sampled))) (_, refl, refl) c.put_sampled_object.ensures)
+returns-in-Sampled g c = rw c.in-Sampled.is (exactly c.put_sampled_fields.result _ _ _ (AreApduTexts (apdu.Sampled (sv_of {A = Unit {0}} c.in-Sampled.sampled))) (_, refl, refl) c.put_sampled_fields.ensures)

@@ -16,7 +16,7 @@ returns g c =
     before (codes "\",\"source\":\"") c.put-6.ensures.text (
     in_quotes_before (encode_lower frame.source) c.put_hexadecimal.ensures.text (
     before (codes "\",\"tag\":") c.put-5.ensures.text (
-    before (tag_value frame.tag) c.put_tag_value.ensures.text (
+    before (tag_value frame.tag) c.prepend_tag_value.ensures.text (
     before (codes ",\"appid\":\"") c.put-4.ensures.text (
     in_quotes_before (four_digits frame.app_id) c.put_four_digits-3.ensures.text (
     before (codes "\",\"reserved1\":\"") c.put-3.ensures.text (

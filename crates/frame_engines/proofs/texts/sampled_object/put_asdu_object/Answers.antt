@@ -11,10 +11,10 @@ use Rattle.frame_engines.proofs.texts.sampled_object.put_asdu_object.Goals as go
 pub returns : goal.returns
 returns g c =
     let asdu = asdu_of {A = Unit {0}} c.args.asdu.now in
-    subst (λ (text : List ℕ). AppendsText c.put_end.result c.args.out.now.items c.put_end.new.out.items text) (object_pieces (first_field asdu) (front_fields asdu) (refresh_fields asdu.refr_tm) (end_fields asdu))
-    (row_then c.put_end.result _ _ _ (front_pieces asdu) (end_pieces asdu) (
+    subst (λ (text : List ℕ). AppendsText c.put_asdu_object_end.result c.args.out.now.items c.put_asdu_object_end.new.out.items text) (object_pieces (first_field asdu) (front_fields asdu) (refresh_fields asdu.refr_tm) (end_fields asdu))
+    (row_then c.put_asdu_object_end.result _ _ _ (front_pieces asdu) (end_pieces asdu) (
     more c.in_ok-put_text.ensures (
     more c.in_ok-put_field_text_if.ensures (
-    several (count_pieces asdu) c.in_ok-put_counts.ensures (
+    several (count_pieces asdu) c.in_ok-put_counts_fields.ensures (
     more c.in_ok-put_field_octets.ensures (
-    done refl))))) c.put_end.ensures)
+    done refl))))) c.put_asdu_object_end.ensures)

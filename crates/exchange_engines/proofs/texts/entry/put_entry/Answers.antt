@@ -1,4 +1,0 @@
-use Rattle.exchange_engines.proofs.texts.entry.put_entry.Goals as goal
-
-pub returns-in-NotSubscribed : goal.returns-in-NotSubscribed
-returns-in-NotSubscribed g c = rw c.in-NotSubscribed.is c.put_alone.ensures

@@ -1,6 +1,0 @@
-use Rattle.frame_engines.specs.SampledText.{asdu_text}
-use Rattle.text_core.proofs.Spaced.{spaced-written}
-use Rattle.frame_engines.proofs.texts.sampled.put_spaced.Goals as goal
-
-pub returns : goal.returns
-returns g c = spaced-written asdu_text c.put_others.result _ _ _ _ _ _ c.in-Some.ensures.steps.0 c.in_ok-put_asdu.ensures c.put_others.ensures
