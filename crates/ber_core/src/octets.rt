@@ -1,4 +1,4 @@
-// Octets in memory of their own.
+//! Octets in memory of their own.
 
 ghost use Rattle.std.specs.Prelude.{◌≡◌, [], IfOk, IsOk};
 

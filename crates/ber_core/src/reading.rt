@@ -1,4 +1,4 @@
-// Headers and integers, read from a slice. A header of one length octet is read without a call.
+//! Headers and integers, read from a slice. A header of one length octet is read without a call.
 
 ghost use Rattle.std.specs.Prelude.{◌≡◌, ◌≤◌, ◌<◌, ◌+◌, ◌^◌, ◌⊎◌, ℤ, Ok, Err, length, slice_index, slice_range, IfOk, IfErr, IsOk};
 ghost use Rattle.byteorder.specs.Endian.{big_number};

@@ -1,4 +1,4 @@
-// Headers and integers, appended in their written form.
+//! Headers and integers, appended in their written form.
 
 ghost use Rattle.std.specs.Prelude.{◌≡◌, ◌≤◌, ◌<◌, ◌+◌, ◌^◌, ◌-◌, ◌↔◌, ◌++◌, ◌≤ℤ◌, ◌<ℤ◌, pos, negsuc, length, IsOk, OnOk, OnErr};
 ghost use Rattle.arrayvec.specs.ArrayVec.{array_vec_len};

@@ -1,4 +1,4 @@
-// The control blocks that are subscribed to.
+//! The control blocks that are subscribed to.
 
 use ber_core::Octets;
 use std::alloc::Allocator;

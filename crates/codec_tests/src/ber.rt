@@ -1,4 +1,4 @@
-// Outside examples: headers and integers that stand in octets, and their written forms.
+//! Outside examples: headers and integers that stand in octets, and their written forms.
 
 use arrayvec::ArrayVec;
 use ber_core::{

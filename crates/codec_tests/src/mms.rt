@@ -1,4 +1,4 @@
-// Outside examples: values and faults of octets, and what has a written form.
+//! Outside examples: values and faults of octets, and what has a written form.
 
 mod memory;
 pub(crate) mod writing;

@@ -1,4 +1,4 @@
-// The APDUs of GOOSE and of Sampled Values.
+//! The APDUs of GOOSE and of Sampled Values.
 
 mod goose;
 mod goose_memory;

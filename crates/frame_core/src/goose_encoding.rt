@@ -1,4 +1,4 @@
-// Frames of GOOSE whose APDU is kept elsewhere, written in their one form.
+//! Frames of GOOSE whose APDU is kept elsewhere, written in their one form.
 
 ghost use Rattle.std.specs.Prelude.{◌≡◌, ◌≤◌, ◌<◌, ◌+◌, ◌↔◌, [], length, IfOk, OnOk, Err, is_ok};
 ghost use Rattle.arrayvec.specs.ArrayVec.{array_vec_len};

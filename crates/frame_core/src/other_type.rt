@@ -1,4 +1,4 @@
-// Frames of other protocols.
+//! Frames of other protocols.
 
 ghost use Rattle.std.specs.Prelude.{◌≡◌, ℕ, IfSome, IsSome, Some};
 ghost use Rattle.ber_core.specs.Faults.{fault_of};

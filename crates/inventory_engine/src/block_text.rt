@@ -1,4 +1,4 @@
-// The text that tells how a control block is configured.
+//! The text that tells how a control block is configured.
 
 ghost use Rattle.std.specs.Prelude.{◌≡◌, ◌++◌, codes};
 ghost use Rattle.std.specs.List.{concat, flat_map};

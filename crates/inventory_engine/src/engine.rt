@@ -1,4 +1,4 @@
-// `blocks`: which control blocks and streams a list holds.
+//! `blocks`: which control blocks and streams a list holds.
 
 ghost use Rattle.std.specs.Prelude.{◌≡◌, ℕ, List, false};
 ghost use Rattle.list_core.specs.declared.device.InputEnd.{InputEnd};

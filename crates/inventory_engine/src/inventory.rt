@@ -1,4 +1,4 @@
-// What is known, in the order of keys.
+//! What is known, in the order of keys.
 
 ghost use Rattle.std.specs.Prelude.{OnErr, OnOk};
 ghost use Rattle.std.specs.List.{flat_map};

@@ -1,4 +1,4 @@
-// The control blocks and streams that were seen, in order, each with the text that was written of it last.
+//! The control blocks and streams that were seen, in order, each with the text that was written of it last.
 
 ghost use Rattle.std.specs.Prelude.{◌≡◌, IfOk};
 ghost use Rattle.std.specs.List.{flat_map};

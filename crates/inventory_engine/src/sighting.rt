@@ -1,4 +1,4 @@
-// The lines of sightings.
+//! The lines of sightings.
 
 ghost use Rattle.std.specs.Prelude.{◌≡◌, ◌∷◌, ◌++◌, [], IfOk, OnErr, OnOk, Some, length, take};
 ghost use Rattle.std.specs.List.{flat_map};

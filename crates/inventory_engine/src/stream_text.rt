@@ -1,4 +1,4 @@
-// The text that tells how a stream is configured.
+//! The text that tells how a stream is configured.
 
 ghost use Rattle.std.specs.Prelude.{◌≡◌};
 ghost use Rattle.std.specs.List.{concat, flat_map};

@@ -1,4 +1,4 @@
-// Positions of entries that lie elsewhere, in the order of the entries' keys.
+//! Positions of entries that lie elsewhere, in the order of the entries' keys.
 
 ghost use Rattle.std.specs.Prelude.{◌≡◌};
 ghost use Rattle.known_core.specs.computed.Positions.{AnswersPosition, stands_at};

@@ -1,4 +1,4 @@
-// What entries are looked for by.
+//! What entries are looked for by.
 
 ghost use Rattle.std.specs.Prelude.{◌≡◌};
 ghost use Rattle.std.specs.declared.cmp.Ordering.{Ordering as SpecOrdering};

@@ -1,5 +1,5 @@
-// Entries in runs that stand in order over all of them. No run is empty, and one that is full is cut in two: so a place more
-// moves the entries of one run behind it, and not all that are held.
+//! Entries in runs that stand in order over all of them. No run is empty, and one that is full is cut in two: so a place more
+//! moves the entries of one run behind it, and not all that are held.
 
 ghost use Rattle.std.specs.Prelude.{◌≡◌, ℕ, ◌+◌, ◌-◌, ◌/◌, ◌<◌, ◌≤◌, max, [], ◌++◌, false, IfOk, IsTrue, OnErr, OnOk, Vec, drop, length, slice_index_or, take, vec_capacity};
 ghost use Rattle.std.specs.List.{insert};

@@ -1,4 +1,4 @@
-// How far the samples of a stream went on.
+//! How far the samples of a stream went on.
 
 ghost use Rattle.std.specs.Prelude.{◌≡◌, ◌+◌, ◌%◌, ◌<◌, ◌≤◌, IsTrue};
 ghost use Rattle.loss_core.specs.declared.advance.Advance.TheVariants.{Ahead};

@@ -1,4 +1,4 @@
-// What is missing between the newest pair of a sender and one above it.
+//! What is missing between the newest pair of a sender and one above it.
 
 ghost use Rattle.std.specs.Prelude.{◌≡◌, ◌≤◌};
 ghost use Rattle.loss_core.specs.Missing.{missing_between, sequences_from as first_sequence, span as span_is};

@@ -1,4 +1,4 @@
-// What comes of one sender: the frames of a control block that are real, or those that are simulated.
+//! What comes of one sender: the frames of a control block that are real, or those that are simulated.
 
 ghost use Rattle.std.specs.Prelude.{◌≡◌, ◌+◌, ◌++◌, ◌∷◌, [], List, Some};
 ghost use Rattle.loss_core.specs.Sender.{IsToldLast, StandsAfter, is_above as pair_is_above, is_newer, restarts, sets, standing_by, told_after, was_silent};

@@ -1,4 +1,4 @@
-// A sender, and what its frames come to.
+//! A sender, and what its frames come to.
 
 ghost use Rattle.std.specs.Prelude.{◌≡◌, ◌+◌, ◌-◌, ◌++◌, ◌∷◌, [], List, Some, max, if◌then◌else◌};
 ghost use Rattle.loss_core.specs.Sender.{IsToldLast, StandsAfter, sets, told_after};

@@ -1,4 +1,4 @@
-// What comes of one stream.
+//! What comes of one stream.
 
 ghost use Rattle.std.specs.Prelude.{◌≡◌, ◌<◌, ◌≤◌, ◌++◌, ◌∷◌, [], List, Some, None, min};
 ghost use Rattle.loss_core.specs.Stream.{IsSampleToldLast, by_advance as told_by};

@@ -1,4 +1,4 @@
-// A stream, and what its samples come to.
+//! A stream, and what its samples come to.
 
 ghost use Rattle.std.specs.Prelude.{◌≡◌, ◌+◌, ◌^◌, ◌<◌, ◌≤◌, ◌++◌, ◌∷◌, [], List, max};
 ghost use Rattle.loss_core.specs.SenderTotals.{kept, one_if};

@@ -1,4 +1,4 @@
-// The lines at the end of the input.
+//! The lines at the end of the input.
 
 ghost use Rattle.std.specs.Prelude.{◌≡◌, ℕ, ◌+◌, ◌<◌, ◌^◌, [], IfOk, IfSome, OnErr, length};
 ghost use Rattle.object_core.specs.declared.counted.Form.{Form};

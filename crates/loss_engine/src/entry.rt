@@ -1,4 +1,4 @@
-// What is kept of one sender or one stream.
+//! What is kept of one sender or one stream.
 
 ghost use Rattle.std.specs.Prelude.{◌≡◌, IfOk, Some, None};
 ghost use Rattle.loss_engine.specs.KeySaid.{key_said, stream_said};

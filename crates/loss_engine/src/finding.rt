@@ -1,4 +1,4 @@
-// What is told of a frame or of a sample.
+//! What is told of a frame or of a sample.
 
 use loss_core::{Pair, Span};
 

@@ -1,4 +1,4 @@
-// What tells senders and streams apart.
+//! What tells senders and streams apart.
 
 ghost use Rattle.std.specs.Prelude.{◌≡◌};
 ghost use Rattle.loss_engine.specs.KeySaid.{sender_said, stream_said};

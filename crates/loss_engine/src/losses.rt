@@ -1,4 +1,4 @@
-// What is kept of all senders and streams.
+//! What is kept of all senders and streams.
 
 ghost use Rattle.std.specs.Prelude.{◌≡◌, ◌∷◌, ◌++◌, ◌+◌, ◌*◌, ◌^◌, ◌<◌, ℕ, length, max, IfSome, [], IfOk, OnErr, OnOk, None, Some, slice_get};
 ghost use Rattle.loss_core.specs.Sender.{told_after};

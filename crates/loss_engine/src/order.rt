@@ -1,4 +1,4 @@
-// The order in which senders and streams are held.
+//! The order in which senders and streams are held.
 
 ghost use Rattle.std.specs.Prelude.{◌≡◌};
 ghost use Rattle.std.specs.Cmp.Lexicographic.{slice_cmp};

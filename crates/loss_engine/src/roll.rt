@@ -1,4 +1,4 @@
-// Senders and streams in the order of their first occurrence, each found by its key.
+//! Senders and streams in the order of their first occurrence, each found by its key.
 
 ghost use Rattle.std.specs.Prelude.{◌≡◌, ◌<◌, ◌++◌, ◌∷◌, [], IfSome, IsSome, IsTrue, None, OnErr, OnOk, Some, length, slice_get};
 ghost use Rattle.loss_core.specs.Sender.{told_after};

@@ -1,4 +1,4 @@
-// What is told of the frames of events, and kept of them.
+//! What is told of the frames of events, and kept of them.
 
 ghost use Rattle.std.specs.Prelude.{◌≡◌, ◌∷◌, [], IfOk, OnErr, length, map, take};
 ghost use Rattle.pdu_core.specs.SampledViews.{asdu_of, asdus_left};

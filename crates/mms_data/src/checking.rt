@@ -1,4 +1,4 @@
-// Whether octets spell members, with no memory.
+//! Whether octets spell members, with no memory.
 
 ghost use Rattle.std.specs.Prelude.{◌≡◌, ◌<◌, ◌≤◌, ◌+◌, ◌++◌, ◌-◌, ◌∷◌, ◌⊎◌, [], ℕ, List, length, slice_range, true, Ok, Err, IfOk, IfErr, IfSome};
 ghost use Rattle.ber_core.specs.declared.fault.Fault.{Fault};

@@ -1,5 +1,5 @@
-// The contents of the kinds without members, judged and seen where they stand. Places: `at` is the
-// identifier's, `from` that of the first octet of contents.
+//! The contents of the kinds without members, judged and seen where they stand. Places: `at` is the
+//! identifier's, `from` that of the first octet of contents.
 
 ghost use Rattle.std.specs.Prelude.{◌≡◌, ◌+◌, ◌<◌, ◌^◌, length, Ok, Err, IfOk};
 ghost use Rattle.ber_core.specs.computed.ContentsReading.{integer_at};

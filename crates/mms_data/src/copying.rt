@@ -1,4 +1,4 @@
-// Equal values in further memory.
+//! Equal values in further memory.
 
 ghost use Rattle.std.specs.Prelude.{◌≡◌, [], IfOk, IsOk};
 ghost use Rattle.mms_data.specs.Memory.{NeedsNoMemory};

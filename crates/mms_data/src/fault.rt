@@ -1,4 +1,4 @@
-// Why values are not read, and why they are not written.
+//! Why values are not read, and why they are not written.
 
 ghost use Rattle.std.specs.Prelude.{◌≡◌, alloc_error};
 ghost use Rattle.mms_data.specs.declared.fault.ReadFault.TheVariants.{Memory, Fault as fault};

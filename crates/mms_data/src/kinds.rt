@@ -1,4 +1,4 @@
-// The kinds of Data, by their identifiers.
+//! The kinds of Data, by their identifiers.
 
 ghost use Rattle.std.specs.Prelude.{◌≡◌};
 ghost use Rattle.mms_data.specs.computed.KindReading.{kind_at};

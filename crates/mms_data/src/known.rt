@@ -1,5 +1,5 @@
-// Members that are known to be good, read where they stand: what was judged before is not judged again, but for integers of
-// nine octets.
+//! Members that are known to be good, read where they stand: what was judged before is not judged again, but for integers of
+//! nine octets.
 
 ghost use Rattle.std.specs.Prelude.{◌≡◌, ◌+◌, ◌<◌, ◌^◌, Bool, ℤ, ℕ, List, length, Ok};
 ghost use Rattle.ber_core.specs.computed.ContentsReading.{boolean_at, integer_at};

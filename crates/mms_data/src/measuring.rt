@@ -1,4 +1,4 @@
-// How many octets written forms have, where they have no more than a limit.
+//! How many octets written forms have, where they have no more than a limit.
 
 ghost use Rattle.std.specs.Prelude.{◌≡◌, ◌≤◌, ◌<◌, ◌+◌, ◌^◌, ◌-◌, length, SomeIff};
 ghost use Rattle.mms_data.specs.Value.{data_of};

@@ -1,4 +1,4 @@
-// Values in memory of their own, from views.
+//! Values in memory of their own, from views.
 
 ghost use Rattle.std.specs.Prelude.{◌≡◌, ◌≤◌, ◌-◌, ◌%◌, ◌^◌, [], IfOk, IsOk};
 ghost use Rattle.mms_data.specs.Contents.{cleared};

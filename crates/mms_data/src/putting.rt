@@ -1,4 +1,4 @@
-// Written forms for which there is room, appended.
+//! Written forms for which there is room, appended.
 
 ghost use Rattle.std.specs.Prelude.{◌≡◌, ◌≤◌, ◌<◌, ◌+◌, ◌^◌, ◌-◌, ◌++◌, ◌∷◌, ◌≤ℤ◌, ◌<ℤ◌, pos, negsuc, length};
 ghost use Rattle.arrayvec.specs.ArrayVec.{array_vec_len};

@@ -1,4 +1,4 @@
-// Members of Data, seen where they stand, and in memory of their own.
+//! Members of Data, seen where they stand, and in memory of their own.
 
 ghost use Rattle.std.specs.Prelude.{◌≡◌, ◌≤◌, ◌-◌, List, Err, length, slice_range, true, IfOk, IsOk};
 ghost use Rattle.ber_core.specs.computed.Reading.{Gives};

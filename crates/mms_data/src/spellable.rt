@@ -1,4 +1,4 @@
-// Which values have a spelling.
+//! Which values have a spelling.
 
 ghost use Rattle.std.specs.Prelude.{◌≡◌, ◌≤◌, ◌^◌, ◌↔◌, nat_lt, true};
 ghost use Rattle.mms_data.specs.Spellable.{AllAreSpellable, IsSpellableAt};

@@ -1,4 +1,4 @@
-// Moments.
+//! Moments.
 
 ghost use Rattle.std.specs.Prelude.{◌≡◌};
 ghost use Rattle.mms_data.specs.Written.{written_time};

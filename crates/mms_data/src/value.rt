@@ -1,4 +1,4 @@
-// Values in memory of their own.
+//! Values in memory of their own.
 
 use crate::time::UtcTime;
 use ber_core::Octets;

@@ -1,4 +1,4 @@
-// Members of Data, seen where they stand.
+//! Members of Data, seen where they stand.
 
 ghost use Rattle.std.specs.Prelude.{◌≡◌, ◌<◌, ◌≤◌, ◌+◌, ◌-◌, ◌^◌, ◌∷◌, length, slice_range, true};
 ghost use Rattle.mms_data.specs.computed.Left.{AreMembers, data_in};

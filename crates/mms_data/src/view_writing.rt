@@ -1,5 +1,5 @@
-// Members of Data, appended in their written form from where they stand. Where a function that is not public finds no
-// room, nothing is said of `out`, which then is given up.
+//! Members of Data, appended in their written form from where they stand. Where a function that is not public finds no
+//! room, nothing is said of `out`, which then is given up.
 
 ghost use Rattle.std.specs.Prelude.{◌≡◌, ◌≤◌, ◌<◌, ◌+◌, ◌^◌, ◌++◌, ◌∷◌, ◌↔◌, length, IsOk, OnOk, OnErr};
 ghost use Rattle.arrayvec.specs.ArrayVec.{array_vec_len};

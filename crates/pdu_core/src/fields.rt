@@ -1,5 +1,5 @@
-// The fields of an APDU, kind by kind: the value of each, the place behind it, and whether it and what was read before are
-// known to stand in their written form. Inlined, so that no answer is put together in memory for each field.
+//! The fields of an APDU, kind by kind: the value of each, the place behind it, and whether it and what was read before are
+//! known to stand in their written form. Inlined, so that no answer is put together in memory for each field.
 
 ghost use Rattle.std.specs.Prelude.{Bool, ◌≡◌, ◌<◌, ◌≤◌, ◌+◌, ◌*◌, ◌∷◌, [], length, slice_range, IfOk, IfSome, Some, None, true, false};
 ghost use Rattle.ber_core.specs.Contents.{SpellsBoolean};

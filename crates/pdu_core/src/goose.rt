@@ -1,4 +1,4 @@
-// The APDU of GOOSE in memory of its own.
+//! The APDU of GOOSE in memory of its own.
 
 use mms_data::{Octets, UtcTime, ValueList};
 use std::alloc::Allocator;

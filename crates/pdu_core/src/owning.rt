@@ -1,4 +1,4 @@
-// An APDU in memory of its own, from where it stands.
+//! An APDU in memory of its own, from where it stands.
 
 ghost use Rattle.std.specs.Prelude.{◌≡◌, [], IfOk, IfSome, IsOk};
 ghost use Rattle.pdu_core.specs.Memory.{GooseNeedsNoMemory};

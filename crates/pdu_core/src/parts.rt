@@ -1,4 +1,4 @@
-// The fields of an APDU of GOOSE that are kept elsewhere.
+//! The fields of an APDU of GOOSE that are kept elsewhere.
 
 ghost use Rattle.std.specs.Prelude.{◌≡◌};
 ghost use Rattle.pdu_core.specs.Parts.{pdu_of_parts};

@@ -1,5 +1,5 @@
-// Appending the fields of an APDU, kind by kind. Where a field does not fit, nothing is said of `out`, which then
-// is given up.
+//! Appending the fields of an APDU, kind by kind. Where a field does not fit, nothing is said of `out`, which then
+//! is given up.
 
 ghost use Rattle.std.specs.Prelude.{◌≡◌, ◌≤◌, ◌<◌, ◌+◌, ◌^◌, ◌++◌, length, IsOk, OnOk, Some};
 ghost use Rattle.arrayvec.specs.ArrayVec.{array_vec_len};

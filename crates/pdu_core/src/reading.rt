@@ -1,4 +1,4 @@
-// Reading an APDU into memory of its own.
+//! Reading an APDU into memory of its own.
 
 ghost use Rattle.std.specs.Prelude.{◌≡◌, ◌≤◌, Err, length, slice_range, IfOk, IsOk};
 ghost use Rattle.ber_core.specs.declared.fault.Fault.{Fault};

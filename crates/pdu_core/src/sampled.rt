@@ -1,4 +1,4 @@
-// Sampled Values (IEC 61850-9-2): savPdu and its ASDUs.
+//! Sampled Values (IEC 61850-9-2): savPdu and its ASDUs.
 
 pub mod asdu;
 mod asdus;

@@ -1,4 +1,4 @@
-// Whether an APDU has a spelling.
+//! Whether an APDU has a spelling.
 
 ghost use Rattle.std.specs.Prelude.{◌↔◌, ◌<◌, ◌^◌, IfSome, IsTrue};
 ghost use Rattle.ber_core.specs.Contents.{AreVisible};

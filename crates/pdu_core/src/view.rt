@@ -1,4 +1,4 @@
-// The APDU of GOOSE where it stands.
+//! The APDU of GOOSE where it stands.
 
 ghost use Rattle.std.specs.Prelude.{◌≡◌, length};
 ghost use Rattle.mms_data.specs.Meaning.{left};

@@ -1,4 +1,4 @@
-// How many octets the written form of an APDU has, counted from where it stands.
+//! How many octets the written form of an APDU has, counted from where it stands.
 
 ghost use Rattle.std.specs.Prelude.{◌≡◌, ◌≤◌, ◌<◌, ◌+◌, ◌^◌, pos, length, IfSome};
 ghost use Rattle.ber_core.specs.Written.{integer_size};

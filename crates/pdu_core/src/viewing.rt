@@ -1,4 +1,4 @@
-// Seeing an APDU where it stands.
+//! Seeing an APDU where it stands.
 
 ghost use Rattle.std.specs.Prelude.{◌≡◌, ◌≤◌, Err, length, slice_range, true, false, IfOk, IfErr};
 ghost use Rattle.ber_core.specs.computed.Reading.{Gives};

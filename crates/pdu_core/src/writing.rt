@@ -1,4 +1,4 @@
-// Appending an APDU in its written form.
+//! Appending an APDU in its written form.
 
 ghost use Rattle.std.specs.Prelude.{◌≡◌, ◌≤◌, ◌<◌, ◌+◌, ◌^◌, ◌↔◌, ◌++◌, drop, length, IsOk, OnOk, OnErr, Err};
 ghost use Rattle.arrayvec.specs.ArrayVec.{array_vec_len};

@@ -1,4 +1,4 @@
-// What all frames of a publisher have.
+//! What all frames of a publisher have.
 
 use frame_core::VlanTag;
 use mms_data::Octets;

@@ -1,4 +1,4 @@
-// Why a publisher refuses.
+//! Why a publisher refuses.
 
 use thiserror::Error;
 

@@ -1,4 +1,4 @@
-// Whether every frame of a state can be written.
+//! Whether every frame of a state can be written.
 
 ghost use Rattle.std.specs.Prelude.{◌≡◌, ◌<◌, ◌≤◌, ◌+◌, ◌^◌, ◌==◌, ℕ, if◌then◌else◌, length, true, false};
 ghost use Rattle.publish_core.specs.Table.{AreSteps};

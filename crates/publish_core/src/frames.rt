@@ -1,4 +1,4 @@
-// Frames of a state: their octets, and how many these are.
+//! Frames of a state: their octets, and how many these are.
 
 ghost use Rattle.std.specs.Prelude.{◌≡◌, ◌<◌, ◌≤◌, ◌^◌, IfErr, IfOk, OnOk, length};
 ghost use Rattle.ber_core.specs.Written.{signed_size};

@@ -1,4 +1,4 @@
-// Publishers.
+//! Publishers.
 
 ghost use Rattle.std.specs.Prelude.{◌≡◌, ◌<◌, ◌≤◌, ◌+◌, ◌*◌, ◌↔◌, ◌∷◌, ◌++◌, [], List, IfErr, IfOk, IsTrue, MatchOption, OnErr, OnOk, Err, None, false, is_some, length};
 ghost use Rattle.frame_core.specs.Written.{written_frame};

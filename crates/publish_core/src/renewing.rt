@@ -1,4 +1,4 @@
-// Frames that are kept, whose numbers are written over where they stand.
+//! Frames that are kept, whose numbers are written over where they stand.
 
 ghost use Rattle.std.specs.Prelude.{◌≡◌, ◌<◌, ◌≤◌, ◌+◌, ◌^◌, ℕ, IfSome, length};
 ghost use Rattle.arrayvec.specs.ArrayVec.{array_vec_len};

@@ -1,4 +1,4 @@
-// Tables of retransmission.
+//! Tables of retransmission.
 
 ghost use Rattle.std.specs.Prelude.{◌≡◌, ◌<◌, ◌↔◌, IfErr, IfNone, IfOk, IfSome, IsTrue, OnOk, length, ℕ};
 ghost use Rattle.publish_core.specs.Table.{AreSteps, IsFirstBadStep, IsGood, IsTableFault, step_at};

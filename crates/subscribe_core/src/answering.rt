@@ -1,4 +1,4 @@
-// The entries of a good frame, and what it gives its block to hold.
+//! The entries of a good frame, and what it gives its block to hold.
 
 ghost use Rattle.std.specs.Prelude.{◌≡◌, ◌++◌, Some, None, IfOk, OnOk};
 ghost use Rattle.subscribe_core.specs.FrameEntry.{entry_of};

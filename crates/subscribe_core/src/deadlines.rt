@@ -1,4 +1,4 @@
-// The deadlines of the holding blocks: a number for each block, and above them the least of ever more of them.
+//! The deadlines of the holding blocks: a number for each block, and above them the least of ever more of them.
 
 ghost use Rattle.std.specs.Prelude.{◌≡◌, ℕ, ◌<◌, ◌≤◌, ◌+◌, ◌-◌, ◌*◌, ◌^◌, ◌++◌, [], List, Option, Some, None, false, IfOk, OnOk, IsOk, IsTrue, IfSome, IfNone, length, min, slice_set, slice_index, slice_index_or};
 ghost use Rattle.subscribe_core.specs.declared.registers.LiveState.{LiveState as SpecLiveState};

@@ -1,4 +1,4 @@
-// What a subscriber answers to an event.
+//! What a subscriber answers to an event.
 
 use ber_core::Fault;
 use mms_data::{UtcTime, ValueList};

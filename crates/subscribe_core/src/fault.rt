@@ -1,4 +1,4 @@
-// Why there is no subscriber of some blocks.
+//! Why there is no subscriber of some blocks.
 
 use std::alloc::AllocError;
 use thiserror::Error;

@@ -1,4 +1,4 @@
-// What a subscriber keeps, and one event at it: blocks are found by name and by deadline, and each reach is counted.
+//! What a subscriber keeps, and one event at it: blocks are found by name and by deadline, and each reach is counted.
 
 ghost use Rattle.std.specs.Prelude.{◌≡◌, ◌<◌, ◌≤◌, ◌+◌, ◌-◌, ◌++◌, [], ℕ, false, ◌⊎◌, None, Some, IfOk, OnOk, OnErr, IfErr, IsOk, length, max, position, replicate, slice_get, slice_set};
 ghost use Rattle.subscribe_core.specs.computed.Content.{content_by, content_of, reading_of};

@@ -1,4 +1,4 @@
-// A frame against its block: the first reason for which it is refused, and what is read off a good one.
+//! A frame against its block: the first reason for which it is refused, and what is read off a good one.
 
 ghost use Rattle.std.specs.Prelude.{◌≡◌};
 ghost use Rattle.subscribe_core.specs.Matching.{facts_of_frame, has_other_id, reason_of};

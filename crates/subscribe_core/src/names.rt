@@ -1,4 +1,4 @@
-// The names of the blocks in order, by which a frame's block is found, and a block that is given twice.
+//! The names of the blocks in order, by which a frame's block is found, and a block that is given twice.
 
 ghost use Rattle.std.specs.Prelude.{◌≡◌, ◌<◌, ◌↔◌, [], List, IfOk, IsOk, IsTrue, MatchOption, length};
 ghost use Rattle.std.specs.List.{All};

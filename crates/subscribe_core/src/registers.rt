@@ -1,4 +1,4 @@
-// What a subscriber keeps of a block, and how one frame changes it.
+//! What a subscriber keeps of a block, and how one frame changes it.
 
 ghost use Rattle.std.specs.Prelude.{◌≡◌};
 ghost use Rattle.subscribe_core.specs.computed.Steps.{after_clock, verdict_on};

@@ -1,4 +1,4 @@
-// The blocks and what is kept of each, reached by position alone.
+//! The blocks and what is kept of each, reached by position alone.
 
 ghost use Rattle.std.specs.Prelude.{◌≡◌, ◌<◌, ◌+◌, ◌-◌, ◌^◌, length, min, None, Some, slice_get, slice_set};
 ghost use Rattle.subscribe_core.specs.declared.registers.Register.{Register as SpecRegister};

@@ -1,4 +1,4 @@
-// The subscriber: one event at a time.
+//! The subscriber: one event at a time.
 
 ghost use Rattle.std.specs.Prelude.{◌≡◌, ◌≤◌, ◌+◌, ◌∷◌, ◌++◌, [], List, ◌⊎◌, IfOk, OnOk, OnErr, IfErr, IsOk, length};
 ghost use Rattle.subscribe_core.specs.computed.Content.{reading_of};

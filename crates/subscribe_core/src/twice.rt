@@ -1,5 +1,5 @@
-// Blocks that are given twice, found without memory: each block is compared with those before it, n (n - 1) / 2 times for n
-// blocks. So are the first few; of more blocks their names in order tell it, and this serves only where memory was refused.
+//! Blocks that are given twice, found without memory: each block is compared with those before it, n (n - 1) / 2 times for n
+//! blocks. So are the first few; of more blocks their names in order tell it, and this serves only where memory was refused.
 
 ghost use Rattle.std.specs.Prelude.{◌≡◌, ℕ, ◌*◌, ◌<◌, ◌≤◌, [], None, IsTrue, ◌↔◌, IfSome, MatchOption, length};
 ghost use Rattle.subscribe_core.specs.Apart.{HasNameOf, IsTwice, IsFirstTwice};

@@ -1,4 +1,4 @@
-// The counter of samples.
+//! The counter of samples.
 
 ghost use Rattle.std.specs.Prelude.{◌≡◌, ◌<◌, ◌≤◌, ◌+◌, ◌-◌, ◌%◌, ◌++◌, ◌∷◌, ◌↔◌, [], ℕ, List, IsOk, IfOk, Some};
 ghost use Rattle.block_core.specs.Period.{IsPeriod};

@@ -1,3 +1,5 @@
+//! The allocator that refuses, as every allocator is called.
+
 use crate::refusing::RefusingAlloc;
 use std::alloc::{AllocError, Allocator};
 

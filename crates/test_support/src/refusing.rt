@@ -1,3 +1,5 @@
+//! Which growth an allocator refuses.
+
 ghost use Rattle.std.specs.Prelude.{◌≡◌};
 
 use std::cell::Cell;

@@ -1,4 +1,4 @@
-// Which growths are refused, of a vector and one by one.
+//! Which growths are refused, of a vector and one by one.
 
 use crate::RefusingAlloc;
 use std::alloc::{AllocError, Allocator};

@@ -1,4 +1,4 @@
-// Contents of elements: their values, and their faults at their places.
+//! Contents of elements: their values, and their faults at their places.
 
 use ber_core::contents::{
     boolean, boolean_of, check_visible, counted, integer_in, integer_of, visible,

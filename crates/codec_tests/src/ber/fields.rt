@@ -1,4 +1,4 @@
-// Fields of a sequence: the element that may or must stand at a place, and the sequence's end.
+//! Fields of a sequence: the element that may or must stand at a place, and the sequence's end.
 
 use ber_core::fields::{check_end, known_required, known_there, required, there};
 use ber_core::{Cause, Header};

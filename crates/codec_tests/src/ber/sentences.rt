@@ -1,4 +1,4 @@
-// What is wrong, for a person.
+//! What is wrong, for a person.
 
 use ber_core::{Cause, Full};
 use mms_data::{PutFault, ReadFault};

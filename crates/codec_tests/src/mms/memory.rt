@@ -1,5 +1,5 @@
-// Each call that can want memory: with ample memory it gives the values that the octets were made of, on every kind of
-// value, and gives some on many counts, up to what a frame has room for; and each growth is refused in turn.
+//! Each call that can want memory: with ample memory it gives the values that the octets were made of, on every kind of
+//! value, and gives some on many counts, up to what a frame has room for; and each growth is refused in turn.
 
 use crate::mms::DEEP;
 use crate::mms::writing::{WRITTEN, count_at, element, empty_values};

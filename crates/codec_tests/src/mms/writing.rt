@@ -1,4 +1,4 @@
-// Written forms of members from where they stand, and of elements.
+//! Written forms of members from where they stand, and of elements.
 
 use crate::mms::{DEEP, EACH_KIND};
 use arrayvec::ArrayVec;

@@ -1,4 +1,4 @@
-// Outside examples: a recorded frame of GOOSE whose octets are changed one at a time, and APDUs in other forms.
+//! Outside examples: a recorded frame of GOOSE whose octets are changed one at a time, and APDUs in other forms.
 
 use arrayvec::ArrayVec;
 use ber_core::{Cause, Fault};

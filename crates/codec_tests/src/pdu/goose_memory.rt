@@ -1,5 +1,5 @@
-// An APDU of GOOSE in memory of its own: with ample memory it is the one that the octets were made of, whatever their
-// counts; and each growth is refused in turn.
+//! An APDU of GOOSE in memory of its own: with ample memory it is the one that the octets were made of, whatever their
+//! counts; and each growth is refused in turn.
 
 use crate::mms::writing::{count_at, element, empty_values};
 use crate::pdu::goose::{NESTED, TIGHT};

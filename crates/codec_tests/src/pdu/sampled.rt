@@ -1,4 +1,4 @@
-// Sampled Values: a recorded APDU, and one with each field, whose octets are changed one at a time.
+//! Sampled Values: a recorded APDU, and one with each field, whose octets are changed one at a time.
 
 use arrayvec::ArrayVec;
 use ber_core::{Cause, Fault};

@@ -1,5 +1,5 @@
-// Sampled Values in memory of their own: with ample memory they are those that the octets were made of, whatever their
-// counts; and each growth is refused in turn.
+//! Sampled Values in memory of their own: with ample memory they are those that the octets were made of, whatever their
+//! counts; and each growth is refused in turn.
 
 use crate::mms::writing::count_at;
 use crate::pdu::sampled::FULL;

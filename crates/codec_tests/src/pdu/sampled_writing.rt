@@ -1,4 +1,4 @@
-// Sampled Values written, from memory of their own and from where they stand.
+//! Sampled Values written, from memory of their own and from where they stand.
 
 use crate::pdu::sampled::{EIGHT, FULL, eight};
 use arrayvec::ArrayVec;

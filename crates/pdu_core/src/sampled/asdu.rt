@@ -1,4 +1,4 @@
-// The APDU of Sampled Values in memory of its own.
+//! The APDU of Sampled Values in memory of its own.
 
 use mms_data::{Octets, UtcTime};
 use std::alloc::Allocator;

@@ -1,4 +1,4 @@
-// ASDUs of Sampled Values, judged where they stand. They are seen again by `known`.
+//! ASDUs of Sampled Values, judged where they stand. They are seen again by `known`.
 
 ghost use Rattle.std.specs.Prelude.{◌≡◌, ◌<◌, ◌≤◌, List, length, slice_range, true, Ok, Err, IfOk, IfErr};
 ghost use Rattle.ber_core.specs.computed.Reading.{Gives};

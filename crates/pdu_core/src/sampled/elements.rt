@@ -1,4 +1,4 @@
-// Appending the elements of a savPdu: one ASDU, and the savPdu that holds ASDUs.
+//! Appending the elements of a savPdu: one ASDU, and the savPdu that holds ASDUs.
 
 ghost use Rattle.std.specs.Prelude.{◌≡◌, ◌≤◌, ◌<◌, ◌+◌, ◌^◌, ◌↔◌, ◌++◌, drop, length, pos, IsOk, OnOk, OnErr};
 ghost use Rattle.arrayvec.specs.ArrayVec.{array_vec_len};

@@ -1,5 +1,5 @@
-// The fields of an ASDU that GOOSE has no like of, kind by kind: the value of each, the place behind it, and what is known
-// of their written form. Inlined as those of a GOOSE APDU are.
+//! The fields of an ASDU that GOOSE has no like of, kind by kind: the value of each, the place behind it, and what is known
+//! of their written form. Inlined as those of a GOOSE APDU are.
 
 ghost use Rattle.std.specs.Prelude.{◌≡◌, ◌<◌, ◌≤◌, length, slice_range, true, IfOk, Some};
 ghost use Rattle.byteorder.specs.Endian.{big_number};

@@ -1,5 +1,5 @@
-// ASDUs that were judged, seen again where they stand. No octet is judged twice: what would be at fault is ruled out by proof,
-// and no reading of a field has an effect, so the compiler keeps that of those fields alone which a caller looks at.
+//! ASDUs that were judged, seen again where they stand. No octet is judged twice: what would be at fault is ruled out by proof,
+//! and no reading of a field has an effect, so the compiler keeps that of those fields alone which a caller looks at.
 
 ghost use Rattle.std.specs.Prelude.{◌≡◌, ◌<◌, ◌≤◌, length, IsOk, Ok, Some};
 ghost use Rattle.byteorder.specs.Endian.{big_number};

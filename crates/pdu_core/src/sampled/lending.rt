@@ -1,4 +1,4 @@
-// An ASDU in memory of its own, seen where it stands.
+//! An ASDU in memory of its own, seen where it stands.
 
 ghost use Rattle.std.specs.Prelude.{◌≡◌};
 ghost use Rattle.pdu_core.specs.SampledViews.{asdu_of};

@@ -1,4 +1,4 @@
-// A savPdu in memory of its own, from where it stands.
+//! A savPdu in memory of its own, from where it stands.
 
 ghost use Rattle.std.specs.Prelude.{◌≡◌, [], IfOk, IsOk};
 ghost use Rattle.pdu_core.specs.Memory.{AsduNeedsNoMemory};

@@ -1,4 +1,4 @@
-// Reading a savPdu into memory of its own.
+//! Reading a savPdu into memory of its own.
 
 ghost use Rattle.std.specs.Prelude.{◌≡◌, ◌≤◌, Err, length, slice_range, IfOk};
 ghost use Rattle.ber_core.specs.declared.fault.Fault.{Fault};

@@ -1,4 +1,4 @@
-// Whether an APDU of Sampled Values has a spelling.
+//! Whether an APDU of Sampled Values has a spelling.
 
 ghost use Rattle.std.specs.Prelude.{◌↔◌, IfSome, IsTrue};
 ghost use Rattle.pdu_core.specs.SampledSpellable.{AreFew, IsFixed, IsSpellableAsdu, IsSpellableSv};

@@ -1,4 +1,4 @@
-// The APDU of Sampled Values where it stands.
+//! The APDU of Sampled Values where it stands.
 
 ghost use Rattle.std.specs.Prelude.{◌≡◌, ◌≤◌, length};
 ghost use Rattle.pdu_core.specs.computed.SampledValue.{asdus_in, AreAsdus};

@@ -1,4 +1,4 @@
-// Appending an APDU of Sampled Values in its written form from where it stands.
+//! Appending an APDU of Sampled Values in its written form from where it stands.
 
 ghost use Rattle.std.specs.Prelude.{◌≡◌, ◌≤◌, ◌<◌, ◌+◌, ◌^◌, ◌↔◌, ◌++◌, length, IsOk, OnOk, OnErr};
 ghost use Rattle.arrayvec.specs.ArrayVec.{array_vec_len};

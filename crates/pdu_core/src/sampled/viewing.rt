@@ -1,4 +1,4 @@
-// Seeing a savPdu where it stands.
+//! Seeing a savPdu where it stands.
 
 ghost use Rattle.std.specs.Prelude.{◌≡◌, ◌<◌, ◌≤◌, Err, length, slice_range, true, false, pos, IfErr, IfOk, Some};
 ghost use Rattle.ber_core.specs.computed.FieldReading.{field_as};

@@ -1,4 +1,4 @@
-// Appending an APDU of Sampled Values in its written form.
+//! Appending an APDU of Sampled Values in its written form.
 
 ghost use Rattle.std.specs.Prelude.{◌≡◌, ◌≤◌, ◌<◌, ◌+◌, ◌^◌, ◌↔◌, ◌++◌, length, IsOk, OnOk, OnErr, Err};
 ghost use Rattle.arrayvec.specs.ArrayVec.{array_vec_len};
