@@ -1,8 +1,9 @@
 -- A length that is read is the length of contents that stand behind it, and the other way round; and the same
 -- of a length at fault.
-use Rattle.std.proofs.Common.{◌≡◌, ℕ, suc, ◌+◌, ◌-◌, ◌%◌, ◌≤◌, ◌<◌, false, ltb, eqb, List, [], ◌∷◌, ◌++◌, length, take, drop, Ok, Err, refl, sym, ap, ◌∙◌, arith, inl, inr}
+use Rattle.std.proofs.Common.{◌≡◌, ℕ, suc, ◌+◌, ◌-◌, ◌%◌, ◌≤◌, ◌<◌, false, ltb, eqb, List, [], ◌∷◌, ◌++◌, length, take, drop, get_or, length-drop, Result, Ok, Err, refl, sym, ap, ◌∙◌, arith, inl, inr}
 use Rattle.std.proofs.lemmas.List.{length-append, take-append-drop, length-take, length-take-le, drop_at}
 use Rattle.std.proofs.lemmas.Bool.{ltb-true, ltb-false, le-ltb, lt-ltb, eqb-true, eqb-false, ne_eqb}
+use Rattle.std.specs.Prelude.{IsOk}
 use Rattle.byteorder.specs.Endian.{big_number}
 use Rattle.byteorder.specs.Numbers.{big_from-take, big_from-append}
 use Rattle.ber_core.specs.declared.fault.Fault.{Fault}
@@ -186,3 +187,93 @@ length_wrong_again f p id o (indefinite first-is is) = rw (first-is, is) refl
 length_wrong_again f p id (first ∷ more) (form large is) =
     rw (le-ltb first 128 (omega arith), ne_eqb first 128 (λ e. omega arith), lt-ltb 132 first (omega arith), is) refl
 length_wrong_again f p id o (past_end n size rest len parts lt is) = rw parts (past_again f p id n size rest len lt is)
+
+-- ---- what is known to be read
+
+no_header : (p : ℕ) (h : Header) → header_at p [] ≡ Ok h → ⊥
+unfolding header_at
+no_header p h e = cc
+
+no_length : (p id : ℕ) (h : Header) → length_at p id [] ≡ Ok h → ⊥
+unfolding length_at
+no_length p id h e = cc
+
+behind_identifier : (p id : ℕ) (o : List ℕ) (h : Header) → header_at p (id ∷ o) ≡ Ok h → length_at p id o ≡ Ok h
+unfolding header_at
+behind_identifier p id o h e = elim (chosen (eqb (id % 32) 31) _ _ _ e) [
+  | inl t ↦ absurd (let wrong = t.1 in cc)
+  | inr t ↦ t.1
+]
+
+short_is : (p id first : ℕ) (rest : List ℕ) (h : Header) → first < 128 → length_at p id (first ∷ rest) ≡ Ok h
+    → (first ≤ length rest) × (h ≡ record { at = p; identifier = id; contents_from = p + 2; contents_to = p + 2 + first })
+unfolding length_at
+short_is p id first rest h low e = elim (chosen (ltb first 128) _ _ _ e) [
+  | inl t ↦ sized_inv p id (p + 2) first rest h t.1
+  | inr t ↦ absurd (omega (arith, ltb-false _ _ t.0))
+]
+
+-- a header whose length is one octet
+short_header : (p : ℕ) (o : List ℕ) (h : Header) → header_at p o ≡ Ok h → get_or o 1 0 < 128
+    → (get_or o 1 0 + 2 ≤ length o) × (h ≡ record { at = p; identifier = get_or o 0 0; contents_from = p + 2; contents_to = p + 2 + get_or o 1 0 })
+short_header p [] h e low = absurd (no_header p h e)
+short_header p (id ∷ []) h e low = absurd (no_length p id h (behind_identifier p id [] h e))
+short_header p (id ∷ first ∷ rest) h e low = let s = short_is p id first rest h low (behind_identifier p id (first ∷ rest) h e) in (omega (arith, s.0), s.1)
+
+-- a header has two octets at least
+header_room : (p : ℕ) (o : List ℕ) (h : Header) → header_at p o ≡ Ok h → 2 ≤ length o
+header_room p [] h e = absurd (no_header p h e)
+header_room p (id ∷ []) h e = absurd (no_length p id h (behind_identifier p id [] h e))
+header_room p (id ∷ first ∷ rest) h e = omega arith
+
+-- what is known of a header whose length stands in several octets
+pub record IsLong (p : ℕ) (o : List ℕ) (h : Header) (count : ℕ) : Type 0 where
+  pub some : 1 ≤ count
+  pub few : count ≤ 4
+  pub room : 2 + count + big_number count (drop 2 o) ≤ length o
+  pub is : h ≡ record { at = p; identifier = get_or o 0 0; contents_from = p + 2 + count; contents_to = p + 2 + count + big_number count (drop 2 o) }
+
+counted_is : (p id first count : ℕ) (rest : List ℕ) (h : Header) → 1 ≤ count → count ≤ 4 → counted_length_at p id count rest ≡ Ok h → IsLong p (id ∷ first ∷ rest) h count
+unfolding counted_length_at
+counted_is p id first count rest h some few e = elim (chosen (ltb (length rest) count) _ _ _ e) [
+  | inl t ↦ absurd (let wrong = t.1 in cc)
+  | inr t ↦
+      let s = sized_inv p id (p + 2 + count) (big_number count rest) (drop count rest) h t.1 in
+      record { some = some; few = few; room = omega (arith, s.0, ltb-false _ _ t.0, length-drop count rest); is = s.1 }
+]
+
+long_is : (p id first : ℕ) (rest : List ℕ) (h : Header) → 128 ≤ first → length_at p id (first ∷ rest) ≡ Ok h → IsLong p (id ∷ first ∷ rest) h (first - 128)
+unfolding length_at
+long_is p id first rest h high e = elim (chosen (ltb first 128) _ _ _ e) [
+  | inl t ↦ absurd (omega (arith, ltb-true _ _ t.0))
+  | inr t ↦ elim (chosen (eqb first 128) _ _ _ t.1) [
+    | inl u ↦ absurd (let wrong = u.1 in cc)
+    | inr u ↦ elim (chosen (ltb 132 first) _ _ _ u.1) [
+      | inl v ↦ absurd (let wrong = v.1 in cc)
+      | inr v ↦ counted_is p id first (first - 128) rest h (omega (arith, high, eqb-false _ _ u.0)) (omega (arith, ltb-false _ _ v.0)) v.1
+    ]
+  ]
+]
+
+long_header : (p : ℕ) (o : List ℕ) (h : Header) → header_at p o ≡ Ok h → 128 ≤ get_or o 1 0 → IsLong p o h (get_or o 1 0 - 128)
+long_header p [] h e high = absurd (no_header p h e)
+long_header p (id ∷ []) h e high = absurd (no_length p id h (behind_identifier p id [] h e))
+long_header p (id ∷ first ∷ rest) h e high = long_is p id first rest h high (behind_identifier p id (first ∷ rest) h e)
+
+-- the same where it is known that there is a header
+known : (r : Result Header Fault) → IsOk r → (h : Header) × (r ≡ Ok h)
+known (Ok h) k = (h, refl)
+known (Err f) k = absurd (cc)
+
+pub known_room : (p : ℕ) (o : List ℕ) → IsOk (header_at p o) → 2 ≤ length o
+known_room p o k = let h = known (header_at p o) k in header_room p o h.0 h.1
+
+pub known_short : (p : ℕ) (o : List ℕ) → IsOk (header_at p o) → get_or o 1 0 < 128
+    → (get_or o 1 0 + 2 ≤ length o) × (header_at p o ≡ Ok (record { at = p; identifier = get_or o 0 0; contents_from = p + 2; contents_to = p + 2 + get_or o 1 0 }))
+known_short p o k low =
+    let h = known (header_at p o) k in
+    let s = short_header p o h.0 h.1 low in
+    (s.0, h.1 ∙ ap (λ (x : Header). Ok x) s.1)
+
+pub known_long : (p : ℕ) (o : List ℕ) → IsOk (header_at p o) → 128 ≤ get_or o 1 0 → (h : Header) × (header_at p o ≡ Ok h) × IsLong p o h (get_or o 1 0 - 128)
+known_long p o k high = let h = known (header_at p o) k in (h.0, h.1, long_header p o h.0 h.1 high)

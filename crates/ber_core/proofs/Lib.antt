@@ -16,4 +16,5 @@ pub mod LookingLemmas
 pub mod Visible
 pub mod ContentsLaws
 pub mod FieldAnswers
+pub mod KnownFields
 pub mod StandardFacts

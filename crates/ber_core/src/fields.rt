@@ -12,7 +12,7 @@ ghost use Rattle.ber_core.specs.declared.fault.Fault.{Fault};
 
 use crate::element::Header;
 use crate::fault::{Cause, Fault};
-use crate::reading::header;
+use crate::reading::{header, known_header};
 
 /// The element of this identifier that may stand at the place `at`, inside the region that ends at `end`;
 /// `None` where the region ends there, or another identifier stands there.
@@ -123,6 +123,7 @@ fn read_required(octets: &[u8], at: usize, end: usize, identifier: u8) -> Result
 
 /// The element that may stand at the place `at`, where it is known that `there` finds one or none there.
 #[inline(always)]
+#[tactic(auto, unfolding(crate::specs::computed::FieldReading::there_at))]
 pub fn known_there(octets: &[u8], at: usize, end: usize, identifier: u8) -> Option<Header>
     requires ordered { at ≤ end }
     requires inside { end ≤ length octets.now }
@@ -132,9 +133,14 @@ pub fn known_there(octets: &[u8], at: usize, end: usize, identifier: u8) -> Opti
     ensures exact { there_at identifier octets.now at end ≡ Ok result }
     ensures places { IfSome result (λ h. IsWithin at end h) }
 {
-    match there(octets, at, end, identifier) {
-        Ok(there) => there,
-        Err(_) => unreachable!(),
+    match &octets[at..end] {
+        [] => None,
+        [first, ..] => {
+            if identifier != *first {
+                return None;
+            }
+            Some(known_header(octets, at, end))
+        }
     }
 }
 
@@ -149,10 +155,7 @@ pub fn known_required(octets: &[u8], at: usize, end: usize, identifier: u8) -> H
     ensures exact { required_at identifier octets.now at end ≡ Ok result }
     ensures places { IsWithin at end result }
 {
-    match required(octets, at, end, identifier) {
-        Ok(header) => header,
-        Err(_) => unreachable!(),
-    }
+    known_header(octets, at, end)
 }
 
 /// Whether the sequence whose last field ended at `place` fills the region that ends at `end`.

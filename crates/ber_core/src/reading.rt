@@ -162,9 +162,48 @@ pub fn known_header(octets: &[u8], at: usize, end: usize) -> Header
     ensures exact { header_at at (slice_range octets.now at end) ≡ Ok result }
     ensures places { IsWithin at end result }
 {
-    match header(octets, at, end) {
-        Ok(header) => header,
-        Err(_) => unreachable!(),
+    known_front(at, &octets[at..end])
+}
+
+// The header of the element at the front of octets, which stand at `at`.
+#[inline(always)]
+fn known_front(at: usize, octets: &[u8]) -> Header
+    requires fits { at + length octets.now < 2 ^ 64 }
+    requires known { IsOk (header_at at octets.now) }
+    ensures exact { header_at at octets.now ≡ Ok result }
+    ensures places { IsWithin at (at + length octets.now) result }
+{
+    let (identifier, first) = (octets[0], octets[1]);
+    if first < 128 {
+        Header {
+            at,
+            identifier,
+            contents_from: at + 2,
+            contents_to: at + 2 + first as usize,
+        }
+    } else {
+        let (_front, rest) = octets.split_at(2);
+        known_long(at, identifier, (first - 128) as usize, rest)
+    }
+}
+
+// The same where the first `count` of the octets behind the first length octet spell the length. Never inlined, as few
+// lengths are so long.
+#[inline(never)]
+fn known_long(at: usize, identifier: u8, count: usize, rest: &[u8]) -> Header
+    requires some { 1 ≤ count }
+    requires few { count ≤ 4 }
+    requires fits { at + 2 + length rest.now < 2 ^ 64 }
+    requires room { count + big_number count rest.now ≤ length rest.now }
+    ensures { result ≡ record { at = at; identifier = identifier; contents_from = at + 2 + count; contents_to = at + 2 + count + big_number count rest.now } }
+{
+    let contents_from = at + 2 + count;
+    let size = size_in(rest, count);
+    Header {
+        at,
+        identifier,
+        contents_from,
+        contents_to: contents_from + size,
     }
 }
 
