@@ -11,8 +11,10 @@ mod over_events;
 mod performed;
 mod performing;
 
-ghost use Rattle.std.specs.Prelude.{IfOk};
+ghost use Rattle.std.specs.Prelude.{◌≡◌, IfErr, IfOk, Ok, Some};
+ghost use Rattle.clap.specs.Walk.{texts};
 ghost use Rattle.words_core.specs.CommandLine.{HasPeriod, asked_by};
+ghost use Rattle.words_core.specs.RequestLine.{MayRefuseRequest, request_of_words};
 
 use crate::input::{BLOCK, Input, Seen};
 use crate::messages::advising::{Intake, advice_by_head};
@@ -110,7 +112,9 @@ fn words_of<'a>(rt: &HostRuntime, texts: &'a [String]) -> Result<Vec<&'a str>, A
 // The request that the words make.
 #[inline(never)]
 fn request_of(rt: &HostRuntime, words: &[&str]) -> Result<Request, WordsError>
-    ensures { IfOk result (λ r. HasPeriod (asked_by r.task)) }
+    ensures period { IfOk result (λ r. HasPeriod (asked_by r.task)) }
+    ensures request { IfOk result (λ r. request_of_words (texts words.now) ≡ Some (Ok (asked_by r.task, r.options))) }
+    ensures refused { IfErr result (MayRefuseRequest (texts words.now)) }
 {
     read_request(rt.alloc(), words)
 }
