@@ -28,9 +28,9 @@ impl OctetKind for Visible {
     }
 }
 
-/// Whether all octets are of a kind. It looks at each, also behind one that is not: for few octets, or a known count.
+// Whether all octets are of a kind. It looks at each, also behind one that is not: for few octets, or a known count.
 #[inline(always)]
-pub fn are_all_at_once<K: OctetKind>(octets: &[u8], kind: K) -> bool
+fn are_all_at_once<K: OctetKind>(octets: &[u8], kind: K) -> bool
     ensures { result ≡ list_all (K.has kind) octets.now }
 {
     let mut good = true;
@@ -93,9 +93,9 @@ pub fn are_all<K: OctetKind>(octets: &[u8], kind: K) -> bool
     }
 }
 
-/// How many octets in front are of a kind, octet by octet. A call of its own, since its loop is slower where it is inlined.
+// How many octets in front are of a kind, octet by octet. A call of its own, since its loop is slower where it is inlined.
 #[inline(never)]
-pub fn short_front_count<K: OctetKind>(octets: &[u8], kind: K) -> usize
+fn short_front_count<K: OctetKind>(octets: &[u8], kind: K) -> usize
     ensures counted { result ≡ prefix_len (K.has kind) octets.now }
     ensures inside { result ≤ length octets.now }
 {

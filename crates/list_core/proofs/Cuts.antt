@@ -1,11 +1,10 @@
 -- Octets cut at an octet that divides them.
-use Rattle.std.proofs.Common.{zero, suc, Option, Some, None, option_map, true, false, cond, eqb, ◌≡◌, ℕ, get_or, ◌+◌, ◌≤◌, ◌<◌, List, [], ◌∷◌, ◌++◌, take, drop, length, ap, sym, ◌∙◌, refl, arith}
-use Rattle.std.specs.List.{onto_first, position_or_len}
-use Rattle.std.specs.Prelude.{◌==◌, not}
-use Rattle.std.proofs.lemmas.Bool.{eqb-false, eqb-true, ne_eqb, not-false, not-true}
+use Rattle.std.proofs.Common.{zero, suc, Option, Some, None, option_map, true, false, cond, eqb, ◌≡◌, ℕ, get_or, ◌+◌, ◌≤◌, ◌<◌, List, [], ◌∷◌, ◌++◌, take, drop, length, ap, sym, subst, ◌∙◌, refl, arith}
+use Rattle.std.specs.List.{onto_first}
+use Rattle.std.specs.Prelude.{slice_range}
+use Rattle.std.proofs.lemmas.Bool.{ne_eqb}
 use Rattle.std.proofs.lemmas.Bool.Decides.{nat_tests}
-use Rattle.std.proofs.lemmas.List.{append-nil, get_or-drop, get_or-take, length-drop, length-take-le, take-append-drop, drop_more}
-use Rattle.std.proofs.lemmas.List.Sums.{prefix_len_passes, prefix_len_stops}
+use Rattle.std.proofs.lemmas.List.{append-nil, get_or-drop, length-drop, take-append-drop, drop_more}
 use Rattle.list_core.specs.Cuts.{cut_at, HasNo}
 use Rattle.list_core.specs.computed.PrivateOctets.{IsFirstPlace}
 use Rattle.list_core.proofs.Devices.{take-add}
@@ -76,15 +75,9 @@ split_at c xs n l e = sym (take-append-drop n xs) ∙ ap (λ r. take n xs ++ r) 
 pub cut-first : (c : ℕ) (xs : List ℕ) (n : ℕ) → IsFirstPlace c xs (Some n) → cut_at c xs ≡ take n xs ∷ cut_at c (drop (n + 1) xs)
 cut-first c xs n h = ap (cut_at c) (split_at c xs n h.0 h.1) ∙ cut-part c (take n xs) (drop (n + 1) xs) h.2
 
-before : (c : ℕ) (xs : List ℕ) (k : ℕ) → k < position_or_len (λ x. x == c) xs → get_or xs k 0 ≡ c → ⊥
-before c xs k l = eqb-false (get_or xs k 0) c (not-true _ (prefix_len_passes (λ x. not (x == c)) xs k 0 l))
-
--- the first c, behind as many octets as are others
-pub counted-place : (c : ℕ) (xs : List ℕ) (n : ℕ) → n ≡ position_or_len (λ x. x == c) xs → n < length xs → IsFirstPlace c xs (Some n)
-counted-place c xs n e l =
-    let size = length-take-le n xs (omega arith) in
-    (l, rw e (eqb-true _ c (not-false _ (prefix_len_stops (λ x. not (x == c)) xs 0 (rw e at l)))), λ k m is. before c xs k (omega (arith, size)) (sym (get_or-take n xs k 0 (omega (arith, size))) ∙ is))
-
--- none, where all are others
-pub counted-none : (c : ℕ) (xs : List ℕ) (n : ℕ) → n ≡ position_or_len (λ x. x == c) xs → length xs ≤ n → HasNo c xs
-counted-none c xs n e l = λ k m. before c xs k (omega arith)
+-- a piece more that has no c
+pub HasNo-piece : (c : ℕ) (xs : List ℕ) (n m : ℕ) → HasNo c (take n xs) → HasNo c (slice_range xs n (n + m)) → HasNo c (take (n + m) xs)
+HasNo-piece c xs n m before piece =
+    rw take-add (HasNo-append c (take n xs) (take m (drop n xs)) before (subst (HasNo c) (range xs n m) piece)) where
+      range : (xs : List ℕ) (n m : ℕ) → slice_range xs n (n + m) ≡ take m (drop n xs)
+      range xs n m = ap (λ (k : ℕ). take k (drop n xs)) (omega arith)
