@@ -220,6 +220,7 @@ fn put_entry_object<A: Allocator>(
 ) -> Result<(), AllocError>
     ensures { AppendsSome result out.old.items out.new.items (IsEntryObject heading.now.counted heading.now.blocks.now heading.now.number heading.now.moment entry.now) }
 {
+    let (counted, number, moment) = (heading.counted, heading.number, heading.moment);
     match entry {
         Entry::Expired { block } => put_word_object(out, heading, b"expired", *block),
         Entry::Switched { block } => put_word_object(out, heading, b"switched", *block),
@@ -246,27 +247,9 @@ fn put_entry_object<A: Allocator>(
             sequence,
         } => put_pair_object(out, heading, b"old", *block, *state, *sequence),
         Entry::Refused { block, reason } => put_refused_object(out, heading, *block, *reason),
-        Entry::NotSubscribed => put_event_object(
-            out,
-            heading.counted,
-            heading.number,
-            heading.moment,
-            b"not-subscribed",
-        ),
-        Entry::Sampled => put_event_object(
-            out,
-            heading.counted,
-            heading.number,
-            heading.moment,
-            b"sampled",
-        ),
-        Entry::Faulty(fault) => put_fault_object(
-            out,
-            heading.counted,
-            heading.number,
-            heading.moment,
-            *fault,
-        ),
+        Entry::NotSubscribed => put_event_object(out, counted, number, moment, b"not-subscribed"),
+        Entry::Sampled => put_event_object(out, counted, number, moment, b"sampled"),
+        Entry::Faulty(fault) => put_fault_object(out, counted, number, moment, *fault),
     }
 }
 
