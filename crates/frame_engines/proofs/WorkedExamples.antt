@@ -61,7 +61,7 @@ pub lists : AreLists
 unfolding reading items_said decode_pairs encode_with digits told_after frame_at envelope_judged envelope_at
 lists = record { shown = refl; rewritten = refl; checked = refl; none_shown = refl; none_rewritten = refl; none_checked = refl; show_finds = refl; rewrite_finds = refl; check_finds = refl; clock_is_none = refl }
 
--- the list examples/one_frame.list: `show` of it as docs/FORMATS.md has it, and its octets stand written
+-- the list examples/one_frame.list: `show` of it as examples/README.md has it, and its octets stand written
 abbrev one_frame : List ℕ
 one_frame = codes "# A frame of a publisher G: status number 1, sequence number 0, one boolean.\nF 0 010ccd01000102000000000188b80001003500000000612b800147810207d0820144840800000000000000008501018601008701008801018901008a0101ab038301ff\n"
 

@@ -1,4 +1,4 @@
-//! What each subcommand reads and writes.
+//! What each subcommand that looks at frames one by one reads and writes: `show`, `check`, `rewrite`, `import`.
 
 pub mod check;
 pub mod import;

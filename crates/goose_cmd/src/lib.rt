@@ -1,4 +1,4 @@
-//! The engines and the command line of `goose` under one name, for other crates, and laws about what they write.
+//! The engines of `goose` but `losses`, and its command line, under one name; laws about what they write.
 #![tactic(auto)]
 
 pub mod laws;

@@ -93,7 +93,7 @@ refused = record {
   odd = record { is_line = record { named = refl; behind_control = λ e. absurd cc; size = refl }; may_stand = tt; moment = 1500000; moment_is = refl; bad = inr refl };
 }
 
--- the control line and a change of docs/FORMATS.md, each with what makes it a fault
+-- a control line and a change as in docs/FORMATS.md, with shorter names, each with what makes it a fault
 pub record AreKept : Type 0 where
   pub control : script_said {A = Unit {0}} First (codes "control,010ccd010001,020000000001,,0001,G,D,,1,1,0,0,1")
       ≡ Ok (
