@@ -145,7 +145,7 @@ def second_line(said):
 def missing(tree):
     """A program that is missing is built, by one run on the stored input."""
     yield "output", (tree.program(), tree.begun(), 0), tree.build()
-    yield "the run", f"{tree.top / 'crates' / 'goose'} run --jobs {jobs_beside(0)} -- show given\n", tree.runs.read_text()
+    yield "the run", f"{tree.top / 'crates' / 'goose'} run --jobs {most_jobs()} -- show given\n", tree.runs.read_text()
     yield "the log", "a line of the log\n", (tree.top / "out" / "build.log").read_text()
     yield "files left behind", ["build.lock", "build.log"], tree.left()
 
@@ -244,13 +244,13 @@ def sorted_in(names, runs):
 
 def lowest_first(tree):
     """The crates that the program stands on are proved before it, each after those that it stands on. Each of those with a
-    long chain of others behind it has the processors that the others leave."""
+    long chain of others behind it has the most jobs."""
     if len(os.sched_getaffinity(0)) > 1:
         want_two_checks()
     yield "output", (tree.program(), tree.begun(), 0), with_crates(tree).build()
-    alone, beside = jobs_beside(0), jobs_beside(1)
-    wanted = [f"low lib --jobs {alone} ", f"beside lib --jobs {beside} ", f"other lib --jobs {beside} ",
-              f"high lib --jobs {alone} ", f"goose run --jobs {jobs_beside(0)} -- show given"]
+    most = most_jobs()
+    wanted = [*[f"{name} lib --jobs {most} " for name in ("low", "beside", "other", "high")],
+              f"goose run --jobs {most} -- show given"]
     yield "the runs", wanted, sorted_in(("other", "beside"), tree.ran())
     made = {name: (tree.top / "crates" / name / "out" / "rlib" / "stamp") for name in BELOW}
     yield "the libraries", {name: f"{name}\n" for name in BELOW}, {name: file.read_text() for name, file in made.items()}
@@ -259,19 +259,17 @@ def lowest_first(tree):
     yield "the log", ["== beside", "== high", "== low", "== other", *["a line of the log"] * 5], sorted(log)
 
 
-def jobs_beside(others):
-    """The jobs of a check with a long chain behind it, beside some others: two at least, where there are two processors."""
-    processors = len(os.sched_getaffinity(0))
-    return min(4, processors, max(2, processors - others))
+def most_jobs():
+    """The jobs of a check with a long chain behind it."""
+    return min(2, len(os.sched_getaffinity(0)))
 
 
 def longest_chain(tree):
-    """Of two crates that can be proved, the one with the longer chain behind it gets all processors but one, the other one
-    job."""
+    """Of two crates that can be proved, the one with the longer chain behind it gets the most jobs, the other one."""
     want_two_checks()
     with_crates(tree).put("crates/other/src/lib.rt", "a line\n" * 1000)
     tree.build()
-    wanted = ["beside lib --jobs 1 ", f"other lib --jobs {jobs_beside(1)} "]
+    wanted = ["beside lib --jobs 1 ", f"other lib --jobs {most_jobs()} "]
     yield "the runs", wanted, sorted(it for it in tree.ran() if it.startswith(("other", "beside")))
 
 
@@ -308,7 +306,7 @@ def only_what_changed(tree):
         yield f"output after {name} changed", (tree.program(), tree.begun(), 0), tree.build()
         lib = sorted(it.split(" ")[0] for it in tree.ran() if " lib " in it)
         yield f"crates proved after {name} changed", wanted, lib
-        yield f"the program after {name} changed", f"goose run --jobs {jobs_beside(0)} -- show given", tree.ran()[-1]
+        yield f"the program after {name} changed", f"goose run --jobs {most_jobs()} -- show given", tree.ran()[-1]
     tree.runs.unlink()
     (tree.top / "crates" / "other" / "out" / "rlib" / "sources").unlink()
     edit(tree, "goose")
