@@ -1,6 +1,7 @@
 -- Bits without the unused ones do not hang on what these are.
-use Rattle.std.proofs.Common.{◌≡◌, ℕ, zero, suc, ◌+◌, ◌-◌, ◌*◌, ◌/◌, ◌%◌, ◌^◌, ◌≤◌, List, [], ◌∷◌, ◌++◌, length, get_or, take, ap, refl, sym, ◌∙◌, arith, length-append}
+use Rattle.std.proofs.Common.{◌≡◌, ℕ, zero, suc, ◌+◌, ◌-◌, ◌*◌, ◌/◌, ◌%◌, ◌^◌, ◌<◌, ◌≤◌, List, [], ◌∷◌, ◌++◌, length, get_or, take, ap, refl, sym, ◌∙◌, arith, length-append}
 use Rattle.std.specs.List.{flat_map}
+use Rattle.std.proofs.Math.Nat.{div-add-mod, div-div-eq-div-mul, mul-div_cancel_left}
 use Rattle.std.proofs.Math.Seq.{take-append-add}
 use Rattle.mms_data.specs.Contents.{cleared}
 use Rattle.text_core.specs.Pieces.{octet_bits, bits_text}
@@ -14,51 +15,22 @@ size_cleared unused [] = refl
 size_cleared unused (x ∷ []) = refl
 size_cleared unused (x ∷ y ∷ ys) = omega (arith, size_cleared unused (y ∷ ys))
 
+-- without what is left of a part, the number of greater parts is the same
+parts_kept : (x m d : ℕ) → 0 < m → (x - x % m) / (m * d) ≡ x / (m * d)
+parts_kept x m d h =
+    let whole : x - x % m ≡ m * (x / m) = omega (arith, div-add-mod x m) in
+    sym (div-div-eq-div-mul (x - x % m) m d) ∙ ap (λ n. n / m / d) whole ∙ ap (λ n. n / d) (mul-div_cancel_left (x / m) h) ∙ div-div-eq-div-mul x m d
+
 -- the last octet
 last_bits : (unused x : ℕ) → unused ≤ 7 → take (8 - unused) (octet_bits (x - x % 2 ^ unused)) ≡ take (8 - unused) (octet_bits x)
 last_bits zero x h = let e : x - x % 1 ≡ x = omega arith in ap (λ n. take 8 (octet_bits n)) e
-last_bits (suc zero) x h =
-    let e128 : (x - x % 2) / 128 ≡ x / 128 = omega arith in
-    let e64 : (x - x % 2) / 64 ≡ x / 64 = omega arith in
-    let e32 : (x - x % 2) / 32 ≡ x / 32 = omega arith in
-    let e16 : (x - x % 2) / 16 ≡ x / 16 = omega arith in
-    let e8 : (x - x % 2) / 8 ≡ x / 8 = omega arith in
-    let e4 : (x - x % 2) / 4 ≡ x / 4 = omega arith in
-    let e2 : (x - x % 2) / 2 ≡ x / 2 = omega arith in
-    cc
-last_bits (suc (suc zero)) x h =
-    let e128 : (x - x % 4) / 128 ≡ x / 128 = omega arith in
-    let e64 : (x - x % 4) / 64 ≡ x / 64 = omega arith in
-    let e32 : (x - x % 4) / 32 ≡ x / 32 = omega arith in
-    let e16 : (x - x % 4) / 16 ≡ x / 16 = omega arith in
-    let e8 : (x - x % 4) / 8 ≡ x / 8 = omega arith in
-    let e4 : (x - x % 4) / 4 ≡ x / 4 = omega arith in
-    cc
-last_bits (suc (suc (suc zero))) x h =
-    let e128 : (x - x % 8) / 128 ≡ x / 128 = omega arith in
-    let e64 : (x - x % 8) / 64 ≡ x / 64 = omega arith in
-    let e32 : (x - x % 8) / 32 ≡ x / 32 = omega arith in
-    let e16 : (x - x % 8) / 16 ≡ x / 16 = omega arith in
-    let e8 : (x - x % 8) / 8 ≡ x / 8 = omega arith in
-    cc
-last_bits (suc (suc (suc (suc zero)))) x h =
-    let e128 : (x - x % 16) / 128 ≡ x / 128 = omega arith in
-    let e64 : (x - x % 16) / 64 ≡ x / 64 = omega arith in
-    let e32 : (x - x % 16) / 32 ≡ x / 32 = omega arith in
-    let e16 : (x - x % 16) / 16 ≡ x / 16 = omega arith in
-    cc
-last_bits (suc (suc (suc (suc (suc zero))))) x h =
-    let e128 : (x - x % 32) / 128 ≡ x / 128 = omega arith in
-    let e64 : (x - x % 32) / 64 ≡ x / 64 = omega arith in
-    let e32 : (x - x % 32) / 32 ≡ x / 32 = omega arith in
-    cc
-last_bits (suc (suc (suc (suc (suc (suc zero)))))) x h =
-    let e128 : (x - x % 64) / 128 ≡ x / 128 = omega arith in
-    let e64 : (x - x % 64) / 64 ≡ x / 64 = omega arith in
-    cc
-last_bits (suc (suc (suc (suc (suc (suc (suc zero))))))) x h =
-    let e128 : (x - x % 128) / 128 ≡ x / 128 = omega arith in
-    cc
+last_bits (suc zero) x h = let e = λ (d : ℕ). parts_kept x 2 d (omega arith) in cc (e 64, e 32, e 16, e 8, e 4, e 2, e 1)
+last_bits (suc (suc zero)) x h = let e = λ (d : ℕ). parts_kept x 4 d (omega arith) in cc (e 32, e 16, e 8, e 4, e 2, e 1)
+last_bits (suc (suc (suc zero))) x h = let e = λ (d : ℕ). parts_kept x 8 d (omega arith) in cc (e 16, e 8, e 4, e 2, e 1)
+last_bits (suc (suc (suc (suc zero)))) x h = let e = λ (d : ℕ). parts_kept x 16 d (omega arith) in cc (e 8, e 4, e 2, e 1)
+last_bits (suc (suc (suc (suc (suc zero))))) x h = let e = λ (d : ℕ). parts_kept x 32 d (omega arith) in cc (e 4, e 2, e 1)
+last_bits (suc (suc (suc (suc (suc (suc zero)))))) x h = let e = λ (d : ℕ). parts_kept x 64 d (omega arith) in cc (e 2, e 1)
+last_bits (suc (suc (suc (suc (suc (suc (suc zero))))))) x h = let e = λ (d : ℕ). parts_kept x 128 d (omega arith) in cc (e 1)
 last_bits (suc (suc (suc (suc (suc (suc (suc (suc unused)))))))) x h = absurd (omega arith)
 
 -- bits behind whole octets
