@@ -1,12 +1,14 @@
-use Rattle.std.proofs.Common.{◌+◌, ◌≤◌, arith, ap, sym, ◌∙◌, List}
+use Rattle.std.proofs.Common.{◌+◌, ◌≤◌, [], ◌∷◌, arith, ap, refl, sym, ◌∙◌, List}
 use Rattle.mms_data.specs.declared.value.Value.{Value}
 use Rattle.mms_data.specs.Value.{data_of, datas}
 use Rattle.mms_data.specs.computed.Weight.{weight, weight_of_all}
 use Rattle.mms_data.proofs.Weights.{weight_at}
+use Rattle.text_core.specs.Pieces.{spaced}
 use Rattle.text_core.specs.ValueText.{value_text}
 use Rattle.std.proofs.lemmas.Result.{err_from_is_err_and}
 use Rattle.text_core.proofs.Fronts.{grown, same_stands}
 use Rattle.text_core.proofs.OwnedTexts.{one_more}
+use Rattle.text_core.proofs.PieceLemmas.{then_text}
 use Rattle.text_core.proofs.Spaced.{spaced-written}
 use Rattle.text_core.proofs.owned.+owned.Goals as goal
 
@@ -36,3 +38,8 @@ put_others-returns-in_err-put_value_text g t c =
 pub put_spaced-returns : goal.put_spaced-returns
 put_spaced-returns g t c =
     spaced-written value_text c.put_others.result _ _ _ _ _ _ (sym c.as_slice.ensures ∙ ap (λ (vs : List (Value g.row.A.Denot)). datas vs) c.in-Some.ensures.cases.0) c.in_ok-put_value_text.ensures c.put_others.ensures
+
+pub put_between-returns : goal.put_between-returns
+put_between-returns g t c =
+    let front = then_text _ (c.args.before ∷ []) _ (c.args.before ∷ spaced value_text c.args.values.now) _ _ c.in_ok-push.ensures.items c.in_ok-put_spaced.ensures refl in
+    then_text _ _ (c.args.after ∷ []) _ _ _ front c.in_ok-push-2.ensures.items refl
