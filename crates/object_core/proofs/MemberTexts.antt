@@ -53,6 +53,11 @@ members_written o a b c all rest d split first others end =
       subst (λ ds. AreMembers ds (objects.array (m ∷ texts))) (sym split) (m ∷ texts, refl, (first.2.2, others.2.2)),
     )
 
+-- a front was written, then what stands in it, and then a brace
+pub nested_written : (o a b c front inner text whole : List ℕ) → a ≡ o ++ front → b ≡ a ++ text → text ≡ inner → c ≡ b ++ 125 ∷ [] → front ++ (inner ++ 125 ∷ []) ≡ whole → c ≡ o ++ whole
+nested_written o a b c front inner text whole first inside is end e =
+    in_turn (front ∷ inner ∷ (125 ∷ []) ∷ []) e (more first (more (inside ∙ ap (λ (l : List ℕ). a ++ l) is) (more end (done refl))))
+
 -- what stands in front stays there
 pub kept_more : (o out new x : List ℕ) → take (length o) out ≡ o → new ≡ out ++ x → take (length o) new ≡ o
 kept_more o out new x kept put = ap (take (length o)) put ∙ front_grows o out x kept

@@ -1,4 +1,7 @@
-use Rattle.std.proofs.Common.{◌+◌, ◌≤◌, arith, ap, sym, ◌∙◌, List}
+use Rattle.std.proofs.Common.{◌+◌, ◌≤◌, ◌∷◌, arith, ap, refl, sym, ◌∙◌, List}
+use Rattle.std.specs.Prelude.{codes}
+use Rattle.object_core.specs.MemberObject.{one_field}
+use Rattle.object_core.specs.Objects as objects
 use Rattle.std.proofs.lemmas.List.{drop_all}
 use Rattle.std.proofs.lemmas.Result.{err_from_is_err_and}
 use Rattle.mms_data.specs.declared.value.Value.{Value}
@@ -6,7 +9,7 @@ use Rattle.mms_data.specs.Value.{data_of, datas}
 use Rattle.mms_data.specs.computed.Weight.{weight, weight_of_all}
 use Rattle.mms_data.proofs.Weights.{weight_at}
 use Rattle.text_core.proofs.Fronts.{front_twice}
-use Rattle.object_core.proofs.MemberTexts.{finished, kept_more, members_written, one_behind}
+use Rattle.object_core.proofs.MemberTexts.{finished, kept_more, members_written, nested_written, one_behind}
 use Rattle.object_core.proofs.OwnedMembers.{split_at}
 use Rattle.object_core.proofs.owned.+owned.Goals as goal
 
@@ -41,3 +44,19 @@ pub put_values_object-returns : goal.put_values_object-returns
 put_values_object-returns g t c =
     members_written _ _ _ _ _ _ _ (sym c.as_slice.ensures ∙ ap (λ (vs : List (Value g.row.A.Denot)). datas vs) c.in-Some.ensures.cases.0) c.in_ok-put_value_object.ensures c.in_ok-put_others.ensures
     c.in_ok-push.ensures.items
+
+pub put_array_object-returns : goal.put_array_object-returns
+put_array_object-returns g t c =
+    let all = c.in_ok-put_values_object.ensures in (
+      c.args.sign ∷ one_field (codes "array") (objects.array all.2.0),
+      nested_written _ _ _ _ _ _ _ _ c.in_ok-extend_from_slice.ensures.items all.1 all.2.1 c.in_ok-push.ensures.items refl,
+      (_, refl, (all.2.0, refl, all.2.2)),
+    )
+
+pub put_structure_object-returns : goal.put_structure_object-returns
+put_structure_object-returns g t c =
+    let all = c.in_ok-put_values_object.ensures in (
+      c.args.sign ∷ one_field (codes "structure") (objects.array all.2.0),
+      nested_written _ _ _ _ _ _ _ _ c.in_ok-extend_from_slice.ensures.items all.1 all.2.1 c.in_ok-push.ensures.items refl,
+      (_, refl, (all.2.0, refl, all.2.2)),
+    )
