@@ -42,12 +42,6 @@ mode_more v xs m rest h (Some next) e f i = let r = cut_some 32 next.now in rw (
 pub frame_spaced : {A : Type 0} (v : MomentUnit) (m rest : List ℕ) (n : ℕ) → IsFirstPlace 32 rest (Some n) → event_of_fields {A = A} v ((70 ∷ []) ∷ m ∷ fields rest) ≡ Err LineForm
 frame_spaced v m rest n h = let r = cut_some 32 (drop (n + 1) rest) in rw (cut-first 32 rest n h, r.2) (more_fields v 70 m (take n rest) r.0 r.1)
 
--- a frame without digits
-pub frame_short : {A : Type 0} (v : MomentUnit) (m rest : List ℕ) → length rest ≡ 0 → event_of_fields {A = A} v ((70 ∷ []) ∷ m ∷ fields rest) ≡ Err LineForm
-frame_short v [] [] e = refl
-frame_short v (m ∷ ms) [] e = refl
-frame_short v m (x ∷ xs) e = absurd (omega arith)
-
 -- a frame whose two fields are these
 one_field : {A : Type 0} (v : MomentUnit) (m rest : List ℕ) → 0 < length m → 0 < length rest → HasNo 32 rest
     → event_of_fields {A = A} v ((70 ∷ []) ∷ m ∷ fields rest) ≡ frame_event (moment_of v m) (frame_octets_by rest)

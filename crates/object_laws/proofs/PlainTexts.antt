@@ -23,10 +23,6 @@ escape_plain [] plain = refl
 escape_plain (c ∷ text) plain =
     ap (λ (l : List ℕ). l ++ escape text) (escape_byte_plain c plain.0.no_quote plain.0.no_backslash plain.0.visible) ∙ ap (λ (l : List ℕ). c ∷ l) (escape_plain text plain.1)
 
-pub append_plain : (a b : List ℕ) → ArePlain a → ArePlain b → ArePlain (a ++ b)
-append_plain [] b p q = q
-append_plain (c ∷ a) b p q = (p.0, append_plain a b p.1 q)
-
 pub take_plain : (n : ℕ) (text : List ℕ) → ArePlain text → ArePlain (take n text)
 take_plain zero text p = tt
 take_plain (suc n) [] p = tt

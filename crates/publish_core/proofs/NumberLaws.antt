@@ -38,13 +38,6 @@ state_number_plain first c some low = omega arith
 pub state_number_first : (first : ℕ) → 0 < first → first ≤ 4294967295 → state_number first 0 ≡ first
 state_number_first first some low = omega (arith, state_number_plain first 0 some (omega arith))
 
-pub number_after_some : (n : ℕ) → 0 < number_behind n
-number_after_some n = in_case (n == 4294967295)
-  where
-    in_case : (b : Bool) → 0 < (if b then 1 else n + 1)
-    in_case true = omega arith
-    in_case false = omega arith
-
 pub numbers_go_on : NumbersGoOn
 numbers_go_on = record {
   first_state = state_number_first;
