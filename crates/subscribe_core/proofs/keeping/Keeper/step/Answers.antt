@@ -3,6 +3,9 @@ use Rattle.subscribe_core.specs.Looks.{expired_count}
 use Rattle.subscribe_core.specs.computed.PrivateCalls.{StateAndReaches}
 use Rattle.subscribe_core.proofs.keeping.Keeper.step.Goals as goal
 
+pub returns-clause-entries : goal.returns-clause-entries
+returns-clause-entries g c = rw c.clear.ensures.items at c.in_ok-take_counted.ensures.entries
+
 pub returns-clause-looks : goal.returns-clause-looks
 returns-clause-looks g c =
     let first = ap (λ (t : StateAndReaches _). t.reaches) c.self.view_is in
@@ -10,6 +13,6 @@ returns-clause-looks g c =
     elim c.in_ok-take_counted.ensures.count [
       | inl m ↦ inl m
       | inr count ↦
-          let told = ap expired_count (rw c.clear.ensures.items at c.in_ok-take_counted.ensures.entries) in
+          let told = ap expired_count (returns-clause-entries g c) in
           inr (omega (arith, count, told, first, last, c.reaches-before.ensures, c.reaches.ensures, c.saturating_sub-self-inside.ensures))
     ]
