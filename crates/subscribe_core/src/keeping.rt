@@ -60,13 +60,35 @@ fn idle_registers<A: Allocator>(alloc: A, count: usize) -> Result<Vec<Register, 
     ensures quiet { count ≡ 0 → IsOk result }
 {
     let mut registers = Vec::new(alloc);
-    for _ in 0..count {
-        registers.push(Register {
+    registers.resize(
+        count,
+        Register {
             held: None,
             takes_simulated: false,
-        })?;
-    }
+        },
+    )?;
     Ok(registers)
+}
+
+// Appends an entry for each block that takes simulated frames.
+fn list_flagged<A: Allocator>(
+    rows: &mut Rows<A>,
+    entries: &mut Vec<Entry<A>, A>,
+) -> Result<(), AllocError>
+    requires { length rows.old.registers.items ≡ length rows.old.blocks.items }
+    ensures entries { OnOk result (entries.new.items ≡ entries.old.items ++ flagged_entries 0 rows.old.registers.items) }
+    ensures quiet { flagged_entries {A = A} 0 rows.old.registers.items ≡ [] → IsOk result }
+    ensures blocks { rows.new.blocks ≡ rows.old.blocks }
+    ensures registers { rows.new.registers ≡ rows.old.registers }
+{
+    for at in 0..rows.count() {
+        let reach = rows.reach(at);
+        let (_, register) = rows.look(reach);
+        if register.takes_simulated {
+            entries.push(Entry::Switched { block: at })?;
+        }
+    }
+    Ok(())
 }
 
 impl<A: Allocator + Copy> Keeper<A> {
@@ -299,14 +321,7 @@ impl<A: Allocator + Copy> Keeper<A> {
         ensures state { self.new.state ≡ self.old.state }
         ensures looks { self.new.looks ≡ self.old.looks }
     {
-        for at in 0..self.rows.count() {
-            let reach = self.rows.reach(at);
-            let (_, register) = self.rows.look(reach);
-            if register.takes_simulated {
-                entries.push(Entry::Switched { block: at })?;
-            }
-        }
-        Ok(())
+        list_flagged(&mut self.rows, entries)
     }
 
     // Has no block take simulated frames. Those that did let go of what they hold.

@@ -50,3 +50,15 @@ returns-clause-registers g c =
     let registers = c.loop-at.self-inside.rows.registers.items in
     let none = cleared_none registers c.args.now (λ at. c.in_default.ensures.none (helds registers) at c.loop-at.invariant.indexed.timed) in
     sym none ∙ (c.loop-at.invariant.same ∙ ap (λ (s : StateAndReaches _). registers_after_clock c.args.now s.state.registers) c.self.view_is)
+
+pub returns-clause-blocks : goal.returns-clause-blocks
+returns-clause-blocks g c = c.loop-at.invariant.blocks_stay ∙ ap (λ (s : StateAndReaches _). s.state.blocks) c.self.view_is
+
+pub returns-clause-mode : goal.returns-clause-mode
+returns-clause-mode g c = c.loop-at.invariant.mode_stays ∙ ap (λ (s : StateAndReaches _). s.state.mode) c.self.view_is
+
+pub returns-clause-moment : goal.returns-clause-moment
+returns-clause-moment g c = c.loop-at.invariant.moment_stays ∙ ap (λ (s : StateAndReaches _). s.state.moment) c.self.view_is
+
+pub invariant_of-self : goal.invariant_of-self
+invariant_of-self g c = rw c.in_default.ensures.unchanged c.loop-at.invariant.indexed

@@ -1,4 +1,4 @@
-use Rattle.std.proofs.Common.{◌<◌, Some, ap, sym, subst, arith, refl, length}
+use Rattle.std.proofs.Common.{◌<◌, Some, ap, sym, subst, arith, refl, length, set, ◌∙◌}
 use Rattle.std.proofs.lemmas.List.{length-map}
 use Rattle.subscribe_core.specs.declared.registers.Register.{Register}
 use Rattle.subscribe_core.specs.computed.Deadlines.{helds}
@@ -18,3 +18,6 @@ invariant_of-self g c =
     let new : Register = record { held = Some c.args.held; takes_simulated = c.args.takes_simulated } in
     indexed_write _ _ registers _ _ c.args.at new _ _ (ap (λ b. b.items) c.write.ensures.blocks) c.write.ensures.registers c.self.invariant
     (c.renew.ensures (helds registers) c.args.held (omega arith) refl c.self.invariant.timed)
+
+pub returns-clause-registers : goal.returns-clause-registers
+returns-clause-registers g c = c.write.ensures.registers ∙ ap (λ (s : StateAndReaches _). set s.state.registers c.args.at (record { held = Some c.args.held; takes_simulated = c.args.takes_simulated })) c.self.view_is

@@ -45,3 +45,15 @@ returns-clause-registers g c =
     let first = c.self.inside.rows.registers.items in
     let le : length first ≤ c.loop-at.at = omega (arith, c.self.invariant.sizes, c.count-at-end.ensures, c.loop-at-test.false) in
     c.loop-at.invariant.off ∙ (off_all c.loop-at.at first le ∙ ap (λ (s : StateAndReaches _). switched_off s.state.registers) c.self.view_is)
+
+pub returns-clause-blocks : goal.returns-clause-blocks
+returns-clause-blocks g c = c.loop-at.invariant.blocks_stay ∙ ap (λ (s : StateAndReaches _). s.state.blocks) c.self.view_is
+
+pub returns-clause-mode : goal.returns-clause-mode
+returns-clause-mode g c = c.loop-at.invariant.mode_stays ∙ ap (λ (s : StateAndReaches _). s.state.mode) c.self.view_is
+
+pub returns-clause-moment : goal.returns-clause-moment
+returns-clause-moment g c = c.loop-at.invariant.moment_stays ∙ ap (λ (s : StateAndReaches _). s.state.moment) c.self.view_is
+
+pub invariant_of-self : goal.invariant_of-self
+invariant_of-self g c = c.loop-at.invariant.indexed
