@@ -27,8 +27,7 @@ fn put_entry_head<A: Allocator>(
 {
     put_decimal(out, number)?;
     out.extend_from_slice(word)?;
-    put_decimal(out, block as u64)?;
-    Ok(())
+    put_decimal(out, block as u64)
 }
 
 // Appends a line of a word and the position of a block.
