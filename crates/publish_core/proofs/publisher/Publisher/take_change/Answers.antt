@@ -1,0 +1,8 @@
+use Rattle.std.proofs.Common.{refl}
+use Rattle.publish_core.proofs.publisher.Publisher.take_change.Goals as goal
+
+pub returns-in-Err-clause-handed_back : goal.returns-in-Err-clause-handed_back
+returns-in-Err-clause-handed_back g c = refl
+
+pub returns-in-Err-clause-unchanged : goal.returns-in-Err-clause-unchanged
+returns-in-Err-clause-unchanged g c = refl
