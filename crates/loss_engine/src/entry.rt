@@ -72,6 +72,7 @@ impl<A: Allocator> Entry<A> {
     }
 
     /// Its key.
+    #[inline(always)]
     pub fn key(&self) -> Key<'_>
         ensures { key_said result ≡ entry_key self.now }
     {
@@ -107,11 +108,9 @@ impl<A: Allocator> Entry<A> {
     pub fn is_stream(&self, key: StreamKey<'_>) -> bool
         ensures { result ≡ same_key (entry_key self.now) (stream_said key.entry) }
     {
-        match self.origin {
-            Origin::Sender(_) => false,
-            Origin::Stream(source) => {
-                self.app_id == key.app_id && source == key.source && self.name.as_slice() == key.id
-            }
+        match self.key() {
+            Key::Sender(_) => false,
+            Key::Stream(own) => own.is_same(key),
         }
     }
 

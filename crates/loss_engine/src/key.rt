@@ -2,7 +2,7 @@
 
 ghost use Rattle.std.specs.Prelude.{◌≡◌};
 ghost use Rattle.loss_engine.specs.KeySaid.{sender_said, stream_said};
-ghost use Rattle.loss_engine.specs.Sights.{same_key};
+ghost use Rattle.loss_engine.specs.Sights.{same_key, same_truth};
 
 /// A sender: a control block of GOOSE (IEC 61850-8-1), its real frames or its simulated ones.
 #[derive(Clone, Copy)]
@@ -35,6 +35,14 @@ pub enum Key<'a> {
     Stream(StreamKey<'a>),
 }
 
+// Whether both are true, or none is.
+#[inline(always)]
+fn is_same_truth(own: bool, other: bool) -> bool
+    ensures { result ≡ same_truth own other }
+{
+    own == other
+}
+
 impl SenderKey<'_> {
     /// Whether both are one.
     pub fn is_same(self, other: SenderKey<'_>) -> bool
@@ -42,12 +50,13 @@ impl SenderKey<'_> {
     {
         self.app_id == other.app_id
             && self.reference == other.reference
-            && self.simulation == other.simulation
+            && is_same_truth(self.simulation, other.simulation)
     }
 }
 
 impl StreamKey<'_> {
     /// Whether both are one.
+    #[inline(always)]
     pub fn is_same(self, other: StreamKey<'_>) -> bool
         ensures { result ≡ same_key (stream_said self.entry) (stream_said other.entry) }
     {

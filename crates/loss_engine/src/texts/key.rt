@@ -1,6 +1,6 @@
 //! Of which sender or stream something is told.
-ghost use Rattle.std.specs.Prelude.{◌++◌};
-ghost use Rattle.text_core.specs.Pieces.{AppendsText};
+ghost use Rattle.std.specs.Prelude.{◌++◌, codes};
+ghost use Rattle.text_core.specs.Pieces.{AppendsText, four_digits};
 ghost use Rattle.object_core.specs.Onward.{onward};
 ghost use Rattle.loss_engine.specs.KeySaid.{key_said};
 ghost use Rattle.loss_engine.specs.LossLine.{key_text};
@@ -10,17 +10,23 @@ ghost use Rattle.loss_engine.specs.Sights.{sender as of_sender, stream as of_str
 use crate::key::{Key, SenderKey, StreamKey};
 use object_core::fields::{put_field_boolean, put_field_octets};
 use std::alloc::{AllocError, Allocator};
-use text_core::fields::put_text;
-use text_core::pieces::{put_boolean, put_four_digits, put_hexadecimal, put_quoted};
+use text_core::fields::{put_octets, put_text};
+use text_core::pieces::{put_boolean, put_four_digits};
+
+// Appends an APPID behind its word.
+fn put_app_id<A: Allocator>(out: &mut Vec<u8, A>, app_id: u16) -> Result<(), AllocError>
+    ensures { AppendsText result out.old.items out.new.items (codes " appid=" ++ four_digits app_id) }
+{
+    out.extend_from_slice(b" appid=")?;
+    put_four_digits(out, app_id)
+}
 
 // Appends the words of a sender.
 fn put_sender<A: Allocator>(out: &mut Vec<u8, A>, sender: &SenderKey<'_>) -> Result<(), AllocError>
     ensures { AppendsText result out.old.items out.new.items (key_text (of_sender sender.now.app_id sender.now.reference.now sender.now.simulation)) }
 {
-    out.extend_from_slice(b" appid=")?;
-    put_four_digits(out, sender.app_id)?;
-    out.extend_from_slice(b" ref=")?;
-    put_quoted(out, sender.reference)?;
+    put_app_id(out, sender.app_id)?;
+    put_text(out, b" ref=", sender.reference)?;
     out.extend_from_slice(b" sim=")?;
     put_boolean(out, sender.simulation)
 }
@@ -29,12 +35,9 @@ fn put_sender<A: Allocator>(out: &mut Vec<u8, A>, sender: &SenderKey<'_>) -> Res
 fn put_stream<A: Allocator>(out: &mut Vec<u8, A>, stream: &StreamKey<'_>) -> Result<(), AllocError>
     ensures { AppendsText result out.old.items out.new.items (key_text (of_stream stream.now.app_id stream.now.source stream.now.id.now)) }
 {
-    out.extend_from_slice(b" appid=")?;
-    put_four_digits(out, stream.app_id)?;
-    out.extend_from_slice(b" source=")?;
-    put_hexadecimal(out, &stream.source)?;
-    out.extend_from_slice(b" id=")?;
-    put_quoted(out, stream.id)
+    put_app_id(out, stream.app_id)?;
+    put_octets(out, b" source=", &stream.source)?;
+    put_text(out, b" id=", stream.id)
 }
 
 /// Appends the words of a sender or a stream, each behind a space.

@@ -1,0 +1,4 @@
+use Rattle.loss_engine.proofs.texts.finding.put_ends.Goals as goal
+
+pub returns : goal.returns
+returns g c = c.put_two.ensures
