@@ -1,12 +1,13 @@
 use Rattle.std.proofs.Common.{◌≡◌, ◌∙◌, ◌++◌, ◌∷◌, ℕ, [], List, ap, length, subst, sym}
 use Rattle.std.specs.Prelude.{Err}
+use Rattle.std.proofs.lemmas.List.{map-append}
 use Rattle.known_core.specs.computed.Held.{IsAt, PutsOne}
 use Rattle.known_core.specs.computed.Positions.{AnswersPosition, AreInOrder}
 use Rattle.known_core.proofs.PositionLemmas.{one_indexed, positions_for, same_held}
 use Rattle.known_core.proofs.SearchLemmas.{none_empty}
 use Rattle.loss_engine.specs.declared.entry.Entry.{Entry}
 use Rattle.loss_engine.specs.KeySaid.{key_said}
-use Rattle.loss_engine.specs.computed.Entries.{entry_key}
+use Rattle.loss_engine.specs.computed.Entries.{all_tracked, entry_key, tracked_by}
 use Rattle.loss_engine.specs.computed.Tracking.{Tracked, known_of}
 use Rattle.loss_engine.specs.computed.KeyOrder.{key_cmp}
 use Rattle.loss_engine.proofs.KeyOrder.{key_exact, key_total}
@@ -38,3 +39,8 @@ invariant_of-self-2 g c =
     (sym (c.push_reserved.ensures.items ∙ ap (λ (l : List (Entry g.row.A.Denot)). l ++ c.args.entry ∷ []) c.in_ok-reserve.ensures.items))
     (one_indexed key_cmp key_total entry_key es positions c.self.invariant c.insert.new.self place key c.args.entry (sym c.key.ensures) gap
     (subst (λ (n : ℕ). PutsOne positions c.insert.new.self place n) size c.in_ok-insert.ensures.put))
+
+pub returns-clause-pushed : goal.returns-clause-pushed
+returns-clause-pushed g c =
+    ap (λ (l : List (Entry g.row.A.Denot)). all_tracked l) (c.push_reserved.ensures.items ∙ ap (λ (l : List (Entry g.row.A.Denot)). l ++ c.args.entry ∷ []) c.in_ok-reserve.ensures.items)
+    ∙ map-append tracked_by c.self.inside.entries.items (c.args.entry ∷ []) ∙ ap (λ (l : List Tracked). l ++ tracked_by c.args.entry ∷ []) c.self.view_is
