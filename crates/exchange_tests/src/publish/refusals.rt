@@ -2,7 +2,7 @@
 
 use crate::publish::frames::{NO_TIME, booleans, changed, control, is_changed, publisher, step};
 use mms_data::{Octets, UtcTime, Value, ValueList};
-use publish_core::{PublishFault, Publisher, Step, Table};
+use publish_core::{Control, PublishFault, Publisher, Step, Table};
 use std::alloc::{AllocError, Global};
 use std::test::Fail;
 
@@ -39,11 +39,7 @@ fn alone(alloc: Global, value: Value<Global>) -> Result<ValueList<Global>, Alloc
 
 // So many octets.
 fn octets(alloc: Global, size: usize) -> Result<Octets<Global>, AllocError> {
-    let mut octets = Vec::new(alloc);
-    for _ in 0..size {
-        octets.push(7)?;
-    }
-    Ok(Octets::from(octets))
+    Ok(Octets::from(vec![in alloc; 7; size]?))
 }
 
 // Whether a change to these values is refused for this reason, and hands so many values back.
@@ -61,7 +57,10 @@ fn is_refused(
 }
 
 // Whether changes are refused in the order of their faults, and the publisher is then as it was.
-fn are_refused_in_order(alloc: Global, publisher: &mut Publisher<Global>) -> Result<bool, Fail> {
+fn are_refused_in_order(
+    alloc: Global,
+    publisher: &mut Publisher<Global>,
+) -> Result<bool, AllocError> {
     let two = booleans(alloc, 2, true)?;
     let is_two = is_refused(publisher, WIDE, two, PublishFault::EntriesDiffer, 2);
     let wide = alone(alloc, Value::Octets(octets(alloc, 1500)?))?;
@@ -80,20 +79,36 @@ fn are_refused_in_order(alloc: Global, publisher: &mut Publisher<Global>) -> Res
     )
 }
 
+// The same of a publisher.
+fn has_its_order(alloc: Global) -> Result<bool, Fail> {
+    let mut publisher = publisher(control(alloc, 1)?, &[step(10, 2000)])?;
+    Ok(are_refused_in_order(alloc, &mut publisher)?)
+}
+
 #[test]
 fn changes_are_refused_in_this_order(rt: HostRuntime) -> Result<(), Fail> {
-    let mut publisher = publisher(control(rt.alloc(), 1)?, &[step(10, 2000)])?;
-    assert!(rt; are_refused_in_order(rt.alloc(), &mut publisher)?);
+    assert!(rt; has_its_order(rt.alloc())?);
     Ok(())
+}
+
+// A control of which a text has no spelling.
+fn odd_control(alloc: Global) -> Result<Control<Global>, AllocError> {
+    let text = Octets::from(Vec::from_slice(alloc, &[0x7f])?);
+    let mut odd = control(alloc, 1)?;
+    odd.dat_set = text;
+    Ok(odd)
+}
+
+// Whether a publisher of it refuses its first change.
+fn is_odd_refused(alloc: Global) -> Result<bool, Fail> {
+    let mut publisher = publisher(odd_control(alloc)?, &[step(10, 2000)])?;
+    let one = booleans(alloc, 1, true)?;
+    Ok(is_refused(&mut publisher, NO_TIME, one, PublishFault::NotSpellable, 1))
 }
 
 #[test]
 fn a_control_with_a_text_without_a_spelling(rt: HostRuntime) -> Result<(), Fail> {
-    let mut odd = control(rt.alloc(), 1)?;
-    odd.dat_set = Octets::from(Vec::from_slice(rt.alloc(), &[0x7f])?);
-    let mut publisher = publisher(odd, &[step(10, 2000)])?;
-    let one = booleans(rt.alloc(), 1, true)?;
-    assert!(rt; is_refused(&mut publisher, NO_TIME, one, PublishFault::NotSpellable, 1));
+    assert!(rt; is_odd_refused(rt.alloc())?);
     Ok(())
 }
 

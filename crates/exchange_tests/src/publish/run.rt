@@ -1,6 +1,7 @@
 //! A whole run: which frames come when, with which numbers, and the greatest moment so far.
 
 use crate::publish::frames::{NO_TIME, booleans, control, frame, is_changed, publisher, step};
+use mms_data::ValueList;
 use publish_core::Publisher;
 use std::alloc::{AllocError, Global};
 use std::test::Fail;
@@ -55,11 +56,16 @@ fn is_run_given(alloc: Global, publisher: &mut Publisher<Global>) -> Result<bool
     )
 }
 
+/// The same of a publisher.
+fn gives_run(alloc: Global) -> Result<bool, Fail> {
+    let steps = [step(10, 2000), step(1000, 3000)];
+    let mut publisher = publisher(control(alloc, 1)?, &steps)?;
+    Ok(is_run_given(alloc, &mut publisher)?)
+}
+
 #[test]
 fn frames_come_where_they_are_due(rt: HostRuntime) -> Result<(), Fail> {
-    let steps = [step(10, 2000), step(1000, 3000)];
-    let mut publisher = publisher(control(rt.alloc(), 1)?, &steps)?;
-    assert!(rt; is_run_given(rt.alloc(), &mut publisher)?);
+    assert!(rt; gives_run(rt.alloc())?);
     Ok(())
 }
 
@@ -82,27 +88,30 @@ fn short_lived(sequence: u8, live: u8) -> [u8; 66] {
 
 /// Whether frames are lent where they are kept: written over, and made anew where the lifetime has an octet more. A poll
 /// that gives none lends the frame before it.
-fn are_lent(alloc: Global, publisher: &mut Publisher<Global>) -> Result<bool, AllocError> {
+fn are_lent(publisher: &mut Publisher<Global>, values: ValueList<Global>) -> bool {
+    publisher.held_frame().is_empty()
+        && publisher.change_held(0, NO_TIME, values).is_ok()
+        && publisher.held_frame() == short_lived(0, 20).as_slice()
+        && publisher.poll_held(10_000)
+        && publisher.held_frame() == short_lived(1, 30).as_slice()
+        && !publisher.poll_held(10_001)
+        && publisher.held_frame() == short_lived(1, 30).as_slice()
+        && publisher.poll_held(20_000)
+        && publisher.held_frame() == frame(1, 2, true).as_slice()
+        && publisher.poll_held(1_020_000)
+        && publisher.held_frame() == frame(1, 3, true).as_slice()
+}
+
+/// The same of a publisher.
+fn lends(alloc: Global) -> Result<bool, Fail> {
+    let steps = [step(10, 20), step(10, 30), step(1000, 3000)];
+    let mut publisher = publisher(control(alloc, 1)?, &steps)?;
     let values = booleans(alloc, 1, true)?;
-    Ok(
-        publisher.held_frame().is_empty()
-            && publisher.change_held(0, NO_TIME, values).is_ok()
-            && publisher.held_frame() == short_lived(0, 20).as_slice()
-            && publisher.poll_held(10_000)
-            && publisher.held_frame() == short_lived(1, 30).as_slice()
-            && !publisher.poll_held(10_001)
-            && publisher.held_frame() == short_lived(1, 30).as_slice()
-            && publisher.poll_held(20_000)
-            && publisher.held_frame() == frame(1, 2, true).as_slice()
-            && publisher.poll_held(1_020_000)
-            && publisher.held_frame() == frame(1, 3, true).as_slice(),
-    )
+    Ok(are_lent(&mut publisher, values))
 }
 
 #[test]
 fn frames_are_lent_where_they_are_kept(rt: HostRuntime) -> Result<(), Fail> {
-    let steps = [step(10, 20), step(10, 30), step(1000, 3000)];
-    let mut publisher = publisher(control(rt.alloc(), 1)?, &steps)?;
-    assert!(rt; are_lent(rt.alloc(), &mut publisher)?);
+    assert!(rt; lends(rt.alloc())?);
     Ok(())
 }

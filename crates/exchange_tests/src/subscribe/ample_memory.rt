@@ -1,28 +1,30 @@
 //! Any count of members, and many blocks, with ample memory.
 
-use super::given::{block, event_with_frame};
+use super::given::{event_with_frame, put_block};
 use crate::publish::frames::{NO_TIME, booleans, changed, control, publisher, step};
 use arrayvec::ArrayVec;
 use frame_core::{Event, EventKind};
 use mms_data::Octets;
 use std::alloc::{AllocError, Global};
 use std::test::Fail;
-use subscribe_core::{Entry, Subscriber};
+use subscribe_core::{Block, Entry, Subscriber};
 use test_support::FRAME;
 
 /// The most booleans that a frame holds, and the greatest APPID: each block has as many members as its APPID says.
 const MOST: u16 = 480;
 
+/// Appends all these blocks.
+fn put_blocks(alloc: Global, blocks: &mut Vec<Block<Global>>) -> Result<(), AllocError> {
+    for count in 0..MOST + 1 {
+        put_block(alloc, blocks, count, u32::from(count))?;
+    }
+    Ok(())
+}
+
 /// A subscriber of all these blocks.
 fn subscriber(alloc: Global) -> Result<Subscriber<Global>, Fail> {
     let mut blocks = Vec::new(alloc);
-    for count in 0..MOST + 1 {
-        let mut block = block(alloc, count)?;
-        block.entries = u32::from(count);
-        if blocks.push(block).is_err() {
-            return Err(Fail::from("no memory for a block"));
-        }
-    }
+    put_blocks(alloc, &mut blocks)?;
     Ok(Subscriber::new(alloc, blocks)?)
 }
 
@@ -48,6 +50,19 @@ fn acted_on(entries: &[Entry<Global>]) -> Option<usize> {
     }
 }
 
+/// Whether the last entry of a frame is an action on so many members, and one block or two are looked at.
+fn acts(
+    alloc: Global,
+    subscriber: &mut Subscriber<Global>,
+    octets: &[u8],
+    count: u16,
+) -> Result<bool, AllocError> {
+    let event = event_with_frame(alloc, 0, octets)?;
+    let acted_on = acted_on(&subscriber.take(&event)?);
+    let looks = subscriber.looks();
+    Ok(acted_on == Some(usize::from(count)) && 1 <= looks && looks <= 2)
+}
+
 /// Whether each block acts on its first frame, one after another, with all members, and each frame reaches its block alone.
 fn each_acts(
     alloc: Global,
@@ -58,10 +73,7 @@ fn each_acts(
         let Some(octets) = first_frame(alloc, count, is_simulated)? else {
             return Ok(false);
         };
-        let event = event_with_frame(alloc, 0, octets.as_slice())?;
-        let entries = subscriber.take(&event)?;
-        let looks = subscriber.looks();
-        if acted_on(&entries) != Some(usize::from(count)) || looks < 1 || 2 < looks {
+        if !acts(alloc, subscriber, octets.as_slice(), count)? {
             return Ok(false);
         }
     }

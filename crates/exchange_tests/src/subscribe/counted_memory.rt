@@ -1,9 +1,12 @@
 //! How often a frame of many members grows memory: they are copied for an action alone.
 
-use super::given::{Told, Want, block, event_with_frame, tells};
+use super::given::{Told, Want, event_with_frame, put_block, tells};
 use crate::publish::frames::{NO_TIME, changed, control, octet_strings, publisher, step};
 use arrayvec::ArrayVec;
-use std::alloc::Global;
+use frame_core::Event;
+use mms_data::ValueList;
+use publish_core::Publisher;
+use std::alloc::{AllocError, Global};
 use std::test::Fail;
 use subscribe_core::{Entry, Subscriber};
 use test_support::RefusingAlloc;
@@ -14,105 +17,128 @@ type Memory<'a> = &'a RefusingAlloc<Global>;
 const MEMBERS: u32 = 100;
 
 /// The first frame of a state, and the one after it.
-fn two_frames(alloc: Global) -> Result<(ArrayVec<u8, 1600>, ArrayVec<u8, 1600>), Fail> {
-    let mut publisher = publisher(control(alloc, MEMBERS)?, &[step(10, 2000)])?;
-    let values = octet_strings(alloc, MEMBERS, 1)?;
-    let first = changed(&mut publisher, 0, NO_TIME, values).ok();
-    let next = publisher.poll(10_000);
-    Ok((
-        first.ok_or("no first frame")?,
-        next.ok_or("no second frame")?,
-    ))
+type Frames = (ArrayVec<u8, 1600>, ArrayVec<u8, 1600>);
+
+/// The frames of a state of these values.
+fn frames_of(publisher: &mut Publisher<Global>, values: ValueList<Global>) -> Option<Frames> {
+    let first = changed(publisher, 0, NO_TIME, values).ok()?;
+    let next = publisher.poll(10_000)?;
+    Some((first, next))
 }
 
-/// What is told of a frame, and how many growths the subscriber takes for it.
+/// The frames of a publisher.
+fn two_frames(alloc: Global) -> Result<Frames, Fail> {
+    let mut publisher = publisher(control(alloc, MEMBERS)?, &[step(10, 2000)])?;
+    let values = octet_strings(alloc, MEMBERS, 1)?;
+    Ok(frames_of(&mut publisher, values).ok_or("no frame")?)
+}
+
+/// A list of entries.
+type List<'a> = Vec<Entry<Memory<'a>>, Memory<'a>>;
+
+/// What is told of an event, in a list that is used again or in a new one, and how many growths the subscriber takes for it.
 fn told_and_grown<'a>(
     alloc: Memory<'a>,
     subscriber: &mut Subscriber<Memory<'a>>,
-    octets: &[u8],
-) -> Result<(Want, usize), Fail> {
-    let event = event_with_frame(alloc, 0, octets)?;
+    (entries, is_again): (&mut List<'a>, bool),
+    event: &Event<Memory<'a>>,
+) -> Result<(Want, usize), AllocError> {
     let before = alloc.growths();
-    let entries = subscriber.take(&event)?;
-    let looks = subscriber.looks();
-    let grown = alloc.growths().saturating_sub(before);
-    if looks < 1 || 2 < looks {
-        return Err(Fail::from("other looks"));
+    if is_again {
+        subscriber.take_into(event, entries)?;
+    } else {
+        *entries = subscriber.take(event)?;
     }
-    Ok((tells(&entries), grown))
-}
-
-/// A subscriber of the frames.
-fn subscriber(alloc: Memory<'_>) -> Result<Subscriber<Memory<'_>>, Fail> {
-    let mut block = block(alloc, 1)?;
-    block.entries = MEMBERS;
-    let mut blocks = Vec::new(alloc);
-    match blocks.push(block) {
-        Ok(()) => Ok(Subscriber::new(alloc, blocks)?),
-        Err(_) => Err(Fail::from("no memory for a block")),
-    }
-}
-
-// The list of entries, and for an action the members, of which each has its octet.
-#[test]
-fn members_are_copied_for_an_action_alone(rt: HostRuntime) -> Result<(), Fail> {
-    let alloc = RefusingAlloc::new(rt.alloc(), usize::MAX);
-    let (first, next) = two_frames(rt.alloc())?;
-    {
-        let mut subscriber = subscriber(&alloc)?;
-        for (octets, wanted, least, most) in [
-            (&first, Told::Act(0, 1, 0, None), 102usize, 103usize),
-            (&next, Told::Refreshed(0, 1, 1), 1, 2),
-            (&next, Told::Repeated(0, 1, 1), 1, 1),
-            (&first, Told::Older(0, 1, 0), 1, 1),
-        ] {
-            let (told, grown) = told_and_grown(&alloc, &mut subscriber, octets.as_slice())?;
-            assert!(rt; told == Want::One(wanted), "by {grown} growths");
-            assert!(rt; least <= grown && grown <= most, "{grown} growths");
-        }
-    }
-    assert!(rt; alloc.blocks_out() == 0);
-    Ok(())
-}
-
-/// What is told of a frame in a list that is used again, and how many growths the subscriber takes for it.
-fn told_again<'a>(
-    alloc: Memory<'a>,
-    subscriber: &mut Subscriber<Memory<'a>>,
-    entries: &mut Vec<Entry<Memory<'a>>, Memory<'a>>,
-    octets: &[u8],
-) -> Result<(Want, usize), Fail> {
-    let event = event_with_frame(alloc, 0, octets)?;
-    let before = alloc.growths();
-    subscriber.take_into(&event, entries)?;
     let grown = alloc.growths().saturating_sub(before);
     Ok((tells(entries.as_slice()), grown))
 }
 
+/// Whether the first frame comes or the one after it, what is told of it, and the least and the greatest count of growths
+/// that it may take.
+type Example = (bool, Told, usize, usize);
+
+/// How many examples are told so, before the first that is not.
+fn told_in_turn<'a>(
+    alloc: Memory<'a>,
+    subscriber: &mut Subscriber<Memory<'a>>,
+    (entries, is_again): (&mut List<'a>, bool),
+    (first, next): (&[u8], &[u8]),
+    examples: &[Example],
+) -> Result<usize, AllocError> {
+    let mut told = 0usize;
+    for (is_first, wanted, least, most) in examples {
+        let octets = if *is_first { first } else { next };
+        let event = event_with_frame(alloc, 0, octets)?;
+        let (tells, grown) = told_and_grown(alloc, subscriber, (entries, is_again), &event)?;
+        let looks = subscriber.looks();
+        let is_looked_up = 1 <= looks && looks <= 2;
+        if tells != Want::One(*wanted) || grown < *least || *most < grown || !is_looked_up {
+            break;
+        }
+        told = told.saturating_add(1);
+    }
+    Ok(told)
+}
+
+/// The same of a subscriber of the frames, which is let go of.
+fn told_by_one(
+    alloc: Memory<'_>,
+    is_again: bool,
+    frames: (&[u8], &[u8]),
+    examples: &[Example],
+) -> Result<usize, Fail> {
+    let mut blocks = Vec::new(alloc);
+    put_block(alloc, &mut blocks, 1, MEMBERS)?;
+    let mut subscriber = Subscriber::new(alloc, blocks)?;
+    let mut entries = Vec::new(alloc);
+    Ok(told_in_turn(
+        alloc,
+        &mut subscriber,
+        (&mut entries, is_again),
+        frames,
+        examples,
+    )?)
+}
+
+/// The same, and how many blocks of memory are out then.
+fn told_and_out(
+    memory: Global,
+    is_again: bool,
+    examples: &[Example],
+) -> Result<(usize, usize), Fail> {
+    let alloc = RefusingAlloc::new(memory, usize::MAX);
+    let (first, next) = two_frames(memory)?;
+    let frames = (first.as_slice(), next.as_slice());
+    let told = told_by_one(&alloc, is_again, frames, examples)?;
+    Ok((told, alloc.blocks_out()))
+}
+
+// The list of entries, and for an action the members, of which each has its octet.
+const IN_NEW_LISTS: [Example; 4] = [
+    (true, Told::Act(0, 1, 0, None), 102, 103),
+    (false, Told::Refreshed(0, 1, 1), 1, 2),
+    (false, Told::Repeated(0, 1, 1), 1, 1),
+    (true, Told::Older(0, 1, 0), 1, 1),
+];
+
+#[test]
+fn members_are_copied_for_an_action_alone(rt: HostRuntime) -> Result<(), Fail> {
+    let (told, out) = told_and_out(rt.alloc(), false, &IN_NEW_LISTS)?;
+    assert!(rt; told == 4 && out == 0, "the first {told} alone, {out} out");
+    Ok(())
+}
+
 // A block that is renewed again and again takes memory for its members alone, where the list of entries is used again.
+const IN_ONE_LIST: [Example; 4] = [
+    (true, Told::Act(0, 1, 0, None), 102, 103),
+    (false, Told::Refreshed(0, 1, 1), 0, 0),
+    (false, Told::Repeated(0, 1, 1), 0, 0),
+    (true, Told::Older(0, 1, 0), 0, 0),
+];
+
 #[test]
 fn entries_are_told_in_one_list(rt: HostRuntime) -> Result<(), Fail> {
-    let alloc = RefusingAlloc::new(rt.alloc(), usize::MAX);
-    let (first, next) = two_frames(rt.alloc())?;
-    {
-        let mut subscriber = subscriber(&alloc)?;
-        let mut entries = Vec::new(&alloc);
-        for (octets, wanted, least, most) in [
-            (&first, Told::Act(0, 1, 0, None), 102usize, 103usize),
-            (&next, Told::Refreshed(0, 1, 1), 0, 0),
-            (&next, Told::Repeated(0, 1, 1), 0, 0),
-            (&first, Told::Older(0, 1, 0), 0, 0),
-        ] {
-            let (told, grown) = told_again(
-                &alloc,
-                &mut subscriber,
-                &mut entries,
-                octets.as_slice(),
-            )?;
-            assert!(rt; told == Want::One(wanted), "by {grown} growths");
-            assert!(rt; least <= grown && grown <= most, "{grown} growths");
-        }
-    }
-    assert!(rt; alloc.blocks_out() == 0);
+    let (told, out) = told_and_out(rt.alloc(), true, &IN_ONE_LIST)?;
+    assert!(rt; told == 4 && out == 0, "the first {told} alone, {out} out");
     Ok(())
 }

@@ -162,14 +162,20 @@ pub fn event<A: Allocator>(alloc: A, given: Given) -> Result<Event<A>, AllocErro
     }
 }
 
-/// A block of control block G with data set D, one member and revision 1.
-pub fn block<A: Allocator + Copy>(alloc: A, app_id: u16) -> Result<Block<A>, AllocError> {
-    Ok(Block {
+/// Appends a block of control block G with data set D, so many members and revision 1.
+pub fn put_block<A: Allocator + Copy>(
+    alloc: A,
+    blocks: &mut Vec<Block<A>, A>,
+    app_id: u16,
+    entries: u32,
+) -> Result<(), AllocError> {
+    blocks.push(Block {
         app_id,
         gocb_ref: Octets::from(Vec::from_slice(alloc, b"G")?),
         dat_set: Octets::from(Vec::from_slice(alloc, b"D")?),
         go_id: None,
         conf_rev: 1,
-        entries: 1,
-    })
+        entries,
+    })?;
+    Ok(())
 }

@@ -1,9 +1,9 @@
 //! Where memory is refused, at each growth in turn.
 
-use super::given::{Given, Numbers, TRUE, Told, Want, block, event, tells};
+use super::given::{Given, Numbers, TRUE, Told, Want, event, put_block, tells};
 use ber_core::Cause;
 use frame_core::Event;
-use std::alloc::{Allocator, Global};
+use std::alloc::{AllocError, Allocator, Global};
 use std::test::Fail;
 use subscribe_core::{Block, Reason, SubscribeFault, Subscriber};
 use test_support::RefusingAlloc;
@@ -16,15 +16,16 @@ enum Made {
     NoMemory,
 }
 
-/// Blocks with these APPIDs.
-fn blocks<A: Allocator + Copy>(alloc: A, app_ids: &[u16]) -> Result<Vec<Block<A>, A>, Fail> {
-    let mut blocks = Vec::new(alloc);
+/// Appends blocks with these APPIDs, of one member.
+fn put_blocks<A: Allocator + Copy>(
+    alloc: A,
+    blocks: &mut Vec<Block<A>, A>,
+    app_ids: &[u16],
+) -> Result<(), AllocError> {
     for app_id in app_ids {
-        if blocks.push(block(alloc, *app_id)?).is_err() {
-            return Err(Fail::from("no memory for a block"));
-        }
+        put_block(alloc, blocks, *app_id, 1)?;
     }
-    Ok(blocks)
+    Ok(())
 }
 
 /// What `new` answers to blocks with these APPIDs, this growth and all after it refused, and whether a growth was refused.
@@ -36,7 +37,8 @@ fn answer_of_new(
 ) -> Result<(Made, bool), Fail> {
     let alloc = RefusingAlloc::new(memory, 0);
     alloc.allow();
-    let blocks = blocks(&alloc, app_ids)?;
+    let mut blocks = Vec::new(&alloc);
+    put_blocks(&alloc, &mut blocks, app_ids)?;
     alloc.refuse_from(first_refused);
     let made = match Subscriber::new(&alloc, blocks) {
         Ok(_subscriber) => Made::Made,
@@ -105,8 +107,10 @@ fn growths<'a>(
     None
 }
 
-// Each with the least and the greatest count of growths that it may take.
-const EXAMPLES: [(Given, Want, usize, usize); 19] = [
+/// An event, what is told of it, and the least and the greatest count of growths that it may take.
+type Example = (Given, Want, usize, usize);
+
+const EXAMPLES: [Example; 19] = [
     (
         Given::Goose(Numbers(0, 1, 0, 2000)),
         Want::One(Told::Act(0, 1, 0, TRUE)),
@@ -188,31 +192,46 @@ const EXAMPLES: [(Given, Want, usize, usize); 19] = [
     (Given::Clock(9999), Want::Nothing, 0, 0),
 ];
 
-/// Whether the examples are told as they are to be, and how many growths each takes is as it is to be; else the first that is not.
+/// Whether an example is told as it is to be, and takes as many growths.
+fn is_right<'a>(
+    alloc: &'a RefusingAlloc<Global>,
+    subscriber: &mut Subscriber<&'a RefusingAlloc<Global>>,
+    (given, want, least, most): Example,
+) -> Result<bool, AllocError> {
+    let event = event(alloc, given)?;
+    match growths(alloc, subscriber, &event, want) {
+        Some(count) => Ok(least <= count && count <= most),
+        None => Ok(false),
+    }
+}
+
+/// The place of the first example that is not told as it is to be, or takes another count of growths; else how many there are.
 fn first_wrong<'a>(
     alloc: &'a RefusingAlloc<Global>,
     subscriber: &mut Subscriber<&'a RefusingAlloc<Global>>,
-) -> Result<Option<usize>, Fail> {
-    for (at, (given, want, least, most)) in EXAMPLES.iter().enumerate() {
-        let event = event(alloc, *given)?;
-        match growths(alloc, subscriber, &event, *want) {
-            Some(count) if *least <= count && count <= *most => {}
-            _ => return Ok(Some(at)),
+) -> Result<usize, AllocError> {
+    for (at, example) in EXAMPLES.iter().enumerate() {
+        if !is_right(alloc, subscriber, *example)? {
+            return Ok(at);
         }
     }
-    Ok(None)
+    Ok(EXAMPLES.len())
+}
+
+/// The same of a subscriber that is let go of.
+fn first_wrong_of_one(alloc: &RefusingAlloc<Global>) -> Result<usize, Fail> {
+    let mut blocks = Vec::new(alloc);
+    put_blocks(alloc, &mut blocks, &[1, 2])?;
+    let mut subscriber = Subscriber::new(alloc, blocks)?;
+    Ok(first_wrong(alloc, &mut subscriber)?)
 }
 
 #[test]
 fn take_where_each_growth_is_refused(rt: HostRuntime) -> Result<(), Fail> {
     let alloc = RefusingAlloc::new(rt.alloc(), 0);
     alloc.allow();
-    {
-        let mut subscriber = Subscriber::new(&alloc, blocks(&alloc, &[1, 2])?)?;
-        if let Some(at) = first_wrong(&alloc, &mut subscriber)? {
-            assert!(rt; false, "at {at}");
-        }
-    }
+    let at = first_wrong_of_one(&alloc)?;
+    assert!(rt; at == EXAMPLES.len(), "at {at}");
     assert!(rt; alloc.blocks_out() == 0);
     Ok(())
 }
