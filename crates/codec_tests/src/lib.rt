@@ -4,6 +4,8 @@
 #[cfg(test)]
 mod ber;
 #[cfg(test)]
+mod memory;
+#[cfg(test)]
 mod mms;
 #[cfg(test)]
 mod pdu;

@@ -1,15 +1,16 @@
 //! Outside examples: values and faults of octets, and what has a written form.
 
-mod memory;
+pub(crate) mod memory;
 pub(crate) mod writing;
 
 use arrayvec::ArrayVec;
 use ber_core::{Cause, Fault, header};
 use mms_data::{
-    Octets, PutFault, ReadFault, UtcTime, Value, ValueList, View, are_spellable, check_members,
-    is_spellable, laws, members, put_value, put_values, read_members, spelled_length, utc,
+    Members, Octets, PutFault, ReadFault, UtcTime, Value, ValueList, View, are_spellable,
+    check_members, is_spellable, laws, members, put_value, put_values, read_members,
+    spelled_length, utc,
 };
-use std::alloc::Global;
+use std::alloc::{AllocError, Global};
 use std::test::Fail;
 
 // Sixteen arrays inside one another, and a boolean inside the last.
@@ -57,10 +58,15 @@ fn are_simple(values: &[Value<Global>]) -> bool {
         && *time == MOMENT
 }
 
+/// The members that the octets spell, seen where they stand.
+pub(crate) fn seen(octets: &[u8]) -> Result<Members<'_>, Fault> {
+    check_members(octets, 0, octets.len(), 1)?;
+    Ok(members(octets, 0, octets.len(), 1))
+}
+
 #[test]
 fn booleans_are_passed_alone(rt: HostRuntime) -> Result<(), Fail> {
-    check_members(&EACH_KIND, 0, 55, 1)?;
-    let mut views = members(&EACH_KIND, 0, 55, 1);
+    let mut views = seen(&EACH_KIND)?;
     assert!(rt; views.next_boolean() == Some(true));
     assert!(rt; views.next_boolean() == None);
     assert!(rt; matches!(views.next(), Some(View::Bits(_))));
@@ -83,7 +89,7 @@ fn values_are_those_that_are_spelled(rt: HostRuntime) -> Result<(), Fail> {
 
 #[test]
 fn views_are_those_that_are_spelled(rt: HostRuntime) -> Result<(), Fail> {
-    assert!(rt; check_members(&EACH_KIND, 0, 55, 1) == Ok(12));
+    assert!(rt; count(&EACH_KIND) == Ok(12));
     check_members(&EACH_KIND, 0, 55, 1)?;
     let mut views = members(&EACH_KIND, 0, 55, 1);
     assert!(rt; matches!(views.next(), Some(View::Boolean(true))));
@@ -131,26 +137,44 @@ fn reading_answers_the_fault(rt: HostRuntime) {
     assert!(rt; matches!(answer, Err(ReadFault::Fault(fault)) if fault == wanted));
 }
 
+// A visible text of these octets.
+fn visible(alloc: Global, text: &[u8]) -> Result<Value<Global>, AllocError> {
+    Ok(Value::Visible(Octets::try_from_slice(alloc, text)?))
+}
+
+// A copy of the integer 5.
+fn five(alloc: Global) -> Result<Value<Global>, AllocError> {
+    Value::Integer(5).try_copy(alloc)
+}
+
+// How the value is put behind what the vector holds.
+fn put(out: &mut ArrayVec<u8, 5>, value: &Value<Global>) -> Result<(), PutFault> {
+    put_value(out, value)
+}
+
 #[test]
 fn a_value_fits_or_leaves_the_vector(rt: HostRuntime) -> Result<(), Fail> {
-    let text = Value::Visible(Octets::try_from_slice(rt.alloc(), &[7])?);
     let mut out = ArrayVec::<u8, 5>::new();
-    assert!(rt; put_value(&mut out, &text) == Err(PutFault::NotSpellable));
-    let five = Value::Integer(5).try_copy(rt.alloc())?;
-    assert!(rt; put_value(&mut out, &five) == Ok(()));
-    assert!(rt; put_value(&mut out, &five) == Err(PutFault::Full));
+    let text = visible(rt.alloc(), &[7])?;
+    assert!(rt; put(&mut out, &text) == Err(PutFault::NotSpellable));
+    let five = five(rt.alloc())?;
+    assert!(rt; put(&mut out, &five) == Ok(()));
+    assert!(rt; put(&mut out, &five) == Err(PutFault::Full));
     assert!(rt; out.as_slice() == [0x85, 1, 5].as_slice());
     assert!(rt; spelled_length(&five) == Some(3));
     Ok(())
 }
 
+// How long the written form of so many octets is, where it may be so long.
+fn length_of(alloc: Global, count: usize) -> Result<Option<usize>, AllocError> {
+    let octets = Octets::from(vec![in alloc; 0; count]?);
+    Ok(spelled_length(&Value::Octets(octets)))
+}
+
 #[test]
-fn a_written_form_of_65535_octets(rt: HostRuntime) -> Result<(), Fail> {
-    let fits = Value::Octets(Octets::from(vec![in rt.alloc(); 0; 65531]?));
-    assert!(rt; spelled_length(&fits) == Some(65535));
-    let over = Value::Octets(Octets::from(vec![in rt.alloc(); 0; 65532]?));
-    assert!(rt; spelled_length(&over).is_none());
-    Ok(())
+fn a_written_form_of_65535_octets(rt: HostRuntime) {
+    assert!(rt; length_of(rt.alloc(), 65531) == Ok(Some(65535)));
+    assert!(rt; length_of(rt.alloc(), 65532) == Ok(None));
 }
 
 // The list of one value.
@@ -160,12 +184,19 @@ fn alone(alloc: Global, value: Value<Global>) -> Result<ValueList<Global>, Fail>
     Ok(ValueList::from(values))
 }
 
+// At how many of the levels from 1 to 17 the value has a spelling.
+fn levels(value: &Value<Global>) -> usize {
+    (1..=17u8)
+        .filter(|level| is_spellable(value, *level))
+        .count()
+}
+
 #[test]
 fn the_last_level_has_no_members(rt: HostRuntime) -> Result<(), Fail> {
     let empty = Value::Array(ValueList::from(Vec::new(rt.alloc())));
-    assert!(rt; is_spellable(&empty, 16) && !is_spellable(&empty, 17));
+    assert!(rt; is_spellable(&empty, 16) && levels(&empty) == 16);
     let one = Value::Structure(alone(rt.alloc(), empty)?);
-    assert!(rt; is_spellable(&one, 15) && !is_spellable(&one, 16));
+    assert!(rt; is_spellable(&one, 15) && levels(&one) == 15);
     Ok(())
 }
 

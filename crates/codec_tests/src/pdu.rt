@@ -1,7 +1,7 @@
 //! The APDUs of GOOSE and of Sampled Values.
 
 mod goose;
-mod goose_memory;
+pub(crate) mod goose_memory;
 mod sampled;
-mod sampled_memory;
+pub(crate) mod sampled_memory;
 mod sampled_writing;

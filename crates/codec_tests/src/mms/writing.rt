@@ -1,9 +1,9 @@
 //! Written forms of members from where they stand, and of elements.
 
-use crate::mms::{DEEP, EACH_KIND};
+use crate::mms::{DEEP, EACH_KIND, seen};
 use arrayvec::ArrayVec;
 use ber_core::Full;
-use mms_data::{View, check_members, members, put_element, put_members};
+use mms_data::{View, put_element, put_members};
 use std::test::Fail;
 
 // Lists of members in their written form: each kind, some nested.
@@ -76,46 +76,48 @@ pub(crate) fn empty_values(count: usize) -> Result<ArrayVec<u8, 2100>, Fail> {
     Ok(octets)
 }
 
+// Whether the element is written as it is put together here.
+fn is_element(contents: &[u8]) -> Result<bool, Fail> {
+    let mut out = ArrayVec::<u8, 400>::new();
+    put_element(&mut out, 0x89, contents)?;
+    Ok(out.as_slice() == element(0x89, contents)?.as_slice())
+}
+
 #[test]
 fn headers_of_elements_have_two_to_four_octets(rt: HostRuntime) -> Result<(), Fail> {
     for size in [0, 1, 127, 128, 255, 256] {
         let contents = [7; 256].as_slice().get(..size).ok_or("too few octets")?;
-        let mut out = ArrayVec::<u8, 400>::new();
-        assert!(rt;
-            put_element(&mut out, 0x89, contents) == Ok(()),
-            "at {size}"
-        );
-        assert!(rt;
-            out.as_slice() == element(0x89, contents)?.as_slice(),
-            "at {size}"
-        );
+        assert!(rt; is_element(contents)?, "at {size}");
     }
     Ok(())
 }
 
 // The element of the members that these octets spell.
 fn written(octets: &[u8]) -> Result<ArrayVec<u8, 300>, Fail> {
-    check_members(octets, 0, octets.len(), 1)?;
     let mut out = ArrayVec::new();
-    put_members(&mut out, 0xab, members(octets, 0, octets.len(), 1))?;
+    put_members(&mut out, 0xab, seen(octets)?)?;
     Ok(out)
+}
+
+// Whether the members that these octets spell are written in this form.
+fn have_form(octets: &[u8], form: &[u8]) -> Result<bool, Fail> {
+    Ok(written(octets)?.as_slice() == element(0xab, form)?.as_slice())
 }
 
 #[test]
 fn members_are_written_from_where_they_stand(rt: HostRuntime) -> Result<(), Fail> {
     for form in WRITTEN {
-        assert!(rt;
-            written(form)?.as_slice() == element(0xab, form)?.as_slice(),
-            "{form:?}"
-        );
+        assert!(rt; have_form(form, form)?, "{form:?}");
     }
-    assert!(rt; written(&[])?.as_slice() == [0xab, 0].as_slice());
-    let wanted = element(0xab, &EACH_WRITTEN)?;
-    assert!(rt; written(&EACH_KIND)?.as_slice() == wanted.as_slice());
     let mut deep = DEEP;
     deep[34] = 7;
-    let wanted = element(0xab, &DEEP[2..])?;
-    assert!(rt; written(&deep[2..])?.as_slice() == wanted.as_slice());
+    for (octets, form) in [
+        (b"".as_slice(), b"".as_slice()),
+        (&EACH_KIND, &EACH_WRITTEN),
+        (&deep[2..], &DEEP[2..]),
+    ] {
+        assert!(rt; have_form(octets, form)?, "{octets:?}");
+    }
     Ok(())
 }
 
@@ -136,8 +138,7 @@ fn members_that_are_still_to_come_are_written(rt: HostRuntime) -> Result<(), Fai
     let octets = [
         0x83, 0x01, 0x07, 0xa1, 0x04, 0x86, 0x02, 0x00, 0x05, 0x89, 0x00,
     ];
-    check_members(&octets, 0, 11, 1)?;
-    let mut views = members(&octets, 0, 11, 1);
+    let mut views = seen(&octets)?;
     assert!(rt; views.next().is_some());
     let mut out = ArrayVec::<u8, 14>::new();
     assert!(rt; put_members(&mut out, 0xab, views) == Ok(()));

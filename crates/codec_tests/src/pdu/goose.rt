@@ -1,7 +1,7 @@
 //! Outside examples: a recorded frame of GOOSE whose octets are changed one at a time, and APDUs in other forms.
 
 use arrayvec::ArrayVec;
-use ber_core::{Cause, Fault};
+use ber_core::{Cause, Fault, Full};
 use mms_data::{Octets, PutFault, ReadFault, UtcTime, Value, View};
 use pdu_core::{
     GoosePdu, GooseView, are_spellable_parts, is_spellable, laws, put_goose, put_goose_parts,
@@ -76,27 +76,45 @@ fn is_recorded(view: &GooseView<'_>) -> bool {
         && matches!(members.next(), Some(View::Boolean(true)))
 }
 
+// The view of the APDU that fills the octets from one place to another, at most their end.
+fn view_between(octets: &[u8], at: usize, end: usize) -> Result<GooseView<'_>, Fault> {
+    let end = end.min(octets.len());
+    view_goose(octets, at.min(end), end)
+}
+
 #[test]
 fn the_recorded_pdu_stands(rt: HostRuntime) -> Result<(), Fail> {
-    assert!(rt; is_recorded(&view_goose(&FRAME, 22, 67)?));
-    assert!(rt; is_recorded(&view_goose(&LONG, 0, 50)?));
-    assert!(rt; is_recorded(&view_goose(&SHORT, 0, 39)?));
+    assert!(rt; is_recorded(&view_between(&FRAME, 22, 67)?));
+    assert!(rt; is_recorded(&view_between(&LONG, 0, 50)?));
+    assert!(rt; is_recorded(&view_between(&SHORT, 0, 39)?));
     Ok(())
+}
+
+// The view of the APDU that stands from this place on, noted or not.
+fn noted(octets: &[u8], at: usize, notes: bool) -> Result<GooseView<'_>, Fault> {
+    see_goose(octets, at.min(octets.len()), octets.len(), notes)
 }
 
 #[test]
 fn a_pdu_in_its_written_form_is_noted(rt: HostRuntime) -> Result<(), Fail> {
-    assert!(rt; see_goose(&FRAME, 22, 67, true)?.written);
-    assert!(rt; see_goose(&NESTED, 0, 58, true)?.written);
-    assert!(rt; see_goose(&TIGHT, 0, 106, true)?.written);
-    assert!(rt; !see_goose(&LONG, 0, 50, true)?.written);
-    assert!(rt; !see_goose(&SHORT, 0, 39, true)?.written);
+    for (octets, at, is_written) in [
+        (FRAME.as_slice(), 22, true),
+        (&NESTED, 0, true),
+        (&TIGHT, 0, true),
+        (&LONG, 0, false),
+        (&SHORT, 0, false),
+    ] {
+        assert!(rt;
+            noted(octets, at, true)?.written == is_written,
+            "{octets:?}"
+        );
+    }
     Ok(())
 }
 
 #[test]
 fn each_field_stands(rt: HostRuntime) -> Result<(), Fail> {
-    let view = view_goose(&NESTED, 0, 58)?;
+    let view = view_between(&NESTED, 0, 58)?;
     assert!(rt; view.gocb_ref == b"A".as_slice() && view.dat_set.is_empty());
     assert!(rt; view.go_id == Some(b"I".as_slice()));
     assert!(rt; (view.t.seconds, view.t.fraction, view.t.quality) == (1, 0xff_ffff, 2));
@@ -153,37 +171,72 @@ fn faults_at_their_places(rt: HostRuntime) {
 fn the_element_fills_the_region(rt: HostRuntime) {
     let mut longer = [0; 68];
     longer[..67].copy_from_slice(&FRAME);
-    assert!(rt; view_goose(&longer, 22, 68).err() == Some(Cause::ExtraOctets.at(67)));
-    assert!(rt; view_goose(&FRAME, 22, 22).err() == Some(Cause::ElementMissing.at(22)));
+    assert!(rt; view_between(&longer, 22, 68).err() == Some(Cause::ExtraOctets.at(67)));
+    assert!(rt; view_between(&FRAME, 22, 22).err() == Some(Cause::ElementMissing.at(22)));
     let answer = read_goose(rt.alloc(), &FRAME, 22, 66);
     let wanted = Cause::LengthPastEnd.at(23);
     assert!(rt; matches!(answer, Err(ReadFault::Fault(fault)) if fault == wanted));
 }
 
-// The written form of the APDU that the octets spell, from where it stands, noted or not.
-fn form_of_view(octets: &[u8], notes: bool) -> Result<ArrayVec<u8, 128>, Fail> {
-    let mut out = ArrayVec::new();
-    put_goose_view(&mut out, &see_goose(octets, 0, octets.len(), notes)?)?;
-    Ok(out)
+// How the APDU from this place on is put behind what the vector holds, from where it stands, noted or not.
+fn put_seen<const N: usize>(
+    out: &mut ArrayVec<u8, N>,
+    octets: &[u8],
+    at: usize,
+    notes: bool,
+) -> Option<Result<(), Full>> {
+    match noted(octets, at, notes) {
+        Ok(view) => Some(put_goose_view(out, &view)),
+        Err(_) => None,
+    }
 }
 
 // The same from memory of its own.
-fn form_of_value(alloc: Global, octets: &[u8]) -> Result<ArrayVec<u8, 128>, Fail> {
-    let mut out = ArrayVec::new();
-    put_goose(&mut out, &read_goose(alloc, octets, 0, octets.len())?)?;
-    Ok(out)
+fn put_read<const N: usize>(
+    out: &mut ArrayVec<u8, N>,
+    alloc: Global,
+    octets: &[u8],
+    at: usize,
+) -> Option<Result<(), PutFault>> {
+    match read_goose(alloc, octets, at.min(octets.len()), octets.len()) {
+        Ok(pdu) => Some(put_goose(out, &pdu)),
+        Err(_) => None,
+    }
 }
 
 // The same of the APDU whose texts and members are kept elsewhere.
-fn form_of_parts(alloc: Global, octets: &[u8]) -> Result<ArrayVec<u8, 128>, Fail> {
-    let pdu = read_goose(alloc, octets, 0, octets.len())?;
-    let mut out = ArrayVec::new();
-    put_goose_parts(&mut out, &pdu.parts())?;
-    Ok(out)
+fn put_parts<const N: usize>(
+    out: &mut ArrayVec<u8, N>,
+    alloc: Global,
+    octets: &[u8],
+    at: usize,
+) -> Option<Result<(), PutFault>> {
+    match read_goose(alloc, octets, at.min(octets.len()), octets.len()) {
+        Ok(pdu) => Some(put_goose_parts(out, &pdu.parts())),
+        Err(_) => None,
+    }
+}
+
+// Whether the APDU that the octets spell has this written form, from where it stands, noted or not.
+fn is_seen_as(octets: &[u8], notes: bool, form: &[u8]) -> bool {
+    let mut out = ArrayVec::<u8, 128>::new();
+    put_seen(&mut out, octets, 0, notes) == Some(Ok(())) && out.as_slice() == form
+}
+
+// The same from memory of its own.
+fn is_read_as(alloc: Global, octets: &[u8], form: &[u8]) -> bool {
+    let mut out = ArrayVec::<u8, 128>::new();
+    put_read(&mut out, alloc, octets, 0) == Some(Ok(())) && out.as_slice() == form
+}
+
+// The same of the APDU whose texts and members are kept elsewhere.
+fn is_kept_as(alloc: Global, octets: &[u8], form: &[u8]) -> bool {
+    let mut out = ArrayVec::<u8, 128>::new();
+    put_parts(&mut out, alloc, octets, 0) == Some(Ok(())) && out.as_slice() == form
 }
 
 #[test]
-fn each_pdu_has_its_written_form(rt: HostRuntime) -> Result<(), Fail> {
+fn each_pdu_has_its_written_form(rt: HostRuntime) {
     for (octets, form) in [
         (&FRAME[22..], &FRAME[22..]),
         (&LONG, &FRAME[22..]),
@@ -191,64 +244,56 @@ fn each_pdu_has_its_written_form(rt: HostRuntime) -> Result<(), Fail> {
         (&NESTED, &NESTED),
         (&LOOSE, &TIGHT),
     ] {
-        assert!(rt;
-            form_of_view(octets, false)?.as_slice() == form,
-            "{octets:?}"
-        );
-        assert!(rt;
-            form_of_view(octets, true)?.as_slice() == form,
-            "{octets:?}"
-        );
-        assert!(rt;
-            form_of_value(rt.alloc(), octets)?.as_slice() == form,
-            "{octets:?}"
-        );
-        assert!(rt;
-            form_of_parts(rt.alloc(), octets)?.as_slice() == form,
-            "{octets:?}"
-        );
+        assert!(rt; is_seen_as(octets, false, form), "{octets:?}");
+        assert!(rt; is_seen_as(octets, true, form), "{octets:?}");
+        assert!(rt; is_read_as(rt.alloc(), octets, form), "{octets:?}");
+        assert!(rt; is_kept_as(rt.alloc(), octets, form), "{octets:?}");
     }
-    Ok(())
 }
 
 #[test]
 fn the_written_form_is_measured_where_members_stand_in_theirs(rt: HostRuntime) -> Result<(), Fail> {
-    for (octets, length) in [
-        (&FRAME[22..], Some(45)),
-        (&LONG, Some(45)),
-        (&SHORT, Some(45)),
-        (&NESTED, Some(58)),
-        (&LOOSE, None),
-        (&TIGHT, Some(106)),
+    for (octets, notes, length) in [
+        (&FRAME[22..], true, Some(45)),
+        (&LONG, true, Some(45)),
+        (&SHORT, true, Some(45)),
+        (&NESTED, true, Some(58)),
+        (&LOOSE, true, None),
+        (&TIGHT, true, Some(106)),
+        (&FRAME[22..], false, None),
     ] {
-        let view = see_goose(octets, 0, octets.len(), true)?;
+        let view = noted(octets, 0, notes)?;
         assert!(rt; written_goose_length(&view) == length, "{octets:?}");
     }
-    assert!(rt; written_goose_length(&view_goose(&FRAME, 22, 67)?).is_none());
     Ok(())
 }
 
 #[test]
-fn a_pdu_fits_or_leaves_the_vector(rt: HostRuntime) -> Result<(), Fail> {
-    let pdu = read_goose(rt.alloc(), &FRAME, 22, 67)?;
+fn a_pdu_fits_or_leaves_the_vector(rt: HostRuntime) {
     let mut short = ArrayVec::<u8, 45>::new();
     short.push(7);
-    assert!(rt; put_goose(&mut short, &pdu) == Err(PutFault::Full));
-    assert!(rt; put_goose_parts(&mut short, &pdu.parts()) == Err(PutFault::Full));
-    assert!(rt; put_goose_view(&mut short, &view_goose(&FRAME, 22, 67)?).is_err());
+    assert!(rt; put_read(&mut short, rt.alloc(), &FRAME, 22) == Some(Err(PutFault::Full)));
+    assert!(rt; put_parts(&mut short, rt.alloc(), &FRAME, 22) == Some(Err(PutFault::Full)));
+    assert!(rt; put_seen(&mut short, &FRAME, 22, false) == Some(Err(Full)));
     assert!(rt; short.as_slice() == [7].as_slice());
-    Ok(())
+}
+
+// How the APDU with this fraction of a second is put where there is no room, and whether it has a spelling.
+fn judged(alloc: Global, fraction: u32) -> Option<(Result<(), PutFault>, bool)> {
+    let Ok(mut pdu) = read_goose(alloc, &NESTED, 0, 58) else {
+        return None;
+    };
+    pdu.t.fraction = fraction;
+    let mut none = ArrayVec::<u8, 0>::new();
+    Some((put_goose(&mut none, &pdu), is_spellable(&pdu)))
 }
 
 #[test]
 fn what_has_no_spelling_is_refused(rt: HostRuntime) -> Result<(), Fail> {
+    assert!(rt; judged(rt.alloc(), 0x100_0000) == Some((Err(PutFault::NotSpellable), false)));
+    assert!(rt; judged(rt.alloc(), 0xff_ffff) == Some((Err(PutFault::Full), true)));
     let mut pdu = read_goose(rt.alloc(), &NESTED, 0, 58)?;
     assert!(rt; slice_if(&pdu.go_id) == Some(b"I".as_slice()));
-    pdu.t.fraction = 0x100_0000;
-    let mut none = ArrayVec::<u8, 0>::new();
-    assert!(rt; put_goose(&mut none, &pdu) == Err(PutFault::NotSpellable) && !is_spellable(&pdu));
-    pdu.t.fraction = 0xff_ffff;
-    assert!(rt; put_goose(&mut none, &pdu) == Err(PutFault::Full) && is_spellable(&pdu));
     pdu.gocb_ref = Octets::try_from_slice(rt.alloc(), b"A\x7f")?;
     assert!(rt; !are_spellable_parts(&pdu.parts()));
     Ok(())

@@ -3,7 +3,8 @@
 use arrayvec::ArrayVec;
 use ber_core::{Cause, Fault};
 use mms_data::{ReadFault, UtcTime};
-use pdu_core::{AsduView, read_sv, view_sv};
+use pdu_core::{Asdu, AsduView, read_sv, view_sv};
+use std::alloc::Global;
 use std::test::Fail;
 use test_support::SAMPLED;
 
@@ -22,20 +23,22 @@ const TIME: UtcTime = UtcTime {
 };
 
 // The one ASDU of the APDU.
-fn one_asdu(octets: &[u8]) -> Result<AsduView<'_>, Fail> {
-    let view = view_sv(octets, 0, octets.len())?;
+fn one_asdu(octets: &[u8]) -> Option<AsduView<'_>> {
+    let Ok(view) = view_sv(octets, 0, octets.len()) else {
+        return None;
+    };
     let mut asdus = view.asdus;
-    let first = asdus.next().ok_or("no ASDU")?;
+    let first = asdus.next();
     if view.count == 1 && asdus.next().is_none() {
-        Ok(first)
+        first
     } else {
-        Err(Fail::from("not one ASDU"))
+        None
     }
 }
 
 #[test]
 fn the_recorded_pdu_stands(rt: HostRuntime) -> Result<(), Fail> {
-    let asdu = one_asdu(&SAMPLED[22..])?;
+    let asdu = one_asdu(&SAMPLED[22..]).ok_or("not one ASDU")?;
     assert!(rt; asdu.sv_id == b"S".as_slice() && asdu.dat_set.is_none());
     assert!(rt; (asdu.smp_cnt, asdu.conf_rev, asdu.smp_synch) == (3998, 1, 2));
     assert!(rt; asdu.refr_tm.is_none() && asdu.smp_rate.is_none() && asdu.field_89.is_none());
@@ -45,7 +48,7 @@ fn the_recorded_pdu_stands(rt: HostRuntime) -> Result<(), Fail> {
 
 #[test]
 fn each_field_stands(rt: HostRuntime) -> Result<(), Fail> {
-    let asdu = one_asdu(&FULL)?;
+    let asdu = one_asdu(&FULL).ok_or("not one ASDU")?;
     assert!(rt; asdu.sv_id == b"S".as_slice() && asdu.dat_set == Some(b"D".as_slice()));
     assert!(rt; (asdu.smp_cnt, asdu.conf_rev, asdu.smp_synch) == (7, 2, 1));
     assert!(rt; asdu.refr_tm == Some(TIME) && asdu.smp_rate == Some(4000));
@@ -54,16 +57,22 @@ fn each_field_stands(rt: HostRuntime) -> Result<(), Fail> {
     Ok(())
 }
 
+// Whether the ASDU is that of the frame.
+fn is_recorded(asdu: &Asdu<Global>) -> bool {
+    asdu.sv_id.as_slice() == b"S".as_slice()
+        && asdu.dat_set.is_none()
+        && (asdu.smp_cnt, asdu.conf_rev, asdu.smp_synch) == (3998, 1, 2)
+        && asdu.refr_tm.is_none()
+        && asdu.smp_rate.is_none()
+        && asdu.field_89.is_none()
+        && asdu.sample.as_slice() == [0x00, 0x2a].as_slice()
+        && asdu.smp_mod.is_some()
+}
+
 #[test]
 fn the_recorded_pdu_is_read(rt: HostRuntime) -> Result<(), Fail> {
     let pdu = read_sv(rt.alloc(), &SAMPLED, 22, 54)?;
-    let [asdu] = pdu.asdus.as_slice() else {
-        return Err(Fail::from("not one ASDU"));
-    };
-    assert!(rt; asdu.sv_id.as_slice() == b"S".as_slice() && asdu.dat_set.is_none());
-    assert!(rt; (asdu.smp_cnt, asdu.conf_rev, asdu.smp_synch) == (3998, 1, 2));
-    assert!(rt; asdu.refr_tm.is_none() && asdu.smp_rate.is_none() && asdu.field_89.is_none());
-    assert!(rt; asdu.sample.as_slice() == [0x00, 0x2a].as_slice() && asdu.smp_mod.is_some());
+    assert!(rt; matches!(pdu.asdus.as_slice(), [asdu] if is_recorded(asdu)));
     Ok(())
 }
 
@@ -105,14 +114,20 @@ fn the_element_fills_the_region(rt: HostRuntime) {
 /// The front of eight ASDUs like the recorded one, up to the first of them.
 pub const EIGHT: [u8; 9] = [0x60, 0x81, 0xce, 0x80, 0x01, 0x08, 0xa2, 0x81, 0xc8];
 
+// The recorded ASDU with the count 0, which stands at 7.
+const ASDU: [u8; 25] = [
+    0x30, 0x17, 0x80, 0x01, 0x53, 0x82, 0x02, 0x00, 0x00, 0x83, 0x04, 0x00, 0x00, 0x00, 0x01, 0x85,
+    0x01, 0x02, 0x87, 0x02, 0x00, 0x2a, 0x88, 0x01, 0x00,
+];
+
 /// An APDU of eight ASDUs, the recorded one with the counts 0 to 7, behind this front.
 pub fn eight(front: &[u8]) -> Result<ArrayVec<u8, 212>, Fail> {
     let mut pdu = ArrayVec::new();
     pdu.try_extend_from_slice(front)?;
+    let mut asdu = ASDU;
     for count in 0..8u8 {
-        pdu.try_extend_from_slice(&SAMPLED[29..36])?;
-        pdu.try_extend_from_slice(&[0, count])?;
-        pdu.try_extend_from_slice(&SAMPLED[38..])?;
+        asdu[8] = count;
+        pdu.try_extend_from_slice(&asdu)?;
     }
     Ok(pdu)
 }

@@ -1,72 +1,47 @@
 //! Sampled Values in memory of their own: with ample memory they are those that the octets were made of, whatever their
 //! counts; and each growth is refused in turn.
 
+use crate::memory::{Call, Memory, are_answered, are_owned, gives, takes};
 use crate::mms::writing::count_at;
 use crate::pdu::sampled::FULL;
 use arrayvec::ArrayVec;
 use ber_core::put_integer;
 use mms_data::{ReadFault, put_element};
 use pdu_core::{AsduList, SvPdu, put_sv, read_sv, view_sv};
-use std::alloc::Global;
-use std::process::Abort;
+use std::alloc::Allocator;
 use std::test::Fail;
 use test_support::RefusingAlloc;
 
-type Memory<'a> = &'a RefusingAlloc<Global>;
-
 // The calls that can want memory.
-#[derive(Clone, Copy, Debug)]
-enum Call {
-    ReadSv,
-    ToPdu,
-    ToAsdu,
-}
+const CALLS: &[Call] = &[Call::ReadSv, Call::ToSvPdu, Call::ToAsdu];
 
 // Whether the APDU is written as the octets, which are at most 64.
-fn is_written(pdu: &SvPdu<Memory<'_>>, octets: &[u8]) -> bool {
+fn is_written<A: Allocator>(pdu: &SvPdu<A>, octets: &[u8]) -> bool {
     let mut out = ArrayVec::<u8, 64>::new();
     put_sv(&mut out, pdu).is_ok() && out.as_slice() == octets
 }
 
-// Whether what the call gives is written as the octets.
-fn gives(call: Call, memory: Memory<'_>, octets: &[u8]) -> Result<bool, ReadFault> {
-    let pdu = match call {
-        Call::ReadSv => read_sv(memory, octets, 0, octets.len())?,
-        Call::ToPdu => view_sv(octets, 0, octets.len())?.to_pdu(memory)?,
-        Call::ToAsdu => with_the_first(memory, octets)?,
-    };
+/// Whether the APDU that is read is written as the octets.
+pub fn is_read(memory: Memory<'_>, octets: &[u8]) -> Result<bool, ReadFault> {
+    let pdu = read_sv(memory, octets, 0, octets.len())?;
     Ok(is_written(&pdu, octets))
 }
 
-// An APDU of the first ASDU of the octets alone.
-fn with_the_first<'a>(memory: Memory<'a>, octets: &[u8]) -> Result<SvPdu<Memory<'a>>, ReadFault> {
-    let view = view_sv(octets, 0, octets.len())?;
-    let mut views = view.asdus;
+/// The same of the APDU that is made of its view.
+pub fn is_made(memory: Memory<'_>, octets: &[u8]) -> Result<bool, ReadFault> {
+    let pdu = view_sv(octets, 0, octets.len())?.to_pdu(memory)?;
+    Ok(is_written(&pdu, octets))
+}
+
+/// The same of an APDU of the first ASDU alone.
+pub fn is_first_made(memory: Memory<'_>, octets: &[u8]) -> Result<bool, ReadFault> {
+    let mut views = view_sv(octets, 0, octets.len())?.asdus;
     let mut asdus = Vec::with_capacity(memory, 1)?;
     if let Some(first) = views.next() {
         asdus.push(first.to_asdu(memory)?)?;
     }
-    Ok(SvPdu {
-        asdus: AsduList::from(asdus),
-    })
-}
-
-// With ample memory each call gives the APDU.
-fn is_owned<H: Abort>(rt: &H, memory: Memory<'_>, octets: &[u8]) -> Result<(), Fail> {
-    for call in [Call::ReadSv, Call::ToPdu, Call::ToAsdu] {
-        assert!(rt; gives(call, memory, octets)?, "{call:?} of {octets:?}");
-    }
-    Ok(())
-}
-
-// With ample memory each call answers; that it answers what the octets were made of is proved.
-fn is_answered<H: Abort>(rt: &H, memory: Memory<'_>, octets: &[u8]) {
-    for call in [Call::ReadSv, Call::ToPdu, Call::ToAsdu] {
-        assert!(rt;
-            gives(call, memory, octets).is_ok(),
-            "{call:?} of {octets:?}"
-        );
-    }
+    let asdus = AsduList::from(asdus);
+    Ok(is_written(&SvPdu { asdus }, octets))
 }
 
 // An APDU of so many ASDUs, which stand in these octets.
@@ -92,7 +67,12 @@ fn asdus_of_each_count_are_answered(rt: HostRuntime) -> Result<(), Fail> {
     for count in 1..=1000 {
         asdus.try_extend_from_slice(&SMALL)?;
         if count <= 100 || count % 50 == 0 {
-            is_answered(&rt, &ample, sampled(count, asdus.as_slice())?.as_slice());
+            are_answered(
+                &rt,
+                &ample,
+                CALLS,
+                sampled(count, asdus.as_slice())?.as_slice(),
+            );
         }
     }
     Ok(())
@@ -105,7 +85,7 @@ fn a_list_of_asdus_grows_once(rt: HostRuntime) -> Result<(), Fail> {
     for count in 1..=8usize {
         asdus.try_extend_from_slice(&SMALL)?;
         let octets = sampled(count, asdus.as_slice())?;
-        for call in [Call::ReadSv, Call::ToPdu] {
+        for call in [Call::ReadSv, Call::ToSvPdu] {
             let memory = RefusingAlloc::new(rt.alloc(), usize::MAX);
             assert!(rt; gives(call, &memory, octets.as_slice()).is_ok(), "{call:?}");
             assert!(rt;
@@ -151,7 +131,7 @@ fn asdus_of_any_fields_are_owned(rt: HostRuntime) -> Result<(), Fail> {
                 fields.try_extend_from_slice(field)?;
             }
         }
-        is_owned(&rt, &ample, alone(fields.as_slice())?.as_slice())?;
+        are_owned(&rt, &ample, CALLS, alone(fields.as_slice())?.as_slice());
     }
     Ok(())
 }
@@ -172,33 +152,18 @@ fn texts_and_samples_of_each_count_are_answered(rt: HostRuntime) -> Result<(), F
     let letters = [0x41; 1500];
     for step in 0..=324 {
         let text = letters.get(..count_at(step)).ok_or("too few octets")?;
-        is_answered(&rt, &ample, with(text, b"D", b"")?.as_slice());
-        is_answered(&rt, &ample, with(b"", text, &[7])?.as_slice());
-        is_answered(&rt, &ample, with(b"S", b"", text)?.as_slice());
+        are_answered(&rt, &ample, CALLS, with(text, b"D", b"")?.as_slice());
+        are_answered(&rt, &ample, CALLS, with(b"", text, &[7])?.as_slice());
+        are_answered(&rt, &ample, CALLS, with(b"S", b"", text)?.as_slice());
     }
     Ok(())
 }
 
 // The list, two texts, the sample and two fields more.
 #[test]
-fn each_of_six_growths_is_refused(rt: HostRuntime) -> Result<(), Fail> {
+fn each_of_six_growths_is_refused(rt: HostRuntime) {
     let memory = RefusingAlloc::new(rt.alloc(), 0);
-    for call in [Call::ReadSv, Call::ToPdu, Call::ToAsdu] {
-        for first_refused in 0..6 {
-            memory.refuse_from(first_refused);
-            assert!(rt;
-                gives(call, &memory, &FULL).is_err() && memory.has_refused(),
-                "{call:?}"
-            );
-            assert!(rt; memory.blocks_out() == 0, "{call:?}");
-            memory.allow();
-            assert!(rt; gives(call, &memory, &FULL)?, "{call:?}");
-        }
-        memory.refuse_from(6);
-        assert!(rt;
-            gives(call, &memory, &FULL)? && memory.blocks_out() == 0,
-            "{call:?}"
-        );
+    for call in CALLS {
+        assert!(rt; takes(&memory, *call, &FULL, 6), "{call:?}");
     }
-    Ok(())
 }

@@ -9,18 +9,41 @@ use std::alloc::{AllocError, Global};
 use std::test::Fail;
 use test_support::SAMPLED;
 
-// The written form of the APDU that the octets spell, from where it stands.
-fn form_of_view(octets: &[u8]) -> Result<ArrayVec<u8, 209>, Fail> {
-    let mut out = ArrayVec::new();
-    put_sv_view(&mut out, &view_sv(octets, 0, octets.len())?)?;
-    Ok(out)
+// How the APDU from this place on is put behind what the vector holds, from where it stands.
+fn put_seen<const N: usize>(
+    out: &mut ArrayVec<u8, N>,
+    octets: &[u8],
+    at: usize,
+) -> Option<Result<(), Full>> {
+    match view_sv(octets, at.min(octets.len()), octets.len()) {
+        Ok(view) => Some(put_sv_view(out, &view)),
+        Err(_) => None,
+    }
 }
 
 // The same from memory of its own.
-fn form_of_value(alloc: Global, octets: &[u8]) -> Result<ArrayVec<u8, 209>, Fail> {
-    let mut out = ArrayVec::new();
-    put_sv(&mut out, &read_sv(alloc, octets, 0, octets.len())?)?;
-    Ok(out)
+fn put_read<const N: usize>(
+    out: &mut ArrayVec<u8, N>,
+    alloc: Global,
+    octets: &[u8],
+    at: usize,
+) -> Option<Result<(), PutFault>> {
+    match read_sv(alloc, octets, at.min(octets.len()), octets.len()) {
+        Ok(pdu) => Some(put_sv(out, &pdu)),
+        Err(_) => None,
+    }
+}
+
+// Whether the APDU that the octets spell has this written form, from where it stands.
+fn is_seen_as(octets: &[u8], form: &[u8]) -> bool {
+    let mut out = ArrayVec::<u8, 209>::new();
+    put_seen(&mut out, octets, 0) == Some(Ok(())) && out.as_slice() == form
+}
+
+// The same from memory of its own.
+fn is_read_as(alloc: Global, octets: &[u8], form: &[u8]) -> bool {
+    let mut out = ArrayVec::<u8, 209>::new();
+    put_read(&mut out, alloc, octets, 0) == Some(Ok(())) && out.as_slice() == form
 }
 
 #[test]
@@ -32,42 +55,48 @@ fn each_pdu_has_its_written_form(rt: HostRuntime) -> Result<(), Fail> {
         (&FULL, &FULL),
         (loose.as_slice(), tight.as_slice()),
     ] {
-        assert!(rt; form_of_view(octets)?.as_slice() == form, "{octets:?}");
-        assert!(rt;
-            form_of_value(rt.alloc(), octets)?.as_slice() == form,
-            "{octets:?}"
-        );
+        assert!(rt; is_seen_as(octets, form), "{octets:?}");
+        assert!(rt; is_read_as(rt.alloc(), octets, form), "{octets:?}");
     }
     Ok(())
 }
 
 #[test]
-fn a_pdu_fits_or_leaves_the_vector(rt: HostRuntime) -> Result<(), Fail> {
+fn a_pdu_fits_or_leaves_the_vector(rt: HostRuntime) {
     let mut short = ArrayVec::<u8, 32>::new();
     short.push(7);
-    let pdu = read_sv(rt.alloc(), &SAMPLED, 22, 54)?;
-    assert!(rt; put_sv(&mut short, &pdu) == Err(PutFault::Full));
-    assert!(rt; put_sv_view(&mut short, &view_sv(&SAMPLED, 22, 54)?) == Err(Full));
+    assert!(rt; put_read(&mut short, rt.alloc(), &SAMPLED, 22) == Some(Err(PutFault::Full)));
+    assert!(rt; put_seen(&mut short, &SAMPLED, 22) == Some(Err(Full)));
     assert!(rt; short.as_slice() == [7].as_slice());
-    Ok(())
 }
 
-// An APDU of one ASDU with so many octets 00 of smpMod, at most 17.
-fn with_mode(alloc: Global, count: usize) -> Result<SvPdu<Global>, AllocError> {
-    let mode = Octets::try_from_slice(alloc, &[0; 17][..count.min(17)])?;
-    let mut asdus = Vec::new(alloc);
-    asdus.push(Asdu {
-        sv_id: Octets::try_from_slice(alloc, b"S")?,
+// These octets in memory of their own.
+fn owned(alloc: Global, octets: &[u8]) -> Result<Octets<Global>, AllocError> {
+    Octets::try_from_slice(alloc, octets)
+}
+
+// The recorded ASDU with this text, this sample and this smpMod.
+fn recorded(sv_id: Octets<Global>, sample: Octets<Global>, mode: Octets<Global>) -> Asdu<Global> {
+    Asdu {
+        sv_id,
         dat_set: None,
         smp_cnt: 3998,
         conf_rev: 1,
         refr_tm: None,
         smp_synch: 2,
         smp_rate: None,
-        sample: Octets::try_from_slice(alloc, &[0x00, 0x2a])?,
+        sample,
         smp_mod: Some(mode),
         field_89: None,
-    })?;
+    }
+}
+
+// An APDU of one ASDU with so many octets 00 of smpMod, at most 17.
+fn with_mode(alloc: Global, count: usize) -> Result<SvPdu<Global>, AllocError> {
+    let mode = owned(alloc, &[0; 17][..count.min(17)])?;
+    let asdu = recorded(owned(alloc, b"S")?, owned(alloc, &[0x00, 0x2a])?, mode);
+    let mut asdus = Vec::new(alloc);
+    asdus.push(asdu)?;
     Ok(SvPdu {
         asdus: AsduList::from(asdus),
     })
