@@ -1,4 +1,4 @@
-//! Tests of `frame_core` and `capture_core` by their public calls.
+//! Tests of `list_core`, `frame_core` and `capture_core` by their public calls.
 #![tactic(auto)]
 
 #[cfg(test)]

@@ -49,6 +49,15 @@ const SECOND: Told<'static> = (2, 3_600_000_005, b"\xaa\xbb\xcc");
 
 const THIRD: Told<'static> = (3, 3_600_000_005, b"");
 
+/// A capture: its name, its parts, the packets that it gives, and in which packet it then stops for which cause, if not at
+/// its end.
+type Case = (
+    &'static str,
+    &'static [&'static [u8]],
+    &'static [Told<'static>],
+    Option<(u64, CaptureCause)>,
+);
+
 /// The fault of this cause in this packet.
 fn refused(number: u64, cause: CaptureCause) -> Option<CaptureFault> {
     Some(CaptureFault { number, cause })
@@ -70,11 +79,9 @@ fn stops<R: Source, A: Allocator + Copy>(
     reader: &mut PacketReader<R, A>,
     stop: Option<CaptureFault>,
 ) -> bool {
-    match (reader.next(alloc, &mut None), stop) {
-        (Ok(None), None) => true,
-        (Err(PacketError::Fault(fault)), Some(expected)) => {
-            fault == expected && reader.number() == fault.number
-        }
+    match reader.next(alloc, &mut None) {
+        Ok(None) => stop.is_none(),
+        Err(PacketError::Fault(fault)) => stop == Some(fault) && reader.number() == fault.number,
         _ => false,
     }
 }
@@ -117,8 +124,12 @@ fn says(
     alloc: Global,
     parts: &[&[u8]],
     packets: &[Told<'_>],
-    stop: Option<CaptureFault>,
+    stop: Option<(u64, CaptureCause)>,
 ) -> Result<bool, AllocError> {
+    let stop = match stop {
+        Some((number, cause)) => refused(number, cause),
+        None => None,
+    };
     let octets = joined(alloc, parts)?;
     let mut all = true;
     for at_most in 1..=40usize {
@@ -132,93 +143,95 @@ fn says(
     Ok(all)
 }
 
+/// Captures of both forms.
+const FORMS: [Case; 13] = [
+    (
+        "records",
+        &[CLASSIC, RECORDS],
+        &[(1, 1_000_002, b"\xaa\xbb\xcc"), (2, 1_000_003, b"")],
+        None,
+    ),
+    ("no record", &[CLASSIC], &[], None),
+    ("nothing", &[], &[], Some((0, CaptureCause::CaptureShort))),
+    (
+        "a cut record",
+        &[CLASSIC, b"\x00"],
+        &[],
+        Some((1, CaptureCause::CaptureShort)),
+    ),
+    (
+        "another file",
+        &[b"\x1f\x8b\x08\x00"],
+        &[],
+        Some((0, CaptureCause::CaptureHeader)),
+    ),
+    (
+        "packets",
+        &[SECTION, NANOSECONDS, PACKET, OTHER, PACKET],
+        &[FIRST, SECOND],
+        None,
+    ),
+    (
+        "two sections of two orders",
+        &[
+            SECTION,
+            NANOSECONDS,
+            PACKET,
+            PACKET,
+            BIG_SECTION,
+            BIG_OTHER_LINK,
+            BIG_SIMPLE,
+        ],
+        &[FIRST, SECOND, THIRD],
+        None,
+    ),
+    (
+        "no section",
+        &[PACKET],
+        &[],
+        Some((0, CaptureCause::CaptureHeader)),
+    ),
+    (
+        "no interface",
+        &[SECTION, PACKET],
+        &[],
+        Some((1, CaptureCause::Interface)),
+    ),
+    (
+        "a later section has none",
+        &[SECTION, NANOSECONDS, PACKET, SECTION, PACKET],
+        &[FIRST],
+        Some((2, CaptureCause::Interface)),
+    ),
+    (
+        "a cut block",
+        &[SECTION, NANOSECONDS, PACKET, b"\x09\x00"],
+        &[FIRST],
+        Some((2, CaptureCause::CaptureShort)),
+    ),
+    (
+        "another length behind the body",
+        &[
+            SECTION,
+            NANOSECONDS,
+            b"\x06\x00\x00\x00\x24\x00\x00\x00\x00\x00\x00\x00\x00\x00\x00\x00\x6f\x17\x00\x00\x03\x00\x00\x00\x09\x00\x00\x00\xaa\xbb\xcc\x00\x23\x00\x00\x00",
+        ],
+        &[],
+        Some((1, CaptureCause::BlockLength)),
+    ),
+    (
+        "a length over the limit",
+        &[SECTION, b"\x09\x00\x00\x00\x04\x00\x00\x01"],
+        &[],
+        Some((1, CaptureCause::BlockLength)),
+    ),
+];
+
 #[test]
 fn captures_of_both_forms(rt: HostRuntime) {
-    let parts: [(&str, &[&[u8]], &[Told<'_>], Option<CaptureFault>); 13] = [
-        (
-            "records",
-            &[CLASSIC, RECORDS],
-            &[(1, 1_000_002, b"\xaa\xbb\xcc"), (2, 1_000_003, b"")],
-            None,
-        ),
-        ("no record", &[CLASSIC], &[], None),
-        ("nothing", &[], &[], refused(0, CaptureCause::CaptureShort)),
-        (
-            "a cut record",
-            &[CLASSIC, b"\x00"],
-            &[],
-            refused(1, CaptureCause::CaptureShort),
-        ),
-        (
-            "another file",
-            &[b"\x1f\x8b\x08\x00"],
-            &[],
-            refused(0, CaptureCause::CaptureHeader),
-        ),
-        (
-            "packets",
-            &[SECTION, NANOSECONDS, PACKET, OTHER, PACKET],
-            &[FIRST, SECOND],
-            None,
-        ),
-        (
-            "two sections of two orders",
-            &[
-                SECTION,
-                NANOSECONDS,
-                PACKET,
-                PACKET,
-                BIG_SECTION,
-                BIG_OTHER_LINK,
-                BIG_SIMPLE,
-            ],
-            &[FIRST, SECOND, THIRD],
-            None,
-        ),
-        (
-            "no section",
-            &[PACKET],
-            &[],
-            refused(0, CaptureCause::CaptureHeader),
-        ),
-        (
-            "no interface",
-            &[SECTION, PACKET],
-            &[],
-            refused(1, CaptureCause::Interface),
-        ),
-        (
-            "a later section has none",
-            &[SECTION, NANOSECONDS, PACKET, SECTION, PACKET],
-            &[FIRST],
-            refused(2, CaptureCause::Interface),
-        ),
-        (
-            "a cut block",
-            &[SECTION, NANOSECONDS, PACKET, b"\x09\x00"],
-            &[FIRST],
-            refused(2, CaptureCause::CaptureShort),
-        ),
-        (
-            "another length behind the body",
-            &[
-                SECTION,
-                NANOSECONDS,
-                b"\x06\x00\x00\x00\x24\x00\x00\x00\x00\x00\x00\x00\x00\x00\x00\x00\x6f\x17\x00\x00\x03\x00\x00\x00\x09\x00\x00\x00\xaa\xbb\xcc\x00\x23\x00\x00\x00",
-            ],
-            &[],
-            refused(1, CaptureCause::BlockLength),
-        ),
-        (
-            "a length over the limit",
-            &[SECTION, b"\x09\x00\x00\x00\x04\x00\x00\x01"],
-            &[],
-            refused(1, CaptureCause::BlockLength),
-        ),
-    ];
-    for (name, parts, packets, stop) in &parts {
+    for (name, parts, packets, stop) in FORMS {
         assert!(rt;
-            says(rt.alloc(), parts, packets, *stop) == Ok(true),
+            says(rt.alloc(), parts, packets, stop) == Ok(true),
             "{name}"
         );
     }
@@ -259,29 +272,45 @@ struct Ends<'a> {
     packets_end: &'a [usize],
 }
 
-/// Whether it says what its first octets say, where the capture is cut behind these or a read fails there.
-fn stops_behind(alloc: Global, ends: &Ends<'_>, size: usize, cause: CaptureCause) -> bool {
+/// The packets that are whole in so many octets of it.
+fn packets_within<'a>(ends: &Ends<'a>, size: usize) -> &'a [Told<'a>] {
     let mut count = 0usize;
     for end in ends.packets_end {
-        if *end <= size && count < ends.packets.len() {
-            count += 1;
+        if *end <= size {
+            count = count.saturating_add(1);
         }
     }
-    let number = if size < ends.first {
-        0
+    ends.packets.get(..count).unwrap_or(ends.packets)
+}
+
+/// The fault of this cause behind so many octets and packets of it.
+fn refused_behind(
+    ends: &Ends<'_>,
+    size: usize,
+    packets: usize,
+    cause: CaptureCause,
+) -> Option<CaptureFault> {
+    if size < ends.first {
+        refused(0, cause)
     } else {
-        (count as u64).saturating_add(1)
-    };
-    let packets = ends.packets.get(..count).unwrap_or(&[]);
-    if cause == CaptureCause::ReadFailed {
-        let source = source_of(ends.octets, 1, size as u64);
-        return tells(alloc, source, packets, refused(number, cause)) == Some(true);
+        refused((packets as u64).saturating_add(1), cause)
     }
-    let is_whole = size == ends.first || ends.wholes.contains(&size);
-    let stop = if is_whole {
+}
+
+/// Whether it says what so many of its octets say, where a read fails behind these.
+fn fails_behind(alloc: Global, ends: &Ends<'_>, size: usize) -> bool {
+    let packets = packets_within(ends, size);
+    let stop = refused_behind(ends, size, packets.len(), CaptureCause::ReadFailed);
+    tells(alloc, source_of(ends.octets, 1, size as u64), packets, stop) == Some(true)
+}
+
+/// The same where the capture is cut behind these.
+fn is_cut_behind(alloc: Global, ends: &Ends<'_>, size: usize) -> bool {
+    let packets = packets_within(ends, size);
+    let stop = if size == ends.first || ends.wholes.contains(&size) {
         None
     } else {
-        refused(number, cause)
+        refused_behind(ends, size, packets.len(), CaptureCause::CaptureShort)
     };
     let part = ends.octets.get(..size).unwrap_or(ends.octets);
     tells(alloc, source_of(part, 4096, NEVER), packets, stop) == Some(true)
@@ -309,10 +338,11 @@ fn captures_that_are_cut_or_fail(rt: HostRuntime) -> Result<(), AllocError> {
         },
     ] {
         for size in 0..=ends.octets.len() {
-            let is_cut = stops_behind(rt.alloc(), &ends, size, CaptureCause::CaptureShort);
-            assert!(rt; is_cut, "cut behind {size}");
-            let has_failed = stops_behind(rt.alloc(), &ends, size, CaptureCause::ReadFailed);
-            assert!(rt; has_failed, "a read fails behind {size}");
+            assert!(rt; is_cut_behind(rt.alloc(), &ends, size), "cut behind {size}");
+            assert!(rt;
+                fails_behind(rt.alloc(), &ends, size),
+                "a read fails behind {size}"
+            );
         }
     }
     Ok(())
@@ -325,130 +355,132 @@ const BEFORE: &[u8] =
 const SNAPPED: &[u8] =
     b"\x01\x00\x00\x00\x14\x00\x00\x00\x01\x00\x00\x00\x02\x00\x00\x00\x14\x00\x00\x00";
 
+/// Captures with a block or record of each kind, or with one at fault.
+const KINDS: [Case; 14] = [
+    (
+        "an obsolete packet",
+        &[
+            SECTION,
+            NANOSECONDS,
+            b"\x02\x00\x00\x00\x24\x00\x00\x00\x00\x00\xff\xff\x00\x00\x00\x00\x6f\x17\x00\x00\x03\x00\x00\x00\x09\x00\x00\x00\xaa\xbb\xcc\x00\x24\x00\x00\x00",
+        ],
+        &[FIRST],
+        None,
+    ),
+    (
+        "a simple packet of three octets, of which two were kept",
+        &[
+            SECTION,
+            SNAPPED,
+            b"\x03\x00\x00\x00\x14\x00\x00\x00\x03\x00\x00\x00\x01\x02\x03\x00\x14\x00\x00\x00",
+        ],
+        &[(1, 0, b"\x01\x02")],
+        None,
+    ),
+    (
+        "a time before 1970",
+        &[SECTION, BEFORE, PACKET],
+        &[],
+        Some((1, CaptureCause::PacketTime)),
+    ),
+    (
+        "a body that is no interface",
+        &[
+            SECTION,
+            b"\x01\x00\x00\x00\x10\x00\x00\x00\x01\x00\x00\x00\x10\x00\x00\x00",
+        ],
+        &[],
+        Some((1, CaptureCause::BlockForm)),
+    ),
+    (
+        "an option past the end",
+        &[
+            SECTION,
+            b"\x01\x00\x00\x00\x18\x00\x00\x00\x01\x00\x00\x00\x00\x00\x00\x00\x02\x00\x08\x00\x18\x00\x00\x00",
+        ],
+        &[],
+        Some((1, CaptureCause::BlockForm)),
+    ),
+    (
+        "a resolution of two octets",
+        &[
+            SECTION,
+            b"\x01\x00\x00\x00\x1c\x00\x00\x00\x01\x00\x00\x00\x00\x00\x00\x00\x09\x00\x02\x00\x06\x06\x00\x00\x1c\x00\x00\x00",
+        ],
+        &[],
+        Some((1, CaptureCause::BlockForm)),
+    ),
+    (
+        "no octets where one was captured",
+        &[
+            SECTION,
+            SNAPPED,
+            b"\x06\x00\x00\x00\x20\x00\x00\x00\x00\x00\x00\x00\x00\x00\x00\x00\x00\x00\x00\x00\x01\x00\x00\x00\x01\x00\x00\x00\x20\x00\x00\x00",
+        ],
+        &[],
+        Some((1, CaptureCause::BlockForm)),
+    ),
+    (
+        "262,145 octets in a packet",
+        &[
+            SECTION,
+            SNAPPED,
+            b"\x06\x00\x00\x00\x20\x00\x00\x00\x00\x00\x00\x00\x00\x00\x00\x00\x00\x00\x00\x00\x01\x00\x04\x00\x01\x00\x04\x00\x20\x00\x00\x00",
+        ],
+        &[],
+        Some((1, CaptureCause::RecordLength)),
+    ),
+    (
+        "262,145 octets in a record",
+        &[
+            CLASSIC,
+            b"\x01\x00\x00\x00\x02\x00\x00\x00\x01\x00\x04\x00\x09\x00\x00\x00",
+        ],
+        &[],
+        Some((1, CaptureCause::RecordLength)),
+    ),
+    (
+        "a block of 8 octets",
+        &[SECTION, b"\x09\x00\x00\x00\x08\x00\x00\x00"],
+        &[],
+        Some((1, CaptureCause::BlockLength)),
+    ),
+    (
+        "a block of 14 octets",
+        &[SECTION, b"\x09\x00\x00\x00\x0e\x00\x00\x00"],
+        &[],
+        Some((1, CaptureCause::BlockLength)),
+    ),
+    (
+        "a section header of 24 octets",
+        &[b"\x0a\x0d\x0d\x0a\x18\x00\x00\x00\x4d\x3c\x2b\x1a"],
+        &[],
+        Some((0, CaptureCause::BlockLength)),
+    ),
+    (
+        "a first section of version 2",
+        &[
+            b"\x0a\x0d\x0d\x0a\x1c\x00\x00\x00\x4d\x3c\x2b\x1a\x02\x00\x00\x00\xff\xff\xff\xff\xff\xff\xff\xff\x1c\x00\x00\x00",
+        ],
+        &[],
+        Some((0, CaptureCause::CaptureHeader)),
+    ),
+    (
+        "a later section of version 2",
+        &[
+            SECTION,
+            b"\x0a\x0d\x0d\x0a\x1c\x00\x00\x00\x4d\x3c\x2b\x1a\x02\x00\x00\x00\xff\xff\xff\xff\xff\xff\xff\xff\x1c\x00\x00\x00",
+        ],
+        &[],
+        Some((1, CaptureCause::BlockForm)),
+    ),
+];
+
 #[test]
 fn blocks_of_each_kind(rt: HostRuntime) {
-    let parts: [(&str, &[&[u8]], &[Told<'_>], Option<CaptureFault>); 14] = [
-        (
-            "an obsolete packet",
-            &[
-                SECTION,
-                NANOSECONDS,
-                b"\x02\x00\x00\x00\x24\x00\x00\x00\x00\x00\xff\xff\x00\x00\x00\x00\x6f\x17\x00\x00\x03\x00\x00\x00\x09\x00\x00\x00\xaa\xbb\xcc\x00\x24\x00\x00\x00",
-            ],
-            &[FIRST],
-            None,
-        ),
-        (
-            "a simple packet of three octets, of which two were kept",
-            &[
-                SECTION,
-                SNAPPED,
-                b"\x03\x00\x00\x00\x14\x00\x00\x00\x03\x00\x00\x00\x01\x02\x03\x00\x14\x00\x00\x00",
-            ],
-            &[(1, 0, b"\x01\x02")],
-            None,
-        ),
-        (
-            "a time before 1970",
-            &[SECTION, BEFORE, PACKET],
-            &[],
-            refused(1, CaptureCause::PacketTime),
-        ),
-        (
-            "a body that is no interface",
-            &[
-                SECTION,
-                b"\x01\x00\x00\x00\x10\x00\x00\x00\x01\x00\x00\x00\x10\x00\x00\x00",
-            ],
-            &[],
-            refused(1, CaptureCause::BlockForm),
-        ),
-        (
-            "an option past the end",
-            &[
-                SECTION,
-                b"\x01\x00\x00\x00\x18\x00\x00\x00\x01\x00\x00\x00\x00\x00\x00\x00\x02\x00\x08\x00\x18\x00\x00\x00",
-            ],
-            &[],
-            refused(1, CaptureCause::BlockForm),
-        ),
-        (
-            "a resolution of two octets",
-            &[
-                SECTION,
-                b"\x01\x00\x00\x00\x1c\x00\x00\x00\x01\x00\x00\x00\x00\x00\x00\x00\x09\x00\x02\x00\x06\x06\x00\x00\x1c\x00\x00\x00",
-            ],
-            &[],
-            refused(1, CaptureCause::BlockForm),
-        ),
-        (
-            "no octets where one was captured",
-            &[
-                SECTION,
-                SNAPPED,
-                b"\x06\x00\x00\x00\x20\x00\x00\x00\x00\x00\x00\x00\x00\x00\x00\x00\x00\x00\x00\x00\x01\x00\x00\x00\x01\x00\x00\x00\x20\x00\x00\x00",
-            ],
-            &[],
-            refused(1, CaptureCause::BlockForm),
-        ),
-        (
-            "262,145 octets in a packet",
-            &[
-                SECTION,
-                SNAPPED,
-                b"\x06\x00\x00\x00\x20\x00\x00\x00\x00\x00\x00\x00\x00\x00\x00\x00\x00\x00\x00\x00\x01\x00\x04\x00\x01\x00\x04\x00\x20\x00\x00\x00",
-            ],
-            &[],
-            refused(1, CaptureCause::RecordLength),
-        ),
-        (
-            "262,145 octets in a record",
-            &[
-                CLASSIC,
-                b"\x01\x00\x00\x00\x02\x00\x00\x00\x01\x00\x04\x00\x09\x00\x00\x00",
-            ],
-            &[],
-            refused(1, CaptureCause::RecordLength),
-        ),
-        (
-            "a block of 8 octets",
-            &[SECTION, b"\x09\x00\x00\x00\x08\x00\x00\x00"],
-            &[],
-            refused(1, CaptureCause::BlockLength),
-        ),
-        (
-            "a block of 14 octets",
-            &[SECTION, b"\x09\x00\x00\x00\x0e\x00\x00\x00"],
-            &[],
-            refused(1, CaptureCause::BlockLength),
-        ),
-        (
-            "a section header of 24 octets",
-            &[b"\x0a\x0d\x0d\x0a\x18\x00\x00\x00\x4d\x3c\x2b\x1a"],
-            &[],
-            refused(0, CaptureCause::BlockLength),
-        ),
-        (
-            "a first section of version 2",
-            &[
-                b"\x0a\x0d\x0d\x0a\x1c\x00\x00\x00\x4d\x3c\x2b\x1a\x02\x00\x00\x00\xff\xff\xff\xff\xff\xff\xff\xff\x1c\x00\x00\x00",
-            ],
-            &[],
-            refused(0, CaptureCause::CaptureHeader),
-        ),
-        (
-            "a later section of version 2",
-            &[
-                SECTION,
-                b"\x0a\x0d\x0d\x0a\x1c\x00\x00\x00\x4d\x3c\x2b\x1a\x02\x00\x00\x00\xff\xff\xff\xff\xff\xff\xff\xff\x1c\x00\x00\x00",
-            ],
-            &[],
-            refused(1, CaptureCause::BlockForm),
-        ),
-    ];
-    for (name, parts, packets, stop) in &parts {
+    for (name, parts, packets, stop) in KINDS {
         assert!(rt;
-            says(rt.alloc(), parts, packets, *stop) == Ok(true),
+            says(rt.alloc(), parts, packets, stop) == Ok(true),
             "{name}"
         );
     }

@@ -49,25 +49,38 @@ pub fn read(alloc: Global, octets: &[u8]) -> Result<(), Fault> {
     }
 }
 
-/// The fault of the octets by the owned frame, if they have one and no memory is asked for.
-fn fault_without_memory(memory: Global, octets: &[u8]) -> Option<Fault> {
-    let alloc = RefusingAlloc::new(memory, 0);
-    match decode(&alloc, octets) {
-        Err(ReadFault::Fault(fault)) if !alloc.has_refused() => Some(fault),
+/// The fault of the octets by the owned frame, if they have one.
+fn fault_of<A: Allocator + Copy>(alloc: A, octets: &[u8]) -> Option<Fault> {
+    match decode(alloc, octets) {
+        Err(ReadFault::Fault(fault)) => Some(fault),
         _ => None,
     }
+}
+
+/// Whether the octets have this fault by the owned frame, and no memory is asked for.
+fn is_fault_without_memory(memory: Global, octets: &[u8], fault: Fault) -> bool {
+    let alloc = RefusingAlloc::new(memory, 0);
+    fault_of(&alloc, octets) == Some(fault) && !alloc.has_refused()
 }
 
 /// Whether this is the first fault of the octets, as a view and as a frame, whatever memory there is.
 pub fn has_fault(alloc: Global, octets: &[u8], place: usize, cause: Cause) -> bool {
     let fault = cause.at(place);
-    seen(octets) == Err(fault) && fault_without_memory(alloc, octets) == Some(fault)
+    seen(octets) == Err(fault) && is_fault_without_memory(alloc, octets, fault)
+}
+
+/// The written form of the frame, if there is one.
+fn written<A: Allocator>(frame: &Frame<A>) -> Option<ArrayVec<u8, 1600>> {
+    match encode(frame) {
+        Ok(form) => Some(form),
+        Err(_) => None,
+    }
 }
 
 /// The written form of the frame of these octets, if there is one.
 pub fn form_of(alloc: Global, octets: &[u8]) -> Option<ArrayVec<u8, 1600>> {
     match decode(alloc, octets) {
-        Ok(frame) => encode(&frame).ok(),
+        Ok(frame) => written(&frame),
         Err(_) => None,
     }
 }

@@ -97,12 +97,22 @@ F 3 010ccd01000102000000000188b8\n\
 F 4 ffffffffffff02000000000108060001\n\
 F 5 ffffffffffff02000000000108060001\n";
 
+// The same of a list, all of whose events are told.
+fn growths_to_tell(alloc: &RefusingAlloc<Global>, text: &[u8]) -> Option<usize> {
+    growths_of(alloc, &mut events_of(text))
+}
+
+// The same of a list, of which the frames of other protocols are passed over.
+fn growths_to_skip(alloc: &RefusingAlloc<Global>, text: &[u8]) -> Option<usize> {
+    growths_of(alloc, &mut SkipOther::new(events_of(text)))
+}
+
 #[test]
 fn memory_is_wanted_as_often_as_without(rt: HostRuntime) {
     let alloc = RefusingAlloc::new(rt.alloc(), usize::MAX);
     for (text, wanted) in [(FRAMES, 1usize), (LIST, 3)] {
-        assert!(rt; growths_of(&alloc, &mut events_of(text)) == Some(wanted));
-        assert!(rt; growths_of(&alloc, &mut SkipOther::new(events_of(text))) == Some(wanted));
+        assert!(rt; growths_to_tell(&alloc, text) == Some(wanted));
+        assert!(rt; growths_to_skip(&alloc, text) == Some(wanted));
     }
     assert!(rt; alloc.blocks_out() == 0);
 }
@@ -130,8 +140,13 @@ fn list_of_types(alloc: Global) -> Result<Vec<u8>, AllocError> {
     Ok(text)
 }
 
-// The frames of an EtherType of which that many were passed over.
-fn kind(ether_type: u16, count: u64) -> PassedKind {
+// The frames of an EtherType of those below 16, of which two come twice.
+fn kind(ether_type: u16) -> PassedKind {
+    let count = if ether_type == 0 || ether_type == 3 {
+        2
+    } else {
+        1
+    };
     let first = ether_type as u64 + 2;
     PassedKind {
         ether_type,
@@ -139,30 +154,41 @@ fn kind(ether_type: u16, count: u64) -> PassedKind {
     }
 }
 
+// Whether these are the frames of each EtherType below 16.
+fn are_all_kinds(kinds: &[PassedKind]) -> bool {
+    for ether_type in 0..16u16 {
+        if kinds.get(ether_type as usize) != Some(&kind(ether_type)) {
+            return false;
+        }
+    }
+    kinds.len() == 16
+}
+
+// Whether a reader gives so many events.
+fn gives_so_many<I: ReadItems<Global, Item = Event<Global>>>(
+    alloc: Global,
+    items: &mut I,
+    count: usize,
+) -> bool {
+    for _ in 0..count {
+        if !matches!(items.read_item(alloc, &mut None), Ok(Some(_))) {
+            return false;
+        }
+    }
+    true
+}
+
 #[test]
 fn sixteen_kinds_are_told_apart(rt: HostRuntime) -> Result<(), Fail> {
     let text = list_of_types(rt.alloc())?;
     let mut items = SkipOther::new(events_of(&text));
-    let mut spare = None;
-    for _ in TYPES {
-        assert!(rt; matches!(items.read_item(rt.alloc(), &mut spare), Ok(Some(_))));
-    }
+    assert!(rt; gives_so_many(rt.alloc(), &mut items, TYPES.len()));
     let passed = items.passed_over();
-    assert!(rt; passed.kinds().len() == 16);
-    for ether_type in 0..16u16 {
-        let count = if ether_type == 0 || ether_type == 3 {
-            2
-        } else {
-            1
-        };
-        assert!(rt; passed.kinds().get(ether_type as usize) == Some(&kind(ether_type, count)));
-    }
-    assert!(rt;
-        passed.others()
-            == Some(Passed {
-                count: 4,
-                first: 18
-            })
-    );
+    assert!(rt; are_all_kinds(passed.kinds()));
+    let others = Passed {
+        count: 4,
+        first: 18,
+    };
+    assert!(rt; passed.others() == Some(others));
     Ok(())
 }
