@@ -62,16 +62,22 @@ pub fn put_pieces<A: Allocator>(
     Ok(())
 }
 
+// Appends an octet as it stands in a text that is written between quotation marks twice.
+fn put_octet_twice<A: Allocator>(out: &mut Vec<u8, A>, octet: u8) -> Result<(), AllocError>
+    ensures { AppendsText result out.old.items out.new.items (escaped_twice octet) }
+{
+    match octet {
+        b'"' | b'\\' => out.extend_from_slice(&[b'\\', b'\\', b'\\', octet]),
+        _ => out.extend_from_slice(&[octet]),
+    }
+}
+
 // Appends the octets of a text as they stand where it is written between quotation marks twice.
 fn put_escaped_twice<A: Allocator>(out: &mut Vec<u8, A>, text: &[u8]) -> Result<(), AllocError>
     ensures { AppendsText result out.old.items out.new.items (flat_map escaped_twice text.now) }
 {
     for octet in text {
-        match *octet {
-            b'"' => out.extend_from_slice(&[b'\\', b'\\', b'\\', b'"'])?,
-            b'\\' => out.extend_from_slice(&[b'\\', b'\\', b'\\', b'\\'])?,
-            _ => out.push(*octet)?,
-        }
+        put_octet_twice(out, *octet)?;
     }
     Ok(())
 }

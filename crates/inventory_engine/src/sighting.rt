@@ -96,6 +96,17 @@ pub enum Shown<'a> {
     Stream(u32, &'a [u8]),
 }
 
+// Appends the first fields of a control block, behind its text: its names.
+fn put_names<A: Allocator>(line: &mut Vec<u8, A>, block: &ShownBlock<'_>) -> Result<(), AllocError>
+    ensures { AppendsText result line.old.items line.new.items (onward (take 4 (name_fields (configuration_shown block.now)))) }
+{
+    let octets = [(block.app_id / 256) as u8, (block.app_id % 256) as u8];
+    put_field_octets(line, b",\"appid\":", &octets)?;
+    put_text(line, b",\"gocbRef\":", block.gocb_ref)?;
+    put_text(line, b",\"datSet\":", block.dat_set)?;
+    put_field_text_if(line, b",\"goID\":", block.go_id)
+}
+
 // Appends the fields of a control block, behind its text.
 fn put_name_fields<A: Allocator>(
     line: &mut Vec<u8, A>,
@@ -103,11 +114,7 @@ fn put_name_fields<A: Allocator>(
 ) -> Result<(), AllocError>
     ensures { AppendsText result line.old.items line.new.items (onward (name_fields (configuration_shown block.now))) }
 {
-    let octets = [(block.app_id / 256) as u8, (block.app_id % 256) as u8];
-    put_field_octets(line, b",\"appid\":", &octets)?;
-    put_text(line, b",\"gocbRef\":", block.gocb_ref)?;
-    put_text(line, b",\"datSet\":", block.dat_set)?;
-    put_field_text_if(line, b",\"goID\":", block.go_id)?;
+    put_names(line, block)?;
     put_number(line, b",\"confRev\":", block.conf_rev)?;
     line.extend_from_slice(b",\"entries\":")?;
     put_decimal(line, block.entries as u64)
