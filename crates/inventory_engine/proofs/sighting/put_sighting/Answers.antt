@@ -1,4 +1,4 @@
-use Rattle.std.proofs.Common.{◌∙◌, ◌++◌, [], ◌∷◌, List, ℕ, Result, true, false, ap, subst}
+use Rattle.std.proofs.Common.{◌∙◌, ◌++◌, [], ◌∷◌, List, ℕ, Result, true, false, ap, refl, subst}
 use Rattle.std.specs.List.{flat_map}
 use Rattle.inventory_engine.specs.declared.known.Known.{Known}
 use Rattle.inventory_engine.specs.computed.PieceText.{piece_text}
@@ -10,6 +10,7 @@ use Rattle.inventory_engine.specs.Sightings.{Sighting, key_of}
 use Rattle.inventory_engine.specs.BlocksText.{told_by}
 use Rattle.inventory_engine.specs.computed.ShownFields.{sighting_by}
 use Rattle.inventory_engine.proofs.Appending.{compared, each_told, on_error, on_success, said_changed, said_first, said_same, wanted_changed, wanted_first}
+use Rattle.text_core.proofs.Fronts.{grown, same_stands}
 use Rattle.inventory_engine.proofs.sighting.put_sighting.Goals as goal
 
 pub returns-then-is_text-clause-written : goal.returns-then-is_text-clause-written
@@ -82,3 +83,12 @@ returns-in_ok-one-in-Err-clause-written g c =
     c.in_ok-one-in-Err.ensures.key c.in_ok-one-in-Err.ensures.text puts
     (c.in_ok-size-in-Err.ensures.text ∙ ap (λ (w : List ℕ). c.args.line.now.items ++ told_by c.args.heading.form c.args.heading.number c.args.heading.moment w s.text s.fields) c.first.ensures))
     c.insert.ensures.put
+
+pub returns-in_ok-size-in-Ok-clause-kept : goal.returns-in_ok-size-in-Ok-clause-kept
+returns-in_ok-size-in-Ok-clause-kept g c = grown _ _ _ _ c.in_ok-size-in-Ok.ensures.text (same_stands _ _ refl)
+
+pub returns-in_err-one-in-Err-clause-kept : goal.returns-in_err-one-in-Err-clause-kept
+returns-in_err-one-in-Err-clause-kept g c = grown _ _ _ _ c.in_ok-size-in-Err.ensures.text (same_stands _ _ refl)
+
+pub returns-in_ok-one-in-Err-clause-kept : goal.returns-in_ok-one-in-Err-clause-kept
+returns-in_ok-one-in-Err-clause-kept g c = grown _ _ _ _ c.in_ok-size-in-Err.ensures.text (same_stands _ _ refl)
