@@ -23,3 +23,9 @@ put_each-put-requires g t c κs within =
     let part : length (written (data_of v)) < 2 ^ 32 = part_within (2 ^ 32) c.args.out.now.items c.loop-value.out.items (written_all c.args.values.now) (written (data_of v)) (written_all (datas (drop (suc i) vs))) c.loop-value.invariant.grown so_far c.requires.size in
     let few : length (written_contents (data_of v)) < 2 ^ 32 = contents_within (data_of v) (2 ^ 32) part in
     (omega (arith, small, same, dec), (within, (search rules, (search rules, (few, fit)))))
+
+pub put-returns-in-Array : goal.put-returns-in-Array
+put-returns-in-Array g t c = rw c.in-Array.is c.put_nested_values.ensures
+
+pub put-returns-in-Structure : goal.put-returns-in-Structure
+put-returns-in-Structure g t c = rw c.in-Structure.is c.put_nested_values-in-Structure.ensures
