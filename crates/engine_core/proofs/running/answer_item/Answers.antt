@@ -13,3 +13,6 @@ returns-in-Ok-put_all-clause-step g c = λ before stands.
       written = subst (λ l. Appends (g.W.Sink.contents c.args.writer.now) (g.W.Sink.contents c.put_all.new.writer) l) (c.as_slice.ensures.value ∙ s.appended ∙ ap (λ l. l ++ s.text) c.clear.ensures.items) c.in-Ok-put_all.ensures.written;
       stands_after = s.stands_after;
     }
+
+pub returns-in-Err-clause-fails : goal.returns-in-Err-clause-fails
+returns-in-Err-clause-fails g c = c.in-Err.ensures.fault
