@@ -10,4 +10,5 @@ pub mod WorkedExamples
 pub mod ObjectTexts
 pub mod GooseFields
 pub mod AsduFields
+pub mod AsduLoops
 pub mod FrameObjects
