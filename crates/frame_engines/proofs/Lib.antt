@@ -11,4 +11,5 @@ pub mod ObjectTexts
 pub mod GooseFields
 pub mod AsduFields
 pub mod AsduLoops
+pub mod ShortTexts
 pub mod FrameObjects

@@ -1,0 +1,21 @@
+use Rattle.std.specs.Prelude.{codes}
+use Rattle.std.specs.Fmt.{decimal}
+use Rattle.pdu_core.specs.Views.{pdu_of}
+use Rattle.text_core.specs.Pieces.{boolean_text}
+use Rattle.text_core.specs.ValueText.{time_text}
+use Rattle.frame_engines.proofs.GooseParts.{state_parts}
+use Rattle.frame_engines.proofs.ShortTexts.{field, front, fronts_appended, none}
+use Rattle.frame_engines.proofs.texts.frame.put_goose_state_text.Goals as goal
+
+pub returns : goal.returns
+returns g c =
+    let goose = c.args.goose.now in
+    fronts_appended c.append_to.result c.args.out.now.items c.append_to.new.out.items c.put-7.new.self (state_parts (pdu_of {A = Unit {0}} goose)) (
+    front (codes " t=") c.put-7.ensures.text (
+    front (time_text goose.t) c.put_utc.ensures.text (
+    field (codes " st=") (decimal goose.st_num) c.put-6.ensures.text c.put_decimal-3.ensures.text (
+    field (codes " sq=") (decimal goose.sq_num) c.put-5.ensures.text c.put_decimal-2.ensures.text (
+    field (codes " sim=") (boolean_text goose.simulation) c.put-4.ensures.text c.put_boolean-2.ensures.text (
+    field (codes " rev=") (decimal goose.conf_rev) c.put-3.ensures.text c.put_decimal.ensures.text (
+    field (codes " com=") (boolean_text goose.nds_com) c.put-2.ensures.text c.put_boolean.ensures.text (
+    front (codes " ") c.put.ensures.text (none c.new-text.ensures))))))))) c.append_to.ensures
