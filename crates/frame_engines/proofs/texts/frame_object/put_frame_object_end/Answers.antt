@@ -1,4 +1,4 @@
-use Rattle.std.proofs.Common.{◌≡◌, ◌≤◌, ℕ, List, [], ◌∷◌, ◌++◌, length, ap, refl, sym, append_assoc, arith}
+use Rattle.std.proofs.Common.{◌≡◌, ◌<◌, ◌≤◌, ℕ, List, [], ◌∷◌, ◌++◌, length, ap, refl, sym, append_assoc, arith}
 use Rattle.std.specs.Prelude.{codes}
 use Rattle.hex.specs.Hex.{encode_lower}
 use Rattle.text_core.proofs.Fronts.{appended, then_appended}
@@ -16,3 +16,11 @@ returns-in_ok-put_octets-in_default g c =
     (codes ",\"trailer\":\"" ++ encode_lower octets) (codes "\"}\n") _ c.in_ok-put_octets-in_default.ensures
     (appended c.extend_from_slice-in_default.result c.put_octets.new.out.items c.extend_from_slice-in_default.new.self.items (codes "\"}\n") (codes "\"}\n") c.extend_from_slice-in_default.ensures.items refl)
     (trailer_text octets c.in_default.len_at_least)
+
+null_text : (octets : List ℕ) → length octets < 1 → codes ",\"trailer\":null}\n" ≡ codes ",\"trailer\":" ++ trailer_value octets ++ codes "}\n"
+null_text [] none = refl
+null_text (x ∷ xs) none = absurd (omega arith)
+
+pub returns-in-empty : goal.returns-in-empty
+returns-in-empty g c =
+    appended c.extend_from_slice.result c.args.out.now.items c.extend_from_slice.new.self.items (codes ",\"trailer\":null}\n") _ c.extend_from_slice.ensures.items (null_text c.args.trailer.now c.in-empty.len_below)
