@@ -1,5 +1,5 @@
 -- Fields of a text that commas divide, and what one of them says.
-use Rattle.std.specs.Prelude.{ℕ, List, nat_le, Option, Some, None, option_and_then, option_map, if◌then◌else◌}
+use Rattle.std.specs.Prelude.{ℕ, Bool, not, ◌&&◌, ◌==◌, List, nat_le, Option, Some, None, option_and_then, option_map, if◌then◌else◌}
 use Rattle.std.specs.List.{list_all}
 use Rattle.byteorder.specs.Endian.{big_number}
 use Rattle.hex.specs.Hex.{decode_sized}
@@ -31,3 +31,11 @@ number_by digits = option_and_then at_most_32_bits (decimal_of 10 digits)
 -- a text of octets from 20 to 7E; it may be empty
 abbrev pub text_in : List ℕ → Option (List ℕ)
 text_in field = if list_all is_visible field then Some field else None
+
+-- an octet that can stand in a field of a BLOCK is visible, and no comma (44)
+abbrev pub is_field_octet : ℕ → Bool
+is_field_octet c = is_visible c && not (c == 44)
+
+-- a text that can stand in a field of a BLOCK
+abbrev pub is_field : List ℕ → Bool
+is_field text = list_all is_field_octet text

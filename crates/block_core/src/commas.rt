@@ -1,9 +1,9 @@
 //! Fields of a text that commas divide, and what one of them says.
 ghost use Rattle.std.specs.Prelude.{◌≡◌, ◌<◌, length, map, MatchOption, option_map};
-ghost use Rattle.block_core.specs.Commas.{comma_fields, number_by, text_in, word_in};
+ghost use Rattle.block_core.specs.Commas.{comma_fields, is_field, is_field_octet, number_by, text_in, word_in};
 
 use arrayvec::ArrayVec;
-use ber_core::looking::{Visible, are_all};
+use ber_core::looking::{OctetKind, Visible, are_all};
 use byteorder::{BigEndian, ByteOrder};
 use list_core::{cut_first, decimal_in};
 
@@ -59,4 +59,24 @@ pub fn text_in(field: &[u8]) -> Option<&[u8]>
     } else {
         None
     }
+}
+
+// Octets that can stand in a field of a BLOCK.
+#[derive(Clone, Copy)]
+struct FieldOctet;
+
+impl OctetKind for FieldOctet {
+    ghost has = { λ _. is_field_octet };
+
+    #[inline(always)]
+    fn has(self, octet: u8) -> bool {
+        0x20 <= octet && octet <= 0x7e && octet != b','
+    }
+}
+
+/// Whether a text can stand in a field of a BLOCK: it is of visible octets, and no comma is among them.
+pub fn is_field(text: &[u8]) -> bool
+    ensures { result ≡ is_field text.now }
+{
+    are_all(text, FieldOctet)
 }

@@ -19,10 +19,10 @@ use Rattle.list_core.specs.EventLine.{decoded}
 use Rattle.list_core.proofs.Cuts.{cut-part, cut-rest}
 use Rattle.list_core.proofs.MomentDigits.{digits_test}
 use Rattle.block_core.specs.BlockText.{block_in, block_of}
-use Rattle.block_core.specs.Commas.{comma_fields, number_by, octets_in, text_in, word_in}
+use Rattle.block_core.specs.Commas.{comma_fields, is_field, is_field_octet, number_by, octets_in, text_in, word_in}
 use Rattle.text_core.specs.Pieces.{four_digits, two_octets}
 use Rattle.inventory_engine.specs.Configuration.{configuration_of}
-use Rattle.inventory_engine.specs.Sightings.{block_parts, has_fields, is_field, is_field_octet, named_parts, text_or_none}
+use Rattle.inventory_engine.specs.Sightings.{block_parts, has_fields, named_parts, text_or_none}
 use Rattle.inventory_engine.specs.Laws.{BlocksReadBack}
 
 -- ---- a number in four hexadecimal digits

@@ -9,7 +9,8 @@ use Rattle.std.proofs.lemmas.Bool.{false_from_ne_true}
 use Rattle.std.proofs.lemmas.Cmp.{nat_cmp_total, then_total, on_total, nat_list_cmp_total, tied_itself}
 use Rattle.std.proofs.lemmas.Map.Lookups.{exact_pairs, exact_unsigned, exact_bytes}
 use Rattle.inventory_engine.specs.Sightings.{Key}
-use Rattle.inventory_engine.specs.computed.KnownTexts.{key_cmp, rank, same_key}
+use Rattle.known_core.specs.computed.Rank.{rank}
+use Rattle.inventory_engine.specs.computed.KnownTexts.{key_cmp, same_key}
 
 pub key_total : IsTotalOrder key_cmp
 key_total = then_total (on_total (λ (k : Key). rank k.0) nat_cmp_total) (on_total (λ (k : Key). k.1) nat_list_cmp_total)

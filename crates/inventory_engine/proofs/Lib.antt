@@ -1,6 +1,4 @@
 pub mod Escapes
-pub mod Fields
-pub mod Fronts
 pub mod KeyLemmas
 pub mod KnownLemmas
 pub mod Newest

@@ -1,13 +1,13 @@
 -- What the frames of a list show: each frame of GOOSE a control block, and each ASDU of Sampled Values a stream.
-use Rattle.std.specs.Prelude.{ℕ, Bool, not, ◌&&◌, ◌==◌, List, [], ◌∷◌, map, Option, Some, None, Result, Ok, Err, codes, if◌then◌else◌}
-use Rattle.std.specs.List.{concat, flat_map, list_all}
+use Rattle.std.specs.Prelude.{ℕ, Bool, ◌&&◌, List, [], ◌∷◌, map, Option, Some, None, Result, Ok, Err, codes, if◌then◌else◌}
+use Rattle.std.specs.List.{concat, flat_map}
 use Rattle.std.specs.Fmt.{decimal}
-use Rattle.ber_core.specs.Contents.{is_visible}
 use Rattle.ber_core.specs.declared.fault.Fault.{Fault}
 use Rattle.pdu_core.specs.declared.sampled.asdu.Asdu.{Asdu}
 use Rattle.list_core.specs.declared.event.Event.{Event}
 use Rattle.list_core.specs.declared.event.EventKind.{EventKind}
 use Rattle.list_core.specs.declared.event.EventKind.TheVariants as kinds
+use Rattle.block_core.specs.Commas.{is_field}
 use Rattle.frame_core.specs.declared.frame.Apdu.{Apdu}
 use Rattle.frame_core.specs.declared.frame.Apdu.TheVariants as apdus
 use Rattle.frame_core.specs.declared.frame.Frame.{Frame}
@@ -31,14 +31,6 @@ Key = Option ℕ × List ℕ
 -- the key of a sighting: APPID and gocbRef, or svID alone
 abbrev pub key_of : Sighting → Key
 key_of s = (s.app_id, s.name)
-
--- an octet that can stand in a field of a BLOCK is visible, and no comma (44)
-abbrev pub is_field_octet : ℕ → Bool
-is_field_octet c = is_visible c && not (c == 44)
-
--- a text that can stand in a field of a BLOCK
-abbrev pub is_field : List ℕ → Bool
-is_field text = list_all is_field_octet text
 
 -- a text that is absent is empty in a BLOCK
 abbrev pub text_or_none : Option (List ℕ) → List ℕ

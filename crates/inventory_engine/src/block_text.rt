@@ -5,13 +5,16 @@ ghost use Rattle.std.specs.List.{concat, flat_map};
 ghost use Rattle.std.specs.Str.{bytes_eq};
 ghost use Rattle.std.specs.Fmt.{decimal};
 ghost use Rattle.pdu_core.specs.Views.{octets_if, pdu_of};
-ghost use Rattle.inventory_engine.specs.computed.PieceText.{IsAfter, piece_text};
+ghost use Rattle.text_core.specs.Afters.{IsAfter};
+ghost use Rattle.inventory_engine.specs.computed.PieceText.{piece_text};
 ghost use Rattle.inventory_engine.specs.computed.ShownFields.{configuration_shown};
 ghost use Rattle.inventory_engine.specs.Configuration.{configuration_of};
-ghost use Rattle.inventory_engine.specs.Sightings.{block_parts, block_text, has_fields as fields_are, is_field as field_is, is_field_octet as octet_is, named_parts, text_or_none};
+ghost use Rattle.inventory_engine.specs.Sightings.{block_parts, block_text, has_fields as fields_are, named_parts, text_or_none};
 
-use crate::pieces::{Piece, after, after_decimal, after_digits, after_one, is_text};
+use crate::pieces::{Piece, after_decimal, after_digits, is_text};
+use block_core::commas::is_field;
 use pdu_core::GooseView;
+use text_core::following::{after, after_one};
 
 /// What a frame says of its control block: not its view, so that of this no more is kept at hand.
 #[derive(Clone, Copy)]
@@ -42,46 +45,6 @@ pub fn block_shown<'a>(app_id: u16, goose: &GooseView<'a>) -> ShownBlock<'a>
         conf_rev: goose.conf_rev,
         entries: goose.entries,
     }
-}
-
-// Whether an octet can stand in a field of a BLOCK.
-fn is_field_octet(octet: u8) -> bool
-    ensures { result ≡ octet_is octet }
-{
-    octet >= 0x20 && octet <= 0x7E && octet != b','
-}
-
-// Whether a text can. A long one is passed eight octets at a time, which the compiler looks at together; the last eight may
-// be some of those before them.
-fn is_field(text: &[u8]) -> bool
-    ensures { result ≡ field_is text.now }
-{
-    if text.len() < 8 {
-        return text.iter().all(|octet| is_field_octet(*octet));
-    }
-    let (_front, last) = text.split_at(text.len() - 8);
-    let mut others = text;
-    'eights: while 8 < others.len() {
-        let (eight, rest) = others.split_at(8);
-        if !are_field_octets(eight) {
-            return false;
-        }
-        others = rest;
-    }
-    are_field_octets(last)
-}
-
-// Whether each of these octets can. It looks at each, also behind one that cannot, so that the compiler compares several
-// octets at once.
-#[inline(always)]
-fn are_field_octets(octets: &[u8]) -> bool
-    ensures { result ≡ field_is octets.now }
-{
-    let mut can_stand = true;
-    for octet in octets {
-        can_stand &= is_field_octet(*octet);
-    }
-    can_stand
 }
 
 /// A text, which is empty where it is absent.

@@ -2,11 +2,12 @@
 
 ghost use Rattle.std.specs.Prelude.{◌≡◌, IfOk};
 ghost use Rattle.std.specs.List.{flat_map};
-ghost use Rattle.inventory_engine.specs.computed.KnownTexts.{key_cmp, known_key, known_name, known_text, rank};
+ghost use Rattle.inventory_engine.specs.computed.KnownTexts.{key_cmp, known_key, known_name, known_text};
 ghost use Rattle.inventory_engine.specs.computed.PieceText.{piece_text};
 
 use crate::pieces::{Piece, put_pieces};
 use ber_core::Octets;
+use known_core::rank;
 use std::alloc::{AllocError, Allocator};
 use std::cmp::Ordering;
 
@@ -79,17 +80,7 @@ impl<A: Allocator> Known<A> {
     }
 }
 
-// Streams stand before control blocks, which stand by their APPIDs.
-fn rank(app_id: Option<u16>) -> u32
-    ensures { result ≡ rank app_id }
-{
-    match app_id {
-        None => 0,
-        Some(app_id) => u32::from(app_id) + 1,
-    }
-}
-
-/// How one that is known stands to another.
+/// How one that is known stands to another: streams before control blocks, which stand by their APPIDs.
 pub fn compare<A: Allocator>(known: &Known<A>, app_id: Option<u16>, name: &[u8]) -> Ordering
     ensures { result ≡ key_cmp (known_key known.now) (app_id, name.now) }
 {

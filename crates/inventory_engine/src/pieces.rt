@@ -6,13 +6,15 @@ ghost use Rattle.std.specs.List.{flat_map};
 ghost use Rattle.std.specs.Str.{bytes_eq};
 ghost use Rattle.std.specs.Fmt.{decimal};
 ghost use Rattle.pdu_core.specs.Views.{octets_if};
+ghost use Rattle.text_core.specs.Afters.{IsAfter};
 ghost use Rattle.text_core.specs.Pieces.{AppendsText, escaped, four_digits, quoted, quoted_or_dash};
-ghost use Rattle.inventory_engine.specs.computed.PieceText.{IsAfter, escaped_piece, escaped_twice, piece_text};
+ghost use Rattle.inventory_engine.specs.computed.PieceText.{escaped_piece, escaped_twice, piece_text};
 
 use itoa::Buffer;
 use list_core::write_digits;
 use std::alloc::{AllocError, Allocator};
-use text_core::fields::put_optional;
+use text_core::fields::put_text_or;
+use text_core::following::{after, after_one, after_quoted};
 use text_core::pieces::{put_decimal, put_escaped, put_four_digits, put_quoted};
 
 /// A piece of a text.
@@ -43,7 +45,7 @@ fn put_piece<A: Allocator>(out: &mut Vec<u8, A>, piece: &Piece<'_>) -> Result<()
         }
         Piece::Octets(octets) => out.extend_from_slice(octets),
         Piece::Quoted(text) => put_quoted(out, text),
-        Piece::Optional(text) => put_optional(out, b"", *text),
+        Piece::Optional(text) => put_text_or(out, b"", *text, b"-"),
         Piece::Digits(number) => put_four_digits(out, *number),
         Piece::Decimal(number) => put_decimal(out, *number),
     }
@@ -166,23 +168,6 @@ pub fn text_size<A: Allocator>(
     Ok(size)
 }
 
-/// What follows these octets at the start of a text.
-pub fn after<'a>(text: &'a [u8], front: &[u8]) -> Option<&'a [u8]>
-    ensures { IsAfter text.now front.now result }
-{
-    text.strip_prefix(front)
-}
-
-/// What follows this octet.
-pub fn after_one(text: &[u8], octet: u8) -> Option<&[u8]>
-    ensures { IsAfter text.now (octet ∷ []) result }
-{
-    match text.split_first() {
-        Some((first, rest)) if *first == octet => Some(rest),
-        _ => None,
-    }
-}
-
 /// What follows a number in decimal.
 #[inline(always)]
 pub fn after_decimal(text: &[u8], number: u64) -> Option<&[u8]>
@@ -213,39 +198,6 @@ pub fn after_digits(text: &[u8], number: u16) -> Option<&[u8]>
     } else {
         unreachable!()
     }
-}
-
-// What follows an octet of a text as it stands between quotation marks.
-fn after_octet(text: &[u8], octet: u8) -> Option<&[u8]>
-    ensures { IsAfter text.now (escaped octet) result }
-{
-    match octet {
-        b'"' | b'\\' => after(text, &[b'\\', octet]),
-        _ => after_one(text, octet),
-    }
-}
-
-// What follows the octets of a text as they stand between quotation marks.
-fn after_escaped<'a>(text: &'a [u8], octets: &[u8]) -> Option<&'a [u8]>
-    ensures { IsAfter text.now (flat_map escaped octets.now) result }
-{
-    let mut rest = text;
-    for octet in octets {
-        match after_octet(rest, *octet) {
-            Some(behind) => rest = behind,
-            None => return None,
-        }
-    }
-    Some(rest)
-}
-
-/// What follows a text between quotation marks.
-pub fn after_quoted<'a>(text: &'a [u8], octets: &[u8]) -> Option<&'a [u8]>
-    ensures { IsAfter text.now (quoted octets.now) result }
-{
-    let opened = after_one(text, b'"')?;
-    let behind = after_escaped(opened, octets)?;
-    after_one(behind, b'"')
 }
 
 // What follows a text between quotation marks, or a dash where it is absent.

@@ -28,11 +28,11 @@ use crate::stream_text::{is_stream_text, stream_pieces};
 use frame_core::{ApduView, EventKind, view_frame};
 use known_core::Place;
 use object_core::event::put_event_head;
-use object_core::fields::{put_field_octets, put_field_text_if};
+use object_core::fields::put_field_octets;
 use object_core::{Counted, Form, Heading};
 use pdu_core::{AsduView, GooseView, SvView};
 use std::alloc::{AllocError, Allocator};
-use text_core::fields::{put_number, put_text};
+use text_core::fields::{put_number, put_text, put_text_or};
 use text_core::pieces::put_decimal;
 
 // The kind of a control block or a stream that was not seen before.
@@ -104,7 +104,7 @@ fn put_names<A: Allocator>(line: &mut Vec<u8, A>, block: &ShownBlock<'_>) -> Res
     put_field_octets(line, b",\"appid\":", &octets)?;
     put_text(line, b",\"gocbRef\":", block.gocb_ref)?;
     put_text(line, b",\"datSet\":", block.dat_set)?;
-    put_field_text_if(line, b",\"goID\":", block.go_id)
+    put_text_or(line, b",\"goID\":", block.go_id, b"null")
 }
 
 // Appends the fields of a control block, behind its text.

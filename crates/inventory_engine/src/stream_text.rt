@@ -3,10 +3,12 @@
 ghost use Rattle.std.specs.Prelude.{◌≡◌};
 ghost use Rattle.std.specs.List.{concat, flat_map};
 ghost use Rattle.std.specs.Str.{bytes_eq};
-ghost use Rattle.inventory_engine.specs.computed.PieceText.{IsAfter, piece_text};
+ghost use Rattle.text_core.specs.Afters.{IsAfter};
+ghost use Rattle.inventory_engine.specs.computed.PieceText.{piece_text};
 ghost use Rattle.inventory_engine.specs.Sightings.{stream_parts};
 
-use crate::pieces::{Piece, after, after_decimal, after_quoted};
+use crate::pieces::{Piece, after_decimal};
+use text_core::following::{after, after_quoted};
 
 /// The text of a stream.
 pub fn stream_pieces<'a>(conf_rev: u32, sv_id: &'a [u8]) -> [Piece<'a>; 4]

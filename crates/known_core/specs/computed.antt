@@ -3,3 +3,4 @@ pub mod Held
 pub mod Order
 pub mod Positions
 pub mod RunSteps
+pub mod Rank

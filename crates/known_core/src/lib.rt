@@ -4,8 +4,10 @@
 
 mod positions;
 mod probe;
+mod ranks;
 mod runs;
 
 pub use crate::positions::find_position;
 pub use crate::probe::Probe;
+pub use crate::ranks::rank;
 pub use crate::runs::{Place, Runs};

@@ -42,9 +42,9 @@ use Rattle.loss_core.specs.computed.AdvanceSteps.{advance_by, most, nearest_to}
 use Rattle.loss_core.specs.computed.StreamSteps.{came_after}
 use Rattle.loss_core.specs.computed.SenderTotalSteps.{totals_after}
 use Rattle.loss_core.specs.computed.StreamTotalSteps.{fresh_tally, stream_totals_after}
-use Rattle.loss_engine.specs.declared.finding.Finding.{Finding}
-use Rattle.loss_engine.specs.declared.finding.Finding.TheVariants.{Silent, StatesMissing, FramesMissing, Late, Restarted, SamplesMissing, SampleRepeated, SampleLate, OutOfRange, Synch}
-use Rattle.loss_engine.specs.Findings.{came_told, first_missing, frame_findings, frames_told, silence, standing_told, states_told, synch_told}
+use Rattle.loss_core.specs.declared.finding.Finding.{Finding}
+use Rattle.loss_core.specs.declared.finding.Finding.TheVariants.{Silent, StatesMissing, FramesMissing, Late, Restarted, SamplesMissing, SampleRepeated, SampleLate, OutOfRange, Synch}
+use Rattle.loss_core.specs.Findings.{came_told, first_missing, frame_findings, frames_told, silence, standing_told, states_told, synch_told}
 use Rattle.loss_engine.specs.LossText.{with_end}
 use Rattle.loss_engine.specs.Sights.{Key, Shown, Sight, frame, sample, sender, stream, same_key, sight_of_asdu, sights_of, sights_read, sights_with}
 use Rattle.loss_engine.specs.computed.Entries.{IsPeriodOf}

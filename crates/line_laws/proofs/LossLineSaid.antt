@@ -16,8 +16,8 @@ use Rattle.loss_core.specs.declared.sender.Pair.{Pair}
 use Rattle.loss_core.specs.declared.sender_tally.SenderTotals.{SenderTotals}
 use Rattle.loss_core.specs.declared.stream_tally.StreamTotals.{StreamTotals}
 use Rattle.loss_core.specs.Sender.{over_at}
-use Rattle.loss_engine.specs.declared.finding.Finding.{Finding}
-use Rattle.loss_engine.specs.declared.finding.Finding.TheVariants.{Silent, StatesMissing, FramesMissing, Late, Restarted, SamplesMissing, SampleRepeated, SampleLate, OutOfRange, Synch}
+use Rattle.loss_core.specs.declared.finding.Finding.{Finding}
+use Rattle.loss_core.specs.declared.finding.Finding.TheVariants.{Silent, StatesMissing, FramesMissing, Late, Restarted, SamplesMissing, SampleRepeated, SampleLate, OutOfRange, Synch}
 use Rattle.loss_engine.specs.LossLine.{end_silent_line, finding_line, samples_line, sender_total_line, stream_total_line}
 use Rattle.loss_engine.specs.LossObject.{end_silent_object, finding_object, samples_object, sender_total_object, stream_total_object}
 use Rattle.loss_engine.specs.LossText.{end_silent, with_end}

@@ -11,7 +11,7 @@ use Rattle.object_core.specs.declared.counted.Form.{Form}
 use Rattle.object_core.specs.declared.counted.Form.TheVariants as forms
 use Rattle.engine_core.specs.declared.style.Style.TheVariants.{Lines}
 use Rattle.engine_core.specs.EngineText.{ItemText}
-use Rattle.loss_engine.specs.declared.finding.Finding.{Finding}
+use Rattle.loss_core.specs.declared.finding.Finding.{Finding}
 use Rattle.loss_engine.specs.LossText.{AreLosses, closing_in, end_silent, sight_lines, told_line}
 use Rattle.loss_engine.specs.Sights.{Key, Sight}
 use Rattle.loss_engine.specs.computed.Entries.{IsPeriodOf}

@@ -6,4 +6,5 @@ pub mod Advance
 pub mod Stream
 pub mod StreamLaws
 pub mod StreamTotals
+pub mod Findings
 pub mod computed

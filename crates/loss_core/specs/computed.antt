@@ -3,3 +3,4 @@ pub mod SenderTotalSteps
 pub mod AdvanceSteps
 pub mod StreamSteps
 pub mod StreamTotalSteps
+pub mod Given

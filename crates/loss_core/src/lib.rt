@@ -3,6 +3,8 @@
 #![tactic(auto)]
 
 mod advance;
+mod finding;
+mod findings;
 pub mod laws;
 mod missing;
 mod sender;
@@ -11,6 +13,8 @@ mod stream;
 mod stream_tally;
 
 pub use crate::advance::{Advance, advance_between};
+pub use crate::finding::Finding;
+pub use crate::findings::{findings_of_frame, findings_of_sample, is_frame_quiet, is_sample_quiet};
 pub use crate::missing::{Missing, Span, find_missing};
 pub use crate::sender::{Arrival, Pair, Sender, Standing, Told};
 pub use crate::sender_tally::{SenderTally, SenderTotals};

@@ -13,7 +13,8 @@ use Rattle.engine_core.specs.EngineText.{ItemText}
 use Rattle.loss_core.specs.declared.stream.Newest.{Newest}
 use Rattle.loss_core.specs.Stream.{AreSamplesTold, Known}
 use Rattle.loss_core.specs.computed.StreamSteps.{Keeps}
-use Rattle.loss_engine.specs.Findings.{TellsSight, has_loss}
+use Rattle.loss_core.specs.Findings.{has_loss}
+use Rattle.loss_engine.specs.Findings.{TellsSight}
 use Rattle.loss_engine.specs.LossLine.{samples_line}
 use Rattle.loss_engine.specs.LossObject.{samples_object}
 use Rattle.loss_engine.specs.LossText.{AreLosses, ClosesBy, ClosesEvents, ClosesKey, IsClosing, TellsEvent, end_silent, form_of, line_of, sight_lines, sights_at, stale, styled}

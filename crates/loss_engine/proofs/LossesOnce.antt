@@ -20,8 +20,9 @@ use Rattle.loss_core.specs.StreamTotals.{AreStreamTotals}
 use Rattle.loss_core.proofs.AddUp as streams
 use Rattle.loss_core.proofs.Once.{sample_last_once, samples_told_once, stream_totals_once, tally_once, told_last_once}
 use Rattle.loss_core.proofs.Places.{get_there}
-use Rattle.loss_engine.specs.declared.finding.Finding.{Finding}
-use Rattle.loss_engine.specs.Findings.{TellsShown, came_told, frame_findings, has_loss, last_of, synch_told}
+use Rattle.loss_core.specs.declared.finding.Finding.{Finding}
+use Rattle.loss_core.specs.Findings.{came_told, frame_findings, has_loss, synch_told}
+use Rattle.loss_engine.specs.Findings.{TellsShown, last_of}
 use Rattle.loss_engine.specs.LossLine.{sender_total_line, stream_total_line}
 use Rattle.loss_engine.specs.LossObject.{sender_total_object, stream_total_object}
 use Rattle.loss_engine.specs.LossText.{AreLosses, ClosesBy, ClosesKey, IsClosing, TellsEvent, closing_in, end_silent, form_of, line_of, sight_lines, sights_at, stale, styled, with_end}

@@ -6,8 +6,8 @@ use Rattle.text_core.proofs.Fronts.{row_then}
 use Rattle.text_core.proofs.PieceLemmas.{Chain}
 use Rattle.std.specs.Prelude.{option_to_list}
 use Rattle.list_core.proofs.Emptiness.{back_nil, front_nil}
-use Rattle.loss_engine.specs.declared.finding.Finding.{Finding}
-use Rattle.loss_engine.specs.computed.NumberText.{given}
+use Rattle.loss_core.specs.declared.finding.Finding.{Finding}
+use Rattle.loss_core.specs.computed.Given.{given}
 
 -- several texts were appended, and then the last one
 pub row_last : {T E : Type 0} (r : Result T E) (old mid new : List ℕ) (xs : List (List ℕ)) (y : List ℕ) → Chain mid old xs → AppendsText r mid new y → AppendsText r old new (concat (xs ++ y ∷ []))

@@ -24,8 +24,9 @@ use Rattle.loss_core.specs.computed.StreamTotalSteps.{StreamTallyStandsAfter, fr
 use Rattle.loss_core.proofs.Known.{told_first}
 use Rattle.loss_core.proofs.Totals as senders
 use Rattle.loss_core.proofs.SampleTotals as streams
-use Rattle.loss_engine.specs.declared.finding.Finding.{Finding}
-use Rattle.loss_engine.specs.Findings.{TellsShown, TellsSight, came_told, last_of, synch_told}
+use Rattle.loss_core.specs.declared.finding.Finding.{Finding}
+use Rattle.loss_core.specs.Findings.{came_told, synch_told}
+use Rattle.loss_engine.specs.Findings.{TellsShown, TellsSight, last_of}
 use Rattle.loss_engine.specs.Sights.{Key, Shown, Sight, frame, sample, sender, stream, arrival_in, frames_of, keys_in, same_key, sample_in, samples_of, sight_of_asdu, sights_of, sights_read, sights_with, synch_in, synchs_of, with_key}
 use Rattle.loss_engine.specs.computed.Entries.{IsPeriodOf}
 use Rattle.loss_engine.specs.computed.Tracking.{Progress, Tracked, counted, findings_all, findings_by, first_progress, frames, known_of, more_progress, samples, track, track_all}

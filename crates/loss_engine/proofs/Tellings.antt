@@ -7,13 +7,13 @@ use Rattle.list_core.proofs.Emptiness.{back_nil, front_nil}
 use Rattle.object_core.specs.declared.counted.Form.{Form}
 use Rattle.object_core.specs.declared.counted.Form.TheVariants.{Text, Object}
 use Rattle.object_core.specs.declared.counted.Heading.{Heading}
-use Rattle.loss_engine.specs.declared.finding.Finding.{Finding}
+use Rattle.loss_core.specs.declared.finding.Finding.{Finding}
 use Rattle.loss_core.specs.declared.sender.Arrival.{Arrival}
 use Rattle.loss_core.specs.declared.sender.Pair.{Pair}
 use Rattle.loss_core.specs.declared.sender.Told.{Told}
 use Rattle.loss_core.specs.declared.stream.Came.{Came}
 use Rattle.loss_core.specs.Sender.{told_after}
-use Rattle.loss_engine.specs.Findings.{came_told, frame_findings, has_loss, synch_told}
+use Rattle.loss_core.specs.Findings.{came_told, frame_findings, has_loss, synch_told}
 use Rattle.loss_engine.specs.LossText.{told_line}
 use Rattle.pdu_core.specs.SampledViews.{asdu_of}
 use Rattle.pdu_core.specs.declared.sampled.asdu.Asdu.{Asdu}

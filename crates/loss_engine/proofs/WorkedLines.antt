@@ -12,8 +12,8 @@ use Rattle.loss_core.specs.declared.sender.Pair.{Pair}
 use Rattle.loss_core.specs.declared.sender.Standing.TheVariants as standing
 use Rattle.loss_core.specs.declared.stream.Came.{Came}
 use Rattle.loss_core.specs.declared.stream.Came.TheVariants as came
-use Rattle.loss_engine.specs.declared.finding.Finding.TheVariants.{SampleRepeated}
-use Rattle.loss_engine.specs.Findings.{came_told, frame_findings, has_loss, synch_told}
+use Rattle.loss_core.specs.declared.finding.Finding.TheVariants.{SampleRepeated}
+use Rattle.loss_core.specs.Findings.{came_told, frame_findings, has_loss, synch_told}
 use Rattle.loss_engine.specs.LossText.{end_silent, told_line}
 use Rattle.loss_engine.specs.LossLine.{samples_line, sender_total_line, stream_total_line}
 use Rattle.loss_engine.specs.LossObject.{sender_total_object, stream_total_object}

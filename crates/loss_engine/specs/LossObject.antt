@@ -7,8 +7,8 @@ use Rattle.object_core.specs.EventObject.{event_fields}
 use Rattle.object_core.specs.Objects.{Field, date_value, in_quotes, object_line, octets_value}
 use Rattle.loss_core.specs.declared.sender_tally.SenderTotals.{SenderTotals}
 use Rattle.loss_core.specs.declared.stream_tally.StreamTotals.{StreamTotals}
-use Rattle.loss_engine.specs.declared.finding.Finding.{Finding}
-use Rattle.loss_engine.specs.declared.finding.Finding.TheVariants.{Silent, StatesMissing, FramesMissing, Late, Restarted, SamplesMissing, SampleRepeated, SampleLate, OutOfRange, Synch}
+use Rattle.loss_core.specs.declared.finding.Finding.{Finding}
+use Rattle.loss_core.specs.declared.finding.Finding.TheVariants.{Silent, StatesMissing, FramesMissing, Late, Restarted, SamplesMissing, SampleRepeated, SampleLate, OutOfRange, Synch}
 use Rattle.loss_engine.specs.LossLine.{finding_word}
 use Rattle.loss_engine.specs.Sights.{Key, sender, stream}
 

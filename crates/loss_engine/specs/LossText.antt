@@ -19,8 +19,9 @@ use Rattle.loss_core.specs.Sender.{over_at}
 use Rattle.loss_core.specs.SenderTotals.{TallyStandsAfter, kept}
 use Rattle.loss_core.specs.Stream.{AreSamplesTold, IsKnownOf, Known}
 use Rattle.loss_core.specs.StreamTotals.{AreStreamTotals}
-use Rattle.loss_engine.specs.declared.finding.Finding.{Finding}
-use Rattle.loss_engine.specs.Findings.{TellsSight, has_loss}
+use Rattle.loss_core.specs.declared.finding.Finding.{Finding}
+use Rattle.loss_core.specs.Findings.{has_loss}
+use Rattle.loss_engine.specs.Findings.{TellsSight}
 use Rattle.loss_engine.specs.LossLine.{end_silent_line, finding_line, samples_line, sender_total_line, stream_total_line}
 use Rattle.loss_engine.specs.LossObject.{end_silent_object, finding_object, samples_object, sender_total_object, stream_total_object}
 use Rattle.loss_engine.specs.Sights.{Key, Sight, sender, stream, frames_of, greatest_moment, keys_in, samples_of, sights_in, sights_of}

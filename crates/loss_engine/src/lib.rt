@@ -4,7 +4,6 @@
 mod closing;
 mod engine;
 mod entry;
-mod finding;
 mod key;
 mod losing;
 mod losses;
@@ -15,5 +14,5 @@ mod telling;
 mod texts;
 
 pub use crate::engine::losses_over;
-pub use crate::finding::Finding;
 pub use crate::key::{Key, SenderKey, StreamKey};
+pub use loss_core::Finding;

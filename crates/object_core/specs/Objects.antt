@@ -4,7 +4,7 @@ use Rattle.std.specs.List.{join_with_byte}
 use Rattle.std.specs.Fmt.{decimal}
 use Rattle.hex.specs.Hex.{encode_lower}
 use Rattle.date_core.specs.DateText.{date_text}
-use Rattle.text_core.specs.Pieces.{quoted}
+use Rattle.text_core.specs.Pieces.{text_or}
 
 -- A text of the kind was appended; or memory was refused, and earlier text remains.
 abbrev pub AppendsSome : {T E : Type 0} → Result T E → List ℕ → List ℕ → (List ℕ → Type 0) → Type 0
@@ -49,8 +49,7 @@ in_quotes_or_null (Some text) = in_quotes text
 
 -- a text, or null
 abbrev pub text_or_null : Option (List ℕ) → List ℕ
-text_or_null None = null
-text_or_null (Some text) = quoted text
+text_or_null text = text_or null text
 
 -- octets in lower case hexadecimal
 abbrev pub octets_value : List ℕ → List ℕ

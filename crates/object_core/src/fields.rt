@@ -1,15 +1,16 @@
 //! The fields of an object. Each call appends to `out` a name and its value; the name is handed in as it stands in the object,
 //! with the comma before it, its quotation marks and its colon, so that it is appended as one. Inlined, so that a name is
-//! written without a call. Texts and numbers that are always there are put by `text_core`'s `put_text` and `put_number`.
+//! written without a call. Texts, and numbers that are always there, are put by `text_core`'s `put_text`, `put_text_or` and
+//! `put_number`.
 ghost use Rattle.std.specs.Prelude.{◌++◌};
 ghost use Rattle.hex.specs.Hex.{encode_lower};
 ghost use Rattle.pdu_core.specs.Views.{octets_if};
 ghost use Rattle.text_core.specs.Pieces.{AppendsText, boolean_text};
-ghost use Rattle.object_core.specs.Objects.{date_value, decimal_or_null, in_quotes, octets_or_null, octets_value, text_or_null};
+ghost use Rattle.object_core.specs.Objects.{date_value, decimal_or_null, in_quotes, octets_or_null, octets_value};
 
 use date_core::date_of;
 use std::alloc::{AllocError, Allocator};
-use text_core::pieces::{put_boolean, put_decimal, put_hexadecimal, put_quoted};
+use text_core::pieces::{put_boolean, put_decimal, put_hexadecimal};
 
 /// Appends a name and a word, in which nothing is escaped.
 #[inline(always)]
@@ -25,22 +26,6 @@ pub fn put_field_word<A: Allocator>(
     out.extend_from_slice(word)?;
     out.push(b'"')?;
     Ok(())
-}
-
-/// Appends a name and a text that may be absent.
-#[inline(always)]
-pub fn put_field_text_if<A: Allocator>(
-    out: &mut Vec<u8, A>,
-    name: &[u8],
-    text: Option<&[u8]>,
-) -> Result<(), AllocError>
-    ensures { AppendsText result out.old.items out.new.items (name.now ++ text_or_null (octets_if text.entry)) }
-{
-    out.extend_from_slice(name)?;
-    match text {
-        Some(text) => put_quoted(out, text),
-        None => out.extend_from_slice(b"null"),
-    }
 }
 
 /// Appends a name and a truth value.

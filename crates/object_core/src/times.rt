@@ -9,8 +9,7 @@ ghost use Rattle.object_core.specs.Times.{moment_of, quality_value};
 use crate::fields::{put_field_boolean, put_field_date};
 use mms_data::UtcTime;
 use std::alloc::{AllocError, Allocator};
-use text_core::pieces::put_decimal;
-use text_core::value::put_utc;
+use text_core::value::{put_accuracy, put_utc};
 
 /// The microseconds from 1970 to a moment; what is less than one is cut off.
 pub fn microseconds(time: UtcTime) -> u64
@@ -27,7 +26,7 @@ pub fn put_quality<A: Allocator>(out: &mut Vec<u8, A>, quality: u8) -> Result<()
     put_field_boolean(out, b",\"clockFailure\":", quality / 0x40 % 2 == 1)?;
     put_field_boolean(out, b",\"clockNotSynchronized\":", quality / 0x20 % 2 == 1)?;
     out.extend_from_slice(b",\"timeAccuracy\":")?;
-    put_decimal(out, (quality % 32) as u64)?;
+    put_accuracy(out, quality)?;
     out.push(b'}')?;
     Ok(())
 }

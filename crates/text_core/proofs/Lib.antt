@@ -1,4 +1,5 @@
 pub mod Fronts
+pub mod Afters
 pub mod Cuts
 pub mod PlainTexts
 pub mod HexPieces

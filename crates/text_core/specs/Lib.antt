@@ -1,4 +1,5 @@
 pub mod Pieces
+pub mod Afters
 pub mod Names
 pub mod CaptureNames
 pub mod ValueText

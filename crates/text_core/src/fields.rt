@@ -1,9 +1,9 @@
-//! The named fields of a line. Each call appends to `out`. Inlined, so that a name is written without a call.
+//! The named fields of a line or an object. Each call appends to `out`. Inlined, so that a name is written without a call.
 ghost use Rattle.std.specs.Prelude.{◌++◌};
 ghost use Rattle.std.specs.Fmt.{decimal};
 ghost use Rattle.hex.specs.Hex.{encode_lower};
 ghost use Rattle.pdu_core.specs.Views.{octets_if};
-ghost use Rattle.text_core.specs.Pieces.{AppendsText, octets_or_dash, quoted, quoted_or_dash};
+ghost use Rattle.text_core.specs.Pieces.{AppendsText, octets_or_dash, quoted, text_or};
 ghost use Rattle.text_core.specs.ValueText.{time_text};
 
 use crate::pieces::{put_decimal, put_hexadecimal, put_quoted};
@@ -37,19 +37,20 @@ pub fn put_text<A: Allocator>(
     put_quoted(out, text)
 }
 
-/// Appends a name and a text that may be absent.
+/// Appends a name and a text, or this word where it is absent.
 #[inline(always)]
-pub fn put_optional<A: Allocator>(
+pub fn put_text_or<A: Allocator>(
     out: &mut Vec<u8, A>,
     name: &[u8],
     text: Option<&[u8]>,
+    absent: &[u8],
 ) -> Result<(), AllocError>
-    ensures { AppendsText result out.old.items out.new.items (name.now ++ quoted_or_dash (octets_if text.entry)) }
+    ensures { AppendsText result out.old.items out.new.items (name.now ++ text_or absent.now (octets_if text.entry)) }
 {
     out.extend_from_slice(name)?;
     match text {
         Some(text) => put_quoted(out, text),
-        None => out.extend_from_slice(b"-"),
+        None => out.extend_from_slice(absent),
     }
 }
 

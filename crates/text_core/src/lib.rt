@@ -3,6 +3,7 @@
 
 pub mod event;
 pub mod fields;
+pub mod following;
 mod last_line;
 pub mod line;
 pub mod names;

@@ -1,5 +1,6 @@
 //! The text of a value of Data, from the octets in which it stands.
-ghost use Rattle.std.specs.Prelude.{◌++◌, ◌∷◌, []};
+ghost use Rattle.std.specs.Prelude.{◌++◌, ◌%◌, ◌∷◌, []};
+ghost use Rattle.std.specs.Fmt.{decimal};
 ghost use Rattle.std.specs.List.{flat_map};
 ghost use Rattle.hex.specs.Hex.{encode_lower};
 ghost use Rattle.mms_data.specs.Meaning.{left as still_to_come, meaning};
@@ -20,6 +21,13 @@ pub fn put_utc<A: Allocator>(out: &mut Vec<u8, A>, time: UtcTime) -> Result<(), 
     ensures { AppendsText result out.old.items out.new.items (time_text time) }
 {
     put_short_hexadecimal(out, &time.to_octets())
+}
+
+/// Appends the accuracy of a moment's quality in decimal: its low five bits.
+pub fn put_accuracy<A: Allocator>(out: &mut Vec<u8, A>, quality: u8) -> Result<(), AllocError>
+    ensures { AppendsText result out.old.items out.new.items (decimal (quality % 32)) }
+{
+    put_decimal(out, (quality % 32) as u64)
 }
 
 /// Appends bits. The unused ones, which have any value where they stand, are no part of them.

@@ -12,7 +12,7 @@ use crate::texts::sampled::put_sampled_text;
 use frame_core::{ApduView, FrameView, VlanTag};
 use pdu_core::GooseView;
 use std::alloc::{AllocError, Allocator};
-use text_core::fields::{put_number, put_octets, put_optional, put_text};
+use text_core::fields::{put_number, put_octets, put_text, put_text_or};
 use text_core::short::ShortText;
 use text_core::value::put_members_text;
 
@@ -115,7 +115,7 @@ fn put_goose_text<A: Allocator>(
     put_text(out, b" ref=", goose.gocb_ref)?;
     put_number(out, b" live=", goose.live)?;
     put_text(out, b" set=", goose.dat_set)?;
-    put_optional(out, b" id=", goose.go_id)?;
+    put_text_or(out, b" id=", goose.go_id, b"-")?;
     put_goose_state_text(out, goose)?;
     put_members_text(out, goose.members)
 }

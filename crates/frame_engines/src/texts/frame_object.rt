@@ -14,12 +14,11 @@ use crate::texts::sampled_object::put_sampled_fields;
 use frame_core::{ApduView, FrameView, VlanTag};
 use object_core::Counted;
 use object_core::event::put_event_head;
-use object_core::fields::put_field_text_if;
 use object_core::members::put_members_object;
 use object_core::times::put_time_fields;
 use pdu_core::GooseView;
 use std::alloc::{AllocError, Allocator};
-use text_core::fields::{put_number, put_octets, put_text};
+use text_core::fields::{put_number, put_octets, put_text, put_text_or};
 use text_core::short::ShortText;
 
 // Puts the control of a tag in front, or null.
@@ -97,7 +96,7 @@ fn put_goose_fields<A: Allocator>(
     put_text(out, b",\"gocbRef\":", goose.gocb_ref)?;
     put_number(out, b",\"timeAllowedtoLive\":", goose.live)?;
     put_text(out, b",\"datSet\":", goose.dat_set)?;
-    put_field_text_if(out, b",\"goID\":", goose.go_id)?;
+    put_text_or(out, b",\"goID\":", goose.go_id, b"null")?;
     put_time_fields(out, b",\"t\":", b",\"tTime\":", b",\"tQuality\":", goose.t)?;
     put_goose_state_fields(out, goose)?;
     put_members_object(out, goose.members)

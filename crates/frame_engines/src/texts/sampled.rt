@@ -10,7 +10,7 @@ ghost use Rattle.frame_engines.specs.SampledText.{asdu_text, sv_text};
 
 use pdu_core::{AsduView, Asdus, SvView};
 use std::alloc::{AllocError, Allocator};
-use text_core::fields::{put_octets, put_octets_if, put_optional, put_text};
+use text_core::fields::{put_octets, put_octets_if, put_text, put_text_or};
 use text_core::short::ShortText;
 
 // Appends the fields of an ASDU between its data set and its sample.
@@ -55,7 +55,7 @@ fn put_asdu_text<A: Allocator>(out: &mut Vec<u8, A>, asdu: &AsduView<'_>) -> Res
     ensures { AppendsText result out.old.items out.new.items (asdu_text (asdu_of {A = Unit {0}} asdu.now)) }
 {
     put_text(out, b"(id=", asdu.sv_id)?;
-    put_optional(out, b" set=", asdu.dat_set)?;
+    put_text_or(out, b" set=", asdu.dat_set, b"-")?;
     put_counts_text(out, asdu)?;
     put_octets(out, b" sample=", asdu.sample)?;
     put_asdu_end(out, asdu)

@@ -10,13 +10,11 @@ ghost use Rattle.frame_engines.specs.FrameObject.{asdu_object, refresh_fields};
 ghost use Rattle.frame_engines.specs.computed.ObjectFields.{after_comma, next_fields};
 
 use mms_data::UtcTime;
-use object_core::fields::{
-    put_field_number_if, put_field_octets, put_field_octets_if, put_field_text_if,
-};
+use object_core::fields::{put_field_number_if, put_field_octets, put_field_octets_if};
 use object_core::times::put_time_fields;
 use pdu_core::{AsduView, Asdus, SvView};
 use std::alloc::{AllocError, Allocator};
-use text_core::fields::{put_number, put_text};
+use text_core::fields::{put_number, put_text, put_text_or};
 
 // Appends the moment at which a buffer was refreshed, with its date and its quality, or null alone.
 fn put_refresh_fields<A: Allocator>(
@@ -78,7 +76,7 @@ fn put_asdu_object<A: Allocator>(
     ensures { AppendsText result out.old.items out.new.items (asdu_object (asdu_of {A = Unit {0}} asdu.now)) }
 {
     put_text(out, b"{\"svID\":", asdu.sv_id)?;
-    put_field_text_if(out, b",\"datSet\":", asdu.dat_set)?;
+    put_text_or(out, b",\"datSet\":", asdu.dat_set, b"null")?;
     put_counts_fields(out, asdu)?;
     put_field_octets(out, b",\"sample\":", asdu.sample)?;
     put_asdu_object_end(out, asdu)

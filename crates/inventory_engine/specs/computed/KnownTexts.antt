@@ -7,15 +7,11 @@ use Rattle.known_core.specs.declared.runs.Place.{Place}
 use Rattle.known_core.specs.declared.runs.Runs.{Runs}
 use Rattle.known_core.specs.computed.Held.{IsCompact, held, position_of}
 use Rattle.known_core.specs.computed.Order.{Ascends}
+use Rattle.known_core.specs.computed.Rank.{rank}
 use Rattle.inventory_engine.specs.declared.known.Known.{Known}
 use Rattle.inventory_engine.specs.Sightings.{Key}
 
--- streams come first, and control blocks by their APPIDs
-abbrev pub rank : Option ℕ → ℕ
-rank None = 0
-rank (Some app_id) = app_id + 1
-
--- keys are ordered so, and then by gocbRef or svID
+-- streams come first, then control blocks by their APPIDs, and all then by gocbRef or svID
 abbrev pub key_cmp : Key → Key → Ordering
 key_cmp x y = ordering_then (nat_cmp (rank x.0) (rank y.0)) (slice_cmp nat_cmp x.1 y.1)
 

@@ -1,6 +1,5 @@
--- The text of a piece, and what follows a text at the start of another.
-use Rattle.std.specs.Prelude.{◌≡◌, ℕ, List, [], ◌∷◌, ◌++◌, Option, Some, None}
-use Rattle.std.specs.Borrow.{Bor}
+-- The text of a piece.
+use Rattle.std.specs.Prelude.{ℕ, List, [], ◌∷◌}
 use Rattle.std.specs.List.{flat_map}
 use Rattle.std.specs.Fmt.{decimal}
 use Rattle.pdu_core.specs.Views.{octets_if}
@@ -16,11 +15,6 @@ piece_text (piece.Quoted text) = quoted text.now
 piece_text (piece.Optional text) = quoted_or_dash (octets_if text)
 piece_text (piece.Digits number) = four_digits number
 piece_text (piece.Decimal number) = decimal number
-
--- what follows this front of a text, or the text does not begin with it
-abbrev pub IsAfter : List ℕ → List ℕ → Option (Bor (List ℕ)) → Type 0
-IsAfter text front None = (rest : List ℕ) → text ≡ front ++ rest → ⊥
-IsAfter text front (Some rest) = text ≡ front ++ rest.now
 
 -- an octet of a text as it stands in a text that is written between quotation marks twice
 abbrev pub escaped_twice : ℕ → List ℕ

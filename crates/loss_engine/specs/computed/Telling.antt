@@ -2,7 +2,7 @@
 use Rattle.std.specs.Prelude.{◌≡◌, ◌⊎◌, ℕ, Bool, true, List, [], ◌++◌, Option}
 use Rattle.std.specs.List.{list_any}
 use Rattle.object_core.specs.declared.counted.Heading.{Heading}
-use Rattle.loss_engine.specs.Findings.{has_loss}
+use Rattle.loss_core.specs.Findings.{has_loss}
 use Rattle.loss_engine.specs.LossText.{sight_lines}
 use Rattle.loss_engine.specs.Sights.{Sight}
 use Rattle.loss_engine.specs.computed.Tracking.{Kept, Tracked, findings_all, shows_new, track_all}

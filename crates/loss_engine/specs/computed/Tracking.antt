@@ -18,8 +18,8 @@ use Rattle.loss_core.specs.SenderTotals.{kept}
 use Rattle.loss_core.specs.computed.SenderTotalSteps.{first_tally, tally_after}
 use Rattle.loss_core.specs.computed.StreamSteps.{came_after}
 use Rattle.loss_core.specs.computed.StreamTotalSteps.{StreamTallyState, fresh_tally, stream_tally_after}
-use Rattle.loss_engine.specs.declared.finding.Finding.{Finding}
-use Rattle.loss_engine.specs.Findings.{came_told, frame_findings, has_loss, synch_told}
+use Rattle.loss_core.specs.declared.finding.Finding.{Finding}
+use Rattle.loss_core.specs.Findings.{came_told, frame_findings, has_loss, synch_told}
 use Rattle.loss_engine.specs.LossLine.{samples_line, sender_total_line, stream_total_line}
 use Rattle.loss_engine.specs.LossObject.{samples_object, sender_total_object, stream_total_object}
 use Rattle.loss_engine.specs.LossText.{closing_in, end_silent, form_of, line_of, sight_lines, styled, with_end}

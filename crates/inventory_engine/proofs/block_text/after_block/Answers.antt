@@ -5,9 +5,9 @@ use Rattle.std.proofs.lemmas.List.{append-nil}
 use Rattle.text_core.specs.Pieces.{four_digits}
 use Rattle.inventory_engine.specs.Configuration.{Configuration}
 use Rattle.inventory_engine.specs.Sightings.{text_or_none}
-use Rattle.inventory_engine.specs.computed.PieceText.{IsAfter}
+use Rattle.text_core.specs.Afters.{IsAfter}
 use Rattle.inventory_engine.specs.computed.ShownFields.{configuration_shown}
-use Rattle.inventory_engine.proofs.Fronts.{after_steps, here, step, stopped}
+use Rattle.text_core.proofs.Afters.{after_steps, here, step, stopped}
 use Rattle.inventory_engine.proofs.block_text.after_block.Goals as goal
 
 -- a field behind its comma

@@ -2,7 +2,7 @@ use Rattle.std.proofs.Common.{◌∙◌}
 use Rattle.std.specs.List.{concat}
 use Rattle.inventory_engine.specs.computed.ShownFields.{configuration_shown}
 use Rattle.inventory_engine.specs.Sightings.{block_parts}
-use Rattle.inventory_engine.proofs.Fronts.{is_other, is_whole}
+use Rattle.text_core.proofs.Afters.{is_other, is_whole}
 use Rattle.inventory_engine.proofs.block_text.is_fields_text.Goals as goal
 
 pub returns-in-Some : goal.returns-in-Some

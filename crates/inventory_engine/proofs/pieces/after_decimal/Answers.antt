@@ -1,6 +1,6 @@
 use Rattle.std.proofs.Common.{List, ℕ, sym, subst}
 use Rattle.std.proofs.lemmas.Fmt.{decimal_digit}
-use Rattle.inventory_engine.specs.computed.PieceText.{IsAfter}
+use Rattle.text_core.specs.Afters.{IsAfter}
 use Rattle.inventory_engine.proofs.pieces.after_decimal.Goals as goal
 
 pub returns-then-number-lt10 : goal.returns-then-number-lt10

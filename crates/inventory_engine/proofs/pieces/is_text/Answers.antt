@@ -3,7 +3,7 @@ use Rattle.std.specs.List.{flat_map}
 use Rattle.std.proofs.lemmas.List.{take_all}
 use Rattle.inventory_engine.specs.computed.PieceText.{piece_text}
 use Rattle.inventory_engine.specs.declared.pieces.Piece.{Piece}
-use Rattle.inventory_engine.proofs.Fronts.{is_other, is_whole, stops_at}
+use Rattle.text_core.proofs.Afters.{is_other, is_whole, stops_at}
 use Rattle.inventory_engine.proofs.pieces.is_text.Goals as goal
 
 pub returns-in-None : goal.returns-in-None

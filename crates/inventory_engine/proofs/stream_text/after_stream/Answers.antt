@@ -4,8 +4,8 @@ use Rattle.std.specs.Fmt.{decimal}
 use Rattle.std.proofs.lemmas.List.{append-nil}
 use Rattle.text_core.specs.Pieces.{quoted}
 use Rattle.inventory_engine.specs.Sightings.{stream_parts}
-use Rattle.inventory_engine.specs.computed.PieceText.{IsAfter}
-use Rattle.inventory_engine.proofs.Fronts.{after_steps, here, step, stopped}
+use Rattle.text_core.specs.Afters.{IsAfter}
+use Rattle.text_core.proofs.Afters.{after_steps, here, step, stopped}
 use Rattle.inventory_engine.proofs.stream_text.after_stream.Goals as goal
 
 pub returns-in_err-behind_id : goal.returns-in_err-behind_id

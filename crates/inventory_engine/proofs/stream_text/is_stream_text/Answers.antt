@@ -1,7 +1,7 @@
 use Rattle.std.proofs.Common.{◌∙◌}
 use Rattle.std.specs.List.{concat}
 use Rattle.inventory_engine.specs.Sightings.{stream_parts}
-use Rattle.inventory_engine.proofs.Fronts.{is_other, is_whole}
+use Rattle.text_core.proofs.Afters.{is_other, is_whole}
 use Rattle.inventory_engine.proofs.stream_text.is_stream_text.Goals as goal
 
 pub returns-in-Some : goal.returns-in-Some

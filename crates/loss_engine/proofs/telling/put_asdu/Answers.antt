@@ -1,6 +1,6 @@
 use Rattle.std.proofs.Common.{◌≡◌, [], ◌++◌, sym, ◌∙◌}
 use Rattle.std.proofs.lemmas.Result.{err_from_is_err_and}
-use Rattle.loss_engine.specs.Findings.{came_told, synch_told}
+use Rattle.loss_core.specs.Findings.{came_told, synch_told}
 use Rattle.loss_engine.specs.computed.Held.{kept_by, period_by}
 use Rattle.loss_engine.proofs.Tellings.{wants_sample}
 use Rattle.loss_engine.proofs.telling.put_asdu.Goals as goal

@@ -18,6 +18,6 @@ returns g c =
     more c.in_ok-put_field_boolean.ensures (
     more c.in_ok-put_field_boolean-2.ensures (
     more c.in_ok-put_field_boolean-3.ensures (
-    more (both _ _ _ _ _ c.in_ok-extend_from_slice.ensures.items c.in_ok-put_decimal.ensures) (
+    more (both _ _ _ _ _ c.in_ok-extend_from_slice.ensures.items c.in_ok-put_accuracy.ensures) (
     more c.in_ok-push.ensures.items (
     done refl))))))

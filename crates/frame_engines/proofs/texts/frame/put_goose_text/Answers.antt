@@ -15,7 +15,7 @@ returns g c =
     more c.in_ok-put_text.ensures (
     more c.in_ok-put_number.ensures (
     more c.in_ok-put_text-2.ensures (
-    more c.in_ok-put_optional.ensures (
+    more c.in_ok-put_text_or.ensures (
     several (state_parts p) c.in_ok-put_goose_state_text.ensures (
     done refl))))))
     (subst (λ (text : List ℕ). AppendsText c.put_members_text.result c.put_goose_state_text.new.out.items c.put_members_text.new.out.items text) (sym (append-nil (members_text p.members))) c.put_members_text.ensures)

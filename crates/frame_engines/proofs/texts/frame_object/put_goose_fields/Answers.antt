@@ -16,7 +16,7 @@ returns g c =
     more c.in_ok-put_text.ensures (
     more c.in_ok-put_number.ensures (
     more c.in_ok-put_text-2.ensures (
-    more c.in_ok-put_field_text_if.ensures (
+    more c.in_ok-put_text_or.ensures (
     several (time_pieces p.t) c.in_ok-put_time_fields.ensures (
     several (state_pieces p) c.in_ok-put_goose_state_fields.ensures (
     done refl)))))))) c.put_members_object.ensures (λ members are. (members, are, last_piece (front_pieces p) name_pieces members))

@@ -10,7 +10,7 @@ returns g c =
     let asdu = asdu_of {A = Unit {0}} c.args.asdu.now in
     row_then c.put_asdu_end.result _ _ _ (front_parts asdu) (end_parts asdu) (
     more c.in_ok-put_text.ensures (
-    more c.in_ok-put_optional.ensures (
+    more c.in_ok-put_text_or.ensures (
     several (count_parts asdu) c.in_ok-put_counts_text.ensures (
     more c.in_ok-put_octets.ensures (
     done refl))))) c.put_asdu_end.ensures

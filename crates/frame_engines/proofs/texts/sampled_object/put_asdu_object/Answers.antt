@@ -14,7 +14,7 @@ returns g c =
     subst (λ (text : List ℕ). AppendsText c.put_asdu_object_end.result c.args.out.now.items c.put_asdu_object_end.new.out.items text) (object_pieces (first_field asdu) (front_fields asdu) (refresh_fields asdu.refr_tm) (end_fields asdu))
     (row_then c.put_asdu_object_end.result _ _ _ (front_pieces asdu) (end_pieces asdu) (
     more c.in_ok-put_text.ensures (
-    more c.in_ok-put_field_text_if.ensures (
+    more c.in_ok-put_text_or.ensures (
     several (count_pieces asdu) c.in_ok-put_counts_fields.ensures (
     more c.in_ok-put_field_octets.ensures (
     done refl))))) c.put_asdu_object_end.ensures)

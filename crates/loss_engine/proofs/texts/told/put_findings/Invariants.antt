@@ -1,9 +1,9 @@
 use Rattle.std.proofs.Common.{◌≡◌, ◌++◌, ◌≤◌, length, take}
 use Rattle.std.specs.List.{flat_map}
-use Rattle.loss_engine.specs.Findings.{has_loss}
+use Rattle.loss_core.specs.Findings.{has_loss}
 use Rattle.loss_engine.specs.KeySaid.{key_said}
 use Rattle.loss_engine.specs.LossText.{told_line}
-use Rattle.loss_engine.specs.computed.NumberText.{given}
+use Rattle.loss_core.specs.computed.Given.{given}
 use Rattle.loss_engine.proofs.texts.told.put_findings.Given as goal
 
 abbrev pub invariant-loop-finding : goal.invariant-loop-finding

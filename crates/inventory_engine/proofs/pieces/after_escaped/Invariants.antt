@@ -1,7 +1,0 @@
-use Rattle.std.proofs.Common.{◌≡◌, ◌++◌, take}
-use Rattle.std.specs.List.{flat_map}
-use Rattle.text_core.specs.Pieces.{escaped}
-use Rattle.inventory_engine.proofs.pieces.after_escaped.Given as goal
-
-abbrev pub invariant-loop-octet : goal.invariant-loop-octet
-invariant-loop-octet l = l.text ≡ flat_map escaped (take l.octet-index l.octets) ++ l.rest
