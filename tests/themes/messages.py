@@ -17,7 +17,7 @@ from themes.devices import CHANGE, SCRIPT, WORDS, words
 
 TOP = pathlib.Path(__file__).resolve().parent.parent.parent
 FORMATS = (TOP / "docs" / "FORMATS.md").read_text()
-SOURCES = TOP / "crates" / "goose" / "src" / "messages"
+SOURCES = TOP / "crates" / "task_engine" / "src"
 # The files in which an error has a sentence for each name, and how a name stands in the table.
 ERRORS = {
     "list_core/src/list_fault.rt": ("ListCause", "list"), "script_core/src/script.rt": ("ScriptCause", "script"),

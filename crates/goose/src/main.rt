@@ -3,13 +3,9 @@
 //! 1 something was found; 2 wrong arguments; 3 an error in the input; 4 a read or write fault; 5 out of memory.
 #![tactic(auto)]
 
-mod event_tasks;
 mod input;
 mod messages;
 mod output;
-mod over_events;
-mod performed;
-mod performing;
 
 ghost use Rattle.std.specs.Prelude.{◌≡◌, IfErr, IfOk, Ok, Some};
 ghost use Rattle.clap.specs.Walk.{texts};
@@ -17,14 +13,11 @@ ghost use Rattle.words_core.specs.CommandLine.{HasPeriod, asked_by};
 ghost use Rattle.words_core.specs.RequestLine.{MayRefuseRequest, request_of_words};
 
 use crate::input::{BLOCK, Input, Seen};
-use crate::messages::advising::{Intake, advice_by_head};
 use crate::messages::block_fields::block_fault;
 use crate::messages::failure::Failure;
 use crate::messages::passed::passed_frames;
 use crate::messages::unheard::Unheard;
 use crate::output::Output;
-use crate::performed::{Performed, Told};
-use crate::performing::perform_request;
 use clap::error::ErrorKind as WordsErrorKind;
 use engine_core::{Ending, status};
 use frame_core::PassedOver;
@@ -33,6 +26,7 @@ use std::alloc::AllocError;
 use std::io::{BufReader, ErrorKind, IsTerminal};
 use std::process::ExitCode;
 use std::{env, io};
+use task_engine::{Intake, Performed, Told, advice_by_head, perform_request};
 use words_core::{Options, Request, Task, WordsError, read_request};
 
 // What is not inlined here needs much of the stack, which is free again when a task runs.

@@ -1,9 +1,7 @@
-//! What standard error says to a person: why an input ended a run, which field of a control block is wrong, and what to do.
+//! What standard error says to a person of control blocks, of devices and of frames that were passed over.
 //! No program reads it, and no contract speaks of it: docs/FORMATS.md has those of status 3, and the tests compare all.
 
-pub mod advising;
 pub mod block_fields;
 pub mod failure;
 pub mod passed;
-pub mod stop;
 pub mod unheard;

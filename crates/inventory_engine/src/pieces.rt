@@ -1,7 +1,7 @@
 //! The pieces of which the text of a sighting is made. It is compared with a text that is held piece by piece, so that
 //! a sighting of which nothing is written asks for no memory.
 
-ghost use Rattle.std.specs.Prelude.{◌≡◌, ◌∷◌, [], IfOk, OnOk, length, take};
+ghost use Rattle.std.specs.Prelude.{◌≡◌, IfOk, OnOk, length, take};
 ghost use Rattle.std.specs.List.{flat_map};
 ghost use Rattle.std.specs.Str.{bytes_eq};
 ghost use Rattle.std.specs.Fmt.{decimal};

@@ -1,5 +1,5 @@
 //! Texts at the start of others: what follows them. So a text is compared with one that nothing has to be put together for.
-ghost use Rattle.std.specs.Prelude.{◌≡◌, ◌∷◌, []};
+ghost use Rattle.std.specs.Prelude.{◌∷◌, []};
 ghost use Rattle.std.specs.List.{flat_map};
 ghost use Rattle.text_core.specs.Afters.{IsAfter};
 ghost use Rattle.text_core.specs.Pieces.{escaped, quoted};

@@ -1,0 +1,6 @@
+use Rattle.task_engine.proofs.event_tasks.ChecksEventTask.over.Goals as goal
+
+pub returns-clause-text : goal.returns-clause-text
+returns-clause-text g c =
+    rw (c.of_input.ensures.ending, c.of_input.ensures.reader)
+    (record { fault = c.check_over.result.fault; by = c.of_input.ensures.fault; runs = record { by = tt; is = tt; run = c.check_over.ensures.text } })

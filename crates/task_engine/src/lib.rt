@@ -1,0 +1,15 @@
+//! What a task asks for is done by its engine: over a list, a script or a capture, by its options; and why the input ended a run
+//! is said as a sentence, with what to do about it.
+#![tactic(auto)]
+
+mod advising;
+mod event_tasks;
+mod over_events;
+mod performed;
+mod performing;
+mod stop;
+
+pub use crate::advising::{Advice, Intake, advice_by_head};
+pub use crate::performed::{Performed, Told};
+pub use crate::performing::{perform, perform_request};
+pub use crate::stop::Stop;

@@ -1,0 +1,149 @@
+//! Tasks by options: over the events of a list or of a capture, or over what is left of them where frames of other protocols are
+//! passed over, in a style. Each reader of events has a function of its own, so that it takes its room on the stack only where it is read.
+ghost use Rattle.std.specs.Prelude.{◌≡◌, ℕ, List, false, true};
+ghost use Rattle.list_core.specs.declared.device.InputEnd.{InputEnd};
+ghost use Rattle.list_core.specs.Device.{GivesOctets};
+ghost use Rattle.engine_core.specs.declared.ending.Ending.{Ending};
+ghost use Rattle.engine_core.specs.Ending.{is_write_fault};
+ghost use Rattle.task_engine.specs.EventTasks.{EventsLeave};
+ghost use Rattle.task_engine.specs.LossesText.{LossesOfCapture, LossesOfList};
+ghost use Rattle.task_engine.specs.HandedOut.{InputTells, PassesWhere, stop_of};
+ghost use Rattle.task_engine.specs.RequestText.{EventsWrite, OfCapture, OfList, made_by, style_of};
+
+use crate::event_tasks::EventTask;
+use crate::performed::{
+    Performed, of_packets, of_passed_events, of_passed_packets, of_styled_events,
+};
+use capture_core::PacketReader;
+use engine_core::Style;
+use frame_core::{EventLines, ItemReader, Sink, SkipOther, Source};
+use object_core::{Counted, Form};
+use std::alloc::Global;
+use words_core::{Options, Writing};
+
+#[inline(never)]
+fn over_list<T: EventTask, R: Source, W: Sink>(
+    alloc: Global,
+    style: Style,
+    task: T,
+    reader: R,
+    writer: &mut W,
+) -> Performed<R>
+    requires open { R.ending reader ≡ InputEnd.Open }
+    requires works { W.failed writer.old ≡ false }
+    ensures text { (given : List ℕ) × GivesOctets (R.left reader) (R.left result.reader) given
+        × EventsLeave style (T.asked task) (OfList style (made_by false) result.ending (R.ending result.reader) given (W.contents writer.old) (W.contents writer.new)) (LossesOfList style (made_by false) result.ending (R.ending result.reader) given (W.contents writer.old) (W.contents writer.new)) result.ending (R.ending result.reader) given (W.contents writer.old) (W.contents writer.new) }
+    ensures told { (given : List ℕ) × GivesOctets (R.left reader) (R.left result.reader) given
+        × InputTells false style (made_by false) (T.asked task) result.ending (R.ending result.reader) given (W.contents writer.old) (W.contents writer.new) (stop_of result.told) }
+    ensures passed { PassesWhere false false result.ending (R.ending result.reader) (R.left reader) (R.left result.reader) result.passed }
+    ensures read_fault { result.ending ≡ Ending.ReadFault → R.ending result.reader ≡ InputEnd.Failed }
+    ensures fault { W.failed writer.new ≡ is_write_fault result.ending }
+{
+    let events = ItemReader::new(reader, EventLines::First);
+    of_styled_events(task.over(alloc, style, events, writer))
+}
+
+#[inline(never)]
+fn over_capture<T: EventTask, R: Source, W: Sink>(
+    alloc: Global,
+    style: Style,
+    task: T,
+    reader: R,
+    writer: &mut W,
+) -> Performed<R>
+    requires open { R.ending reader ≡ InputEnd.Open }
+    requires works { W.failed writer.old ≡ false }
+    ensures text { (given : List ℕ) × GivesOctets (R.left reader) (R.left result.reader) given
+        × EventsLeave style (T.asked task) (OfCapture style (made_by false) result.ending (R.ending result.reader) given (W.contents writer.old) (W.contents writer.new)) (LossesOfCapture style (made_by false) result.ending (R.ending result.reader) given (W.contents writer.old) (W.contents writer.new)) result.ending (R.ending result.reader) given (W.contents writer.old) (W.contents writer.new) }
+    ensures told { (given : List ℕ) × GivesOctets (R.left reader) (R.left result.reader) given
+        × InputTells true style (made_by false) (T.asked task) result.ending (R.ending result.reader) given (W.contents writer.old) (W.contents writer.new) (stop_of result.told) }
+    ensures passed { PassesWhere false true result.ending (R.ending result.reader) (R.left reader) (R.left result.reader) result.passed }
+    ensures read_fault { result.ending ≡ Ending.ReadFault → R.ending result.reader ≡ InputEnd.Failed }
+    ensures fault { W.failed writer.new ≡ is_write_fault result.ending }
+{
+    of_packets(task.over(alloc, style, PacketReader::new(alloc, reader), writer))
+}
+
+#[inline(never)]
+fn over_passed_capture<T: EventTask, R: Source, W: Sink>(
+    alloc: Global,
+    style: Style,
+    task: T,
+    reader: R,
+    writer: &mut W,
+) -> Performed<R>
+    requires open { R.ending reader ≡ InputEnd.Open }
+    requires works { W.failed writer.old ≡ false }
+    ensures text { (given : List ℕ) × GivesOctets (R.left reader) (R.left result.reader) given
+        × EventsLeave style (T.asked task) (OfCapture style (made_by true) result.ending (R.ending result.reader) given (W.contents writer.old) (W.contents writer.new)) (LossesOfCapture style (made_by true) result.ending (R.ending result.reader) given (W.contents writer.old) (W.contents writer.new)) result.ending (R.ending result.reader) given (W.contents writer.old) (W.contents writer.new) }
+    ensures told { (given : List ℕ) × GivesOctets (R.left reader) (R.left result.reader) given
+        × InputTells true style (made_by true) (T.asked task) result.ending (R.ending result.reader) given (W.contents writer.old) (W.contents writer.new) (stop_of result.told) }
+    ensures passed { PassesWhere true true result.ending (R.ending result.reader) (R.left reader) (R.left result.reader) result.passed }
+    ensures read_fault { result.ending ≡ Ending.ReadFault → R.ending result.reader ≡ InputEnd.Failed }
+    ensures fault { W.failed writer.new ≡ is_write_fault result.ending }
+{
+    let packets = SkipOther::new(PacketReader::new(alloc, reader));
+    of_passed_packets(task.over(alloc, style, packets, writer))
+}
+
+#[inline(never)]
+fn over_passed_list<T: EventTask, R: Source, W: Sink>(
+    alloc: Global,
+    style: Style,
+    task: T,
+    reader: R,
+    writer: &mut W,
+) -> Performed<R>
+    requires open { R.ending reader ≡ InputEnd.Open }
+    requires works { W.failed writer.old ≡ false }
+    ensures text { (given : List ℕ) × GivesOctets (R.left reader) (R.left result.reader) given
+        × EventsLeave style (T.asked task) (OfList style (made_by true) result.ending (R.ending result.reader) given (W.contents writer.old) (W.contents writer.new)) (LossesOfList style (made_by true) result.ending (R.ending result.reader) given (W.contents writer.old) (W.contents writer.new)) result.ending (R.ending result.reader) given (W.contents writer.old) (W.contents writer.new) }
+    ensures told { (given : List ℕ) × GivesOctets (R.left reader) (R.left result.reader) given
+        × InputTells false style (made_by true) (T.asked task) result.ending (R.ending result.reader) given (W.contents writer.old) (W.contents writer.new) (stop_of result.told) }
+    ensures passed { PassesWhere true false result.ending (R.ending result.reader) (R.left reader) (R.left result.reader) result.passed }
+    ensures read_fault { result.ending ≡ Ending.ReadFault → R.ending result.reader ≡ InputEnd.Failed }
+    ensures fault { W.failed writer.new ≡ is_write_fault result.ending }
+{
+    let events = SkipOther::new(ItemReader::new(reader, EventLines::First));
+    of_passed_events(task.over(alloc, style, events, writer))
+}
+
+// The style that options ask for.
+fn style_of(options: Options) -> Style
+    ensures { result ≡ style_of options }
+{
+    match options.writes {
+        Writing::Lines => Style::Lines(Form::Text),
+        Writing::Dated => Style::Dated,
+        Writing::Objects if options.is_capture => Style::Lines(Form::Object(Counted::Packet)),
+        Writing::Objects => Style::Lines(Form::Object(Counted::Line)),
+    }
+}
+
+/// Does what a task asks for by its options: over the events of a capture in place of a list, over what is left of events where
+/// frames of other protocols are passed over, and in the style that is asked for.
+pub fn over_events<T: EventTask, R: Source, W: Sink>(
+    alloc: Global,
+    options: Options,
+    task: T,
+    reader: R,
+    writer: &mut W,
+) -> Performed<R>
+    requires open { R.ending reader ≡ InputEnd.Open }
+    requires works { W.failed writer.old ≡ false }
+    ensures text { (given : List ℕ) × GivesOctets (R.left reader) (R.left result.reader) given
+        × EventsWrite options (T.asked task) result.ending (R.ending result.reader) given (W.contents writer.old) (W.contents writer.new) }
+    ensures told { (given : List ℕ) × GivesOctets (R.left reader) (R.left result.reader) given
+        × InputTells options.is_capture (style_of options) (made_by options.skips_other) (T.asked task) result.ending (R.ending result.reader) given (W.contents writer.old) (W.contents writer.new) (stop_of result.told) }
+    ensures passed { PassesWhere options.skips_other options.is_capture result.ending (R.ending result.reader) (R.left reader) (R.left result.reader) result.passed }
+    ensures read_fault { result.ending ≡ Ending.ReadFault → R.ending result.reader ≡ InputEnd.Failed }
+    ensures fault { W.failed writer.new ≡ is_write_fault result.ending }
+{
+    let style = style_of(options);
+    match (options.is_capture, options.skips_other) {
+        (false, false) => over_list(alloc, style, task, reader, writer),
+        (false, true) => over_passed_list(alloc, style, task, reader, writer),
+        (true, false) => over_capture(alloc, style, task, reader, writer),
+        (true, true) => over_passed_capture(alloc, style, task, reader, writer),
+    }
+}

@@ -1,0 +1,328 @@
+//! What a task leaves, of what its engine's run hands out.
+ghost use Rattle.std.specs.Prelude.{◌≡◌, None, Some, option_map};
+ghost use Rattle.list_core.specs.ItemReader.{item_state};
+ghost use Rattle.capture_core.specs.PacketReader.{packet_state};
+ghost use Rattle.frame_core.specs.SkipOther.{beneath, passed_over};
+ghost use Rattle.task_engine.specs.HandedOut.{of_list, of_replay, of_stop, stop_of};
+
+use crate::advising::{Advice, advice_by_line};
+use crate::stop::Stop;
+use capture_core::{CaptureFault, PacketReader};
+use engine_core::{Ending, Stopped};
+use exchange_engines::{ReplayFault, ReplayStop};
+use frame_core::{PassedOver, SkipOther};
+use list_core::{EventLines, ItemFault, ItemReader, ListCause, ListFault, Source, fault_of_list};
+use script_core::{ScriptCause, ScriptLines};
+use std::alloc::Global;
+
+/// What is told of the fault by which a task ended.
+#[derive(Drop)]
+pub struct Told {
+    /// The fault.
+    pub stop: Stop,
+    /// What to do about it, where what stands there tells.
+    pub advice: Option<Advice>,
+}
+
+/// What a task leaves.
+#[derive(Drop)]
+pub struct Performed<R> {
+    /// How it ended.
+    pub ending: Ending,
+    /// What is told of the fault by which it ended, if it ended by one.
+    pub told: Option<Told>,
+    /// The frames of other protocols that were passed over, where they are.
+    pub passed: Option<PassedOver>,
+    /// The reader as it then stands.
+    pub reader: R,
+}
+
+// What is told of a fault at which these octets stand.
+fn told_at(stop: Stop, octets: &[u8]) -> Told
+    ensures { result.stop ≡ stop }
+{
+    let advice = advice_by_line(&stop, octets);
+    Told { stop, advice }
+}
+
+// What is told of a fault of this line, of which the reader of the items may hold the octets.
+fn told_of<R: Source, G>(stop: Stop, line: u64, reader: &ItemReader<R, G>) -> Told
+    ensures { result.stop ≡ stop }
+{
+    told_at(stop, reader.held_from(line).unwrap_or(b""))
+}
+
+// What a task leaves that ended by a fault of a list, or by none.
+#[inline(never)]
+fn of_list<R: Source>(
+    ending: Ending,
+    fault: Option<ListFault>,
+    reader: ItemReader<R, EventLines>,
+) -> Performed<R>
+    ensures ending { result.ending ≡ ending }
+    ensures left { R.left result.reader ≡ (item_state R.left R.ending reader).left }
+    ensures source { R.ending result.reader ≡ (item_state R.left R.ending reader).ending }
+    ensures told { stop_of result.told ≡ option_map Stop.List fault }
+    ensures passed { result.passed ≡ None }
+{
+    let told = match fault {
+        Some(fault) => Some(told_of(Stop::List(fault), fault.line, &reader)),
+        None => None,
+    };
+    Performed {
+        ending,
+        told,
+        passed: None,
+        reader: reader.into_reader(),
+    }
+}
+
+// What a task leaves that ran over a list of events.
+#[inline(never)]
+pub fn of_events<R: Source>(
+    stopped: Stopped<ItemReader<R, EventLines>, ItemFault<ListCause>>,
+) -> Performed<R>
+    ensures ending { result.ending ≡ stopped.ending }
+    ensures left { R.left result.reader ≡ (item_state R.left R.ending stopped.reader).left }
+    ensures source { R.ending result.reader ≡ (item_state R.left R.ending stopped.reader).ending }
+    ensures told { stop_of result.told ≡ option_map of_list stopped.fault }
+    ensures passed { result.passed ≡ None }
+{
+    let Stopped {
+        ending,
+        fault,
+        reader,
+    } = stopped;
+    let fault = match &fault {
+        Some(fault) => Some(fault_of_list(fault)),
+        None => None,
+    };
+    of_list(ending, fault, reader)
+}
+
+// What a replay leaves.
+#[inline(never)]
+pub fn of_replay<R: Source>(
+    stopped: Stopped<ItemReader<R, EventLines>, ReplayFault>,
+) -> Performed<R>
+    ensures ending { result.ending ≡ stopped.ending }
+    ensures left { R.left result.reader ≡ (item_state R.left R.ending stopped.reader).left }
+    ensures source { R.ending result.reader ≡ (item_state R.left R.ending stopped.reader).ending }
+    ensures told { stop_of result.told ≡ option_map of_replay stopped.fault }
+    ensures passed { result.passed ≡ None }
+{
+    let Stopped {
+        ending,
+        fault,
+        reader,
+    } = stopped;
+    match fault {
+        Some(ReplayFault::SameBlockTwice(position)) => Performed {
+            ending,
+            told: Some(told_at(Stop::SameBlockTwice(position), b"")),
+            passed: None,
+            reader: reader.into_reader(),
+        },
+        Some(ReplayFault::List(fault)) => of_list(ending, Some(fault_of_list(&fault)), reader),
+        None => of_list(ending, None, reader),
+    }
+}
+
+// The line of a fault of a script.
+fn line_of(fault: &ItemFault<ScriptCause>) -> u64 {
+    match fault {
+        ItemFault::Lines(fault) => fault.line,
+        ItemFault::Line(line, _) => *line,
+    }
+}
+
+// What a task leaves that ran by a script.
+#[inline(never)]
+pub fn of_script<R: Source>(
+    stopped: Stopped<ItemReader<R, ScriptLines>, ItemFault<ScriptCause>>,
+) -> Performed<R>
+    ensures ending { result.ending ≡ stopped.ending }
+    ensures left { R.left result.reader ≡ (item_state R.left R.ending stopped.reader).left }
+    ensures source { R.ending result.reader ≡ (item_state R.left R.ending stopped.reader).ending }
+    ensures told { stop_of result.told ≡ option_map Stop.Script stopped.fault }
+    ensures passed { result.passed ≡ None }
+{
+    let Stopped {
+        ending,
+        fault,
+        reader,
+    } = stopped;
+    let told = match fault {
+        Some(fault) => {
+            let line = line_of(&fault);
+            Some(told_of(Stop::Script(fault), line, &reader))
+        }
+        None => None,
+    };
+    Performed {
+        ending,
+        told,
+        passed: None,
+        reader: reader.into_reader(),
+    }
+}
+
+// What a task leaves that read a capture.
+#[inline(never)]
+pub fn of_capture<R>(stopped: Stopped<R, CaptureFault>) -> Performed<R>
+    ensures ending { result.ending ≡ stopped.ending }
+    ensures reader { result.reader ≡ stopped.reader }
+    ensures told { stop_of result.told ≡ option_map Stop.Capture stopped.fault }
+    ensures passed { result.passed ≡ None }
+{
+    let Stopped {
+        ending,
+        fault,
+        reader,
+    } = stopped;
+    let told = match fault {
+        Some(fault) => Some(told_at(Stop::Capture(fault), b"")),
+        None => None,
+    };
+    Performed {
+        ending,
+        told,
+        passed: None,
+        reader,
+    }
+}
+
+// What is told of why a task over a capture stopped.
+fn told_of_packets(why: Option<ReplayStop<CaptureFault>>) -> Option<Told>
+    ensures { stop_of result ≡ option_map (of_stop Stop.Packet) why }
+{
+    match why {
+        Some(ReplayStop::Input(fault)) => Some(told_at(Stop::Packet(fault), b"")),
+        Some(ReplayStop::SameBlockTwice(position)) => {
+            Some(told_at(Stop::SameBlockTwice(position), b""))
+        }
+        None => None,
+    }
+}
+
+/// What a task leaves that ran over the packets of a capture.
+#[inline(never)]
+pub fn of_packets<R: Source>(
+    stopped: Stopped<PacketReader<R, Global>, ReplayStop<CaptureFault>>,
+) -> Performed<R>
+    ensures ending { result.ending ≡ stopped.ending }
+    ensures left { R.left result.reader ≡ (packet_state R.left R.ending stopped.reader).left }
+    ensures source { R.ending result.reader ≡ (packet_state R.left R.ending stopped.reader).ending }
+    ensures told { stop_of result.told ≡ option_map (of_stop Stop.Packet) stopped.fault }
+    ensures passed { result.passed ≡ None }
+{
+    let Stopped {
+        ending,
+        fault,
+        reader,
+    } = stopped;
+    Performed {
+        ending,
+        told: told_of_packets(fault),
+        passed: None,
+        reader: reader.into_reader(),
+    }
+}
+
+/// What a task leaves that ran over what is left of the packets of a capture.
+#[inline(never)]
+pub fn of_passed_packets<R: Source>(
+    stopped: Stopped<SkipOther<PacketReader<R, Global>, Global>, ReplayStop<CaptureFault>>,
+) -> Performed<R>
+    ensures ending { result.ending ≡ stopped.ending }
+    ensures left { R.left result.reader ≡ (packet_state R.left R.ending (beneath stopped.reader)).left }
+    ensures source { R.ending result.reader ≡ (packet_state R.left R.ending (beneath stopped.reader)).ending }
+    ensures passed { result.passed ≡ Some (passed_over stopped.reader) }
+    ensures told { stop_of result.told ≡ option_map (of_stop Stop.Packet) stopped.fault }
+{
+    let Stopped {
+        ending,
+        fault,
+        reader,
+    } = stopped;
+    let (packets, passed) = reader.into_parts();
+    Performed {
+        ending,
+        told: told_of_packets(fault),
+        passed: Some(passed),
+        reader: packets.into_reader(),
+    }
+}
+
+// What is told of why a task over the events of a list stopped.
+fn told_of_events<R: Source>(
+    why: Option<ReplayStop<ItemFault<ListCause>>>,
+    events: &ItemReader<R, EventLines>,
+) -> Option<Told>
+    ensures { stop_of result ≡ option_map (of_stop of_list) why }
+{
+    match why {
+        Some(ReplayStop::Input(fault)) => {
+            let fault = fault_of_list(&fault);
+            Some(told_of(Stop::List(fault), fault.line, events))
+        }
+        Some(ReplayStop::SameBlockTwice(position)) => {
+            Some(told_at(Stop::SameBlockTwice(position), b""))
+        }
+        None => None,
+    }
+}
+
+/// What a task leaves that ran over the events of a list, in a style.
+#[inline(never)]
+pub fn of_styled_events<R: Source>(
+    stopped: Stopped<ItemReader<R, EventLines>, ReplayStop<ItemFault<ListCause>>>,
+) -> Performed<R>
+    ensures ending { result.ending ≡ stopped.ending }
+    ensures left { R.left result.reader ≡ (item_state R.left R.ending stopped.reader).left }
+    ensures source { R.ending result.reader ≡ (item_state R.left R.ending stopped.reader).ending }
+    ensures told { stop_of result.told ≡ option_map (of_stop of_list) stopped.fault }
+    ensures passed { result.passed ≡ None }
+{
+    let Stopped {
+        ending,
+        fault,
+        reader,
+    } = stopped;
+    let told = told_of_events(fault, &reader);
+    Performed {
+        ending,
+        told,
+        passed: None,
+        reader: reader.into_reader(),
+    }
+}
+
+/// What a task leaves that ran over what is left of the events of a list.
+#[inline(never)]
+pub fn of_passed_events<R: Source>(
+    stopped: Stopped<
+        SkipOther<ItemReader<R, EventLines>, Global>,
+        ReplayStop<ItemFault<ListCause>>,
+    >,
+) -> Performed<R>
+    ensures ending { result.ending ≡ stopped.ending }
+    ensures left { R.left result.reader ≡ (item_state R.left R.ending (beneath stopped.reader)).left }
+    ensures source { R.ending result.reader ≡ (item_state R.left R.ending (beneath stopped.reader)).ending }
+    ensures passed { result.passed ≡ Some (passed_over stopped.reader) }
+    ensures told { stop_of result.told ≡ option_map (of_stop of_list) stopped.fault }
+{
+    let Stopped {
+        ending,
+        fault,
+        reader,
+    } = stopped;
+    let (events, passed) = reader.into_parts();
+    let told = told_of_events(fault, &events);
+    Performed {
+        ending,
+        told,
+        passed: Some(passed),
+        reader: events.into_reader(),
+    }
+}
