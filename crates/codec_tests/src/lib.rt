@@ -1,4 +1,4 @@
-//! Tests of `ber_core`, `mms_data` and `pdu_core` by their public calls.
+//! Tests of `ber_core`, `mms_data` and `pdu_core` by their public calls, and of the allocator that refuses growths.
 #![tactic(auto)]
 
 #[cfg(test)]
@@ -9,3 +9,5 @@ mod memory;
 mod mms;
 #[cfg(test)]
 mod pdu;
+#[cfg(test)]
+mod refusing;

@@ -4,8 +4,6 @@
 mod allocator;
 mod frames;
 mod refusing;
-#[cfg(test)]
-mod tests;
 
 pub use crate::frames::{FRAME, SAMPLED};
 pub use crate::refusing::RefusingAlloc;
