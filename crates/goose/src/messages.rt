@@ -1,5 +1,5 @@
 //! What standard error says to a person of control blocks, of devices and of frames that were passed over.
-//! No program reads it, and no contract speaks of it: docs/FORMATS.md has those of status 3, and the tests compare all.
+//! No program reads it, and no contract speaks of it: the tests compare all.
 
 pub mod block_fields;
 pub mod failure;
