@@ -1,11 +1,11 @@
 -- The laws of the dates of moments.
-use Rattle.std.proofs.Common.{◌≡◌, ℕ, ◌+◌, ◌-◌, ◌*◌, ◌/◌, ◌%◌, ◌<◌, ◌≤◌, List, get_or, Some, None, ap, ap₂, sym, ◌∙◌, refl, inl, inr, arith, pos}
+use Rattle.std.proofs.Common.{◌≡◌, ℕ, ◌+◌, ◌/◌, ◌%◌, ◌<◌, ◌≤◌, get_or, Some, ap, sym, ◌∙◌, refl, inl, inr, arith, pos}
 use Rattle.std.proofs.lemmas.Bool.{cases_lt, lt-ltb, le-ltb}
 use Rattle.jiff_core.specs.Calendar.{IsCivilDate, day_count, days_from_civil}
 use Rattle.jiff_core.proofs.CalendarLemmas.{day_count_bounds, days_from_civil-day_count}
 use Rattle.jiff_core.proofs.SignedLemmas.{signed_arith}
-use Rattle.date_core.specs.DateText.{date_behind, date_text, moment_text, two_digits}
-use Rattle.date_core.specs.Laws.{DatesAreHad, IsMomentOf, MomentsHaveDates, NoDateLater, OneMomentEach}
+use Rattle.date_core.specs.DateText.{date_behind, date_text, moment_text}
+use Rattle.date_core.specs.Laws.{DatesAreHad, MomentsHaveDates, NoDateLater, OneMomentEach}
 use Rattle.date_core.proofs.Walks.{date_lies, date_reached}
 
 -- the microseconds of a day, and the first moment of the year 10000

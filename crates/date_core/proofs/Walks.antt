@@ -1,7 +1,7 @@
 -- Counting off years and months reaches the date that the calendar has.
-use Rattle.std.proofs.Common.{◌≡◌, ℕ, zero, suc, ◌+◌, ◌-◌, ◌<◌, ◌≤◌, nat_lt, true, false, inl, inr, refl, sym, ap, ap₂, ◌∙◌, arith, pos, ◌+ℤ◌, neg_ℤ, ◌≤ℤ◌, ◌<ℤ◌}
+use Rattle.std.proofs.Common.{◌≡◌, ℕ, zero, suc, ◌+◌, ◌-◌, ◌<◌, ◌≤◌, inl, inr, refl, ap, arith, pos}
 use Rattle.std.proofs.lemmas.Bool.{cases_lt, cases_order, lt-ltb, le-ltb}
-use Rattle.jiff_core.specs.Calendar.{IsCivilDate, day_count, day_of_year, days_in_month, days_in_year, days_of_months}
+use Rattle.jiff_core.specs.Calendar.{IsCivilDate, day_count, days_in_month, days_in_year, days_of_months}
 use Rattle.jiff_core.proofs.CalendarLemmas.{day_count-day_of_year, day_count-later_year, day_count-next_year, day_count-epoch, day_count-end, days_of_months_all, day_of_year_bound, days_of_months-zero, days_of_months_more, days_of_months_mono}
 use Rattle.jiff_core.proofs.SignedLemmas.{signed_arith}
 use Rattle.date_core.specs.DateText.{date_behind, month_behind, year_behind}

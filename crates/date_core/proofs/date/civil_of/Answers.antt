@@ -1,4 +1,4 @@
-use Rattle.std.proofs.Common.{arith, rules}
+use Rattle.std.proofs.Common.{rules}
 use Rattle.date_core.proofs.Years.{kept_year, shown}
 use Rattle.date_core.proofs.date.civil_of.Goals as goal
 

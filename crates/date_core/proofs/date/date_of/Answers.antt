@@ -1,5 +1,4 @@
-use Rattle.std.proofs.Common.{rules, ap, ◌∙◌, sym, Some, arith}
-use Rattle.jiff_core.proofs.CalendarLemmas.{days_in_month_bounds}
+use Rattle.std.proofs.Common.{ap, ◌∙◌, sym, Some}
 use Rattle.date_core.proofs.Dates.{text_behind, text_of}
 use Rattle.date_core.proofs.date.date_of.Goals as goal
 

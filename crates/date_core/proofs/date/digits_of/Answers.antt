@@ -1,4 +1,3 @@
-use Rattle.std.proofs.Common.{arith}
 use Rattle.date_core.proofs.Digits.{digits_at}
 use Rattle.date_core.proofs.date.digits_of.Goals as goal
 
