@@ -7,7 +7,7 @@ use list_core::{InputEnd, Source};
 use std::alloc::AllocError;
 
 /// How far a stated count of octets was read.
-#[derive(Clone, Copy, Debug, PartialEq, Eq)]
+#[derive(Clone, Copy)]
 pub(crate) enum Filled {
     /// All of them.
     Whole,
@@ -53,11 +53,11 @@ pub(crate) fn skip<R: Source>(reader: &mut R, size: usize) -> bool
 }
 
 /// The source has ended before so many octets as are wanted.
-#[derive(Clone, Copy, Debug, PartialEq, Eq)]
+#[derive(Clone, Copy)]
 pub(crate) struct Short;
 
 /// Why a part of a capture is not had.
-#[derive(Clone, Copy, Debug, PartialEq, Eq)]
+#[derive(Clone, Copy)]
 pub(crate) enum Unread {
     /// The source has ended before its last octet.
     Short,

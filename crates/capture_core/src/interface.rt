@@ -3,7 +3,7 @@ ghost use Rattle.std.specs.Prelude.{◌≡◌, ◌<◌, ◌≤◌, ◌*◌, ◌/
 ghost use Rattle.capture_core.specs.Interfaces.{moment_after, seconds_back, seconds_forth, units_of};
 
 /// An interface of a section, as its description block has it (draft-ietf-opsawg-pcapng, 4.2).
-#[derive(Clone, Copy, Debug, PartialEq, Eq)]
+#[derive(Clone, Copy)]
 pub(crate) struct Interface {
     /// The type of its link; 1 is Ethernet.
     pub link_type: u16,

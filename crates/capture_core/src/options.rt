@@ -21,7 +21,7 @@ const RESOLUTION: u16 = 9;
 const OFFSET: u16 = 14;
 
 /// What the first option of some says.
-#[derive(Clone, Copy, Debug, PartialEq, Eq)]
+#[derive(Clone, Copy)]
 pub(crate) enum FirstOption {
     /// It was read, and has so many octets. The interface is this one after it.
     More(Interface, usize),

@@ -10,7 +10,7 @@ use crate::interface::{Interface, moment_after};
 use crate::numbers::{long_at, short_at};
 
 /// A kind of block that holds a packet (draft-ietf-opsawg-pcapng).
-#[derive(Clone, Copy, Debug, PartialEq, Eq)]
+#[derive(Clone, Copy)]
 pub(crate) enum PacketBlock {
     /// Enhanced packet block, type 6 (4.3).
     Enhanced,
@@ -21,7 +21,7 @@ pub(crate) enum PacketBlock {
 }
 
 /// What the blocks before a block have settled.
-#[derive(Clone, Copy, Debug)]
+#[derive(Clone, Copy)]
 pub(crate) struct Section<'a> {
     /// The order of the octets of the section's numbers.
     pub order: OctetOrder,
@@ -32,7 +32,7 @@ pub(crate) struct Section<'a> {
 }
 
 /// What stands before the captured octets says of a packet.
-#[derive(Clone, Copy, Debug, PartialEq, Eq)]
+#[derive(Clone, Copy)]
 pub(crate) struct PacketHead {
     /// When it was captured, in microseconds.
     pub moment: u64,

@@ -21,7 +21,7 @@ const MOST: u64 = 999_999_999_999_999_998;
 const MOST_BEHIND: u64 = 999_999_999_999_999_997;
 
 /// What of a capture was read.
-#[derive(Clone, Copy, Debug, PartialEq, Eq)]
+#[derive(Clone, Copy)]
 pub(crate) enum Progress {
     /// Nothing.
     Nothing,

@@ -13,7 +13,7 @@ use crate::numbers::long_at;
 use list_core::Source;
 
 /// The form of a capture.
-#[derive(Clone, Copy, Debug, PartialEq, Eq)]
+#[derive(Clone, Copy)]
 pub(crate) enum Start {
     /// Records of the classic form.
     Records(CaptureForm),

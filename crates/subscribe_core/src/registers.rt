@@ -4,7 +4,7 @@ ghost use Rattle.std.specs.Prelude.{◌≡◌};
 ghost use Rattle.subscribe_core.specs.computed.Steps.{after_clock, verdict_on};
 
 /// What a block reads off a good frame.
-#[derive(Clone, Copy, Debug, PartialEq, Eq)]
+#[derive(Clone, Copy)]
 pub struct Facts {
     /// The status number.
     pub state: u32,
@@ -15,7 +15,7 @@ pub struct Facts {
 }
 
 /// What is said of a good frame.
-#[derive(Clone, Copy, Debug, PartialEq, Eq)]
+#[derive(Clone, Copy)]
 pub enum Verdict {
     Act,
     Refreshed,
@@ -24,7 +24,7 @@ pub enum Verdict {
 }
 
 /// What a block holds: the numbers of a frame, and the moment at which its lifetime is over, in microseconds.
-#[derive(Clone, Copy, Debug, PartialEq, Eq)]
+#[derive(Clone, Copy)]
 pub struct LiveState {
     pub state: u32,
     pub sequence: u32,
@@ -32,7 +32,7 @@ pub struct LiveState {
 }
 
 /// What is kept of a block: what it holds, and whether it takes simulated frames.
-#[derive(Clone, Copy, Debug, PartialEq, Eq)]
+#[derive(Clone, Copy)]
 pub struct Register {
     pub held: Option<LiveState>,
     pub takes_simulated: bool,

@@ -14,7 +14,7 @@ const FIELDS: [(&str, &str); 6] = [
 ];
 
 /// Why a text says no control block.
-#[derive(Clone, Copy, Debug)]
+#[derive(Clone, Copy)]
 pub enum BlockFault<'a> {
     /// It has over 13 fields, as many as are counted.
     ManyFields,

@@ -8,7 +8,7 @@ use std::{fmt, io};
 const LONGEST_REASON: usize = 320;
 
 /// A read or a write that failed.
-#[derive(Clone, Copy, Debug)]
+#[derive(Clone, Copy)]
 pub enum Failure {
     /// Standard input could not be read.
     Read(io::Error),

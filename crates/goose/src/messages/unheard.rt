@@ -3,7 +3,7 @@
 use std::fmt;
 
 /// A control block that a replay was given, and of which no frame came.
-#[derive(Clone, Copy, Debug)]
+#[derive(Clone, Copy)]
 pub struct Unheard<'a> {
     /// Its position among those that were given, from 0.
     pub position: usize,
