@@ -1,4 +1,5 @@
-//! Tests of `block_core`, `script_core`, `words_core`, the crates of engines and `goose_cmd` by their public calls.
+//! Tests of the publisher, the subscriber and their laws, of `block_core`, `script_core`, `words_core`, the crates of engines
+//! and `goose_cmd` by their public calls.
 #![tactic(auto)]
 
 #[cfg(test)]
@@ -11,6 +12,8 @@ mod devices;
 mod endings;
 #[cfg(test)]
 mod engines;
+#[cfg(test)]
+mod exchange;
 #[cfg(test)]
 mod laws;
 #[cfg(test)]

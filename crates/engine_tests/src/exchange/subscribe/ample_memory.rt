@@ -1,7 +1,7 @@
 //! Any count of members, and many blocks, with ample memory.
 
 use super::given::{event_with_frame, put_block};
-use crate::publish::frames::{NO_TIME, booleans, changed, control, publisher, step};
+use crate::exchange::publish::frames::{NO_TIME, booleans, changed, control, publisher, step};
 use arrayvec::ArrayVec;
 use frame_core::{Event, EventKind};
 use mms_data::Octets;

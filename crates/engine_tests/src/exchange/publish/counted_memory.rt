@@ -1,7 +1,7 @@
 //! A publisher takes no memory, and what it was handed is let go of with it, or as soon as another is held in its place.
 
 use super::refusals::WIDE;
-use crate::publish::frames::{NO_TIME, changed, control, octet_strings, publisher, step};
+use crate::exchange::publish::frames::{NO_TIME, changed, control, octet_strings, publisher, step};
 use mms_data::UtcTime;
 use publish_core::{PublishFault, Publisher, Table};
 use std::alloc::{AllocError, Global};

@@ -1,7 +1,7 @@
 //! How often a frame of many members grows memory: they are copied for an action alone.
 
 use super::given::{Told, Want, event_with_frame, put_block, tells};
-use crate::publish::frames::{NO_TIME, changed, control, octet_strings, publisher, step};
+use crate::exchange::publish::frames::{NO_TIME, changed, control, octet_strings, publisher, step};
 use arrayvec::ArrayVec;
 use frame_core::Event;
 use mms_data::ValueList;

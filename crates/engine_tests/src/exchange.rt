@@ -1,0 +1,5 @@
+//! Of publishers and subscribers.
+mod laws;
+mod publish;
+mod sentences;
+mod subscribe;
