@@ -107,12 +107,21 @@ fn fewest_octets(rt: HostRuntime) {
     assert!(rt; signed_count(127) == 1 && signed_count(128) == 2 && signed_count(-128) == 1);
 }
 
+// How a header is put behind what the vector holds.
+fn header_put(out: &mut ArrayVec<u8, 7>) -> Result<(), Full> {
+    put_header(out, 0x61, 43)
+}
+
+// The same of an integer.
+fn integer_put(out: &mut ArrayVec<u8, 7>) -> Result<(), Full> {
+    put_integer(out, 0x85, 128)
+}
+
 #[test]
 fn written_forms_fit_or_leave_the_vector(rt: HostRuntime) {
     let mut out = ArrayVec::<u8, 7>::new();
-    assert!(rt; put_header(&mut out, 0x61, 43) == Ok(()));
-    assert!(rt; put_integer(&mut out, 0x85, 128) == Ok(()));
-    assert!(rt; put_header(&mut out, 0x61, 43) == Err(Full));
+    assert!(rt; header_put(&mut out) == Ok(()) && integer_put(&mut out) == Ok(()));
+    assert!(rt; header_put(&mut out) == Err(Full));
     assert!(rt; out.as_slice() == [0x61, 0x2b, 0x85, 2, 0, 0x80].as_slice());
 }
 

@@ -64,12 +64,16 @@ pub(crate) fn seen(octets: &[u8]) -> Result<Members<'_>, Fault> {
     Ok(members(octets, 0, octets.len(), 1))
 }
 
+// Whether the first alone is passed as a boolean, and bits stand behind it.
+fn passes_one(mut views: Members<'_>) -> bool {
+    views.next_boolean() == Some(true)
+        && views.next_boolean() == None
+        && matches!(views.next(), Some(View::Bits(_)))
+}
+
 #[test]
 fn booleans_are_passed_alone(rt: HostRuntime) -> Result<(), Fail> {
-    let mut views = seen(&EACH_KIND)?;
-    assert!(rt; views.next_boolean() == Some(true));
-    assert!(rt; views.next_boolean() == None);
-    assert!(rt; matches!(views.next(), Some(View::Bits(_))));
+    assert!(rt; passes_one(seen(&EACH_KIND)?));
     Ok(())
 }
 
@@ -147,28 +151,29 @@ fn five(alloc: Global) -> Result<Value<Global>, AllocError> {
     Value::Integer(5).try_copy(alloc)
 }
 
-// How the value is put behind what the vector holds.
-fn put(out: &mut ArrayVec<u8, 5>, value: &Value<Global>) -> Result<(), PutFault> {
-    put_value(out, value)
+// How the value is put behind what the vector holds, and how long its written form is.
+fn put(out: &mut ArrayVec<u8, 5>, value: Value<Global>) -> (Result<(), PutFault>, Option<usize>) {
+    (put_value(out, &value), length(value))
 }
 
 #[test]
 fn a_value_fits_or_leaves_the_vector(rt: HostRuntime) -> Result<(), Fail> {
     let mut out = ArrayVec::<u8, 5>::new();
-    let text = visible(rt.alloc(), &[7])?;
-    assert!(rt; put(&mut out, &text) == Err(PutFault::NotSpellable));
-    let five = five(rt.alloc())?;
-    assert!(rt; put(&mut out, &five) == Ok(()));
-    assert!(rt; put(&mut out, &five) == Err(PutFault::Full));
+    assert!(rt; put(&mut out, visible(rt.alloc(), &[7])?) == (Err(PutFault::NotSpellable), None));
+    assert!(rt; put(&mut out, five(rt.alloc())?) == (Ok(()), Some(3)));
+    assert!(rt; put(&mut out, five(rt.alloc())?) == (Err(PutFault::Full), Some(3)));
     assert!(rt; out.as_slice() == [0x85, 1, 5].as_slice());
-    assert!(rt; spelled_length(&five) == Some(3));
     Ok(())
 }
 
-// How long the written form of so many octets is, where it may be so long.
+// How long the written form of the value is, where it may be so long.
+fn length(value: Value<Global>) -> Option<usize> {
+    spelled_length(&value)
+}
+
+// The same of so many octets.
 fn length_of(alloc: Global, count: usize) -> Result<Option<usize>, AllocError> {
-    let octets = Octets::from(vec![in alloc; 0; count]?);
-    Ok(spelled_length(&Value::Octets(octets)))
+    Ok(length(Value::Octets(Octets::from(vec![in alloc; 0; count]?))))
 }
 
 #[test]

@@ -3,13 +3,18 @@
 use std::alloc::{AllocError, Allocator};
 use test_support::RefusingAlloc;
 
-// Three growths: room for one number, for nine, and for one again.
-fn grow_and_shrink<A: Allocator + Copy>(alloc: A) -> Result<(), AllocError> {
-    let mut numbers = Vec::with_capacity(alloc, 1)?;
-    numbers.push(7u64)?;
+// A growth to room for nine numbers, and one back to room for one.
+fn grow_from_one<A: Allocator>(numbers: &mut Vec<u64, A>) -> Result<(), AllocError> {
+    numbers.push(7)?;
     numbers.reserve_exact(8)?;
     numbers.shrink_to_fit();
     Ok(())
+}
+
+// Three growths: room for one number, for nine, and for one again.
+fn grow_and_shrink<A: Allocator + Copy>(alloc: A) -> Result<(), AllocError> {
+    let mut numbers = Vec::with_capacity(alloc, 1)?;
+    grow_from_one(&mut numbers)
 }
 
 // A smaller block that is refused is no error of the vector's.

@@ -2,8 +2,6 @@
 
 use goose_cmd::{BlockError, read_block};
 use std::alloc::{Allocator, Global};
-use std::process::Abort;
-use std::test::Fail;
 use subscribe_core::Block;
 use test_support::RefusingAlloc;
 
@@ -81,19 +79,28 @@ const BLOCKS: [(&str, Fields); 4] = [
     ),
 ];
 
-#[test]
-fn six_fields_are_a_block(rt: HostRuntime) -> Result<(), Fail> {
-    for (text, wanted) in BLOCKS {
-        let Ok(block) = read_block(rt.alloc(), text) else {
-            return Err("no block".into());
-        };
-        assert!(rt; has_fields(&block, &wanted), "{text}");
+// Whether the text is a block with these fields.
+fn is_block(alloc: Global, text: &str, wanted: &Fields) -> bool {
+    match read_block(alloc, text) {
+        Ok(block) => has_fields(&block, wanted),
+        Err(_) => false,
     }
-    Ok(())
 }
 
 #[test]
-fn other_texts_are_none(rt: HostRuntime) -> Result<(), Fail> {
+fn six_fields_are_a_block(rt: HostRuntime) {
+    for (text, wanted) in BLOCKS {
+        assert!(rt; is_block(rt.alloc(), text, &wanted), "{text}");
+    }
+}
+
+// Whether the text is no block.
+fn is_none(alloc: &RefusingAlloc<Global>, text: &str) -> bool {
+    matches!(read_block(alloc, text), Err(BlockError::BlockForm))
+}
+
+#[test]
+fn other_texts_are_none(rt: HostRuntime) {
     // It is told whatever memory there is.
     let alloc = RefusingAlloc::new(rt.alloc(), 0);
     for text in [
@@ -103,11 +110,9 @@ fn other_texts_are_none(rt: HostRuntime) -> Result<(), Fail> {
         "0001,G,D,,4294967296,1",
         "0001,G,D\t,,1,1",
     ] {
-        let answer = read_block(&alloc, text);
-        assert!(rt; matches!(answer, Err(BlockError::BlockForm)), "{text}");
+        assert!(rt; is_none(&alloc, text), "{text}");
     }
     assert!(rt; !alloc.has_refused());
-    Ok(())
 }
 
 // The block of which each text is refused memory in turn.
@@ -120,33 +125,39 @@ const TEXTS: Fields = Fields {
     entries: 1,
 };
 
-// Whether a block that is refused this growth is refused as a whole, and given once memory is granted. Answers whether a
-// growth was refused.
-fn is_refused<R: Abort>(rt: &R, memory: Global, first_refused: usize) -> Result<bool, Fail> {
-    let alloc = RefusingAlloc::new(memory, first_refused);
-    match read_block(&alloc, "0001,G,D,I,1,1") {
-        Ok(block) => {
-            assert!(rt; has_fields(&block, &TEXTS));
-            assert!(rt; !alloc.has_refused());
-            return Ok(false);
-        }
-        Err(error) => assert!(rt; matches!(error, BlockError::Memory(_))),
+// Whether the block has its fields. None where memory is refused.
+fn is_whole(alloc: &RefusingAlloc<Global>) -> Option<bool> {
+    match read_block(alloc, "0001,G,D,I,1,1") {
+        Ok(block) => Some(has_fields(&block, &TEXTS)),
+        Err(BlockError::Memory(_)) => None,
+        Err(_) => Some(false),
     }
-    assert!(rt; alloc.has_refused() && alloc.blocks_out() == 0);
-    alloc.allow();
-    let Ok(block) = read_block(&alloc, "0001,G,D,I,1,1") else {
-        return Err("no block, though memory was granted".into());
+}
+
+// A block that is refused this growth is refused as a whole, and given once memory is granted. Answers whether a growth was
+// refused. None where it is otherwise.
+fn met_refusal(memory: Global, first_refused: usize) -> Option<bool> {
+    let alloc = RefusingAlloc::new(memory, first_refused);
+    let told = is_whole(&alloc);
+    let met = alloc.has_refused();
+    let is_right = if met {
+        told.is_none() && alloc.blocks_out() == 0
+    } else {
+        told == Some(true)
     };
-    assert!(rt; has_fields(&block, &TEXTS));
-    Ok(true)
+    alloc.allow();
+    if is_right && is_whole(&alloc) == Some(true) {
+        Some(met)
+    } else {
+        None
+    }
 }
 
 #[test]
-fn memory_is_refused_for_the_texts_of_a_block(rt: HostRuntime) -> Result<(), Fail> {
+fn memory_is_refused_for_the_texts_of_a_block(rt: HostRuntime) {
     // Three texts, and no growth more.
     for first_refused in 0..4usize {
-        let met = is_refused(&rt, rt.alloc(), first_refused)?;
-        assert!(rt; met == (first_refused < 3), "at {first_refused}");
+        let met = met_refusal(rt.alloc(), first_refused);
+        assert!(rt; met == Some(first_refused < 3), "at {first_refused}");
     }
-    Ok(())
 }

@@ -3,7 +3,6 @@
 use crate::blocks::{Fields, has_fields};
 use clap::error::ErrorKind;
 use goose_cmd::{Options, Request, Task, WordsError, Writing, read_request, read_words};
-use std::test::Fail;
 
 // The name of the task that these words ask for, or `none`.
 fn task_named(rt: &HostRuntime, words: &[&str]) -> &'static str {
@@ -39,11 +38,10 @@ const TASKS: [(&[&str], &str); 9] = [
 ];
 
 #[test]
-fn each_subcommand(rt: HostRuntime) -> Result<(), Fail> {
+fn each_subcommand(rt: HostRuntime) {
     for (words, wanted) in TASKS {
         assert!(rt; task_named(&rt, words) == wanted, "{wanted}");
     }
-    Ok(())
 }
 
 // Whether these words ask for a replay of two blocks with these fields.
@@ -78,13 +76,12 @@ const BLOCKS: [Fields; 2] = [
 ];
 
 #[test]
-fn a_replay_has_its_blocks_in_order(rt: HostRuntime) -> Result<(), Fail> {
+fn a_replay_has_its_blocks_in_order(rt: HostRuntime) {
     let words = ["goose", "replay", "0001,G,D,,1,1", "aB02,H,E,I,2,3"];
     assert!(rt; are_blocks(&rt, words.as_slice(), &BLOCKS));
     // A mark may stand among them.
     let words = ["goose", "replay", "0001,G,D,,1,1", "--", "aB02,H,E,I,2,3"];
     assert!(rt; are_blocks(&rt, words.as_slice(), &BLOCKS));
-    Ok(())
 }
 
 // The position of the text that these words are refused by, or 99.
@@ -109,13 +106,12 @@ const BAD_BLOCKS: [(&[&str], usize); 5] = [
 ];
 
 #[test]
-fn the_first_text_that_is_no_block(rt: HostRuntime) -> Result<(), Fail> {
+fn the_first_text_that_is_no_block(rt: HostRuntime) {
     let mut case = 0u32;
     for (words, wanted) in BAD_BLOCKS {
         assert!(rt; bad_block(&rt, words) == wanted, "case {case}");
         case = case.saturating_add(1);
     }
-    Ok(())
 }
 
 // Whether these words ask for a watch of this period over the stream with this svID.
@@ -153,11 +149,10 @@ const WATCHES: [(&[&str], u32, &str); 6] = [
 ];
 
 #[test]
-fn a_watch_has_its_period_and_its_stream(rt: HostRuntime) -> Result<(), Fail> {
+fn a_watch_has_its_period_and_its_stream(rt: HostRuntime) {
     for (words, period, stream) in WATCHES {
         assert!(rt; is_watch(&rt, words, period, stream), "{period}");
     }
-    Ok(())
 }
 
 // Whether these words are refused by this kind of error.
@@ -204,13 +199,12 @@ const REFUSALS: [(&[&str], ErrorKind); 15] = [
 ];
 
 #[test]
-fn each_refusal_has_its_kind(rt: HostRuntime) -> Result<(), Fail> {
+fn each_refusal_has_its_kind(rt: HostRuntime) {
     let mut case = 0u32;
     for (words, kind) in REFUSALS {
         assert!(rt; is_refused_by(&rt, words, kind), "case {case}");
         case = case.saturating_add(1);
     }
-    Ok(())
 }
 
 // Whether these are the options: on the input, and whether lines have dates.
@@ -313,7 +307,7 @@ const REQUESTS: [(&[&str], &str, bool, bool); 14] = [
 ];
 
 #[test]
-fn a_request_has_its_options(rt: HostRuntime) -> Result<(), Fail> {
+fn a_request_has_its_options(rt: HostRuntime) {
     let mut case = 0u32;
     for (words, wanted, is_capture, skips_other) in REQUESTS {
         assert!(rt;
@@ -322,7 +316,6 @@ fn a_request_has_its_options(rt: HostRuntime) -> Result<(), Fail> {
         );
         case = case.saturating_add(1);
     }
-    Ok(())
 }
 
 // Whether these words ask for what is missing, with this period or none, on a capture.
@@ -362,13 +355,12 @@ const LOSSES: [(&[&str], Option<u32>); 5] = [
 ];
 
 #[test]
-fn losses_have_a_period_or_none(rt: HostRuntime) -> Result<(), Fail> {
+fn losses_have_a_period_or_none(rt: HostRuntime) {
     let mut case = 0u32;
     for (words, wanted) in LOSSES {
         assert!(rt; are_losses(&rt, words, wanted), "case {case}");
         case = case.saturating_add(1);
     }
-    Ok(())
 }
 
 // Words that ask for dates, on a capture.
@@ -395,31 +387,37 @@ const DATED: [&[&str]; 6] = [
     ],
 ];
 
-#[test]
-fn a_request_has_dates(rt: HostRuntime) -> Result<(), Fail> {
-    let mut case = 0u32;
-    for words in DATED {
-        let is_dated = match read_request(rt.alloc(), words) {
-            Ok(request) => are_options(&request.options, true, false, true),
-            Err(_) => false,
-        };
-        assert!(rt; is_dated, "case {case}");
-        case = case.saturating_add(1);
+// Whether these words ask for a task on a capture, with dates.
+fn is_dated(rt: &HostRuntime, words: &[&str]) -> bool {
+    match read_request(rt.alloc(), words) {
+        Ok(request) => are_options(&request.options, true, false, true),
+        Err(_) => false,
     }
-    Ok(())
 }
 
 #[test]
-fn a_request_has_objects(rt: HostRuntime) -> Result<(), Fail> {
-    let words = ["goose", "check", "--skip-other", "--json"];
-    let has_objects = match read_request(rt.alloc(), words.as_slice()) {
+fn a_request_has_dates(rt: HostRuntime) {
+    let mut case = 0u32;
+    for words in DATED {
+        assert!(rt; is_dated(&rt, words), "case {case}");
+        case = case.saturating_add(1);
+    }
+}
+
+// Whether these words ask for a task that skips other frames, and for objects.
+fn has_objects(rt: &HostRuntime, words: &[&str]) -> bool {
+    match read_request(rt.alloc(), words) {
         Ok(request) => {
             request.options.skips_other && matches!(&request.options.writes, Writing::Objects)
         }
         Err(_) => false,
-    };
-    assert!(rt; has_objects);
-    Ok(())
+    }
+}
+
+#[test]
+fn a_request_has_objects(rt: HostRuntime) {
+    let words = ["goose", "check", "--skip-other", "--json"];
+    assert!(rt; has_objects(&rt, words.as_slice()));
 }
 
 // Whether the options are refused where they are offered, by this kind of error.
@@ -503,13 +501,12 @@ const NO_REQUESTS: [(&[&str], ErrorKind); 21] = [
 ];
 
 #[test]
-fn each_refused_request_has_its_kind(rt: HostRuntime) -> Result<(), Fail> {
+fn each_refused_request_has_its_kind(rt: HostRuntime) {
     let mut case = 0u32;
     for (words, kind) in NO_REQUESTS {
         assert!(rt; is_no_request(&rt, words, kind), "case {case}");
         case = case.saturating_add(1);
     }
-    Ok(())
 }
 
 // The position of the text that these words are refused by where options are offered, or 99.
@@ -521,18 +518,17 @@ fn bad_block_of_request(rt: &HostRuntime, words: &[&str]) -> usize {
 }
 
 #[test]
-fn an_option_is_no_text_of_a_block(rt: HostRuntime) -> Result<(), Fail> {
+fn an_option_is_no_text_of_a_block(rt: HostRuntime) {
     let words = ["goose", "replay", "--capture", "0001,G,D,,1,1", "x"];
     assert!(rt; bad_block_of_request(&rt, words.as_slice()) == 1);
     // Behind the mark it is one, and says no block.
     let words = ["goose", "replay", "0001,G,D,,1,1", "--", "--capture"];
     assert!(rt; bad_block_of_request(&rt, words.as_slice()) == 1);
-    Ok(())
 }
 
 // The commands without the options, which `read_words` reads, refuse them.
 #[test]
-fn words_without_options_refuse_them(rt: HostRuntime) -> Result<(), Fail> {
+fn words_without_options_refuse_them(rt: HostRuntime) {
     assert!(rt;
         is_refused_by(
             &rt,
@@ -547,5 +543,4 @@ fn words_without_options_refuse_them(rt: HostRuntime) -> Result<(), Fail> {
             ErrorKind::UnknownArgument
         )
     );
-    Ok(())
 }

@@ -13,11 +13,13 @@ fn boolean_first(octets: &[u8]) -> Result<bool, Fault> {
 
 #[test]
 fn booleans(rt: HostRuntime) {
-    assert!(rt; boolean_first(&[0x83, 1, 5]) == Ok(true));
-    assert!(rt; boolean_first(&[0x83, 1, 0]) == Ok(false));
+    assert!(rt;
+        boolean_first(&[0x83, 1, 5]) == Ok(true) && boolean_first(&[0x83, 1, 0]) == Ok(false)
+    );
     assert!(rt; boolean_first(&[0x83, 2, 0, 0]) == Err(Cause::BooleanLength.at(1)));
-    assert!(rt; boolean_of(&[5], 7) == Ok(true));
-    assert!(rt; boolean_of(&[], 7) == Err(Cause::BooleanLength.at(8)));
+    assert!(rt;
+        boolean_of(&[5], 7) == Ok(true) && boolean_of(&[], 7) == Err(Cause::BooleanLength.at(8))
+    );
 }
 
 // The integer, at most `high`, whose element the octets begin with.
@@ -29,12 +31,21 @@ fn integer_first(octets: &[u8], high: i128) -> Result<i128, Fault> {
 #[test]
 fn integers_in_a_range(rt: HostRuntime) {
     let most = [0x85, 5, 0, 0xff, 0xff, 0xff, 0xff];
-    assert!(rt; integer_first(&most, 4294967295) == Ok(4294967295));
-    assert!(rt; integer_first(&most, 4294967294) == Err(Cause::IntegerRange.at(2)));
-    assert!(rt; integer_first(&[0x85, 1, 0xff], 1) == Err(Cause::IntegerRange.at(2)));
-    assert!(rt; integer_first(&[0x85, 0], 1) == Err(Cause::IntegerLength.at(1)));
-    assert!(rt; integer_of(&[0xff], 7, 9, -1, 1) == Ok(-1));
-    assert!(rt; integer_of(&[2], 7, 9, -1, 1) == Err(Cause::IntegerRange.at(9)));
+    for (octets, high, wanted) in [
+        (most.as_slice(), 4294967295, Ok(4294967295)),
+        (&most, 4294967294, Err(Cause::IntegerRange.at(2))),
+        (&[0x85, 1, 0xff], 1, Err(Cause::IntegerRange.at(2))),
+        (&[0x85, 0], 1, Err(Cause::IntegerLength.at(1))),
+    ] {
+        assert!(rt;
+            integer_first(octets, high) == wanted,
+            "{octets:?} up to {high}"
+        );
+    }
+    assert!(rt;
+        integer_of(&[0xff], 7, 9, -1, 1) == Ok(-1)
+            && integer_of(&[2], 7, 9, -1, 1) == Err(Cause::IntegerRange.at(9))
+    );
 }
 
 // The visible text whose element the octets begin with.

@@ -73,16 +73,46 @@ fn is_event<A: Allocator>(event: &Event<A>, moment: u64, octets: &[u8]) -> bool 
         }
 }
 
+/// Where the next answer is that the capture has stopped: its fault, if it is not at its end.
+fn next_stop<R: Source, A: Allocator + Copy>(
+    alloc: A,
+    reader: &mut PacketReader<R, A>,
+) -> Option<Option<CaptureFault>> {
+    match reader.next(alloc, &mut None) {
+        Ok(None) => Some(None),
+        Err(PacketError::Fault(fault)) => Some(Some(fault)),
+        _ => None,
+    }
+}
+
 /// Whether the next answer is that the capture has stopped so.
 fn stops<R: Source, A: Allocator + Copy>(
     alloc: A,
     reader: &mut PacketReader<R, A>,
     stop: Option<CaptureFault>,
 ) -> bool {
-    match reader.next(alloc, &mut None) {
-        Ok(None) => stop.is_none(),
-        Err(PacketError::Fault(fault)) => stop == Some(fault) && reader.number() == fault.number,
-        _ => false,
+    next_stop(alloc, reader) == Some(stop)
+        && match stop {
+            Some(fault) => reader.number() == fault.number,
+            None => true,
+        }
+}
+
+/// Whether the next answer is this packet, which is kept as spare. None where memory is refused.
+fn is_next<R: Source, A: Allocator + Copy>(
+    alloc: A,
+    reader: &mut PacketReader<R, A>,
+    spare: &mut Option<Event<A>>,
+    (number, moment, octets): Told<'_>,
+) -> Option<bool> {
+    match reader.next(alloc, spare) {
+        Ok(Some(event)) => {
+            let is_right = is_event(&event, moment, octets) && reader.number() == number;
+            *spare = Some(event);
+            Some(is_right)
+        }
+        Err(PacketError::Memory(_)) => None,
+        _ => Some(false),
     }
 }
 
@@ -95,16 +125,9 @@ fn tells<R: Source + Drop, A: Allocator + Copy>(
 ) -> Option<bool> {
     let mut reader = PacketReader::new(alloc, source);
     let mut spare = None;
-    for (number, moment, octets) in packets {
-        match reader.next(alloc, &mut spare) {
-            Ok(Some(event)) => {
-                if !is_event(&event, *moment, octets) || reader.number() != *number {
-                    return Some(false);
-                }
-                spare = Some(event);
-            }
-            Err(PacketError::Memory(_)) => return None,
-            _ => return Some(false),
+    for packet in packets {
+        if !is_next(alloc, &mut reader, &mut spare, *packet)? {
+            return Some(false);
         }
     }
     Some(stops(alloc, &mut reader, stop) && stops(alloc, &mut reader, stop))
@@ -227,14 +250,20 @@ const FORMS: [Case; 13] = [
     ),
 ];
 
+/// The name of the first capture that gives other packets, or stops otherwise.
+fn first_wrong(alloc: Global, cases: &[Case]) -> Option<&'static str> {
+    for (name, parts, packets, stop) in cases {
+        if says(alloc, parts, packets, *stop) != Ok(true) {
+            return Some(*name);
+        }
+    }
+    None
+}
+
 #[test]
 fn captures_of_both_forms(rt: HostRuntime) {
-    for (name, parts, packets, stop) in FORMS {
-        assert!(rt;
-            says(rt.alloc(), parts, packets, stop) == Ok(true),
-            "{name}"
-        );
-    }
+    let wrong = first_wrong(rt.alloc(), &FORMS);
+    assert!(rt; wrong == None, "{wrong:?}");
 }
 
 /// How many growths it takes to give these packets, where each is refused in turn. None where others are given, or where
@@ -261,10 +290,8 @@ fn packets_where_each_growth_is_refused(rt: HostRuntime) -> Result<(), AllocErro
     Ok(())
 }
 
-/// A capture and where its header or first section ends, and each record or block behind: there it is whole.
-#[derive(Clone, Copy)]
+/// Where the header or first section of a capture ends, and each record or block behind: there it is whole.
 struct Ends<'a> {
-    octets: &'a [u8],
     first: usize,
     wholes: &'a [usize],
     packets: &'a [Told<'a>],
@@ -297,54 +324,62 @@ fn refused_behind(
     }
 }
 
-/// Whether it says what so many of its octets say, where a read fails behind these.
-fn fails_behind(alloc: Global, ends: &Ends<'_>, size: usize) -> bool {
+/// Whether the capture of these octets says what so many of them say, where a read fails behind these.
+fn fails_behind(alloc: Global, octets: &[u8], ends: &Ends<'_>, size: usize) -> bool {
     let packets = packets_within(ends, size);
     let stop = refused_behind(ends, size, packets.len(), CaptureCause::ReadFailed);
-    tells(alloc, source_of(ends.octets, 1, size as u64), packets, stop) == Some(true)
+    tells(alloc, source_of(octets, 1, size as u64), packets, stop) == Some(true)
 }
 
 /// The same where the capture is cut behind these.
-fn is_cut_behind(alloc: Global, ends: &Ends<'_>, size: usize) -> bool {
+fn is_cut_behind(alloc: Global, octets: &[u8], ends: &Ends<'_>, size: usize) -> bool {
     let packets = packets_within(ends, size);
     let stop = if size == ends.first || ends.wholes.contains(&size) {
         None
     } else {
         refused_behind(ends, size, packets.len(), CaptureCause::CaptureShort)
     };
-    let part = ends.octets.get(..size).unwrap_or(ends.octets);
+    let part = octets.get(..size).unwrap_or(octets);
     tells(alloc, source_of(part, 4096, NEVER), packets, stop) == Some(true)
 }
 
-#[test]
-fn captures_that_are_cut_or_fail(rt: HostRuntime) -> Result<(), AllocError> {
-    let blocks = joined(rt.alloc(), &[SECTION, NANOSECONDS, PACKET, OTHER, PACKET])?;
-    let records = joined(rt.alloc(), &[CLASSIC, RECORDS])?;
-    let told: [Told<'_>; 2] = [(1, 1_000_002, b"\xaa\xbb\xcc"), (2, 1_000_003, b"")];
-    for ends in [
-        Ends {
-            octets: blocks.as_slice(),
-            first: 28,
-            wholes: &[68, 104, 120, 156],
-            packets: &[FIRST, SECOND],
-            packets_end: &[104, 156],
-        },
-        Ends {
-            octets: records.as_slice(),
-            first: 24,
-            wholes: &[43, 59],
-            packets: &told,
-            packets_end: &[43, 59],
-        },
-    ] {
-        for size in 0..=ends.octets.len() {
-            assert!(rt; is_cut_behind(rt.alloc(), &ends, size), "cut behind {size}");
-            assert!(rt;
-                fails_behind(rt.alloc(), &ends, size),
-                "a read fails behind {size}"
-            );
+/// The first count of octets of the capture of these parts behind which it is cut, or a read fails, and that says otherwise.
+fn first_wrong_size(
+    alloc: Global,
+    parts: &[&[u8]],
+    ends: &Ends<'_>,
+) -> Result<Option<usize>, AllocError> {
+    let octets = joined(alloc, parts)?;
+    let octets = octets.as_slice();
+    for size in 0..=octets.len() {
+        if !is_cut_behind(alloc, octets, ends, size) || !fails_behind(alloc, octets, ends, size) {
+            return Ok(Some(size));
         }
     }
+    Ok(None)
+}
+
+const BLOCKS_END: Ends<'static> = Ends {
+    first: 28,
+    wholes: &[68, 104, 120, 156],
+    packets: &[FIRST, SECOND],
+    packets_end: &[104, 156],
+};
+
+const RECORDS_END: Ends<'static> = Ends {
+    first: 24,
+    wholes: &[43, 59],
+    packets: &[(1, 1_000_002, b"\xaa\xbb\xcc"), (2, 1_000_003, b"")],
+    packets_end: &[43, 59],
+};
+
+#[test]
+fn captures_that_are_cut_or_fail(rt: HostRuntime) -> Result<(), AllocError> {
+    let blocks = [SECTION, NANOSECONDS, PACKET, OTHER, PACKET];
+    let wrong = first_wrong_size(rt.alloc(), &blocks, &BLOCKS_END)?;
+    assert!(rt; wrong == None, "of blocks, behind {wrong:?}");
+    let wrong = first_wrong_size(rt.alloc(), &[CLASSIC, RECORDS], &RECORDS_END)?;
+    assert!(rt; wrong == None, "of records, behind {wrong:?}");
     Ok(())
 }
 
@@ -478,10 +513,6 @@ const KINDS: [Case; 14] = [
 
 #[test]
 fn blocks_of_each_kind(rt: HostRuntime) {
-    for (name, parts, packets, stop) in KINDS {
-        assert!(rt;
-            says(rt.alloc(), parts, packets, stop) == Ok(true),
-            "{name}"
-        );
-    }
+    let wrong = first_wrong(rt.alloc(), &KINDS);
+    assert!(rt; wrong == None, "{wrong:?}");
 }

@@ -70,8 +70,8 @@ pub fn has_fault(alloc: Global, octets: &[u8], place: usize, cause: Cause) -> bo
 }
 
 /// The written form of the frame, if there is one.
-fn written<A: Allocator>(frame: &Frame<A>) -> Option<ArrayVec<u8, 1600>> {
-    match encode(frame) {
+fn written<A: Allocator>(frame: Frame<A>) -> Option<ArrayVec<u8, 1600>> {
+    match encode(&frame) {
         Ok(form) => Some(form),
         Err(_) => None,
     }
@@ -80,7 +80,7 @@ fn written<A: Allocator>(frame: &Frame<A>) -> Option<ArrayVec<u8, 1600>> {
 /// The written form of the frame of these octets, if there is one.
 pub fn form_of(alloc: Global, octets: &[u8]) -> Option<ArrayVec<u8, 1600>> {
     match decode(alloc, octets) {
-        Ok(frame) => written(&frame),
+        Ok(frame) => written(frame),
         Err(_) => None,
     }
 }
@@ -94,8 +94,8 @@ pub fn has_form(alloc: Global, octets: &[u8], form: &[u8]) -> bool {
 }
 
 /// Whether the frame's written form is these octets.
-pub fn is_written_as<A: Allocator>(frame: &Frame<A>, octets: &[u8]) -> bool {
-    match encode(frame) {
+pub fn is_written_as<A: Allocator>(frame: Frame<A>, octets: &[u8]) -> bool {
+    match encode(&frame) {
         Ok(form) => form.as_slice() == octets,
         Err(_) => false,
     }

@@ -23,7 +23,7 @@ enum Call {
 /// Whether `decode` makes the frame of these octets; None where memory is refused.
 fn is_decoded<A: Allocator + Copy>(alloc: A, octets: &[u8]) -> Option<bool> {
     match decode(alloc, octets) {
-        Ok(frame) => Some(is_written_as(&frame, octets)),
+        Ok(frame) => Some(is_written_as(frame, octets)),
         Err(ReadFault::Memory(_)) => None,
         Err(ReadFault::Fault(_)) => Some(false),
     }
@@ -35,7 +35,7 @@ fn is_frame_made<A: Allocator + Copy>(alloc: A, octets: &[u8]) -> Option<bool> {
         return Some(false);
     };
     match view.to_frame(alloc) {
-        Ok(frame) => Some(is_written_as(&frame, octets)),
+        Ok(frame) => Some(is_written_as(frame, octets)),
         Err(_) => None,
     }
 }
@@ -63,7 +63,7 @@ fn is_apdu_made<A: Allocator + Copy>(alloc: A, octets: &[u8]) -> Option<bool> {
         return Some(false);
     };
     match view.apdu.to_apdu(alloc) {
-        Ok(apdu) => Some(is_written_as(&framed(alloc, &view, apdu), front)),
+        Ok(apdu) => Some(is_written_as(framed(alloc, &view, apdu), front)),
         Err(_) => None,
     }
 }

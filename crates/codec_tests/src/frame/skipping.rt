@@ -3,7 +3,6 @@
 use crate::frame::list_reading::is_listed_as;
 use frame_core::{Event, EventLines, ItemReader, Passed, PassedKind, ReadItems, SkipOther};
 use std::alloc::{AllocError, Global};
-use std::test::Fail;
 use test_devices::{Give, NEVER, source_of};
 use test_support::RefusingAlloc;
 
@@ -36,6 +35,21 @@ fn events_of(text: &[u8]) -> Events<'_> {
     ItemReader::new(source_of(text, 4096, NEVER), EventLines::First)
 }
 
+// Whether the next event is this one, with this number; it is kept as spare.
+fn is_next<I: ReadItems<Global, Item = Event<Global>>>(
+    alloc: Global,
+    items: &mut I,
+    spare: &mut Option<Event<Global>>,
+    (line, number): (&str, u64),
+) -> bool {
+    let Ok(Some(event)) = items.read_item(alloc, spare) else {
+        return false;
+    };
+    let is_right = items.item_number() == number && is_listed_as(alloc, &event, line.as_bytes());
+    *spare = Some(event);
+    is_right
+}
+
 // Whether a reader gives these events, with these numbers, and then ends.
 fn gives<I: ReadItems<Global, Item = Event<Global>>>(
     alloc: Global,
@@ -43,14 +57,10 @@ fn gives<I: ReadItems<Global, Item = Event<Global>>>(
     wanted: &[(&str, u64)],
 ) -> bool {
     let mut spare = None;
-    for (line, number) in wanted {
-        let Ok(Some(event)) = items.read_item(alloc, &mut spare) else {
-            return false;
-        };
-        if items.item_number() != *number || !is_listed_as(alloc, &event, line.as_bytes()) {
+    for event in wanted {
+        if !is_next(alloc, items, &mut spare, *event) {
             return false;
         }
-        spare = Some(event);
     }
     matches!(items.read_item(alloc, &mut spare), Ok(None))
 }
@@ -178,17 +188,25 @@ fn gives_so_many<I: ReadItems<Global, Item = Event<Global>>>(
     true
 }
 
-#[test]
-fn sixteen_kinds_are_told_apart(rt: HostRuntime) -> Result<(), Fail> {
-    let text = list_of_types(rt.alloc())?;
-    let mut items = SkipOther::new(events_of(&text));
-    assert!(rt; gives_so_many(rt.alloc(), &mut items, TYPES.len()));
+// The frames of further kinds.
+const OTHERS: Passed = Passed {
+    count: 4,
+    first: 18,
+};
+
+// Whether all frames of the list are given, and sixteen kinds of them told apart.
+fn are_told_apart(alloc: Global, text: &[u8]) -> bool {
+    let mut items = SkipOther::new(events_of(text));
+    if !gives_so_many(alloc, &mut items, TYPES.len()) {
+        return false;
+    }
     let passed = items.passed_over();
-    assert!(rt; are_all_kinds(passed.kinds()));
-    let others = Passed {
-        count: 4,
-        first: 18,
-    };
-    assert!(rt; passed.others() == Some(others));
+    are_all_kinds(passed.kinds()) && passed.others() == Some(OTHERS)
+}
+
+#[test]
+fn sixteen_kinds_are_told_apart(rt: HostRuntime) -> Result<(), AllocError> {
+    let text = list_of_types(rt.alloc())?;
+    assert!(rt; are_told_apart(rt.alloc(), text.as_slice()));
     Ok(())
 }

@@ -1,11 +1,11 @@
 //! Each call that can want memory: with ample memory it gives the values that the octets were made of, on every kind of
 //! value, and gives some on many counts, up to what a frame has room for; and each growth is refused in turn.
 
-use crate::memory::{Call, Memory, are_answered, are_owned, takes};
+use crate::memory::{Call, are_answered, are_owned, takes};
 use crate::mms::writing::{WRITTEN, count_at, element, empty_values};
 use crate::mms::{DEEP, seen};
 use arrayvec::ArrayVec;
-use mms_data::{Octets, ReadFault, Value, ValueList, put_value, put_values, read_members};
+use mms_data::{Octets, ReadFault, Value, ValueList, View, put_value, put_values, read_members};
 use std::alloc::{AllocError, Allocator, Global};
 use std::test::Fail;
 use test_support::RefusingAlloc;
@@ -20,50 +20,78 @@ const CALLS: &[Call] = &[
 ];
 
 // Whether the values are written as these octets, which are at most 64.
-fn are_written<A: Allocator>(values: &ValueList<A>, octets: &[u8]) -> bool {
+fn are_written<A: Allocator>(values: Vec<Value<A>, A>, octets: &[u8]) -> bool {
     let mut out = ArrayVec::<u8, 64>::new();
-    put_values(&mut out, values).is_ok() && out.as_slice() == octets
+    put_values(&mut out, &ValueList::from(values)).is_ok() && out.as_slice() == octets
 }
 
 /// Whether what is read of the octets is written as they are.
-pub fn are_read(memory: Memory<'_>, octets: &[u8]) -> Result<bool, ReadFault> {
-    let values = ValueList::from(read_members(memory, octets, 0, octets.len(), 1)?);
-    Ok(are_written(&values, octets))
+pub fn are_read<A: Allocator + Copy>(memory: A, octets: &[u8]) -> Result<bool, ReadFault> {
+    let values = read_members(memory, octets, 0, octets.len(), 1)?;
+    Ok(are_written(values, octets))
+}
+
+// A copy of the values.
+fn copied<A: Allocator + Copy>(
+    memory: A,
+    values: Vec<Value<A>, A>,
+) -> Result<Vec<Value<A>, A>, AllocError> {
+    Ok(ValueList::from(values).try_copy(memory)?.into_vec())
 }
 
 /// The same of a copy of what is read.
-pub fn are_copied(memory: Memory<'_>, octets: &[u8]) -> Result<bool, ReadFault> {
-    let values = ValueList::from(read_members(memory, octets, 0, octets.len(), 1)?);
-    Ok(are_written(&values.try_copy(memory)?, octets))
+pub fn are_copied<A: Allocator + Copy>(memory: A, octets: &[u8]) -> Result<bool, ReadFault> {
+    let values = read_members(memory, octets, 0, octets.len(), 1)?;
+    Ok(are_written(copied(memory, values)?, octets))
 }
 
 /// The same of what is made of the views.
-pub fn are_made(memory: Memory<'_>, octets: &[u8]) -> Result<bool, ReadFault> {
-    let values = ValueList::from(seen(octets)?.to_values(memory)?);
-    Ok(are_written(&values, octets))
+pub fn are_made<A: Allocator + Copy>(memory: A, octets: &[u8]) -> Result<bool, ReadFault> {
+    let values = seen(octets)?.to_values(memory)?;
+    Ok(are_written(values, octets))
 }
 
 // Whether the octets, of whose members the first is written in at most 64, begin as the value is written.
-fn is_first<A: Allocator>(value: &Value<A>, octets: &[u8]) -> bool {
+fn is_first<A: Allocator>(value: Value<A>, octets: &[u8]) -> bool {
     let mut out = ArrayVec::<u8, 64>::new();
-    put_value(&mut out, value).is_ok() && octets.starts_with(out.as_slice())
+    put_value(&mut out, &value).is_ok() && octets.starts_with(out.as_slice())
+}
+
+// The same of the value that is made of the view.
+fn is_made<A: Allocator + Copy>(
+    memory: A,
+    view: &View<'_>,
+    octets: &[u8],
+) -> Result<bool, AllocError> {
+    Ok(is_first(view.to_value(memory)?, octets))
 }
 
 /// Whether the first value that is made is written as the octets begin.
-pub fn is_first_made(memory: Memory<'_>, octets: &[u8]) -> Result<bool, ReadFault> {
+pub fn is_first_made<A: Allocator + Copy>(memory: A, octets: &[u8]) -> Result<bool, ReadFault> {
     match seen(octets)?.next() {
-        Some(view) => Ok(is_first(&view.to_value(memory)?, octets)),
+        Some(view) => Ok(is_made(memory, &view, octets)?),
         None => Ok(octets.is_empty()),
     }
 }
 
+// A copy of the value.
+fn copy<A: Allocator + Copy>(memory: A, value: Value<A>) -> Result<Value<A>, AllocError> {
+    value.try_copy(memory)
+}
+
+// Whether the copy of the value that is made of the view is written as the octets begin.
+fn is_copied<A: Allocator + Copy>(
+    memory: A,
+    view: &View<'_>,
+    octets: &[u8],
+) -> Result<bool, AllocError> {
+    Ok(is_first(copy(memory, view.to_value(memory)?)?, octets))
+}
+
 /// The same of its copy.
-pub fn is_first_copied(memory: Memory<'_>, octets: &[u8]) -> Result<bool, ReadFault> {
+pub fn is_first_copied<A: Allocator + Copy>(memory: A, octets: &[u8]) -> Result<bool, ReadFault> {
     match seen(octets)?.next() {
-        Some(view) => {
-            let value = view.to_value(memory)?;
-            Ok(is_first(&value.try_copy(memory)?, octets))
-        }
+        Some(view) => Ok(is_copied(memory, &view, octets)?),
         None => Ok(octets.is_empty()),
     }
 }

@@ -41,19 +41,22 @@ const EACH_WRITTEN: [u8; 54] = [
     0x60, 0, 0, 1, 0x80, 0, 0, 0x0a, 0xa1, 0, 0xa2, 0,
 ];
 
-// The element of this identifier and these contents, its length in the fewest octets.
-pub(crate) fn element(identifier: u8, contents: &[u8]) -> Result<ArrayVec<u8, 2100>, Fail> {
-    let (high, low) = (
-        (contents.len() / 256 % 256) as u8,
-        (contents.len() % 256) as u8,
-    );
-    let mut element = ArrayVec::new();
-    element.try_push(identifier)?;
-    match contents.len() {
+// Puts a length in the fewest octets behind the identifier.
+fn put_length(element: &mut ArrayVec<u8, 2100>, length: usize) -> Result<(), Fail> {
+    let (high, low) = ((length / 256 % 256) as u8, (length % 256) as u8);
+    match length {
         0..=0x7f => element.try_push(low)?,
         0x80..=0xff => element.try_extend_from_slice(&[0x81, low])?,
         _ => element.try_extend_from_slice(&[0x82, high, low])?,
     }
+    Ok(())
+}
+
+// The element of this identifier and these contents, its length in the fewest octets.
+pub(crate) fn element(identifier: u8, contents: &[u8]) -> Result<ArrayVec<u8, 2100>, Fail> {
+    let mut element = ArrayVec::new();
+    element.try_push(identifier)?;
+    put_length(&mut element, contents.len())?;
     element.try_extend_from_slice(contents)?;
     Ok(element)
 }

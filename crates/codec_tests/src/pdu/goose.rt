@@ -7,7 +7,7 @@ use pdu_core::{
     GoosePdu, GooseView, are_spellable_parts, is_spellable, laws, put_goose, put_goose_parts,
     put_goose_view, read_goose, see_goose, slice_if, view_goose, written_goose_length,
 };
-use std::alloc::Global;
+use std::alloc::{Allocator, Global};
 use std::test::Fail;
 use test_support::FRAME;
 
@@ -123,12 +123,18 @@ fn each_field_stands(rt: HostRuntime) -> Result<(), Fail> {
     Ok(())
 }
 
-// Whether the APDU is that of the frame.
-fn is_owned(pdu: &GoosePdu<Global>) -> bool {
+// Whether the texts of the APDU are those of the frame.
+fn has_texts(pdu: &GoosePdu<Global>) -> bool {
     pdu.gocb_ref.as_slice() == b"G".as_slice()
-        && pdu.live == 2000
         && pdu.dat_set.as_slice() == b"D".as_slice()
         && pdu.go_id.is_none()
+        && slice_if(&pdu.go_id).is_none()
+}
+
+// Whether the APDU is that of the frame.
+fn is_owned(pdu: GoosePdu<Global>) -> bool {
+    has_texts(&pdu)
+        && pdu.live == 2000
         && pdu.t == NO_TIME
         && (pdu.st_num, pdu.sq_num, pdu.conf_rev) == (1, 0, 1)
         && (pdu.simulation, pdu.nds_com) == (false, false)
@@ -137,8 +143,7 @@ fn is_owned(pdu: &GoosePdu<Global>) -> bool {
 
 #[test]
 fn the_recorded_pdu_is_read(rt: HostRuntime) -> Result<(), Fail> {
-    let pdu = read_goose(rt.alloc(), &FRAME, 22, 67)?;
-    assert!(rt; is_owned(&pdu) && slice_if(&pdu.go_id).is_none());
+    assert!(rt; is_owned(read_goose(rt.alloc(), &FRAME, 22, 67)?));
     Ok(())
 }
 
@@ -191,7 +196,23 @@ fn put_seen<const N: usize>(
     }
 }
 
-// The same from memory of its own.
+// How the APDU is put there.
+fn put_whole<A: Allocator, const N: usize>(
+    out: &mut ArrayVec<u8, N>,
+    pdu: GoosePdu<A>,
+) -> Result<(), PutFault> {
+    put_goose(out, &pdu)
+}
+
+// The same where its texts and members are kept elsewhere.
+fn put_by_parts<A: Allocator, const N: usize>(
+    out: &mut ArrayVec<u8, N>,
+    pdu: GoosePdu<A>,
+) -> Result<(), PutFault> {
+    put_goose_parts(out, &pdu.parts())
+}
+
+// How the APDU from this place on is put there from memory of its own.
 fn put_read<const N: usize>(
     out: &mut ArrayVec<u8, N>,
     alloc: Global,
@@ -199,7 +220,7 @@ fn put_read<const N: usize>(
     at: usize,
 ) -> Option<Result<(), PutFault>> {
     match read_goose(alloc, octets, at.min(octets.len()), octets.len()) {
-        Ok(pdu) => Some(put_goose(out, &pdu)),
+        Ok(pdu) => Some(put_whole(out, pdu)),
         Err(_) => None,
     }
 }
@@ -212,7 +233,7 @@ fn put_parts<const N: usize>(
     at: usize,
 ) -> Option<Result<(), PutFault>> {
     match read_goose(alloc, octets, at.min(octets.len()), octets.len()) {
-        Ok(pdu) => Some(put_goose_parts(out, &pdu.parts())),
+        Ok(pdu) => Some(put_by_parts(out, pdu)),
         Err(_) => None,
     }
 }
@@ -279,23 +300,33 @@ fn a_pdu_fits_or_leaves_the_vector(rt: HostRuntime) {
 }
 
 // How the APDU with this fraction of a second is put where there is no room, and whether it has a spelling.
-fn judged(alloc: Global, fraction: u32) -> Option<(Result<(), PutFault>, bool)> {
-    let Ok(mut pdu) = read_goose(alloc, &NESTED, 0, 58) else {
-        return None;
-    };
+fn judged_at(mut pdu: GoosePdu<Global>, fraction: u32) -> (Result<(), PutFault>, bool) {
     pdu.t.fraction = fraction;
     let mut none = ArrayVec::<u8, 0>::new();
-    Some((put_goose(&mut none, &pdu), is_spellable(&pdu)))
+    (put_goose(&mut none, &pdu), is_spellable(&pdu))
+}
+
+// The same of the nested one.
+fn judged(alloc: Global, fraction: u32) -> Option<(Result<(), PutFault>, bool)> {
+    match read_goose(alloc, &NESTED, 0, 58) {
+        Ok(pdu) => Some(judged_at(pdu, fraction)),
+        Err(_) => None,
+    }
+}
+
+// Whether the goID of the APDU is I, and whether the APDU has a spelling with this gocbRef.
+fn judged_with(mut pdu: GoosePdu<Global>, gocb_ref: Octets<Global>) -> (bool, bool) {
+    let is_named = slice_if(&pdu.go_id) == Some(b"I".as_slice());
+    pdu.gocb_ref = gocb_ref;
+    (is_named, are_spellable_parts(&pdu.parts()))
 }
 
 #[test]
 fn what_has_no_spelling_is_refused(rt: HostRuntime) -> Result<(), Fail> {
     assert!(rt; judged(rt.alloc(), 0x100_0000) == Some((Err(PutFault::NotSpellable), false)));
     assert!(rt; judged(rt.alloc(), 0xff_ffff) == Some((Err(PutFault::Full), true)));
-    let mut pdu = read_goose(rt.alloc(), &NESTED, 0, 58)?;
-    assert!(rt; slice_if(&pdu.go_id) == Some(b"I".as_slice()));
-    pdu.gocb_ref = Octets::try_from_slice(rt.alloc(), b"A\x7f")?;
-    assert!(rt; !are_spellable_parts(&pdu.parts()));
+    let odd = Octets::try_from_slice(rt.alloc(), b"A\x7f")?;
+    assert!(rt; judged_with(read_goose(rt.alloc(), &NESTED, 0, 58)?, odd) == (true, false));
     Ok(())
 }
 

@@ -1,7 +1,7 @@
 //! An APDU of GOOSE in memory of its own: with ample memory it is the one that the octets were made of, whatever their
 //! counts; and each growth is refused in turn.
 
-use crate::memory::{Call, Memory, are_answered, are_owned, takes};
+use crate::memory::{Call, are_answered, are_owned, takes};
 use crate::mms::writing::{count_at, element, empty_values};
 use crate::pdu::goose::{NESTED, TIGHT};
 use arrayvec::ArrayVec;
@@ -16,21 +16,27 @@ use test_support::RefusingAlloc;
 const CALLS: &[Call] = &[Call::ReadGoose, Call::ToGoosePdu];
 
 // Whether the APDU is written as the octets, which are at most 128.
-fn is_written<A: Allocator>(pdu: &GoosePdu<A>, octets: &[u8]) -> bool {
+fn is_written<A: Allocator>(pdu: GoosePdu<A>, octets: &[u8]) -> bool {
     let mut out = ArrayVec::<u8, 128>::new();
-    put_goose(&mut out, pdu).is_ok() && out.as_slice() == octets
+    put_goose(&mut out, &pdu).is_ok() && out.as_slice() == octets
 }
 
 /// Whether the APDU that is read is written as the octets.
-pub fn is_read(memory: Memory<'_>, octets: &[u8]) -> Result<bool, ReadFault> {
+pub fn is_read<A: Allocator + Copy>(memory: A, octets: &[u8]) -> Result<bool, ReadFault> {
     let pdu = read_goose(memory, octets, 0, octets.len())?;
-    Ok(is_written(&pdu, octets))
+    Ok(is_written(pdu, octets))
 }
 
 /// The same of the APDU that is made of its view.
-pub fn is_made(memory: Memory<'_>, octets: &[u8]) -> Result<bool, ReadFault> {
+pub fn is_made<A: Allocator + Copy>(memory: A, octets: &[u8]) -> Result<bool, ReadFault> {
     let pdu = view_goose(octets, 0, octets.len())?.to_pdu(memory)?;
-    Ok(is_written(&pdu, octets))
+    Ok(is_written(pdu, octets))
+}
+
+// Puts a field of these contents behind the others.
+fn put_field(fields: &mut ArrayVec<u8, 2100>, identifier: u8, contents: &[u8]) -> Result<(), Fail> {
+    fields.try_extend_from_slice(element(identifier, contents)?.as_slice())?;
+    Ok(())
 }
 
 // The APDU of these texts, of which the last may be absent, and so many members.
@@ -41,18 +47,18 @@ fn goose(
     members: usize,
 ) -> Result<ArrayVec<u8, 2100>, Fail> {
     let mut fields = ArrayVec::<u8, 2100>::new();
-    fields.try_extend_from_slice(element(0x80, gocb_ref)?.as_slice())?;
-    fields.try_extend_from_slice(&[0x81, 0x02, 0x07, 0xd0])?;
-    fields.try_extend_from_slice(element(0x82, dat_set)?.as_slice())?;
+    put_field(&mut fields, 0x80, gocb_ref)?;
+    put_field(&mut fields, 0x81, &[0x07, 0xd0])?;
+    put_field(&mut fields, 0x82, dat_set)?;
     if let Some(go_id) = go_id {
-        fields.try_extend_from_slice(element(0x83, go_id)?.as_slice())?;
+        put_field(&mut fields, 0x83, go_id)?;
     }
     fields.try_extend_from_slice(&[0x84, 0x08, 0, 0, 0, 1, 0, 0, 0, 0, 0x85, 0x01, 0x01])?;
     fields.try_extend_from_slice(&[
         0x86, 0x01, 0, 0x87, 0x01, 0, 0x88, 0x01, 0x01, 0x89, 0x01, 0,
     ])?;
     put_integer(&mut fields, 0x8a, members as i128)?;
-    fields.try_extend_from_slice(element(0xab, empty_values(members)?.as_slice())?.as_slice())?;
+    put_field(&mut fields, 0xab, empty_values(members)?.as_slice())?;
     element(0x61, fields.as_slice())
 }
 

@@ -3,7 +3,7 @@
 use arrayvec::ArrayVec;
 use ber_core::{Cause, Fault};
 use mms_data::{ReadFault, UtcTime};
-use pdu_core::{Asdu, AsduView, read_sv, view_sv};
+use pdu_core::{Asdu, AsduView, SvPdu, read_sv, view_sv};
 use std::alloc::Global;
 use std::test::Fail;
 use test_support::SAMPLED;
@@ -69,10 +69,14 @@ fn is_recorded(asdu: &Asdu<Global>) -> bool {
         && asdu.smp_mod.is_some()
 }
 
+// Whether it is the one ASDU of the APDU.
+fn is_recorded_alone(pdu: SvPdu<Global>) -> bool {
+    matches!(pdu.asdus.as_slice(), [asdu] if is_recorded(asdu))
+}
+
 #[test]
 fn the_recorded_pdu_is_read(rt: HostRuntime) -> Result<(), Fail> {
-    let pdu = read_sv(rt.alloc(), &SAMPLED, 22, 54)?;
-    assert!(rt; matches!(pdu.asdus.as_slice(), [asdu] if is_recorded(asdu)));
+    assert!(rt; is_recorded_alone(read_sv(rt.alloc(), &SAMPLED, 22, 54)?));
     Ok(())
 }
 

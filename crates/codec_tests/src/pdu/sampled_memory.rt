@@ -1,14 +1,14 @@
 //! Sampled Values in memory of their own: with ample memory they are those that the octets were made of, whatever their
 //! counts; and each growth is refused in turn.
 
-use crate::memory::{Call, Memory, are_answered, are_owned, gives, takes};
+use crate::memory::{Call, are_answered, are_owned, gives, takes};
 use crate::mms::writing::count_at;
 use crate::pdu::sampled::FULL;
 use arrayvec::ArrayVec;
 use ber_core::put_integer;
 use mms_data::{ReadFault, put_element};
-use pdu_core::{AsduList, SvPdu, put_sv, read_sv, view_sv};
-use std::alloc::Allocator;
+use pdu_core::{AsduList, Asdus, SvPdu, put_sv, read_sv, view_sv};
+use std::alloc::{AllocError, Allocator};
 use std::test::Fail;
 use test_support::RefusingAlloc;
 
@@ -16,32 +16,41 @@ use test_support::RefusingAlloc;
 const CALLS: &[Call] = &[Call::ReadSv, Call::ToSvPdu, Call::ToAsdu];
 
 // Whether the APDU is written as the octets, which are at most 64.
-fn is_written<A: Allocator>(pdu: &SvPdu<A>, octets: &[u8]) -> bool {
+fn is_written<A: Allocator>(pdu: SvPdu<A>, octets: &[u8]) -> bool {
     let mut out = ArrayVec::<u8, 64>::new();
-    put_sv(&mut out, pdu).is_ok() && out.as_slice() == octets
+    put_sv(&mut out, &pdu).is_ok() && out.as_slice() == octets
 }
 
 /// Whether the APDU that is read is written as the octets.
-pub fn is_read(memory: Memory<'_>, octets: &[u8]) -> Result<bool, ReadFault> {
+pub fn is_read<A: Allocator + Copy>(memory: A, octets: &[u8]) -> Result<bool, ReadFault> {
     let pdu = read_sv(memory, octets, 0, octets.len())?;
-    Ok(is_written(&pdu, octets))
+    Ok(is_written(pdu, octets))
 }
 
 /// The same of the APDU that is made of its view.
-pub fn is_made(memory: Memory<'_>, octets: &[u8]) -> Result<bool, ReadFault> {
+pub fn is_made<A: Allocator + Copy>(memory: A, octets: &[u8]) -> Result<bool, ReadFault> {
     let pdu = view_sv(octets, 0, octets.len())?.to_pdu(memory)?;
-    Ok(is_written(&pdu, octets))
+    Ok(is_written(pdu, octets))
 }
 
-/// The same of an APDU of the first ASDU alone.
-pub fn is_first_made(memory: Memory<'_>, octets: &[u8]) -> Result<bool, ReadFault> {
-    let mut views = view_sv(octets, 0, octets.len())?.asdus;
+// The APDU of the first of these ASDUs alone.
+fn first_alone<A: Allocator + Copy>(
+    memory: A,
+    mut views: Asdus<'_>,
+) -> Result<SvPdu<A>, AllocError> {
     let mut asdus = Vec::with_capacity(memory, 1)?;
     if let Some(first) = views.next() {
         asdus.push(first.to_asdu(memory)?)?;
     }
-    let asdus = AsduList::from(asdus);
-    Ok(is_written(&SvPdu { asdus }, octets))
+    Ok(SvPdu {
+        asdus: AsduList::from(asdus),
+    })
+}
+
+/// The same of an APDU of the first ASDU alone.
+pub fn is_first_made<A: Allocator + Copy>(memory: A, octets: &[u8]) -> Result<bool, ReadFault> {
+    let pdu = first_alone(memory, view_sv(octets, 0, octets.len())?.asdus)?;
+    Ok(is_written(pdu, octets))
 }
 
 // An APDU of so many ASDUs, which stand in these octets.

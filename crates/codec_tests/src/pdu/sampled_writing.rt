@@ -102,20 +102,36 @@ fn with_mode(alloc: Global, count: usize) -> Result<SvPdu<Global>, AllocError> {
     })
 }
 
+// The written form of the APDU, if it has one and so many octets at most.
+fn put_alone<const N: usize>(pdu: &SvPdu<Global>) -> Result<ArrayVec<u8, N>, PutFault> {
+    let mut out = ArrayVec::new();
+    put_sv(&mut out, pdu)?;
+    Ok(out)
+}
+
+// Whether the APDU is judged to have a spelling, and whether it is written.
+fn judged(pdu: SvPdu<Global>) -> (bool, bool) {
+    (is_spellable_sv(&pdu), put_alone::<64>(&pdu).is_ok())
+}
+
+// Whether the APDU, of one ASDU, is written as the recorded one into the room that this needs.
+fn is_recorded(pdu: SvPdu<Global>) -> bool {
+    match put_alone::<32>(&pdu) {
+        Ok(form) => form.as_slice() == &SAMPLED[22..] && pdu.asdus.into_vec().len() == 1,
+        Err(_) => false,
+    }
+}
+
 #[test]
 fn what_has_no_spelling_is_refused(rt: HostRuntime) -> Result<(), Fail> {
     for (count, is_good) in [(0, false), (1, true), (16, true), (17, false)] {
-        let pdu = with_mode(rt.alloc(), count)?;
-        let mut out = ArrayVec::<u8, 64>::new();
-        assert!(rt; is_spellable_sv(&pdu) == is_good && put_sv(&mut out, &pdu).is_ok() == is_good);
+        assert!(rt;
+            judged(with_mode(rt.alloc(), count)?) == (is_good, is_good),
+            "{count} octets"
+        );
     }
-    let mut out = ArrayVec::<u8, 32>::new();
-    let pdu = with_mode(rt.alloc(), 1)?;
-    assert!(rt; put_sv(&mut out, &pdu) == Ok(()) && out.as_slice() == &SAMPLED[22..]);
-    assert!(rt; pdu.asdus.into_vec().len() == 1);
-    let empty = SvPdu {
-        asdus: AsduList::from(Vec::new(rt.alloc())),
-    };
-    assert!(rt; put_sv(&mut out, &empty) == Err(PutFault::NotSpellable));
+    assert!(rt; is_recorded(with_mode(rt.alloc(), 1)?));
+    let empty = AsduList::from(Vec::new(rt.alloc()));
+    assert!(rt; put_alone::<0>(&SvPdu { asdus: empty }).err() == Some(PutFault::NotSpellable));
     Ok(())
 }

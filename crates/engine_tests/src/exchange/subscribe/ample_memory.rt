@@ -50,6 +50,14 @@ fn acted_on(entries: &[Entry<Global>]) -> Option<usize> {
     }
 }
 
+/// The same of the entries of an event.
+fn acted_on_by(
+    subscriber: &mut Subscriber<Global>,
+    event: Event<Global>,
+) -> Result<Option<usize>, AllocError> {
+    Ok(acted_on(&subscriber.take(&event)?))
+}
+
 /// Whether the last entry of a frame is an action on so many members, and one block or two are looked at.
 fn acts(
     alloc: Global,
@@ -57,8 +65,7 @@ fn acts(
     octets: &[u8],
     count: u16,
 ) -> Result<bool, AllocError> {
-    let event = event_with_frame(alloc, 0, octets)?;
-    let acted_on = acted_on(&subscriber.take(&event)?);
+    let acted_on = acted_on_by(subscriber, event_with_frame(alloc, 0, octets)?)?;
     let looks = subscriber.looks();
     Ok(acted_on == Some(usize::from(count)) && 1 <= looks && looks <= 2)
 }
@@ -89,22 +96,38 @@ fn entries_at(
     Ok(subscriber.take(&Event { moment, kind })?.len())
 }
 
+/// How many blocks there are.
+const ALL: usize = 481;
+
+/// Whether all blocks act on their frames, and no moment before their end has entries.
+fn all_act(alloc: Global, subscriber: &mut Subscriber<Global>) -> Result<bool, Fail> {
+    Ok(
+        subscriber.looks() == 0
+            && each_acts(alloc, subscriber, false)?
+            && entries_at(subscriber, 1_999_999, EventKind::Clock)? == 0
+            && subscriber.looks() == 0,
+    )
+}
+
+/// Whether all blocks then go over to simulated frames and back.
+fn all_switch(alloc: Global, subscriber: &mut Subscriber<Global>) -> Result<bool, Fail> {
+    Ok(
+        entries_at(subscriber, 1_999_999, EventKind::Mode(true))? == 0
+            && each_acts(alloc, subscriber, true)?
+            && entries_at(subscriber, 1_999_999, EventKind::Mode(false))? == ALL
+            && each_acts(alloc, subscriber, false)?,
+    )
+}
+
 /// Whether all blocks act, go over to simulated frames and back, and expire.
 fn all_act_switch_and_expire(
     alloc: Global,
     subscriber: &mut Subscriber<Global>,
 ) -> Result<bool, Fail> {
-    let all = usize::from(MOST) + 1;
     Ok(
-        subscriber.looks() == 0
-            && each_acts(alloc, subscriber, false)?
-            && entries_at(subscriber, 1_999_999, EventKind::Clock)? == 0
-            && subscriber.looks() == 0
-            && entries_at(subscriber, 1_999_999, EventKind::Mode(true))? == 0
-            && each_acts(alloc, subscriber, true)?
-            && entries_at(subscriber, 1_999_999, EventKind::Mode(false))? == all
-            && each_acts(alloc, subscriber, false)?
-            && entries_at(subscriber, 3_999_999, EventKind::Clock)? == all
+        all_act(alloc, subscriber)?
+            && all_switch(alloc, subscriber)?
+            && entries_at(subscriber, 3_999_999, EventKind::Clock)? == ALL
             && subscriber.looks() == 481,
     )
 }

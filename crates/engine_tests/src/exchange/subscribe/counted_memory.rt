@@ -6,7 +6,7 @@ use arrayvec::ArrayVec;
 use frame_core::Event;
 use mms_data::ValueList;
 use publish_core::Publisher;
-use std::alloc::{AllocError, Global};
+use std::alloc::{AllocError, Allocator, Global};
 use std::test::Fail;
 use subscribe_core::{Entry, Subscriber};
 use test_support::RefusingAlloc;
@@ -36,7 +36,21 @@ fn two_frames(alloc: Global) -> Result<Frames, Fail> {
 /// A list of entries.
 type List<'a> = Vec<Entry<Memory<'a>>, Memory<'a>>;
 
-/// What is told of an event, in a list that is used again or in a new one, and how many growths the subscriber takes for it.
+/// Tells an event in a list that is used again, or in a new one.
+fn take<A: Allocator + Copy>(
+    subscriber: &mut Subscriber<A>,
+    (entries, is_again): (&mut Vec<Entry<A>, A>, bool),
+    event: &Event<A>,
+) -> Result<(), AllocError> {
+    if is_again {
+        subscriber.take_into(event, entries)?;
+    } else {
+        *entries = subscriber.take(event)?;
+    }
+    Ok(())
+}
+
+/// What is told of an event so, and how many growths the subscriber takes for it.
 fn told_and_grown<'a>(
     alloc: Memory<'a>,
     subscriber: &mut Subscriber<Memory<'a>>,
@@ -44,11 +58,7 @@ fn told_and_grown<'a>(
     event: &Event<Memory<'a>>,
 ) -> Result<(Want, usize), AllocError> {
     let before = alloc.growths();
-    if is_again {
-        subscriber.take_into(event, entries)?;
-    } else {
-        *entries = subscriber.take(event)?;
-    }
+    take(subscriber, (entries, is_again), event)?;
     let grown = alloc.growths().saturating_sub(before);
     Ok((tells(entries.as_slice()), grown))
 }
@@ -56,6 +66,20 @@ fn told_and_grown<'a>(
 /// Whether the first frame comes or the one after it, what is told of it, and the least and the greatest count of growths
 /// that it may take.
 type Example = (bool, Told, usize, usize);
+
+/// Whether an example is told so of these octets, and is looked up.
+fn is_told<'a>(
+    alloc: Memory<'a>,
+    subscriber: &mut Subscriber<Memory<'a>>,
+    list: (&mut List<'a>, bool),
+    octets: &[u8],
+    (_is_first, wanted, least, most): Example,
+) -> Result<bool, AllocError> {
+    let event = event_with_frame(alloc, 0, octets)?;
+    let (tells, grown) = told_and_grown(alloc, subscriber, list, &event)?;
+    let looks = subscriber.looks();
+    Ok(tells == Want::One(wanted) && least <= grown && grown <= most && 1 <= looks && looks <= 2)
+}
 
 /// How many examples are told so, before the first that is not.
 fn told_in_turn<'a>(
@@ -66,13 +90,9 @@ fn told_in_turn<'a>(
     examples: &[Example],
 ) -> Result<usize, AllocError> {
     let mut told = 0usize;
-    for (is_first, wanted, least, most) in examples {
-        let octets = if *is_first { first } else { next };
-        let event = event_with_frame(alloc, 0, octets)?;
-        let (tells, grown) = told_and_grown(alloc, subscriber, (entries, is_again), &event)?;
-        let looks = subscriber.looks();
-        let is_looked_up = 1 <= looks && looks <= 2;
-        if tells != Want::One(*wanted) || grown < *least || *most < grown || !is_looked_up {
+    for example in examples {
+        let octets = if example.0 { first } else { next };
+        if !is_told(alloc, subscriber, (entries, is_again), octets, *example)? {
             break;
         }
         told = told.saturating_add(1);
@@ -80,16 +100,21 @@ fn told_in_turn<'a>(
     Ok(told)
 }
 
-/// The same of a subscriber of the frames, which is let go of.
+/// A subscriber of the frames.
+fn subscriber<A: Allocator + Copy>(alloc: A) -> Result<Subscriber<A>, Fail> {
+    let mut blocks = Vec::new(alloc);
+    put_block(alloc, &mut blocks, 1, MEMBERS)?;
+    Ok(Subscriber::new(alloc, blocks)?)
+}
+
+/// The same of a subscriber that is let go of.
 fn told_by_one(
     alloc: Memory<'_>,
     is_again: bool,
     frames: (&[u8], &[u8]),
     examples: &[Example],
 ) -> Result<usize, Fail> {
-    let mut blocks = Vec::new(alloc);
-    put_block(alloc, &mut blocks, 1, MEMBERS)?;
-    let mut subscriber = Subscriber::new(alloc, blocks)?;
+    let mut subscriber = subscriber(alloc)?;
     let mut entries = Vec::new(alloc);
     Ok(told_in_turn(
         alloc,

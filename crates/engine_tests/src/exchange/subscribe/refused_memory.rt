@@ -28,6 +28,15 @@ fn put_blocks<A: Allocator + Copy>(
     Ok(())
 }
 
+/// What `new` answers to these blocks.
+fn answer_to<A: Allocator + Copy>(alloc: A, blocks: Vec<Block<A>, A>) -> Made {
+    match Subscriber::new(alloc, blocks) {
+        Ok(_subscriber) => Made::Made,
+        Err(SubscribeFault::SameBlockTwice(i)) => Made::Twice(i),
+        Err(SubscribeFault::Memory(_error)) => Made::NoMemory,
+    }
+}
+
 /// What `new` answers to blocks with these APPIDs, this growth and all after it refused, and whether a growth was refused.
 /// Nothing is out then.
 fn answer_of_new(
@@ -40,11 +49,7 @@ fn answer_of_new(
     let mut blocks = Vec::new(&alloc);
     put_blocks(&alloc, &mut blocks, app_ids)?;
     alloc.refuse_from(first_refused);
-    let made = match Subscriber::new(&alloc, blocks) {
-        Ok(_subscriber) => Made::Made,
-        Err(SubscribeFault::SameBlockTwice(i)) => Made::Twice(i),
-        Err(SubscribeFault::Memory(_error)) => Made::NoMemory,
-    };
+    let made = answer_to(&alloc, blocks);
     if alloc.blocks_out() != 0 {
         return Err(Fail::from("a block of memory is still out"));
     }
@@ -71,6 +76,14 @@ fn new_where_no_memory_is_needed(rt: HostRuntime) -> Result<(), Fail> {
     Ok(())
 }
 
+/// What is told of an event, if memory does not want.
+fn taken<A: Allocator + Copy>(subscriber: &mut Subscriber<A>, event: &Event<A>) -> Option<Want> {
+    match subscriber.take(event) {
+        Ok(entries) => Some(tells(&entries)),
+        Err(_error) => None,
+    }
+}
+
 /// What is told of an event where this growth and all after it are refused, if memory did not want, and whether a growth was
 /// refused.
 fn told<'a>(
@@ -80,10 +93,7 @@ fn told<'a>(
     first_refused: usize,
 ) -> (Option<Want>, bool) {
     alloc.refuse_from(first_refused);
-    let told = match subscriber.take(event) {
-        Ok(entries) => Some(tells(&entries)),
-        Err(_error) => None,
-    };
+    let told = taken(subscriber, event);
     let has_refused = alloc.has_refused();
     alloc.allow();
     (told, has_refused)
@@ -218,11 +228,16 @@ fn first_wrong<'a>(
     Ok(EXAMPLES.len())
 }
 
-/// The same of a subscriber that is let go of.
-fn first_wrong_of_one(alloc: &RefusingAlloc<Global>) -> Result<usize, Fail> {
+/// A subscriber of two blocks.
+fn subscriber<A: Allocator + Copy>(alloc: A) -> Result<Subscriber<A>, Fail> {
     let mut blocks = Vec::new(alloc);
     put_blocks(alloc, &mut blocks, &[1, 2])?;
-    let mut subscriber = Subscriber::new(alloc, blocks)?;
+    Ok(Subscriber::new(alloc, blocks)?)
+}
+
+/// The same of a subscriber that is let go of.
+fn first_wrong_of_one(alloc: &RefusingAlloc<Global>) -> Result<usize, Fail> {
+    let mut subscriber = subscriber(alloc)?;
     Ok(first_wrong(alloc, &mut subscriber)?)
 }
 
