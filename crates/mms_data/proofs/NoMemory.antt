@@ -1,9 +1,13 @@
 -- What is kept without memory of its own.
-use Rattle.std.proofs.Common.{◌≡◌, ℕ, ◌-◌, ◌≤◌, List, [], ◌∷◌, refl, sym, ap, ◌∙◌, arith}
+use Rattle.std.proofs.Common.{◌≡◌, ℕ, ◌-◌, ◌≤◌, true, false, List, [], ◌∷◌, refl, sym, ap, ◌∙◌, arith}
 use Rattle.std.specs.Prelude.{slice_range}
 use Rattle.mms_data.specs.Data.{Data, no_items, items_of}
 use Rattle.mms_data.specs.Spelling.{SpellsAll}
 use Rattle.mms_data.proofs.Front.{one_value}
+
+-- memory was not refused
+pub refused : {P : Type 0} → false ≡ true → P
+refused e = absurd (cc)
 
 -- no items are those of no members
 pub no_items_of : (ds : List Data) → items_of ds ≡ no_items → ds ≡ []

@@ -1,5 +1,5 @@
-use Rattle.std.proofs.Common.{◌≡◌, ◌≤◌, ◌⊎◌, ℕ, zero, suc, Option, Some, None, Ok, List, [], inl, inr, ◌++◌, ◌∙◌, ap, subst, sym, arith}
-use Rattle.std.proofs.lemmas.List.{append-nil, length-drop, length-take, nil_from_length}
+use Rattle.std.proofs.Common.{◌≡◌, ◌-◌, ◌<◌, ◌≤◌, ◌⊎◌, ℕ, zero, suc, Option, Some, None, Ok, List, [], inl, inr, ◌++◌, ◌∙◌, length, ap, subst, sym, append_assoc, arith}
+use Rattle.std.proofs.lemmas.List.{append-nil, length-append, length-drop, length-take, nil_from_length, take_at}
 use Rattle.std.specs.Io.KnownBytes.{Consumes}
 use Rattle.list_core.specs.Device.{GivesOctets, KeepsOrForgets, ending_after}
 use Rattle.list_core.specs.declared.device.DeviceFault.{DeviceFault}
@@ -15,10 +15,14 @@ asked : (a b : Option (List ℕ)) (x y : InputEnd) (held given : List ℕ) → (
 asked a b x y held given (inl p) e = inl (p.0, p.1, e)
 asked a b x y held given (inr p) e = inr (p, inl e)
 
+-- what is wanting was so before it was given anything
+wanting_before : {X : Type 0} (held given now : List ℕ) → now ≡ held ++ given → IsWanting now → ((given ≡ []) × X) ⊎ IsWanting held → IsWanting held
+wanting_before held given now e w (inl p) = subst IsWanting (e ∙ ap (λ l. held ++ l) p.0 ∙ append-nil held) w
+wanting_before held given now e w (inr p) = p
+
 -- what was asked, where a last read gave nothing to what was wanting
 asked_last : (a b c : Option (List ℕ)) (x z : InputEnd) (held given now : List ℕ) → now ≡ held ++ given → IsWanting now → ((given ≡ []) × (b ≡ a)) ⊎ IsWanting held → OnlyWanting a x held given c z
-asked_last a b c x z held given now e w (inl p) = inr (subst IsWanting (e ∙ ap (λ l. held ++ l) p.0 ∙ append-nil held) w, inr (subst IsWanting e w))
-asked_last a b c x z held given now e w (inr p) = inr (p, inr (subst IsWanting e w))
+asked_last a b c x z held given now e w k = inr (wanting_before held given now e w k, inr (subst IsWanting e w))
 
 -- a last read that failed
 Gives-failed : (a b c : Option (List ℕ)) (xs : List ℕ) → Consumes a b xs → KeepsOrForgets b c → GivesOctets a c xs
@@ -35,6 +39,31 @@ takes Failed a b xs p = Gives-from_Consumes a b xs p
 at_end : (w : InputEnd) (n : ℕ) → w ≡ ending_after {E = DeviceFault} (Ok n) → n ≤ 0 → w ≡ End
 at_end w zero e h = e
 at_end w (suc n) e h = absurd (omega (arith, h))
+
+at_open : (w : InputEnd) (n : ℕ) → w ≡ ending_after {E = DeviceFault} (Ok n) → 0 < n → w ≡ Open
+at_open w zero e h = absurd (omega (arith, h))
+at_open w (suc n) e h = e
+
+pub reads-preserved : goal.reads-preserved
+reads-preserved g c =
+    let before = c.reads.invariant in
+    let t = before.given in
+    let f = c.in-Ok.ensures.given in
+    let now = held c.reads.self in
+    let size : length now ≡ c.reads.self.end - c.reads.self.start = simp (length-take, length-drop) (omega arith) in record {
+      within = rw f.3 (omega (arith, size, length-append now f.0));
+      before = rw (f.3, take_at now f.0 _ size) c.in_default.ensures;
+      given = (
+        t.0 ++ f.0,
+        f.3 ∙ ap (λ l. l ++ f.0) t.1 ∙ append_assoc (held c.args.self.now) t.0 f.0,
+        inl (sym before.ending ∙ sym c.in-Open.ensures),
+        Consumes-append _ _ _ _ _ t.3 f.2,
+        inr (wanting_before _ _ _ t.1 (c.in_default.ensures, omega (arith, size)) t.4),
+      );
+      ending = at_open _ c.in-Ok.count c.in-Ok.ensures.ending c.if-count-gt0.true ∙ c.in-Open.ensures ∙ before.ending;
+      taken = c.in-Ok.ensures.taken ∙ before.taken;
+      number = c.in-Ok.ensures.number ∙ before.number;
+    }
 
 pub returns-in-Some-clause-given : goal.returns-in-Some-clause-given
 returns-in-Some-clause-given g c =
