@@ -1,6 +1,8 @@
 //! What is refused, in which order, and what is left as it was.
 
-use crate::exchange::publish::frames::{NO_TIME, booleans, changed, control, is_changed, publisher, step};
+use crate::exchange::publish::frames::{
+    NO_TIME, booleans, changed, control, is_changed, publisher, step,
+};
 use mms_data::{Octets, UtcTime, Value, ValueList};
 use publish_core::{Control, PublishFault, Publisher, Step, Table};
 use std::alloc::{AllocError, Global};

@@ -1,6 +1,8 @@
 //! A whole run: which frames come when, with which numbers, and the greatest moment so far.
 
-use crate::exchange::publish::frames::{NO_TIME, booleans, control, frame, is_changed, publisher, step};
+use crate::exchange::publish::frames::{
+    NO_TIME, booleans, control, frame, is_changed, publisher, step,
+};
 use mms_data::ValueList;
 use publish_core::Publisher;
 use std::alloc::{AllocError, Global};
