@@ -1,5 +1,11 @@
 -- What the fields of a line say, shape by shape.
-use Rattle.std.proofs.Common.{Option, Some, None, Result, Err, true, ◌&&◌, ◌≡◌, ◌+◌, ◌<◌, ℕ, List, [], ◌∷◌, length, take, drop, ap, sym, subst, ◌∙◌, refl, arith, Bor, is_some}
+use Rattle.std.proofs.Common.{Option, Some, None, Result, Err, true, false, if◌then◌else◌, ◌&&◌, ◌≡◌, ◌+◌, ◌*◌, ◌<◌, ◌≤◌, ℕ, List, [], ◌∷◌, length, get_or, take, drop, ap, sym, subst, ◌∙◌, refl, arith, Bor, is_some}
+use Rattle.std.specs.List.{list_all}
+use Rattle.std.specs.Char.{is_ascii_digit}
+use Rattle.std.specs.Str.Parse.{digits_value}
+use Rattle.std.proofs.lemmas.Bool.Decides.{nat_tests}
+use Rattle.std.proofs.lemmas.List.{length-take}
+use Rattle.std.proofs.lemmas.List.Folds.{list_all_at}
 use Rattle.list_core.specs.declared.event.Event.{Event}
 use Rattle.list_core.specs.declared.line_rules.LineError.{LineError}
 use Rattle.list_core.specs.declared.list_fault.ListCause.{ListCause}
@@ -7,8 +13,8 @@ use Rattle.list_core.specs.declared.list_fault.ListCause.TheVariants.{LineForm, 
 use Rattle.list_core.specs.declared.event_lines.MomentUnit.{MomentUnit}
 use Rattle.list_core.specs.Cuts.{HasNo}
 use Rattle.list_core.specs.computed.PrivateOctets.{IsFirstPlace}
-use Rattle.list_core.specs.EventLine.{fields, event_of_fields, fields_keep, frame_event, frame_octets_by, is_moment, moment_of}
-use Rattle.list_core.specs.computed.LineAnswer.{Answers, fields_after}
+use Rattle.list_core.specs.EventLine.{fields, event_of_fields, fields_keep, frame_event, frame_octets_by, is_moment, microseconds_in, moment_of, most_digits}
+use Rattle.list_core.specs.computed.LineAnswer.{Answers, IsFront, fields_after}
 use Rattle.list_core.proofs.Cuts.{cut_some, cut-first, cut-rest}
 use Rattle.list_core.proofs.LineShapes.{hex_digits_word, octets_to, some_is}
 use Rattle.list_core.proofs.Pairs.{and_true}
@@ -62,9 +68,15 @@ keeps_frame v [] h a b = absurd (omega arith)
 keeps_frame v (m ∷ ms) [] a b = absurd (omega arith)
 keeps_frame v (m ∷ ms) (h ∷ hs) a b = refl
 
+moment_some : (v : MomentUnit) (m : List ℕ) → is_some (moment_of v m) ≡ is_moment v m
+moment_some v m = elim (is_moment v m) as (λ b. is_some (if b then Some (digits_value 10 m * microseconds_in v) else None) ≡ b) [
+  | true ↦ refl
+  | false ↦ refl
+]
+
 -- digits that write octets are one field
 pub frame_answer : {A : Type 0} (r : Result (Option (Event A)) (LineError ListCause)) (v : MomentUnit) (xs m h : List ℕ) → fields xs ≡ m ∷ fields h → 0 < length m → is_some (frame_octets_by h) ≡ true
-    → Answers r (frame_event (moment_of v m) (frame_octets_by h)) (is_moment v m) → Answers r (event_of_fields v ((70 ∷ []) ∷ fields xs)) (fields_keep v ((70 ∷ []) ∷ fields xs))
+    → Answers r (frame_event (moment_of v m) (frame_octets_by h)) (is_some (moment_of v m)) → Answers r (event_of_fields v ((70 ∷ []) ∷ fields xs)) (fields_keep v ((70 ∷ []) ∷ fields xs))
 frame_answer {A = A} r v xs m h cut some good answer =
     let octets = some_is (frame_octets_by h) good in
     let written = octets_to h octets.0 octets.1 in
@@ -72,6 +84,16 @@ frame_answer {A = A} r v xs m h cut some good answer =
     let none : HasNo 32 h = word-HasNo 32 h (omega arith) (hex_digits_word h octets.0 written.2) in
     let said : event_of_fields {A = A} v ((70 ∷ []) ∷ fields xs) ≡ frame_event (moment_of v m) (frame_octets_by h) =
     ap (λ ps. event_of_fields {A = A} v ((70 ∷ []) ∷ ps)) cut ∙ one_field v m h some there none in
-    let keeps : fields_keep v ((70 ∷ []) ∷ fields xs) ≡ is_moment v m =
-    ap (λ ps. fields_keep v ((70 ∷ []) ∷ ps)) (cut ∙ ap (λ ps. m ∷ ps) (cut-rest 32 h none)) ∙ keeps_frame v m h some there ∙ ap (λ b. is_moment v m && b) good ∙ and_true (is_moment v m) in
-    subst (λ k. Answers r (event_of_fields {A = A} v ((70 ∷ []) ∷ fields xs)) k) (sym keeps) (subst (λ s. Answers r s (is_moment v m)) (sym said) answer)
+    let keeps : fields_keep v ((70 ∷ []) ∷ fields xs) ≡ is_some (moment_of v m) =
+    ap (λ ps. fields_keep v ((70 ∷ []) ∷ ps)) (cut ∙ ap (λ ps. m ∷ ps) (cut-rest 32 h none)) ∙ keeps_frame v m h some there ∙ ap (λ b. is_moment v m && b) good ∙ and_true (is_moment v m) ∙ sym (moment_some v m) in
+    subst (λ k. Answers r (event_of_fields {A = A} v ((70 ∷ []) ∷ fields xs)) k) (sym keeps) (subst (λ s. Answers r s (is_some (moment_of v m))) (sym said) answer)
+
+-- a moment's digits and a space
+pub number_front : (v : MomentUnit) (xs h : List ℕ) (n number : ℕ) → 0 < n → n ≤ most_digits v → n < length xs → get_or xs n 0 ≡ 32
+    → h ≡ drop (n + 1) xs → list_all is_ascii_digit (take n xs) ≡ true → number ≡ digits_value 10 (take n xs) → IsFront v xs (Some (number * microseconds_in v)) h
+number_front v xs h n number some few there space rest digits value =
+    let size : length (take n xs) ≡ n = length-take n xs ∙ omega arith in
+    let is : is_moment v (take n xs) ≡ true = grind (arith, nat_tests, size, digits) in
+    let moment : moment_of v (take n xs) ≡ Some (number * microseconds_in v) = rw is (ap (λ k. Some (k * microseconds_in v)) (sym value)) in
+    let none : HasNo 32 (take n xs) = λ k l e. let other : is_ascii_digit (get_or (take n xs) k 0) ≡ false = rw e refl in let some = list_all_at is_ascii_digit (take n xs) k 0 l other in cc in
+    (take n xs, omega (arith, size), cut-first 32 xs n (there, space, none) ∙ ap (λ ys. take n xs ∷ fields ys) (sym rest), sym moment)

@@ -1,10 +1,11 @@
 //! One line of a list: the event that it says.
-ghost use Rattle.std.specs.Prelude.{◌≡◌, ℕ, List, Option, None, Err, ◌<◌, length, ◌∷◌, [], MatchOption};
-ghost use Rattle.list_core.specs.EventLine.{event_of, event_of_fields, fields, fields_keep, frame_event, is_moment, mode_of, moment_of, frame_octets_by};
-ghost use Rattle.list_core.specs.computed.LineAnswer.{Answers, OctetsAreRead, fields_after};
+ghost use Rattle.std.specs.Prelude.{◌≡◌, ℕ, List, Option, None, Err, ◌<◌, length, ◌∷◌, [], MatchOption, is_some};
+ghost use Rattle.list_core.specs.EventLine.{event_of, event_of_fields, fields, fields_keep, frame_event, mode_of, moment_of, frame_octets_by};
+ghost use Rattle.list_core.specs.declared.list_fault.ListCause.TheVariants.{LineForm};
+ghost use Rattle.list_core.specs.computed.LineAnswer.{Answers, IsFront, OctetsAreRead, fields_after};
 
 use crate::cutting::{cut_short, first_place};
-use crate::decimal::decimal_in;
+use crate::decimal::{decimal_in, number_in_front};
 use crate::event::{Event, EventKind};
 use crate::event_lines::MomentUnit;
 use crate::hexadecimal::octets_by;
@@ -96,18 +97,47 @@ fn frame_in<A: Allocator + Copy>(
 ) -> Result<Option<Event<A>>, LineError<ListCause>>
     ensures { Answers result (event_of_fields unit ((70 ∷ []) ∷ fields rest.now)) (fields_keep unit ((70 ∷ []) ∷ fields rest.now)) }
 {
-    let (moment, rest) = first_field(rest);
-    let Some(digits) = rest else {
+    let Some((moment, digits)) = front_in::<A>(unit, rest) else {
         return Err(LineError::Cause(ListCause::LineForm));
     };
-    if moment.is_empty() {
-        return Err(LineError::Cause(ListCause::LineForm));
-    }
     // Digits that write octets are one field, since none of them is a space.
     match frame_octets_in(alloc, spare, digits) {
-        Some(octets) => frame_event(unit, moment, octets),
+        Some(octets) => frame_event(moment, octets),
         None => Err(LineError::Cause(why_no_frame::<A>(unit, moment, digits))),
     }
+}
+
+/// The moment that the first field writes, if it writes one, and what follows its space; none where it is empty or no space
+/// follows. The digits of a moment are read while their end is looked for.
+#[inline(always)]
+fn front_in<A: Allocator>(unit: MomentUnit, rest: &[u8]) -> Option<(Option<u64>, &[u8])>
+    ensures { MatchOption result (event_of_fields {A = A} unit ((70 ∷ []) ∷ fields rest.now) ≡ Err LineForm) (λ front. IsFront unit rest.now front.0 front.1.now) }
+{
+    let (most, microseconds) = match unit {
+        MomentUnit::Milliseconds => (MOST_MILLISECOND_DIGITS, MICROSECONDS),
+        MomentUnit::Microseconds => (MOST_MICROSECOND_DIGITS, 1),
+    };
+    let (count, number) = number_in_front(rest, most);
+    if 0 < count && count < rest.len() && rest[count] == b' ' {
+        return Some((Some(number * microseconds), &rest[count + 1..]));
+    }
+    front_field::<A>(unit, rest)
+}
+
+/// The same, where something else than digits and a space stands there.
+#[cold]
+#[inline(never)]
+fn front_field<A: Allocator>(unit: MomentUnit, rest: &[u8]) -> Option<(Option<u64>, &[u8])>
+    ensures { MatchOption result (event_of_fields {A = A} unit ((70 ∷ []) ∷ fields rest.now) ≡ Err LineForm) (λ front. IsFront unit rest.now front.0 front.1.now) }
+{
+    let (moment, rest) = first_field(rest);
+    let Some(rest) = rest else {
+        return None;
+    };
+    if moment.is_empty() {
+        return None;
+    }
+    Some((moment_in(unit, moment), rest))
 }
 
 /// Memory for octets: that of a spare event, if it has some.
@@ -139,16 +169,15 @@ fn frame_octets_in<A: Allocator>(
     octets_by(memory_of(alloc, spare), digits)
 }
 
-/// The frame event of a moment and of octets that were read.
+/// The frame event of a moment, if there is one, and of octets that were read.
 #[inline(always)]
 fn frame_event<A: Allocator>(
-    unit: MomentUnit,
-    moment: &[u8],
+    moment: Option<u64>,
     octets: Result<Octets<A>, AllocError>,
 ) -> Result<Option<Event<A>>, LineError<ListCause>>
-    ensures { (written : Option (List ℕ)) → OctetsAreRead octets written → Answers result (frame_event (moment_of unit moment.now) written) (is_moment unit moment.now) }
+    ensures { (written : Option (List ℕ)) → OctetsAreRead octets written → Answers result (frame_event moment written) (is_some moment) }
 {
-    let Some(moment) = moment_in(unit, moment) else {
+    let Some(moment) = moment else {
         return Err(LineError::Cause(ListCause::Moment));
     };
     match octets {
@@ -162,15 +191,14 @@ fn frame_event<A: Allocator>(
 
 /// Why a moment, and what follows its space, say no frame.
 #[cold]
-fn why_no_frame<A: Allocator>(unit: MomentUnit, moment: &[u8], rest: &[u8]) -> ListCause
-    requires moment { 0 < length moment.now }
+fn why_no_frame<A: Allocator>(unit: MomentUnit, moment: Option<u64>, rest: &[u8]) -> ListCause
     requires octets { frame_octets_by rest.now ≡ None }
-    ensures { event_of_fields {A = A} unit ((70 ∷ []) ∷ moment.now ∷ fields rest.now) ≡ Err result }
+    ensures { (xs : List ℕ) → IsFront unit xs moment rest.now → event_of_fields {A = A} unit ((70 ∷ []) ∷ fields xs) ≡ Err result }
 {
     if rest.is_empty() {
         return ListCause::LineForm;
     }
-    match (first_place(rest, b' '), moment_in(unit, moment)) {
+    match (first_place(rest, b' '), moment) {
         (Some(_), _) => ListCause::LineForm,
         (None, None) => ListCause::Moment,
         (None, Some(_)) => ListCause::Hex,
