@@ -8,9 +8,8 @@ use lib.Signed.{le_z}
 use Rattle.byteorder.specs.Endian.{twos_complement}
 use Rattle.ber_core.specs.Length.{number}
 use Rattle.ber_core.specs.Integer.{Int}
-use Rattle.ber_core.specs.Contents.{SpellsBoolean, BooleanFault, SpellsInteger, IntegerFault, no_octet, over_nine, outside, IsVisible, SpellsVisible, VisibleFault, SpellsCounted, CountedFault}
+use Rattle.ber_core.specs.Contents.{SpellsBoolean, BooleanFault, SpellsInteger, IntegerFault, no_octet, over_nine, outside, IsVisible, SpellsVisible, VisibleFault, SpellsCounted, CountedFault, is_visible}
 use Rattle.ber_core.specs.computed.ContentsReading.{all_visible_at, any_integer_at, boolean_at, counted_at, in_range, integer_at, natural, visible_at}
-use Rattle.ber_core.specs.Contents.{is_visible}
 use Rattle.ber_core.specs.Faults.{fault_of}
 use Rattle.ber_core.specs.declared.fault.Fault.{Fault}
 use Rattle.ber_core.specs.declared.fault.Cause.TheVariants as causes

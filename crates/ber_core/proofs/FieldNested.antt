@@ -9,9 +9,8 @@ use Rattle.ber_core.specs.computed.Reading.{◌>>=◌}
 use Rattle.ber_core.specs.Element.{contents_of}
 use Rattle.ber_core.proofs.Steps.{bind_ok, bind_err, err_is}
 pub use Rattle.ber_core.proofs.Steps.{ok_is}
-use Rattle.ber_core.specs.Fields.{Field, Grammar, SpellsFields, FieldsFault}
+use Rattle.ber_core.specs.Fields.{Field, Grammar, SpellsFields, FieldsFault, nested}
 use Rattle.ber_core.specs.computed.FieldReading.{Read, field_at, fields_at, ends_at, are_apart}
-use Rattle.ber_core.specs.Fields.{nested}
 use Rattle.ber_core.proofs.Regions.{behind_front}
 use Rattle.ber_core.proofs.FieldSound.{IsSound, IsPlaced}
 use Rattle.ber_core.proofs.FieldSequence.{fields_found, fields_wrong, fields_again, fields_wrong_again, ended}

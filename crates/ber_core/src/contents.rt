@@ -2,9 +2,8 @@
 
 ghost use Rattle.std.specs.Prelude.{◌≡◌, ◌≤◌, ◌<◌, ◌+◌, ◌-◌, ◌^◌, ◌≤ℤ◌, ℤ, Bool, List, ℕ, Ok, Err, length, IfOk, IfErr, IsOk, false};
 ghost use Rattle.std.specs.List.{list_all};
-ghost use Rattle.ber_core.specs.Contents.{AreVisible, SpellsBoolean, BooleanFault, SpellsInteger, IntegerFault, SpellsVisible, VisibleFault, SpellsCounted, CountedFault, IsContents};
+ghost use Rattle.ber_core.specs.Contents.{AreVisible, SpellsBoolean, BooleanFault, SpellsInteger, IntegerFault, SpellsVisible, VisibleFault, SpellsCounted, CountedFault, IsContents, is_visible};
 ghost use Rattle.ber_core.specs.computed.ContentsReading.{all_visible_at, boolean_at, counted_at, integer_at, visible_at};
-ghost use Rattle.ber_core.specs.Contents.{is_visible};
 ghost use Rattle.ber_core.specs.Element.{contents_of};
 ghost use Rattle.ber_core.specs.computed.Reading.{Gives};
 ghost use Rattle.ber_core.specs.declared.fault.Fault.{Fault};

@@ -1,6 +1,6 @@
 -- Texts that are written for something are not empty.
 use Rattle.std.proofs.Common.{◌≡◌, ℕ, ◌+◌, Bool, true, false, List, [], ◌∷◌, ◌++◌, length, refl}
-use Rattle.std.specs.Prelude.{if◌then◌else◌}
+use Rattle.std.specs.Prelude.{if◌then◌else◌, codes}
 use Rattle.std.specs.Fmt.{decimal}
 use Rattle.std.specs.Str.{bytes_eq}
 use Rattle.pdu_core.specs.declared.sampled.asdu.Asdu.{Asdu}
@@ -10,7 +10,6 @@ use Rattle.text_core.proofs.NonEmpty.{IsThere, ends, fault_there}
 use Rattle.exchange_engines.specs.SampleLine.{Sample}
 use Rattle.exchange_engines.specs.WatchText.{Telling, sample_at, sample_lines, samples_from, telling}
 use Rattle.exchange_engines.specs.computed.WatchStep.{Tells}
-use Rattle.std.specs.Prelude.{codes}
 use Rattle.object_core.specs.EventObject.{event_fields, fault_fields}
 use Rattle.object_core.specs.Objects.{Field, object, object_line}
 use Rattle.exchange_engines.specs.SampleObject.{missing_fields, seen_kind}

@@ -1,11 +1,10 @@
 -- What is written of sightings, one after the other, and what is held then.
 use Rattle.std.proofs.Common.{◌≡◌, ℕ, ◌<◌, ◌≤◌, Bool, true, false, Option, Some, None, List, [], ◌∷◌, ◌++◌, length, map, get_or, set, Result, Ok, Err, ap, sym, ◌∙◌, refl, subst, append_assoc, arith}
-use Rattle.std.specs.Prelude.{if◌then◌else◌}
+use Rattle.std.specs.Prelude.{if◌then◌else◌, OnErr, OnOk}
 use Rattle.std.specs.List.{concat, insert}
 use Rattle.std.specs.Str.{bytes_eq}
 use Rattle.std.proofs.lemmas.List.{append-nil, map-append}
 use Rattle.std.proofs.lemmas.Slice.Eq.{bytes_eq-Decides}
-use Rattle.std.specs.Prelude.{OnErr, OnOk}
 use Rattle.std.proofs.lemmas.List.Concat.{flat_map-append}
 use Rattle.list_core.proofs.Emptiness.{back_nil, front_nil}
 use Rattle.list_core.specs.declared.event.Event.{Event}

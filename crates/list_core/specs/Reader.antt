@@ -1,9 +1,8 @@
 -- What a reader of lines stands for.
-use Rattle.std.specs.Prelude.{◌≡◌, ◌⊎◌, ℕ, length, ◌+◌, ◌≤◌, List, Option, Result, Ok, Err, slice_range}
+use Rattle.std.specs.Prelude.{◌≡◌, ◌⊎◌, ℕ, length, ◌+◌, ◌≤◌, List, Option, Result, Ok, Err, slice_range, Some, None, [], ◌++◌, MatchResult}
 use Rattle.list_core.specs.declared.device.InputEnd.{InputEnd}
 use Rattle.list_core.specs.declared.list_fault.ListFault.{ListFault}
 use Rattle.list_core.specs.declared.line_reader.LineReader.{LineReader}
-use Rattle.std.specs.Prelude.{Some, None, [], ◌++◌, MatchResult}
 use Rattle.std.specs.Borrow.{Bor}
 use Rattle.std.specs.Io.KnownBytes.{Consumes}
 use Rattle.list_core.specs.Cuts.{HasNo}

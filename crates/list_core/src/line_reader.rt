@@ -3,10 +3,9 @@ ghost use Rattle.std.specs.Prelude.{◌≡◌, ◌≢◌, ℕ, ◌+◌, ◌-◌,
 ghost use Rattle.std.specs.Io.KnownBytes.{Consumes};
 ghost use Rattle.list_core.specs.declared.device.InputEnd.{InputEnd};
 ghost use Rattle.list_core.specs.Cuts.{HasNo};
-ghost use Rattle.list_core.specs.computed.PrivateOctets.{IsFirstPlace};
+ghost use Rattle.list_core.specs.computed.PrivateOctets.{IsFirstPlace, TakesTo};
 ghost use Rattle.list_core.specs.Lines.{without_cr};
 ghost use Rattle.list_core.specs.Device.{ending_after, KeepsOrForgets, GivesOctets, OnlyOpen};
-ghost use Rattle.list_core.specs.computed.PrivateOctets.{TakesTo};
 
 use crate::cutting::first_place;
 use crate::device::{DeviceFault, InputEnd, Source};

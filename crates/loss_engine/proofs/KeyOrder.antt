@@ -1,5 +1,5 @@
 -- The order of keys is total, and keys that compare as one are one.
-use Rattle.std.proofs.Common.{◌≡◌, ℕ, Bool, true, false, List, ap, sym, ◌∙◌, refl, arith}
+use Rattle.std.proofs.Common.{◌≡◌, ℕ, Bool, true, false, List, ap, sym, ◌∙◌, refl, arith, length}
 use Rattle.std.specs.Cmp.{IsTotalOrder}
 use Rattle.std.specs.Ordering.{ordering_then}
 use Rattle.std.specs.declared.cmp.Ordering.{Ordering}
@@ -8,7 +8,6 @@ use Rattle.std.proofs.lemmas.Cmp.{nat_cmp_total, then_total, on_total, nat_list_
 use Rattle.std.proofs.lemmas.Map.Lookups.{exact_unsigned, exact_bytes}
 use Rattle.loss_engine.specs.Sights.{Key, sender, stream}
 use Rattle.loss_engine.specs.computed.KeyOrder.{app_id_of, key_cmp, name_cmp, name_of, rank_by, rank_of, source_of}
-use Rattle.std.proofs.Common.{length}
 
 name_total : IsTotalOrder name_cmp
 name_total = then_total (on_total (λ (x : List ℕ). length x) nat_cmp_total) nat_list_cmp_total

@@ -9,8 +9,7 @@ use Rattle.ber_core.specs.computed.ContentsReading.{all_visible_at, boolean_at}
 use Rattle.ber_core.specs.computed.Reading.{header_at, length_at, ◌>>=◌}
 use Rattle.ber_core.proofs.Headers.{low_found}
 use Rattle.ber_core.proofs.Steps.{bind_ok, pair_is}
-use Rattle.mms_data.specs.Data.{Data, simple, array, boolean, structure, items_of}
-use Rattle.mms_data.specs.Data.{visible as text_of}
+use Rattle.mms_data.specs.Data.{Data, simple, array, boolean, structure, items_of, visible as text_of}
 use Rattle.mms_data.specs.computed.ContentsReading.{simple_at}
 use Rattle.mms_data.specs.computed.KindReading.{kind_at}
 use Rattle.mms_data.specs.computed.Left.{data_or_none, was_read, data_in, AreMembers}

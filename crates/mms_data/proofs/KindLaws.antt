@@ -7,8 +7,7 @@ use Rattle.ber_core.specs.declared.fault.Cause.TheVariants as causes
 use Rattle.ber_core.specs.Faults.{fault_of}
 use Rattle.ber_core.proofs.Steps.{chosen, fault_is}
 use Rattle.mms_data.specs.Kinds.{identifier_of, IsKnown}
-use Rattle.mms_data.specs.computed.KindReading.{kind_at}
-use Rattle.mms_data.specs.computed.KindReading.{kind_or, kind_here}
+use Rattle.mms_data.specs.computed.KindReading.{kind_at, kind_or, kind_here}
 use Rattle.mms_data.specs.declared.kinds.Kind.{Kind}
 use Rattle.mms_data.specs.declared.kinds.Kind.TheVariants.{Array, Structure, Simple as of_kind}
 use Rattle.mms_data.specs.declared.kinds.SimpleKind.TheVariants as kinds

@@ -1,6 +1,5 @@
 -- Reading of each kind of contents is sound.
-use Rattle.std.proofs.Common.{◌≡◌, ℕ, ℤ, pos, negsuc, ◌-◌, ◌+◌, ◌^◌, ◌≤◌, true, leb, List, Result, Ok, Err, refl, sym, ap, subst, ◌∙◌, arith, inl, inr}
-use Rattle.std.proofs.Common.{rules, length, to_z, of_z, w32, Fits}
+use Rattle.std.proofs.Common.{◌≡◌, ℕ, ℤ, pos, negsuc, ◌-◌, ◌+◌, ◌^◌, ◌≤◌, true, leb, List, Result, Ok, Err, refl, sym, ap, subst, ◌∙◌, arith, inl, inr, rules, length, to_z, of_z, w32, Fits}
 use Rattle.std.proofs.lemmas.Bool.{leb-true, le-leb, and_parts, false_from_ne_true}
 use Rattle.std.proofs.lemmas.Int.{ints}
 use Rattle.std.specs.Borrow.{Bor}

@@ -1,6 +1,5 @@
 -- Reading of the count of ASDUs, of one ASDU and of ASDUs one after the other is sound.
-use Rattle.std.proofs.Common.{◌≡◌, ℕ, ℤ, pos, negsuc, ◌≤◌, List, Option, Result, Ok, Err, refl, sym, ap, subst, ◌∙◌, arith}
-use Rattle.std.proofs.Common.{rules, to_z, of_z, w16, Fits}
+use Rattle.std.proofs.Common.{◌≡◌, ℕ, ℤ, pos, negsuc, ◌≤◌, List, Option, Result, Ok, Err, refl, sym, ap, subst, ◌∙◌, arith, rules, to_z, of_z, w16, Fits}
 use Rattle.std.proofs.lemmas.Int.{ints}
 use Rattle.std.specs.Prelude.{◌≤ℤ◌, length, slice_range}
 use lib.Dec.{T}

@@ -15,8 +15,7 @@ use Rattle.ber_core.proofs.FieldSound.{field_again}
 use Rattle.ber_core.proofs.Regions.{region-split}
 use Rattle.ber_core.proofs.WrittenLemmas.{short_length-small, written_integer, written_one}
 use Rattle.byteorder.specs.Endian.{big_number}
-use Rattle.pdu_core.specs.Contents.{Kind, Item, SpellsContents, a_fixed, a_flag, a_number, contents_grammar, fixed}
-use Rattle.pdu_core.specs.Contents.{number as a_kind_of_number, flag as a_kind_of_flag}
+use Rattle.pdu_core.specs.Contents.{Kind, Item, SpellsContents, a_fixed, a_flag, a_number, contents_grammar, fixed, number as a_kind_of_number, flag as a_kind_of_flag}
 use Rattle.pdu_core.specs.Written.{written_field, written_item}
 use Rattle.pdu_core.specs.computed.ContentsReading.{item_at}
 use Rattle.pdu_core.proofs.Items.{items_sound}

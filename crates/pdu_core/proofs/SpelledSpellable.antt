@@ -7,8 +7,7 @@ use Rattle.ber_core.specs.Length.{AreOctets, number as octets_number}
 use Rattle.ber_core.specs.Contents.{AreVisible}
 use Rattle.mms_data.proofs.SpelledSpellable.{back_octets, contents_octets, front_octets, items_spellable, simple_spellable}
 use Rattle.mms_data.specs.Data.{items_of, utc}
-use Rattle.pdu_core.specs.Contents.{Item, Kind, SpellsContents, SpellsFixed, a_fixed, a_flag, a_number, a_text, a_time, contents_grammar, few, fixed, flag, members, raw, some_members, some_octets, text, time}
-use Rattle.pdu_core.specs.Contents.{number as a_kind_of_number}
+use Rattle.pdu_core.specs.Contents.{Item, Kind, SpellsContents, SpellsFixed, a_fixed, a_flag, a_number, a_text, a_time, contents_grammar, few, fixed, flag, members, raw, some_members, some_octets, text, time, number as a_kind_of_number}
 use Rattle.pdu_core.specs.Goose.{SpellsGoose, goose_fields, goose_items, text_if}
 use Rattle.pdu_core.specs.SampledSpellable.{IsFixed}
 use Rattle.pdu_core.specs.Spellable.{IsSpellableGoose}

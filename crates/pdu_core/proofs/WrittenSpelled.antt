@@ -15,8 +15,7 @@ use Rattle.ber_core.specs.Contents.{AreVisible}
 use Rattle.mms_data.specs.Utc.{SpellsUtc}
 use Rattle.mms_data.specs.declared.time.UtcTime.{UtcTime}
 use Rattle.mms_data.proofs.WrittenSpelled.{all_written_are_spelled}
-use Rattle.pdu_core.specs.Contents.{Kind, text, flag, time, members, fixed, raw, few, Item, a_text, a_number, a_flag, a_time, some_members, a_fixed, some_octets, SpellsContents, SpellsFixed, contents_grammar}
-use Rattle.pdu_core.specs.Contents.{number as a_kind_of_number}
+use Rattle.pdu_core.specs.Contents.{Kind, text, flag, time, members, fixed, raw, few, Item, a_text, a_number, a_flag, a_time, some_members, a_fixed, some_octets, SpellsContents, SpellsFixed, contents_grammar, number as a_kind_of_number}
 use Rattle.pdu_core.specs.Goose.{goose_fields, goose_items, text_if}
 use Rattle.pdu_core.specs.Laws.{WrittenIsSpelled}
 use Rattle.pdu_core.specs.SampledSpellable.{AreFew, IsFixed}

@@ -3,8 +3,7 @@ use Rattle.std.specs.Prelude.{◌≡◌, ◌≢◌, ℕ, ◌+◌, false, List, [
 use Rattle.ber_core.specs.Length.{Len}
 use Rattle.ber_core.specs.Element.{Elem}
 use Rattle.ber_core.specs.Faults.{fault_of}
-use Rattle.ber_core.specs.Fields.{Field, always, optional, default, Grammar, SpellsFields, FieldsFault}
-use Rattle.ber_core.specs.Fields.{nested}
+use Rattle.ber_core.specs.Fields.{Field, always, optional, default, Grammar, SpellsFields, FieldsFault, nested}
 use Rattle.ber_core.specs.declared.fault.Fault.{Fault}
 use Rattle.ber_core.specs.declared.fault.Cause.TheVariants as causes
 use Rattle.mms_data.specs.Data.{Data}

@@ -3,8 +3,7 @@ use Rattle.std.specs.Prelude.{◌≡◌, ◌≢◌, ℕ, pos, ◌+◌, List, [],
 use Rattle.ber_core.specs.Contents.{SpellsInteger, IntegerFault}
 use Rattle.ber_core.specs.Element.{Elem}
 use Rattle.ber_core.specs.Faults.{fault_of}
-use Rattle.ber_core.specs.Fields.{nested}
-use Rattle.ber_core.specs.Fields.{Field, always, Grammar, SpellsFields, FieldsFault}
+use Rattle.ber_core.specs.Fields.{nested, Field, always, Grammar, SpellsFields, FieldsFault}
 use Rattle.ber_core.specs.Length.{Len}
 use Rattle.ber_core.specs.Repeated.{SpellsEach, EachFault}
 use Rattle.ber_core.specs.declared.fault.Fault.{Fault}

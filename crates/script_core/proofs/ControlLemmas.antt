@@ -2,9 +2,8 @@
 use Rattle.std.proofs.Common.{◌≡◌, ℕ, List, [], ◌∷◌, Option, Some, None, refl}
 use Rattle.frame_core.specs.declared.vlan_tag.VlanTag.{VlanTag}
 use Rattle.block_core.specs.Commas.{octets_in, text_in, word_in}
-use Rattle.script_core.specs.computed.ControlLine.{control_of, control_with}
+use Rattle.script_core.specs.computed.ControlLine.{control_of, control_with, numbers_in}
 use Rattle.script_core.specs.ScriptFields.{tag_in}
-use Rattle.script_core.specs.computed.ControlLine.{numbers_in}
 
 -- no control line says no numbers
 no_numbers : (a b : Option (List ℕ)) (c : Option (Option VlanTag)) (d : Option ℕ) (e f g : Option (List ℕ)) → None ≡ control_with a b c d e f g None

@@ -4,8 +4,7 @@ ghost use Rattle.std.specs.Prelude.{◌≡◌, ℕ, ◌+◌, ◌*◌, ◌≤◌,
 ghost use Rattle.std.specs.Fmt.{decimal};
 ghost use Rattle.hex.specs.Hex.{encode_lower};
 ghost use Rattle.text_core.specs.Pieces.{AppendsText, boolean_text, decimal_or_dash, four_digits};
-ghost use Rattle.text_core.specs.ValueText.{time_or_dash};
-ghost use Rattle.text_core.specs.ValueText.{time_text};
+ghost use Rattle.text_core.specs.ValueText.{time_or_dash, time_text};
 
 use crate::pieces::{BLOCK, block_digits};
 use itoa::write_digits;

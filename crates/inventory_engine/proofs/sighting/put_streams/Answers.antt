@@ -3,9 +3,8 @@ use Rattle.std.proofs.lemmas.List.{append-nil}
 use Rattle.pdu_core.specs.SampledViews.{asdu_of, asdus_left}
 use Rattle.pdu_core.specs.declared.sampled.asdu.Asdu.{Asdu}
 use Rattle.inventory_engine.specs.Sightings.{stream_sightings}
-use Rattle.inventory_engine.specs.computed.BlocksStep.{AppendsLines}
+use Rattle.inventory_engine.specs.computed.BlocksStep.{AppendsLines, telling_at}
 use Rattle.text_core.proofs.Fronts.{front_twice}
-use Rattle.inventory_engine.specs.computed.BlocksStep.{telling_at}
 use Rattle.inventory_engine.proofs.Appending.{on_error, stream_more, streams_wanted}
 use Rattle.inventory_engine.proofs.sighting.put_streams.Goals as goal
 

@@ -1,8 +1,7 @@
 use Rattle.std.proofs.Common.{◌≡◌, ◌++◌, length, map, take}
 use Rattle.pdu_core.specs.SampledViews.{asdu_of, asdus_left}
 use Rattle.inventory_engine.specs.Sightings.{stream_sightings}
-use Rattle.inventory_engine.specs.computed.BlocksStep.{AppendsLines}
-use Rattle.inventory_engine.specs.computed.BlocksStep.{telling_at}
+use Rattle.inventory_engine.specs.computed.BlocksStep.{AppendsLines, telling_at}
 use Rattle.inventory_engine.proofs.sighting.put_streams.Given as goal
 
 abbrev pub invariant-loop-asdu : goal.invariant-loop-asdu

@@ -2,9 +2,8 @@ use Rattle.std.proofs.Common.{◌≡◌, pos, sym, ap, ap₂, ◌∙◌, rules, 
 use Rattle.std.proofs.lemmas.Bool.{and_parts}
 use Rattle.std.specs.Prelude.{slice_range}
 use Rattle.ber_core.specs.Length.{AreOctets}
-use Rattle.ber_core.specs.Written.{written_element}
+use Rattle.ber_core.specs.Written.{written_element, short_integer}
 use Rattle.mms_data.proofs.AsWritten.{header_one}
-use Rattle.ber_core.specs.Written.{short_integer}
 use Rattle.pdu_core.proofs.Standing.{join}
 use Rattle.pdu_core.proofs.sampled.viewing.sv.Goals as goal
 
