@@ -1,6 +1,5 @@
 -- One frame more of an EtherType.
-use Rattle.std.proofs.Common.{◌≡◌, ℕ, Bool, true, false, ◌||◌, List, [], ◌∷◌, map, refl}
-use Rattle.std.specs.List.{list_any}
+use Rattle.std.proofs.Common.{◌≡◌, ℕ, Bool, true, false, ◌||◌, refl}
 use Rattle.std.proofs.lemmas.Bool.{eq-eqb, ne_eqb}
 use Rattle.frame_core.specs.PassedOver.{again, again_of, is_of}
 use Rattle.frame_core.specs.declared.passed_over.Passed.{Passed}
@@ -19,12 +18,3 @@ found_now t k false is = eq-eqb k.ether_type t is
 pub found_before : (t : ℕ) (k : PassedKind) (b : Bool) → (k.ether_type ≡ t → ⊥) → (b || is_of t k) ≡ b
 found_before t k true other = refl
 found_before t k false other = ne_eqb k.ether_type t other
-
--- where no kind has the EtherType, all are left alone
-pub none_counted : (t : ℕ) (ks : List PassedKind) → list_any (is_of t) ks ≡ false → map (again_of t) ks ≡ ks
-none_counted t [] none = refl
-none_counted t (k ∷ ks) none = go (is_of t k) refl (none_counted t ks)
-  where
-    go : (b : Bool) → is_of t k ≡ b → (list_any (is_of t) ks ≡ false → map (again_of t) ks ≡ ks) → map (again_of t) (k ∷ ks) ≡ k ∷ ks
-    go true is rest = absurd (let wrong : true ≡ false = rw is at none in cc)
-    go false is rest = rw (is, rest (rw is at none)) refl

@@ -144,10 +144,6 @@ front_read k o ds few some e is =
       };
     }
 
--- a slice as a whole
-pub all_of : (o : List ℕ) → slice_range o 0 (length o) ≡ o
-all_of o = let none : length o - 0 ≡ length o = omega arith in rw none (take_all (length o) o (omega arith))
-
 module _ (k : ℕ) (o : List ℕ) (few : k ≤ 16) (some : 0 < length o) (good : AreMembers k o) where
   begins : Begins k o
   begins = front_read k o (data_in k o) few some (read_in k o good) refl
