@@ -8,7 +8,7 @@ import tempfile
 
 from helpers.capture_parts import packet
 from helpers.frames import WORKED, element, put
-from helpers.harness import listed, peak_memory, text
+from helpers.harness import listed, peak_memory, slowness, text
 from oracles.reading import CAPTURE, JSON, TIME
 from themes.capture_streams import MANY, START, Long
 from themes.devices import FAULT, Directory, FailsAfter, Full, TriedOnce, Unread
@@ -157,7 +157,7 @@ class InASecond:
         other = next((word for word, total in zip(words, totals) if word not in total), None)
         why = [f"{len(totals)} totals, and not {len(words)}"] if len(totals) != len(words) else []
         why += [f"{other!r} has another place"] if other else []
-        return why + ([f"{seconds:.2f} seconds of a processor"] if seconds > self.MOST else [])
+        return why + ([f"{seconds:.2f} seconds of a processor"] if seconds > self.MOST and seconds > self.MOST * slowness() else [])
 
 
 def in_a_second(made, kind, order):
