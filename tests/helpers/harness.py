@@ -13,8 +13,6 @@ import time
 from oracles import reference
 
 SECONDS = 120
-# What the work of `slowness` takes a processor of 2.5 GHz with a quiet machine to itself, in seconds.
-QUIET = 1.2
 
 
 class Skipped(Exception):
@@ -51,18 +49,6 @@ def run(program, words, given=b"", **how):
         how["input"] = given
     done = subprocess.run([*program, *words], timeout=SECONDS, **how)
     return done.stdout, done.stderr or b"", done.returncode
-
-
-def slowness():
-    """How many times as much processor time as a quiet processor of 2.5 GHz this machine needs now, by the least of three pieces of work; at
-    least 1. Bounds are seconds of such a processor, and other work on a host, which nothing here tells, can double them."""
-    def worked():
-        before = time.process_time()
-        kept = {b"%08x" % (it * 2654435761 % 2**32): it for it in range(400_000)}
-        sum(kept[it] for it in sorted(kept))
-        return time.process_time() - before
-
-    return max(1, min(worked() for _ in range(3)) / QUIET)
 
 
 def peak_memory(words, octets):

@@ -8,7 +8,7 @@ import tempfile
 
 from helpers.capture_parts import packet
 from helpers.frames import WORKED, element, put
-from helpers.harness import listed, peak_memory, slowness, text
+from helpers.harness import listed, peak_memory, text
 from oracles.reading import CAPTURE, JSON, TIME
 from themes.capture_streams import MANY, START, Long
 from themes.devices import FAULT, Directory, FailsAfter, Full, TriedOnce, Unread
@@ -137,10 +137,10 @@ def ran(program, capture):
 
 
 class InASecond:
-    """Senders, or streams, that come by turns take less than a second of a processor, the least of at most ten runs, since other work on
-    a machine makes some slower. Each has its total, in the order in which they came first: these words stand in it."""
+    """Senders, or streams, that come by turns take less than a second of a processor, the least of three runs. Each has its total, in the
+    order in which they came first: these words stand in it."""
 
-    MOST, RUNS = 1.0, 10
+    MOST = 1.0
 
     def __init__(self, name, made, words):
         self.name, self.made, self.words = f"time: {name}", made, words
@@ -150,14 +150,12 @@ class InASecond:
         with tempfile.TemporaryFile() as capture:
             capture.write(self.made())
             seconds, wrote = ran(program, capture)
-            for _ in range(1, self.RUNS):
-                if seconds > self.MOST:
-                    seconds = min(seconds, ran(program, capture)[0])
+            seconds = min([seconds] + [ran(program, capture)[0] for _ in range(2) if seconds > self.MOST])
         totals = [it for it in wrote.splitlines() if it.startswith(b"total ")]
         other = next((word for word, total in zip(words, totals) if word not in total), None)
         why = [f"{len(totals)} totals, and not {len(words)}"] if len(totals) != len(words) else []
         why += [f"{other!r} has another place"] if other else []
-        return why + ([f"{seconds:.2f} seconds of a processor"] if seconds > self.MOST and seconds > self.MOST * slowness() else [])
+        return why + ([f"{seconds:.2f} seconds of a processor"] if seconds > self.MOST else [])
 
 
 def in_a_second(made, kind, order):

@@ -21,7 +21,7 @@ from helpers import made_station
 from helpers.asked_tools import EXAMPLES, TOOLS, ask
 from helpers.capture_parts import block, header, interface, option, packet, record, section
 from helpers.frames import SAMPLED, WORKED, asdu, element, put, with_asdus, with_fields
-from helpers.harness import SECONDS, Skipped, run, slowness
+from helpers.harness import SECONDS, Skipped, run
 from themes.installing import binary
 
 OPTIONS = ["--capture", "--json", "--skip-other"]
@@ -571,8 +571,7 @@ class Fast:
             (folder / "long.pcap").write_bytes(long_capture())
             own = self.seconds_of(program, folder / "long.pcap")
             spent, peak, status = self.measured(program, folder)
-        is_quick = spent - own <= MOST_SECONDS or spent - own <= MOST_SECONDS * slowness()
-        why = [] if is_quick else [f"it takes {spent:.1f} s, and the program {own:.1f} s of these"]
+        why = [] if spent - own <= MOST_SECONDS else [f"it takes {spent:.1f} s, and the program {own:.1f} s of these"]
         why += [] if peak <= MOST_MEMORY else [f"it takes {peak} kB"]
         return why + ([] if status == 1 else [f"ended with status {status}"])
 
