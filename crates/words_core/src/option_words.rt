@@ -1,8 +1,8 @@
 //! The options of the commands that read events, beside words of their own: on the input, and on what is written.
-ghost use Rattle.std.specs.Prelude.{◌≡◌, codes, fold, true, false, IfOk};
-ghost use Rattle.clap.specs.Words.{app_of, found_of, rows_of, rule_of, with_rule, with_subcommand};
+ghost use Rattle.std.specs.Prelude.{◌≡◌, fold, true, false};
+ghost use Rattle.clap.specs.Words.{App, Rule, found_of, rows_of, rule_of, with_rule, with_subcommand};
 ghost use Rattle.words_core.specs.RequestLine.{is_set, options_in, option_named, writing_by};
-ghost use Rattle.words_core.specs.computed.OfferedLine.{is_local, offered_rules, offering, options_by};
+ghost use Rattle.words_core.specs.computed.OfferedLine.{IsApp, IsLocal, offered_rules, offering, options_by};
 
 use clap::{Arg, ArgAction, ArgMatches, Command};
 use std::alloc::{AllocError, Global};
@@ -29,6 +29,9 @@ pub struct Options {
     pub writes: Writing,
 }
 
+/// A command, where memory for it is granted.
+pub type Made<'a> = Result<Command<'a>, AllocError>;
+
 // What the help says of `--capture`.
 const CAPTURE_HELP: &str = "Reads a capture (classic or pcapng) in place of a list";
 
@@ -53,58 +56,63 @@ fn flag_option<'a>(alloc: Global, name: &'a str, help: &'a str) -> Arg<'a>
         .help(help)
 }
 
-// The command with an option without a value.
-fn with_option<'a>(
-    alloc: Global,
-    command: Command<'a>,
-    name: &'a str,
-    help: &'a str,
-) -> Result<Command<'a>, AllocError>
-    ensures app { IfOk result (λ c. app_of c ≡ with_rule (app_of command.entry) (option_named name.now)) }
-    ensures local { IfOk result (λ c. is_local c ≡ is_local command.entry) }
+/// The command with one more argument, where memory for both is granted.
+pub fn with_arg<'a>(command: Made<'a>, arg: Arg<'a>) -> Made<'a>
+    requires { arg.global ≡ false }
+    ensures app { (a : App) (rule : Rule) → rule_of arg.entry ≡ rule → IsApp a command.entry → IsApp (with_rule a rule) result }
+    ensures local { IsLocal command.entry → IsLocal result }
 {
-    command.arg(flag_option(alloc, name, help))
+    match command {
+        Ok(command) => command.arg(arg),
+        Err(error) => Err(error),
+    }
 }
 
 // The command with the options.
-fn with_each<'a>(alloc: Global, command: Command<'a>) -> Result<Command<'a>, AllocError>
-    ensures app { IfOk result (λ c. app_of c ≡ fold with_rule (app_of command.entry) (offered_rules true)) }
-    ensures local { IfOk result (λ c. is_local c ≡ is_local command.entry) }
+fn with_each<'a>(alloc: Global, command: Made<'a>) -> Made<'a>
+    ensures app { (a : App) → IsApp a command.entry → IsApp (fold with_rule a (offered_rules true)) result }
+    ensures local { IsLocal command.entry → IsLocal result }
 {
-    let command = with_option(alloc, command, "capture", CAPTURE_HELP)?;
-    let command = with_option(alloc, command, "skip-other", SKIP_OTHER_HELP)?;
-    let command = with_option(alloc, command, "time", TIME_HELP)?;
-    with_option(alloc, command, "json", JSON_HELP)
+    let command = with_arg(command, flag_option(alloc, "capture", CAPTURE_HELP));
+    let command = with_arg(command, flag_option(alloc, "skip-other", SKIP_OTHER_HELP));
+    let command = with_arg(command, flag_option(alloc, "time", TIME_HELP));
+    with_arg(command, flag_option(alloc, "json", JSON_HELP))
 }
 
 // The command with the options, where they are offered.
-fn with_options<'a>(
-    alloc: Global,
-    command: Command<'a>,
-    offers: bool,
-) -> Result<Command<'a>, AllocError>
-    ensures app { IfOk result (λ c. app_of c ≡ offering offers (app_of command.entry)) }
-    ensures local { IfOk result (λ c. is_local c ≡ is_local command.entry) }
+fn with_options<'a>(alloc: Global, command: Made<'a>, offers: bool) -> Made<'a>
+    ensures app { (a : App) → IsApp a command.entry → IsApp (offering offers a) result }
+    ensures local { IsLocal command.entry → IsLocal result }
 {
     if offers {
         with_each(alloc, command)
     } else {
-        Ok(command)
+        command
     }
 }
 
-/// The program with one more subcommand, which takes the options where they are offered.
+// The program with one more subcommand, where memory for both is granted.
+fn with_command<'a>(program: Made<'a>, command: Made<'a>) -> Made<'a>
+    requires { IsLocal command }
+    ensures { (a b : App) → IsApp a program.entry → IsApp b command.entry → IsApp (with_subcommand a b.top) result }
+{
+    match (program, command) {
+        (Ok(program), Ok(command)) => program.subcommand(command),
+        _ => Err(AllocError),
+    }
+}
+
+/// The program with one more subcommand, which takes the options where they are offered, where memory for both is granted.
 pub fn with_offering<'a>(
     alloc: Global,
-    program: Command<'a>,
-    command: Command<'a>,
+    program: Made<'a>,
+    command: Made<'a>,
     offers: bool,
-) -> Result<Command<'a>, AllocError>
-    requires { is_local command ≡ true }
-    ensures { IfOk result (λ c. app_of c ≡ with_subcommand (app_of program.entry) (offering offers (app_of command.entry)).top) }
+) -> Made<'a>
+    requires { IsLocal command }
+    ensures { (a b : App) → IsApp a program.entry → IsApp b command.entry → IsApp (with_subcommand a (offering offers b).top) result }
 {
-    let command = with_options(alloc, command, offers)?;
-    program.subcommand(command)
+    with_command(program, with_options(alloc, command, offers))
 }
 
 // Whether an option without a value is given.

@@ -1,18 +1,18 @@
 //! The command line of the program `goose`. The parser of words, `clap`, is called here alone.
 ghost use Rattle.std.specs.Prelude.{◌≡◌, ◌≢◌, ℕ, true, false, codes, fold, map, option_map, Some, [], IfOk, IfErr, Err, Ok, option_and_then};
-ghost use Rattle.clap.specs.Words.{all_of, app_of, found_of, kind_of, new_app, rows_of, rule_of, subcommand_rows_of, takes, with_subcommand};
+ghost use Rattle.clap.specs.Words.{App, all_of, app_of, found_of, kind_of, new_app, rows_of, rule_of, subcommand_rows_of, takes, with_subcommand};
 ghost use Rattle.clap.specs.Walk.{texts};
 ghost use Rattle.clap.specs.declared.error.kind.ErrorKind.TheVariants.{OutOfMemory};
 ghost use Rattle.words_core.specs.CommandLine.{AnswersBadBlock, AnswersTask, Asked, Asks, HasPeriod, IsNoMistake, MayRefuse, bare_program, block_rule, command_line, faults, id_rule, is_plain, name_of, period_rule, readers, replay_of, replay_shape, asked_by, task_asked, task_of_words, watch, watch_asked, watch_shape};
 ghost use Rattle.words_core.specs.computed.PrivateCalls.{AnswersWords, MayAnswer};
 ghost use Rattle.words_core.specs.RequestLine.{AnsweredAlike, AnswersRequest, AsksWith, MayRefuseRequest, RefusesBlock, losses_asked, request_faults, request_of_words, stream_period_rule, takes_request};
-ghost use Rattle.words_core.specs.computed.OfferedLine.{IsExclusion, MayGrant, MayRefuseBy, agrees_by, asked_for, line_of, mistakes_by, offered, reader_shapes, request_by, wish_by, with_losses};
+ghost use Rattle.words_core.specs.computed.OfferedLine.{IsApp, IsExclusion, IsLocal, MayGrant, MayRefuseBy, agrees_by, asked_for, line_of, mistakes_by, offered, reader_shapes, request_by, wish_by, with_losses};
 
-use crate::option_words::{Options, options_by, with_offering};
+use crate::option_words::{Made, Options, options_by, with_arg, with_offering};
 use block_core::{Block, BlockError, read_block};
 use clap::error::ErrorKind;
 use clap::{Arg, ArgMatches, Command, value_parser};
-use std::alloc::{AllocError, Global};
+use std::alloc::Global;
 use thiserror::Error;
 
 /// What a command line asks for.
@@ -143,22 +143,38 @@ fn program<'a>(alloc: Global) -> Command<'a>
         .subcommand_required(true)
 }
 
+// A command before its words.
+fn named<'a>(
+    alloc: Global,
+    name: &'a str,
+    about: &'a str,
+    example: &'a str,
+    more: &'a str,
+) -> Made<'a>
+    ensures app { IsApp (new_app name.now) result }
+    ensures local { IsLocal result }
+{
+    Ok(
+        Command::new(alloc, name)
+            .before_help(example)
+            .after_help(more)
+            .about(about),
+    )
+}
+
 // The program with one more subcommand, which takes no words of its own, but the options where they are offered.
 fn with_plain<'a>(
     alloc: Global,
-    program: Command<'a>,
+    program: Made<'a>,
     offers: bool,
     name: &'a str,
     about: &'a str,
     example: &'a str,
     more: &'a str,
-) -> Result<Command<'a>, AllocError>
-    ensures { IfOk result (λ c. app_of c ≡ with_subcommand (app_of program.entry) (offered offers (new_app name.now).top)) }
+) -> Made<'a>
+    ensures { (a : App) → IsApp a program.entry → IsApp (with_subcommand a (offered offers (new_app name.now).top)) result }
 {
-    let plain = Command::new(alloc, name)
-        .before_help(example)
-        .after_help(more)
-        .about(about);
+    let plain = named(alloc, name, about, example, more);
     with_offering(alloc, program, plain, offers)
 }
 
@@ -173,21 +189,17 @@ fn block_words<'a>(alloc: Global) -> Arg<'a>
 }
 
 // The program with the subcommand `replay`.
-fn with_replay<'a>(
-    alloc: Global,
-    program: Command<'a>,
-    offers: bool,
-) -> Result<Command<'a>, AllocError>
-    ensures { IfOk result (λ c. app_of c ≡ with_subcommand (app_of program.entry) (offered offers replay_shape)) }
+fn with_replay<'a>(alloc: Global, program: Made<'a>, offers: bool) -> Made<'a>
+    ensures { (a : App) → IsApp a program.entry → IsApp (with_subcommand a (offered offers replay_shape)) result }
 {
-    let replay = Command::new(alloc, "replay")
-        .before_help(
-            "Example: goose replay --capture '3001,BAY1PROT/LLN0$GO$gcbTrip,BAY1PROT/LLN0$dsTrip,BAY1_Trip,1,2' < examples/two_bays.pcapng",
-        )
-        .after_help(REPLAY_MORE)
-        .about("Shows what a device that subscribes to control blocks does with each frame")
-        .arg(block_words(alloc))?;
-    with_offering(alloc, program, replay, offers)
+    let replay = named(
+        alloc,
+        "replay",
+        "Shows what a device that subscribes to control blocks does with each frame",
+        "Example: goose replay --capture '3001,BAY1PROT/LLN0$GO$gcbTrip,BAY1PROT/LLN0$dsTrip,BAY1_Trip,1,2' < examples/two_bays.pcapng",
+        REPLAY_MORE,
+    );
+    with_offering(alloc, program, with_arg(replay, block_words(alloc)), offers)
 }
 
 // What the help of `watch` says of `--period`.
@@ -231,48 +243,42 @@ fn id_option<'a>(alloc: Global) -> Arg<'a>
 }
 
 // The program with the subcommand `watch`.
-fn with_watch<'a>(
-    alloc: Global,
-    program: Command<'a>,
-    offers: bool,
-) -> Result<Command<'a>, AllocError>
-    ensures { IfOk result (λ c. app_of c ≡ with_subcommand (app_of program.entry) (offered offers watch_shape)) }
+fn with_watch<'a>(alloc: Global, program: Made<'a>, offers: bool) -> Made<'a>
+    ensures { (a : App) → IsApp a program.entry → IsApp (with_subcommand a (offered offers watch_shape)) result }
 {
-    let watch = Command::new(alloc, "watch")
-        .before_help("Example: goose watch --period 4000 --id MU01 < examples/sample_counts.list")
-        .after_help(WATCH_MORE)
-        .about("Shows each sample of one stream, and whether its count is the next one")
-        .arg(period_option(alloc))?
-        .arg(id_option(alloc))?;
-    with_offering(alloc, program, watch, offers)
+    let watch = named(
+        alloc,
+        "watch",
+        "Shows each sample of one stream, and whether its count is the next one",
+        "Example: goose watch --period 4000 --id MU01 < examples/sample_counts.list",
+        WATCH_MORE,
+    );
+    let watch = with_arg(watch, period_option(alloc));
+    with_offering(alloc, program, with_arg(watch, id_option(alloc)), offers)
 }
 
 // The program with the subcommand `losses`, where options are offered.
-fn with_losses<'a>(
-    alloc: Global,
-    program: Command<'a>,
-    offers: bool,
-) -> Result<Command<'a>, AllocError>
-    ensures { IfOk result (λ c. app_of c ≡ with_losses offers (app_of program.entry)) }
+fn with_losses<'a>(alloc: Global, program: Made<'a>, offers: bool) -> Made<'a>
+    ensures { (a : App) → IsApp a program.entry → IsApp (with_losses offers a) result }
 {
-    if !offers {
-        return Ok(program);
+    if offers {
+        let losses = named(
+            alloc,
+            "losses",
+            "Shows what is missing of each control block and stream, and when",
+            "Example: goose losses --capture < examples/two_bays.pcapng",
+            LOSSES_MORE,
+        );
+        let losses = with_arg(losses, stream_period_option(alloc, STREAM_PERIOD_HELP));
+        with_offering(alloc, program, losses, true)
+    } else {
+        program
     }
-    let losses = Command::new(alloc, "losses")
-        .before_help("Example: goose losses --capture < examples/two_bays.pcapng")
-        .after_help(LOSSES_MORE)
-        .about("Shows what is missing of each control block and stream, and when")
-        .arg(stream_period_option(alloc, STREAM_PERIOD_HELP))?;
-    with_offering(alloc, program, losses, true)
 }
 
 // The program with the subcommands that read a list and take no words of their own.
-fn with_readers<'a>(
-    alloc: Global,
-    program: Command<'a>,
-    offers: bool,
-) -> Result<Command<'a>, AllocError>
-    ensures { IfOk result (λ c. app_of c ≡ fold with_subcommand (app_of program.entry) (reader_shapes offers)) }
+fn with_readers<'a>(alloc: Global, program: Made<'a>, offers: bool) -> Made<'a>
+    ensures { (a : App) → IsApp a program.entry → IsApp (fold with_subcommand a (reader_shapes offers)) result }
 {
     let program = with_plain(
         alloc,
@@ -282,7 +288,7 @@ fn with_readers<'a>(
         "Shows each event on one line: every field of a frame, or its first error",
         "Example: goose show --capture --time < examples/two_bays.pcapng",
         SHOW_MORE,
-    )?;
+    );
     let program = with_plain(
         alloc,
         program,
@@ -291,7 +297,7 @@ fn with_readers<'a>(
         "Writes a line for each error of a frame, and for each note on a valid one",
         "Example: goose check --capture < examples/two_bays.pcapng",
         CHECK_MORE,
-    )?;
+    );
     let program = with_plain(
         alloc,
         program,
@@ -300,7 +306,7 @@ fn with_readers<'a>(
         "Writes the list again, each valid frame in its canonical encoding",
         "Example: goose rewrite < examples/long_lengths.list",
         REWRITE_MORE,
-    )?;
+    );
     with_plain(
         alloc,
         program,
@@ -313,12 +319,12 @@ fn with_readers<'a>(
 }
 
 // The whole command line, with the options where they are offered.
-fn command<'a>(alloc: Global, offers: bool) -> Result<Command<'a>, AllocError>
-    ensures { IfOk result (λ c. app_of c ≡ line_of offers) }
+fn command<'a>(alloc: Global, offers: bool) -> Made<'a>
+    ensures { IsApp (line_of offers) result }
 {
-    let program = program(alloc);
-    let program = with_readers(alloc, program, offers)?;
-    let program = with_replay(alloc, program, offers)?;
+    let program = Ok(program(alloc));
+    let program = with_readers(alloc, program, offers);
+    let program = with_replay(alloc, program, offers);
     let program = with_plain(
         alloc,
         program,
@@ -327,9 +333,9 @@ fn command<'a>(alloc: Global, offers: bool) -> Result<Command<'a>, AllocError>
         "Reads a script and writes the list of frames that a publisher sends",
         "Example: goose publish < examples/publisher.script",
         PUBLISH_MORE,
-    )?;
-    let program = with_watch(alloc, program, offers)?;
-    let program = with_losses(alloc, program, offers)?;
+    );
+    let program = with_watch(alloc, program, offers);
+    let program = with_losses(alloc, program, offers);
     with_plain(
         alloc,
         program,

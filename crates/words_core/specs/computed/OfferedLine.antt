@@ -1,6 +1,7 @@
 -- The command line with the options offered or not, of which both public calls are cases.
-use Rattle.std.specs.Prelude.{◌≡◌, ◌||◌, Bool, true, false, not, List, [], ◌∷◌, ◌++◌, map, fold, Option, Some, None, Result, Ok, Err, is_some, option_and_then, option_map, if◌then◌else◌}
-use Rattle.clap.specs.Words.{App, IsAmong, Kinds, Row, Rule, Shape, Text, fault_of, kind_of, subcommand_of, with_subcommand}
+use Rattle.std.specs.Prelude.{◌≡◌, ◌||◌, Bool, true, false, not, List, [], ◌∷◌, ◌++◌, map, fold, Option, Some, None, Result, IfOk, Ok, Err, is_some, option_and_then, option_map, if◌then◌else◌}
+use Rattle.std.specs.declared.alloc.AllocError.{AllocError}
+use Rattle.clap.specs.Words.{App, IsAmong, Kinds, Row, Rule, Shape, Text, fault_of, app_of, kind_of, subcommand_of, with_subcommand}
 use Rattle.clap.specs.Kinds.{or_else}
 use Rattle.clap.specs.declared.error.kind.ErrorKind.TheVariants as kind
 use Rattle.clap.specs.declared.builder.command.Command.{Command}
@@ -23,9 +24,13 @@ offered offers s = record s { rules = s.rules ++ offered_rules offers }
 abbrev pub offering : Bool → App → App
 offering offers a = record a { top = offered offers a.top }
 
--- no argument of the command is one of its subcommands too
-abbrev pub is_local : Command → Bool
-is_local c = not (out-Command c).has_globals
+-- the command is this one, where memory for it is granted
+abbrev pub IsApp : App → Result Command AllocError → Type 0
+IsApp a answer = IfOk answer (λ c. app_of c ≡ a)
+
+-- no argument of it is one of its subcommands too
+abbrev pub IsLocal : Result Command AllocError → Type 0
+IsLocal answer = IfOk answer (λ c. (out-Command c).has_globals ≡ false)
 
 -- the subcommands that read a list and take no words but the options
 abbrev pub reader_shapes : Bool → List Shape

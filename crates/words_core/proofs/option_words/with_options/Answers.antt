@@ -2,7 +2,7 @@ use Rattle.std.proofs.Common.{◌≡◌, ◌∙◌, Bool, true, List, [], ◌∷
 use Rattle.std.specs.Prelude.{fold}
 use Rattle.std.proofs.lemmas.List.{append-nil}
 use Rattle.std.proofs.lemmas.Result.{IfOk-weaker}
-use Rattle.clap.specs.Words.{App, Rule, app_of, with_rule}
+use Rattle.clap.specs.Words.{App, Rule, with_rule}
 use Rattle.words_core.specs.computed.OfferedLine.{offered_rules, offering}
 use Rattle.words_core.proofs.option_words.with_options.Goals as goal
 
@@ -15,9 +15,8 @@ each_added [] a = ap (with_rules a) (sym (append-nil a.top.rules))
 each_added (r ∷ rules) a = each_added rules (with_rule a r) ∙ ap (with_rules a) (append_assoc a.top.rules (r ∷ []) rules)
 
 pub returns-then-offers-clause-app : goal.returns-then-offers-clause-app
-returns-then-offers-clause-app c =
-    let a = app_of c.args.command in
-    IfOk-weaker c.with_each.result _ _ (λ r h. h ∙ each_added (offered_rules true) a ∙ ap (λ (b : Bool). offering b a) (sym c.if-offers.true)) c.with_each.ensures.app
+returns-then-offers-clause-app c a h =
+    IfOk-weaker c.with_each.result _ _ (λ r e. e ∙ each_added (offered_rules true) a ∙ ap (λ (b : Bool). offering b a) (sym c.if-offers.true)) (c.with_each.ensures.app a h)
 
 pub returns-else-offers-clause-app : goal.returns-else-offers-clause-app
-returns-else-offers-clause-app c = let a = app_of c.args.command in each_added [] a ∙ ap (λ (b : Bool). offering b a) (sym c.if-offers.false)
+returns-else-offers-clause-app c a h = IfOk-weaker c.args.command _ _ (λ r e. e ∙ each_added [] a ∙ ap (λ (b : Bool). offering b a) (sym c.if-offers.false)) h

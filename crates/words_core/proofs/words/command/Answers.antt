@@ -1,4 +1,4 @@
-use Rattle.std.proofs.Common.{◌≡◌, ◌∙◌, Bool, true, false, ap, refl}
+use Rattle.std.proofs.Common.{◌≡◌, ◌∙◌, Bool, true, false, refl}
 use Rattle.std.specs.Prelude.{fold}
 use Rattle.std.proofs.lemmas.Result.{IfOk-weaker}
 use Rattle.clap.specs.Words.{App, with_subcommand}
@@ -17,10 +17,7 @@ whole false = refl
 
 pub returns : goal.returns
 returns c =
-    let offers = c.args.offers in
-    let readers = c.in_ok-program.ensures ∙ ap (λ (a : App). fold with_subcommand a (reader_shapes offers)) c.program-program.ensures in
-    let replays = c.in_ok-program-2.ensures ∙ ap (λ (a : App). with_subcommand a (offered offers replay_shape)) readers in
-    let publishes = c.in_ok-program-3.ensures ∙ ap (λ (a : App). with_subcommand a (plain publish).shape) replays in
-    let watches = c.in_ok-program-4.ensures ∙ ap (λ (a : App). with_subcommand a (offered offers watch_shape)) publishes in
-    let losses = c.in_ok-program-5.ensures ∙ ap (with_losses offers) watches in
-    IfOk-weaker c.with_plain-2.result _ _ (λ r h. h ∙ ap (λ (a : App). with_subcommand a (plain import).shape) losses ∙ whole offers) c.with_plain-2.ensures
+    let readers = c.with_readers-program.ensures _ c.program.ensures in
+    let publishes = c.with_plain-program.ensures _ (c.with_replay-program.ensures _ readers) in
+    let losses = c.with_losses-program.ensures _ (c.with_watch-program.ensures _ publishes) in
+    IfOk-weaker c.with_plain.result _ _ (λ r e. e ∙ whole c.args.offers) (c.with_plain.ensures _ losses)
