@@ -1,6 +1,7 @@
 """What goose says of one capture: its lines as they come, its messages, and where the capture breaks off."""
 import contextlib
 import fcntl
+import itertools
 import os
 import re
 import select
@@ -40,6 +41,10 @@ class Asked:
 
     def lines(self, what, command, *words):
         """The lines of a command, as octets. What is being done is told to a terminal meanwhile."""
+        return itertools.chain.from_iterable(self.parts(what, command, *words))
+
+    def parts(self, what, command, *words):
+        """The lines of a command, as many at once as a piece of its output has."""
         asked = [command, *OPTIONS, *words]
         self.commands.append(asked)
         with open(self.path, "rb") as given, tempfile.TemporaryFile() as said:
@@ -56,16 +61,16 @@ class Asked:
             self.end(command, ran.returncode, last, said.read().decode("utf-8", "replace"))
 
     def split(self, what, pipe, given):
-        """The lines of a pipe, and the last of them."""
+        """The lines of each piece of a pipe, and the last line."""
         rest, last, size = b"", b"", max(os.fstat(given.fileno()).st_size, 1)
         with contextlib.suppress(OSError):
             fcntl.fcntl(pipe, PIPE_SIZE, 16 * PIECE)
         while piece := self.piece(what, pipe, given, last, size):
             *whole, rest = (rest + piece).split(b"\n")
-            yield from whole
+            yield whole
             last = whole[-1] if whole else last
         if rest:
-            yield rest
+            yield [rest]
         return rest or last
 
     def piece(self, what, pipe, given, last, size):

@@ -8,6 +8,8 @@ from reporting.station import HEAD, place
 # How many events the page lists; the others are counted.
 MOST = 5000
 ENTRY = re.compile(HEAD.pattern + rb',"block":(\d+),')
+# What a line ends with that tells of a frame of Sampled Values: most of many captures.
+SAMPLED = b'"kind":"sampled"}'
 REASON = re.compile(rb'"reason":"(\w+)"')
 COLUMNS = [page.Column("No.", page.NUMBER), page.Column("Time"), page.Column("Packet", page.NUMBER), page.Column("Control block"),
            page.Column("stNum", page.NUMBER), page.Column("sqNum", page.NUMBER), page.Column("Delay from t", page.NUMBER),
@@ -53,6 +55,7 @@ class Events:
         self.blocks, self.acts, self.first, self.last, self.slowest, self.beyond = {}, 0, None, None, None, None
 
     def see(self, lines):
+        lines = (line for line in lines if not line.endswith(SAMPLED))
         for found in filter(None, map(ENTRY.match, lines)):
             self.entry(found.string, found, int(found[5]))
 

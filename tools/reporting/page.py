@@ -158,13 +158,18 @@ class Column:
 
     def __init__(self, head, sort=None):
         self.head, self.sort = head, sort
-        self.of = f'data-of="{text(head)}"'
+        self.frames = {how: self.frame(*how) for how in ((False, False), (False, True), (True, False), (True, True))}
 
-    def cell(self, value, is_first, is_found):
+    def frame(self, is_first, is_found):
+        """What stands before and behind the value of a cell."""
         tag, how = ("th", 'scope="row" role="rowheader"') if is_first else ("td", 'role="cell"')
         sort = " ".join(it for it in (self.sort, "found" if is_found else None) if it)
         how += f' class="{sort}"' if sort else ""
-        return f"<{tag} {how} {self.of}>{text(value)}</{tag}>"
+        return f'<{tag} {how} data-of="{text(self.head)}">', f"</{tag}>"
+
+    def cell(self, value, is_first, is_found):
+        before, behind = self.frames[is_first, is_found]
+        return f"{before}{text(value)}{behind}"
 
 
 NUMBER = "number"

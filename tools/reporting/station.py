@@ -70,29 +70,24 @@ class Station:
 
     def see_frames(self, lines):
         """The lines of goose show. Frames that are the same in all that is told here are one sort."""
-        found, least, greatest, kinds = None, math.inf, 0, self.kinds
+        first, found, least, greatest, kinds, sorts = None, None, math.inf, 0, self.kinds, self.sorts
         for found in filter(None, map(HEAD.match, lines)):
             kind, now = found[4], int(found[2])
             kinds[kind] = kinds.get(kind, 0) + 1
-            self.first = self.first or found
-            least, greatest = min(least, now), max(greatest, now)
-            if kind == b"goose":
-                self.count(goose_sort(found.string, found.end()), found)
-            elif kind == b"sv":
-                self.count(sampled_sort(found.string, found.end()), found)
+            first = first or found
+            least, greatest = now if now < least else least, now if now > greatest else greatest
+            sort = sort_of(kind, found.string, found.end())
+            held = sorts.get(sort)
+            if held:
+                held[0] += 1
+                held[2] = found
+            elif sort:
+                if len(sorts) >= MOST_SORTS:
+                    self.add_up()
+                sorts[sort] = [1, found, found]
         self.add_up()
-        self.first, self.last = self.first and place(self.first), found and place(found)
+        self.first, self.last = first and place(first), found and place(found)
         self.span = (least, greatest) if found else None
-
-    def count(self, sort, found):
-        it = self.sorts.get(sort)
-        if it:
-            it[0] += 1
-            it[2] = found
-            return
-        if len(self.sorts) >= MOST_SORTS:
-            self.add_up()
-        self.sorts[sort] = [1, found, found]
 
     def add_up(self):
         """Adds the sorts to their senders."""
@@ -101,7 +96,7 @@ class Station:
             for it in self.of_goose(record, packet) if "gocbRef" in record else self.of_asdus(record, packet, *rest):
                 it.add(number, place(first), place(last))
                 it.note(it.envelopes, (record["destination"], record["source"], record["tag"]), packet)
-        self.sorts = {}
+        self.sorts.clear()
 
     def of_goose(self, record, packet):
         it = self.sender("block", (record["appid"], record["gocbRef"]), record["gocbRef"], record["appid"])
@@ -119,12 +114,10 @@ class Station:
         return found.values()
 
 
-def goose_sort(line, at):
-    """What frames of one control block have in common from one to the next: their envelope, texts and lifetime."""
-    return (line[at + 1:line.find(b',"t":"', at)],)
-
-
-def sampled_sort(line, at):
-    """The envelope of a frame of Sampled Values, and the streams of its ASDUs."""
-    until = line.find(b',"asdus":[', at)
-    return line[at + 1:until], tuple(ASDU.findall(line, until))
+def sort_of(kind, line, at):
+    """What frames of one sender have in common from one to the next, or None of another kind of line: of a control block envelope,
+    texts and lifetime, of Sampled Values the envelope and the streams of the ASDUs."""
+    if kind == b"sv":
+        until = line.find(b',"asdus":[', at)
+        return line[at + 1:until], tuple(ASDU.findall(line, until))
+    return (line[at + 1:line.find(b',"t":"', at)],) if kind == b"goose" else None
