@@ -29,8 +29,10 @@ UNITS = {"ms": 1000, "s": 10**6, "min": 60 * 10**6, "h": 3600 * 10**6, "d": 8640
 EVENTS, FINDINGS = "Events in the order of packets", "Findings in the order of packets"
 FRAMES_OF_ALL = "What the device did with all frames of its control blocks"
 ERRORS, NOTES, OTHERS = "Errors of frames, by kind", "Notes on valid frames", "Frames of other protocols, which are counted and not judged"
-HEADINGS = ["What was recorded", "Summary", "Control blocks and streams", "Events acted on", "Losses, silences, restarts and late frames",
-            "Errors", "Picture"]
+HEADINGS = ["Summary", "Events acted on", "Picture", "Losses, silences, restarts and late frames", "Control blocks and streams", "Errors",
+            "What was recorded", "Commands"]
+# The states of a line of the summary, by the class of its element, the worst first; and the statuses of a page.
+STATES, STATUSES = ("found", "unjudged", "clean"), {"found": 1, "unjudged": 6, "clean": 0}
 BLOCKS, STREAMS = "Control blocks (GOOSE)", "Streams (Sampled Values)"
 # A capture of 500,000 packets: at most so many seconds beside the program's own, and so many kilobytes.
 PACKETS, MOST_SECONDS, MOST_MEMORY = 500000, 10, 200 * 1024
@@ -67,7 +69,7 @@ class Page:
         self.tables = {words(table.find("caption")): [[words(cell) for cell in row] for row in table.find("tbody")] for table in self.root.iter("table")}
         self.times = {words(table.find("caption")): [[it.get("datetime") for it in row.iter("time")] for row in table.find("tbody")]
                       for table in self.root.iter("table")}
-        self.summary = [(words(it), it.get("class") == "found") for it in self.root.find(".//ol")]
+        self.summary = [(words(it), it.get("class")) for it in self.root.find(".//ol")]
         self.headings = [words(it) for it in self.root.iter() if it.tag in ("h1", "h2")]
 
     def rows(self, caption):
@@ -283,12 +285,13 @@ class Told:
     def why_head_wrong(self, page, frames):
         """What was recorded, the summary, and the order of the sections."""
         facts = {row[0]: row[1] for row in page.rows("The capture")}
-        wanted = {"File": "of.pcapng", "SHA-256": hashlib.sha256(self.octets).hexdigest()}
+        facts.update((row[0], row[1]) for row in page.rows("The program and the file"))
+        wanted = {"File": "of.pcapng", "SHA-256 of the capture": hashlib.sha256(self.octets).hexdigest()}
         yield from compared("facts", wanted, {name: facts.get(name) for name in wanted})
         yield from compared("packets", [len(frames)], numbers(facts["Packets"])[:1])
         yield from compared("headings", HEADINGS, page.headings[1:])
-        is_found = [found for _, found in page.summary]
-        if len(is_found) != 5 or is_found != sorted(is_found, reverse=True):
+        states = [state for _, state in page.summary]
+        if not states or states != sorted(states, key=STATES.index):
             yield f"the summary is {page.summary}"
         yield from (f"a line names no packet: {line}" for line, _ in page.summary if frames and not re.search(r"packets? \d", line))
         kinds = collections.Counter(it["kind"] for it in frames)
@@ -627,7 +630,7 @@ def cases():
                said="Told of SUB, which receives 4 control blocks by of.scd.")
     yield Told("a classic capture", (EXAMPLES / "two_frames.pcap").read_bytes(), status=0)
     both = [with_asdus(asdu(), asdu(sv_id=element(0x80, b"T")), asdu(), count=b"\3"), with_asdus(asdu(sv_id=element(0x80, b"T")))]
-    yield Told("frames of two streams", section() + interface() + packet(3, both[0]) + packet(9, both[1]), status=0)
+    yield Told("frames of two streams", section() + interface() + packet(3, both[0]) + packet(9, both[1]), status=6)
     linked = section() + interface() + interface(link=113) + packet(3, WORKED) + packet(4, WORKED, which=1) + packet(5, put(WORKED, at13=0))
     yield Told("packets that are no Ethernet frames", linked, status=0, said="1 GOOSE frame; 1 of another protocol; 1 no Ethernet frame")
     yield Told("no packet", section() + interface(), status=0, said="There is nothing to draw in no packets.")

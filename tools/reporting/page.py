@@ -6,10 +6,10 @@ from senders import quoted
 
 STYLE = """
 :root { color-scheme: light; --paper: #ffffff; --ink: #1f2328; --soft: #57606a; --line: #d0d7de; --band: #f6f8fa; --link: #0550ae;
-  --alarm: #a40e26; --alarmed: #fff1f0; --well: #1a7f37; --act: #1a7f37; --refreshed: #0969da; --repeated: #6e7781; --old: #6e7781;
+  --alarm: #a40e26; --alarmed: #fff1f0; --warn: #8a4600; --warned: #fff8e6; --well: #1a7f37; --act: #1a7f37; --refreshed: #0969da; --repeated: #6e7781; --old: #6e7781;
   --refused: #bc4c00; --switched: #8250df; --expired: #cf222e; --held: #aceebb; --silent: #ffc1bc; --lost: #cf222e; --flow: #b6d7f8; }
 @media screen and (prefers-color-scheme: dark) { :root { color-scheme: dark; --paper: #0d1117; --ink: #e6edf3; --soft: #9da7b3;
-  --line: #3d444d; --band: #161b22; --link: #79c0ff; --alarm: #ff9a94; --alarmed: #2d1315; --well: #56d364; --act: #56d364;
+  --line: #3d444d; --band: #161b22; --link: #79c0ff; --alarm: #ff9a94; --alarmed: #2d1315; --warn: #e3b341; --warned: #2b2111; --well: #56d364; --act: #56d364;
   --refreshed: #79c0ff; --repeated: #9da7b3; --old: #9da7b3; --refused: #f0a35e; --switched: #d2a8ff; --expired: #ff7b72; --held: #1f5a30;
   --silent: #7a2a2a; --lost: #ff7b72; --flow: #1c4a75; } }
 * { box-sizing: border-box; }
@@ -24,9 +24,13 @@ a { color: var(--link); }
 .broken { border: 2px solid var(--alarm); background: var(--alarmed); padding: 0.6rem 0.8rem; font-weight: 600; }
 .summary { padding: 0; margin: 0; list-style: none; counter-reset: line; max-width: 60rem; }
 .summary li { padding: 0.45rem 0.7rem; margin: 0.35rem 0; border-left: 0.35rem solid var(--well); background: var(--band); }
-.summary li.found { border-left-color: var(--alarm); }
+.summary li.found { border-left-color: var(--alarm); } .summary li.unjudged { border-left-color: var(--warn); }
 .summary .state { font-weight: 600; color: var(--well); }
-.summary .found .state { color: var(--alarm); }
+.summary .found .state { color: var(--alarm); } .summary .unjudged .state { color: var(--warn); }
+.summary li.found span.unjudged { color: var(--warn); } .summary .todo { font-style: italic; }
+.verdict { font-size: 1.15rem; font-weight: 600; padding: 0.6rem 0.8rem; border: 2px solid var(--well); background: var(--band); color: var(--well); }
+.verdict.found { border-color: var(--alarm); background: var(--alarmed); color: var(--alarm); }
+.verdict.unjudged { border-color: var(--warn); background: var(--warned); color: var(--warn); }
 table { border-collapse: collapse; width: 100%; margin: 0.6rem 0 1rem; font-size: 0.86rem; line-height: 1.35; }
 caption { text-align: left; font-weight: 600; padding: 0.3rem 0; font-size: 0.95rem; }
 th, td { text-align: left; vertical-align: top; padding: 0.3rem 0.5rem; border-bottom: 1px solid var(--line); }
@@ -75,7 +79,7 @@ svg .expired { stroke: var(--expired); stroke-width: 3; } svg .lost { fill: var(
   table { font-size: 7.6pt; } .legend, figcaption { font-size: 8pt; } th, td { padding: 0.15rem 0.3rem; } .summary a { display: none; }
   a { color: inherit; text-decoration: none; }
   .scroll { overflow: visible; border: 0; } .scroll svg { min-width: 0; max-height: 255mm; } pre { font-size: 7.5pt; }
-  body, .summary li, svg, .broken { print-color-adjust: exact; -webkit-print-color-adjust: exact; }
+  body, .summary li, svg, .broken, .verdict { print-color-adjust: exact; -webkit-print-color-adjust: exact; }
 }
 """
 

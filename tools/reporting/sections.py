@@ -38,16 +38,14 @@ def whole(value):
 
 
 def recorded(found, own):
-    """The file, its packets, its interfaces, the program and the commands."""
+    """The file, its packets and its interfaces."""
     file, station = found.recorded, found.station
-    rows = [("File", page.element("span", found.name, class_="name")), ("Format", file.form), ("Size", f"{file.size:,} octets"),
-            ("SHA-256", page.digits(file.sha256))]
+    rows = [("File", page.element("span", found.name, class_="name")), ("Format", file.form), ("Size", f"{file.size:,} octets")]
     rows += [("Saved by", file.application)] if file.application else []
     rows += [("Packets", f"{found.packets:,}" + (f" ({page.packets(1, found.packets)})" if found.packets else "")),
              ("Of these", "; ".join(kinds_of(found)))]
     if station.first:
         rows += [("First packet", full(station.first)), ("Last packet", full(station.last)), ("Duration", page.duration(station.span[1] - station.span[0]))]
-    rows += [("Program", found.version)]
     rows += [("SCL file", page.element("span", own.scd, class_="name"))] if own.scd else []
     told = [page.table("The capture", FACTS, [page.row(FACTS, it) for it in rows], False)]
     if found.is_short and station.first and station.first.time:
@@ -57,9 +55,16 @@ def recorded(found, own):
     if found.others:
         told.append(page.table("Frames of other protocols, which are counted and not judged", OTHERS, [page.row(OTHERS, [
             name.replace("EtherType ", ""), f"{number:,}", first]) for number, name, first in found.others], False))
-    ran = [shlex.join(["tools/report", *own.words])] + [f"{shlex.join(['goose', *it])} < {shlex.quote(found.name)}" for it in found.commands]
-    told += [page.element("h3", "Commands"), page.element("pre", page.element("code", "\n".join(ran)))]
     return section("What was recorded", "recorded", *told)
+
+
+def commands(found, own):
+    """The commands by which all of the page can be had again, the program and the capture's checksum."""
+    ran = [shlex.join(["tools/report", *own.words])] + [f"{shlex.join(['goose', *it])} < {shlex.quote(found.name)}" for it in found.commands]
+    told = [page.element("pre", page.element("code", "\n".join(ran))),
+            page.table("The program and the file", FACTS, [page.row(FACTS, it) for it in (
+                ("Program", found.version), ("SHA-256 of the capture", page.digits(found.recorded.sha256)))], False)]
+    return section("Commands", "commands", *told)
 
 
 def full(place):
@@ -195,12 +200,9 @@ def acted(found, own, rows):
     return section("Events acted on", "events", *told)
 
 
-def lost(found, own, rows):
+def lost(found, _own, rows):
     """Losses, silences, restarts, late frames, and totals."""
     it, told = found.missing, []
-    streams = [seen for seen in found.station.seen.values() if seen.kind == "stream"]
-    if streams and not own.period:
-        told.append(paragraph(f"Samples were not looked at in {page.count(len(streams), 'stream')}: no --period was given."))
     if it.kinds:
         told += [page.head("Findings in the order of packets", missing.COLUMNS), rows, it.rest(), page.FOOT]
     else:
