@@ -38,6 +38,8 @@ BLOCKS, STREAMS = "Control blocks (GOOSE)", "Streams (Sampled Values)"
 PACKETS, MOST_SECONDS, MOST_MEMORY = 500000, 10, 200 * 1024
 
 
+# An earlier page, by what a page has near its head.
+EARLIER = b'<!DOCTYPE html>\n<html lang="en">\n<head>\n<meta charset="utf-8"/>\n<meta name="generator" content="goose report"/>\nbefore'
 # What tells how wide each frame of a page is, and what stands in it.
 WIDTHS = """onload = () => {
   const roots = [...document.querySelectorAll("iframe")].map(it => it.contentDocument.documentElement)
@@ -454,12 +456,12 @@ class Without:
     def why_wrong(self, program):
         with tempfile.TemporaryDirectory() as folder:
             folder = pathlib.Path(folder)
-            for name, octets in (("of.pcapng", self.octets), ("of.scd", self.scd.encode()), ("report.html", b"before")):
+            for name, octets in (("of.pcapng", self.octets), ("of.scd", self.scd.encode()), ("report.html", EARLIER)):
                 (folder / name).write_bytes(octets)
             (folder / "folder").mkdir()
             _, said, status = ask(program, "report", self.asked, cwd=folder)
             left = {it.name: it.read_bytes() if it.is_file() else None for it in folder.iterdir()}
-        wanted = {"of.pcapng": self.octets, "of.scd": self.scd.encode(), "report.html": b"before", "folder": None}
+        wanted = {"of.pcapng": self.octets, "of.scd": self.scd.encode(), "report.html": EARLIER, "folder": None}
         why = [] if left == wanted else [f"left {sorted(left)}, page {left.get('report.html')!r}"]
         return why + ([] if status == self.status and self.said in said.decode() else [f"ended with status {status}: {said.decode()!r}"])
 
@@ -473,8 +475,9 @@ def program_of(folder, body_of):
 
 
 def heed_interrupts():
-    """Has a script see SIGINT also where the tests run in the background of a shell, which ignores it there."""
-    signal.signal(signal.SIGINT, signal.SIG_DFL)
+    """Has a script see signals also where the tests run in the background of a shell, or under nohup, which ignore them there."""
+    for it in (signal.SIGINT, signal.SIGHUP, signal.SIGQUIT):
+        signal.signal(it, signal.SIG_DFL)
 
 
 class Stopped:
@@ -522,13 +525,103 @@ class Placed:
     def why_wrong(self, program):
         with tempfile.TemporaryDirectory() as folder:
             folder = pathlib.Path(folder)
-            (folder / "old.html").write_text("old")
+            (folder / "old.html").write_bytes(EARLIER)
             (folder / "old.html").chmod(0o640)
             (folder / "link.html").symlink_to("old.html")
             _, said, status = ask(program, "report", ["-o", folder / "link.html", EXAMPLES / "two_frames.pcap"])
             got = ((folder / "link.html").is_symlink(), oct((folder / "old.html").stat().st_mode)[-3:], b"<main>" in (folder / "old.html").read_bytes(),
                    sorted(it.name for it in folder.iterdir()))
         return [] if got == (True, "640", True, ["link.html", "old.html"]) else [f"{got}, status {status}: {said!r}"]
+
+
+class Spared:
+    """What is read, and what is no page, is not written over: nothing is touched."""
+
+    # The page, what is asked for beside the capture, what it says and ends with.
+    runs = (("of.pcap", (), b"of.pcap is the file of.pcap, which is read", 2), ("of.pcap", ("--force",), b"which is read", 2),
+            ("../{here}/of.pcap", (), b"which is read", 2), ("hard.pcap", ("--force",), b"hard.pcap is the file of.pcap, which is read", 2),
+            ("soft.pcap", (), b"which is read", 2), ("of.scd", ("--force",), b"of.scd is the file of.scd, which is read", 2),
+            ("notes.txt", (), b"notes.txt is there and is no page of tools/report: --force replaces it", 2), ("notes.txt", ("--force",), b"", 0),
+            ("empty.html", (), b"", 0), ("page.html", (), b"", 0), ("p" * 250 + ".html", (), b"", 0), ("p" * 250 + ".html", (), b"", 0))
+    name = "a page in the place of what is read, or of another file"
+
+    def why_wrong(self, program):
+        with tempfile.TemporaryDirectory() as folder:
+            folder = pathlib.Path(folder)
+            self.fill(folder)
+            return [why for run in self.runs for why in self.why_run_wrong(program, folder, *run)]
+
+    def fill(self, folder):
+        (folder / "of.pcap").write_bytes((EXAMPLES / "two_frames.pcap").read_bytes())
+        (folder / "of.scd").write_text("<SCL/>")
+        (folder / "notes.txt").write_text("notes")
+        (folder / "empty.html").write_text("")
+        (folder / "page.html").write_bytes(EARLIER)
+        (folder / "hard.pcap").hardlink_to(folder / "of.pcap")
+        (folder / "soft.pcap").symlink_to("of.pcap")
+
+    def why_run_wrong(self, program, folder, page, asked, part, wanted):
+        page = page.format(here=folder.name)
+        before = {it.name: it.read_bytes() for it in folder.iterdir()}
+        scd = ["--scd", "of.scd"] if page == "of.scd" else []
+        _, said, status = ask(program, "report", [*scd, *asked, "-o", page, "of.pcap"], cwd=folder)
+        after = {it.name: it.read_bytes() for it in folder.iterdir()}
+        is_page = status == 0 and b"<main>" in after.pop(page, b"")
+        before.pop(page if status == 0 else "", None)
+        if status != wanted or part not in said or before != after or is_page != (wanted == 0):
+            yield f"-o {page} {asked}: status {status}, {said!r}, there is {sorted(after)}"
+
+
+class Changed:
+    """A capture that changes while it is read, and keeps its size, has no page."""
+
+    def __init__(self, command):
+        self.command, self.name = command, f"a capture of the same size that changes before {command}"
+
+    def why_wrong(self, program):
+        with tempfile.TemporaryDirectory() as folder:
+            folder = pathlib.Path(folder)
+            octets = (EXAMPLES / "two_frames.pcap").read_bytes()
+            (folder / "of.pcap").write_bytes(octets)
+            (folder / "other.pcap").write_bytes(octets[:-1] + bytes([octets[-1] ^ 1]))
+            goose = folder / "goose"
+            goose.write_text(f"#!/bin/sh\n[ $1 = {self.command} ] && cat other.pcap > of.pcap\nexec {shlex.join(program)} \"$@\"\n")
+            goose.chmod(0o755)
+            _, said, status = ask([str(goose)], "report", ["of.pcap"], cwd=folder)
+            left = sorted(it.name for it in folder.iterdir())
+        is_well = status == 3 and b"of.pcap has changed while it was read" in said and left == ["goose", "of.pcap", "other.pcap"]
+        return [] if is_well else [f"status {status}: {said!r}, left {left}"]
+
+
+class FarInterface:
+    """An interface behind blocks of over 1 MiB, and one that is such a block, are told."""
+
+    name = "interfaces behind blocks of over 1 MiB"
+
+    def why_wrong(self, program):
+        long = b"".join(option(1, bytes([65 + at]) * 65532) for at in range(20))
+        parts = [section(options=long + bytes(4)), interface(options=option(2, b"first") + long + bytes(4)),
+                 interface(options=long + option(2, b"lost") + bytes(4)), interface(options=option(2, b"third") + bytes(4))]
+        octets, said, _, _ = reported(program, b"".join(parts) + b"".join(packet(at, WORKED, which=at) for at in range(3)))
+        wanted = [["first (what its block says after 1 MiB is not read)", "1", "1"],
+                  ["interface 1 (what its block says after 1 MiB is not read)", "1", "2"], ["third", "1", "3"]]
+        got = [[row[0], row[2], row[3]] for row in Page(octets).rows("Interfaces")] if octets else said
+        return list(compared("interfaces", wanted, got))
+
+
+class Escaped:
+    """Texts of a file that would change how a terminal or a page shows others are told by the numbers of their characters."""
+
+    name = "a page of texts that do not print"
+
+    def why_wrong(self, program):
+        scd = (EXAMPLES / "station.scd").read_text().replace('name="gcbSpare"', 'name="gcb\u202eSp\x9bare"')
+        bays = (EXAMPLES / "two_bays.pcapng").read_bytes()
+        octets, said, _, _ = reported(program, bays, "--scd", "of.scd", scd=scd)
+        shown = words(body(octets)) if octets else said
+        why = [] if r"gcb\u202eSp\x9bare" in shown and not {"\u202e", "\x9b"} & set(shown) else [f"the page does not show the name: {shown[:300]}"]
+        _, said, status = reported(program, bays, "--scd", "of.scd", "--ied", "X\u202e\x1b", scd=scd)[:3]
+        return why + ([] if status == 2 and r"there is no IED X\u202e\x1b in" in said and said.isascii() else [f"status {status}: {said!r}"])
 
 
 class Watched:
@@ -646,7 +739,14 @@ def cases():
     yield from without()
     yield Stopped(signal.SIGTERM)
     yield Stopped(signal.SIGINT)
+    yield Stopped(signal.SIGHUP)
+    yield Stopped(signal.SIGQUIT)
     yield Failing()
     yield Placed()
+    yield Spared()
+    yield Changed("show")
+    yield Changed("losses")
+    yield FarInterface()
+    yield Escaped()
     yield Watched()
     yield Fast()

@@ -10,7 +10,7 @@ import tempfile
 
 import output
 from reporting.progress import EVERY
-from running import PIECE, Ended, goose, say
+from running import PIECE, Ended, goose, say, version
 
 OPTIONS = ("--capture", "--json", "--skip-other")
 # The operation of fcntl that sets how much a pipe holds (Linux, F_SETPIPE_SZ): Python has its name from 3.10 on.
@@ -34,10 +34,7 @@ class Asked:
         self.commands, self.messages, self.broken, self.packets = [], [], None, None
 
     def version(self):
-        ran = subprocess.run([*self.goose, "--version"], stdin=subprocess.DEVNULL, stdout=subprocess.PIPE)
-        if ran.returncode:
-            raise Ended(f"goose --version ended with status {ran.returncode}", ran.returncode)
-        return ran.stdout.decode("utf-8", "replace").strip()
+        return version(self.goose)
 
     def lines(self, what, command, *words):
         """The lines of a command, as octets. What is being done is told to a terminal meanwhile."""
@@ -102,7 +99,7 @@ class Asked:
         name = record["error"]
         told = next((line.partition(f"{name}: ")[2] for line in lines if f"{name}: " in line), "")
         if record["packet"] == 0:
-            raise Ended("\n".join([f"{self.path} is no capture that can be read: {name}: {told}", *lines[1:]]))
+            raise Ended(f"{self.path} is no capture that can be read: {name}: {told}", more=lines[1:])
         self.broken = Broken(record["packet"], name, told)
 
     def passed_over(self):

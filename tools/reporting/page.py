@@ -2,6 +2,8 @@
 import html
 import re
 
+from reporting.writing import BEGIN, MARK
+from running import shown as printable
 from senders import quoted
 
 STYLE = """
@@ -84,9 +86,9 @@ svg .expired { stroke: var(--expired); stroke-width: 3; } svg .lost { fill: var(
 """
 
 
-# What no page can hold, and what means something else in HTML.
-STRANGE = re.compile("[\\0-\\x08\\x0b\\x0c\\x0e-\\x1f\\x7f-\\x9f\\ud800-\\udfff\\ufffe\\uffff]")
-SPECIAL = re.compile(f"[&<>\"'{STRANGE.pattern[1:]}")
+# What means something else in HTML, or perhaps does not print; what does not print and stays: ends of lines, and blanks that hold words together.
+SPECIAL = re.compile("[&<>\"'\\0-\\x1f\\x7f-\\x9f\\xad\\u0300-\\U0010ffff]")
+KEPT = "\n\u00a0"
 
 
 class Raw(str):
@@ -94,11 +96,11 @@ class Raw(str):
 
 
 def text(value):
-    """A value as HTML: what no page can hold is replaced."""
+    """A value as HTML: what does not print, or turns round what does, is told by its number."""
     if isinstance(value, Raw):
         return value
     told = "" if value is None else str(value)
-    return Raw(html.escape(STRANGE.sub("\ufffd", told)) if SPECIAL.search(told) else told)
+    return Raw(html.escape(printable(told, KEPT)) if SPECIAL.search(told) else told)
 
 
 def element(tag, inside, **attributes):
@@ -211,7 +213,7 @@ def pieces(parts):
 
 
 def begin(title):
-    return Raw(f'<!DOCTYPE html>\n<html lang="en">\n<head>\n<meta charset="utf-8"/>\n'
+    return Raw(f'{BEGIN}<html lang="en">\n<head>\n<meta charset="utf-8"/>\n{MARK}\n'
             f'<meta name="viewport" content="width=device-width, initial-scale=1"/>\n<meta name="color-scheme" content="light dark"/>\n'
             f"{element('title', title)}\n<style>{STYLE}</style>\n</head>\n<body>\n<main>\n{element('h1', title)}\n")
 

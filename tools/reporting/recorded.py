@@ -2,6 +2,7 @@
 import hashlib
 import os
 import struct
+import zlib
 
 PIECE = 1 << 20
 # What a file begins with: classic captures of both orders, in microseconds and nanoseconds, and pcapng.
@@ -10,8 +11,18 @@ SECTION, INTERFACE, OLD_PACKET, SIMPLE, PACKET = 0x0A0D0D0A, 1, 2, 3, 6
 LINKS = {1: "Ethernet", 105: "Wi-Fi (IEEE 802.11)", 113: "Linux cooked (LINUX_SLL)", 127: "Wi-Fi (radiotap)", 276: "Linux cooked (LINUX_SLL2)"}
 # Options of an interface and of a section.
 NAME, DESCRIPTION, APPLICATION = 2, 3, 4
-# The most octets of a block that is looked into.
+# The most octets of a block that are looked into, and what is told of an interface whose names can lie behind them.
 MOST = 1 << 20
+CUT = "what its block says after 1 MiB is not read"
+
+
+def checksum_of(path):
+    """The CRC-32 of a file's octets."""
+    checksum, piece = 0, bytearray(PIECE)
+    with open(path, "rb", buffering=0) as file:
+        while size := file.readinto(piece):
+            checksum = zlib.crc32(memoryview(piece)[:size], checksum)
+    return checksum
 
 
 class Interface:
@@ -26,12 +37,13 @@ class Recorded:
     """A capture's file, read once from its beginning to its end; of its packets only those that goose has answered count."""
 
     def __init__(self, path, packets, progress):
-        self.size, self.digest, self.interfaces = os.stat(path).st_size, hashlib.sha256(), []
+        self.size, self.digest, self.checksum, self.interfaces = os.stat(path).st_size, hashlib.sha256(), 0, []
         self.form, self.application, self.numbers, self.most = "", None, 0, packets
         self.order, self.section, self.rest, self.skip, self.is_over = "<", [], b"", 0, False
         with open(path, "rb") as file:
             while piece := file.read(PIECE):
                 self.digest.update(piece)
+                self.checksum = zlib.crc32(piece, self.checksum)
                 self.take(piece)
                 progress.tell("reading the file", self.numbers, packets)
         if self.form.startswith("classic"):
@@ -75,8 +87,8 @@ class Recorded:
             if kind == SECTION:
                 self.order = "<" if octets[at + 8:at + 12] == b"\x4d\x3c\x2b\x1a" else ">"
                 size = struct.unpack_from(f"{self.order}I", octets, at + 4)[0]
-            self.is_over = size < 12 or size % 4 > 0 or (kind in (SECTION, INTERFACE) and size > MOST)
-            if kind in (SECTION, INTERFACE) and at + size > len(octets):
+            self.is_over = size < 12 or size % 4 > 0
+            if kind in (SECTION, INTERFACE) and at + min(size, MOST) > len(octets):
                 return at
             self.block(kind, octets, at, size)
             at += size
@@ -85,11 +97,11 @@ class Recorded:
     def block(self, kind, octets, at, size):
         if kind == SECTION:
             self.section = []
-            self.application = self.application or self.options(octets[at + 24:at + size - 4]).get(APPLICATION)
+            self.application = self.application or self.options(octets[at + 24:at + min(size - 4, MOST)]).get(APPLICATION)
         elif kind == INTERFACE:
-            told = self.options(octets[at + 16:at + size - 4])
+            told = self.options(octets[at + 16:at + min(size - 4, MOST)])
             link = struct.unpack_from(f"{self.order}H", octets, at + 8)[0]
-            self.section.append(Interface(told.get(NAME), told.get(DESCRIPTION), link))
+            self.section.append(Interface(told.get(NAME), told.get(DESCRIPTION, CUT if size > MOST else None), link))
             self.interfaces.append(self.section[-1])
         elif kind in (OLD_PACKET, SIMPLE, PACKET):
             which = 0 if kind == SIMPLE else struct.unpack_from(f"{self.order}{'I' if kind == PACKET else 'H'}", octets, at + 8)[0]
