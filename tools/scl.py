@@ -19,6 +19,10 @@ ADDRESSES = {"GSE": "GOOSE", "SMV": "SMV"}
 KINDS = {"GOOSE": "GO", "SMV": "MS"}
 # How the parts of an address that a BLOCK does not have are written.
 FORMS = {"MAC-Address": r"[0-9a-fA-F]{2}(-[0-9a-fA-F]{2}){5}", "VLAN-ID": r"[0-9a-fA-F]{1,3}", "VLAN-PRIORITY": r"[0-7]"}
+# The greatest confRev, and the most octets of a BLOCK whose texts a frame can have.
+MOST_REVISION, MOST_OCTETS = (1 << 32) - 1, 4096
+# The elements that hold text alone.
+TEXTS = ("P", "IEDName")
 # By what an ExtRef names data.
 DATA = ("ldInst", "prefix", "lnClass", "lnInst", "doName")
 
@@ -103,6 +107,8 @@ class Station:
                 raise ValueError(f"a BLOCK cannot hold {text!r}")
         for address in addresses:
             block = ",".join([appid_of(address), *texts, str(int(stated["confRev"])), str(len(members))])
+            if len(block) > MOST_OCTETS:
+                raise ValueError(f"its texts have over {MOST_OCTETS:,} octets, which no frame has")
             yield senders.Sender(block, "block", {**senders.block_fields(block), **address.fields()}, address=address)
 
     def streams(self, control, addresses):
@@ -171,7 +177,8 @@ def check(*cases):
 
 def check_numbers(addresses, stated):
     bad = [it.parts["APPID"] for it in addresses if not re.fullmatch(r"[0-9a-fA-F]{1,4}", it.parts["APPID"])]
-    bad += [] if re.fullmatch(r"[0-9]{1,10}", stated["confRev"]) else [stated["confRev"]]
+    revision = stated["confRev"]
+    bad += [] if re.fullmatch(r"[0-9]{1,10}", revision) and int(revision) <= MOST_REVISION else [revision]
     if bad:
         raise ValueError(f"{bad[0]!r} is no number of a BLOCK")
 
@@ -206,9 +213,11 @@ class Reader:
         if self.skipped or space not in ("", NAMESPACE) or local not in READ:
             self.skipped += 1
             return
+        parent = self.path[-1] if self.path else ""
+        if parent in TEXTS:
+            raise Ended(f"line {self.parser.CurrentLineNumber}: a {parent} has an element {local} in it")
         self.path.append(local)
         self.at[local] = stated
-        parent = self.path[-2] if len(self.path) > 1 else ""
         if parent == "Address" or local == "IEDName":
             self.words = ""
         elif local in ADDRESSES:
@@ -236,13 +245,13 @@ class Reader:
             return
         parent, local = self.path[-2:] if len(self.path) > 1 else ("", self.path[0])
         self.path.pop()
-        if local == "P" and self.path[-2:-1] and self.path[-2] in ADDRESSES:
+        if local == "P" and parent == "Address" and self.path[-2:-1] and self.path[-2] in ADDRESSES:
             self.ends_part(self.at["P"].get("type"))
         elif local in ADDRESSES:
             self.ends_address(local)
         elif local == "IEDName" and self.path[-2:-1] == ["LN0"] and parent in SERVICES:
             self.station.controls[-1].receivers.add(self.words.strip())
-        self.words = None if local in ("P", "IEDName") else self.words
+        self.words = None if local in TEXTS else self.words
 
     def ends_part(self, sort):
         """A part of an address. APPID can be there twice."""

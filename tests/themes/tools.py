@@ -1,4 +1,4 @@
-"""The tools say what they do, refuse other arguments, and find goose on PATH first, then where they belong."""
+"""The tools say what they do, refuse other arguments, and find goose where they belong first, then on PATH; how each ends."""
 import os
 import pathlib
 import re
@@ -35,10 +35,10 @@ class Helps:
 
 
 class Finds:
-    """Where find_goose finds goose, as programs are put in more and more places: in an installation, in a checkout, on PATH, in the
+    """Where find_goose finds goose, as programs are put in more and more places: on PATH, in an installation or a checkout, in the
     variable GOOSE."""
 
-    name = "find_goose: PATH first, then where it belongs"
+    name = "find_goose: where it belongs first, then PATH"
 
     def why_wrong(self, _program):
         with tempfile.TemporaryDirectory(prefix="with a blank ") as folder:
@@ -49,10 +49,10 @@ class Finds:
             (top / tools).mkdir(parents=True)
             shutil.copy(TOOLS / "find_goose", top / tools)
             yield from self.why_found_wrong(top / tools, "", 127, "")
-            put(top / goose)
-            yield from self.why_found_wrong(top / tools, quoted(top / goose), 0, "")
             put(top / "path" / "goose")
             yield from self.why_found_wrong(top / tools, quoted(top / "path" / "goose"), 0, "")
+            put(top / goose)
+            yield from self.why_found_wrong(top / tools, quoted(top / goose), 0, "")
             yield from self.why_found_wrong(top / tools, "/some/goose --with words", 0, "/some/goose --with words")
             shutil.rmtree(top / "path")
 

@@ -1,9 +1,8 @@
 """The page as HTML: its elements, its style, and the octets of it, which are also XML."""
-import html
 import re
 
+from markup import escaped
 from reporting.writing import BEGIN, MARK
-from running import shown as printable
 from senders import quoted
 
 STYLE = """
@@ -100,7 +99,7 @@ def text(value):
     if isinstance(value, Raw):
         return value
     told = "" if value is None else str(value)
-    return Raw(html.escape(printable(told, KEPT)) if SPECIAL.search(told) else told)
+    return Raw(escaped(told, KEPT, quote=True) if SPECIAL.search(told) else told)
 
 
 def element(tag, inside, **attributes):
