@@ -1,6 +1,7 @@
 """Recorded lists, by the rules of docs/FORMATS.md: their events, and the time of each line."""
 import re
 import time
+import weakref
 
 from running import Ended
 
@@ -89,6 +90,7 @@ class Times:
     def __init__(self, path):
         self.path, self.file, self.lines, self.begun = path, open(path, "rb"), Lines(), b""
         self.found, self.last, self.error = {}, None, None
+        weakref.finalize(self, self.file.close)
         head = self.file.peek(4)[:4]
         if head in CAPTURES:
             raise Ended(f"{path} is a capture: give the list that goose import makes of it")
