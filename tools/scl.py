@@ -11,27 +11,29 @@ from running import Ended
 NAMESPACE = "http://www.iec.ch/61850/2003/SCL"
 # What may stand between the file's root and the elements that are read.
 READ = {"SCL", "Communication", "SubNetwork", "ConnectedAP", "GSE", "SMV", "Address", "P", "IED", "AccessPoint", "Server", "LDevice", "LN0",
-        "LN", "DataSet", "FCDA", "GSEControl", "SampledValueControl", "IEDName", "Inputs", "ExtRef"}
+        "LN", "DataSet", "FCDA", "GSEControl", "SampledValueControl", "IEDName", "Inputs", "ExtRef", "MinTime", "MaxTime"}
 # The services of control blocks, as an ExtRef names them, and the elements of their addresses.
 SERVICES = {"GSEControl": "GOOSE", "SampledValueControl": "SMV"}
 ADDRESSES = {"GSE": "GOOSE", "SMV": "SMV"}
 # What the reference of a control block has before its name.
 KINDS = {"GOOSE": "GO", "SMV": "MS"}
+# The least and the greatest time between two frames of a control block, which its address has beside the parts, in milliseconds.
+TIMES = ("MinTime", "MaxTime")
 # How the parts of an address that a BLOCK does not have are written.
 FORMS = {"MAC-Address": r"[0-9a-fA-F]{2}(-[0-9a-fA-F]{2}){5}", "VLAN-ID": r"[0-9a-fA-F]{1,3}", "VLAN-PRIORITY": r"[0-7]"}
 # The greatest confRev, and the most octets of a BLOCK whose texts a frame can have.
 MOST_REVISION, MOST_OCTETS = (1 << 32) - 1, 4096
 # The elements that hold text alone.
-TEXTS = ("P", "IEDName")
+TEXTS = ("P", "IEDName", *TIMES)
 # By what an ExtRef names data.
 DATA = ("ldInst", "prefix", "lnClass", "lnInst", "doName")
 
 
 class Address:
-    """An address of a control block: the texts of its parts, by their types."""
+    """An address of a control block: the texts of its parts, by their types, and its times in milliseconds."""
 
-    def __init__(self, parts):
-        self.parts = parts
+    def __init__(self, parts, times):
+        self.parts, self.times = parts, times
 
     def odd(self):
         """The parts that are not written as they should be, which nothing is compared with."""
@@ -123,7 +125,7 @@ class Station:
             raise ValueError(f"a stream cannot have the svID {stated['smvID']!r}")
         for address in addresses:
             stream = senders.stream_of(stated["smvID"], int(stated["confRev"]), APPID=appid_of(address), **address.fields())
-            stream.more["address"] = address
+            stream.more.update(address=address, stated=stated)
             yield stream
 
     def sent_by(self, ied):
@@ -203,7 +205,7 @@ class Reader:
     def __init__(self, station, parser):
         self.station, self.parser = station, parser
         self.path, self.at, self.skipped, self.words = [], {}, 0, None
-        self.parts, self.appids = {}, []
+        self.parts, self.appids, self.times = {}, [], {}
 
     def refuse(self, *_):
         raise Ended("it has a document type, which SCL does not have")
@@ -218,10 +220,10 @@ class Reader:
             raise Ended(f"line {self.parser.CurrentLineNumber}: a {parent} has an element {local} in it")
         self.path.append(local)
         self.at[local] = stated
-        if parent == "Address" or local == "IEDName":
+        if parent == "Address" or local == "IEDName" or (parent == "GSE" and local in TIMES):
             self.words = ""
         elif local in ADDRESSES:
-            self.parts, self.appids = {}, []
+            self.parts, self.appids, self.times = {}, [], {}
         elif self.path == ["SCL", "IED"]:
             self.station.ieds.append(stated.get("name", ""))
         elif parent == "Inputs":
@@ -249,6 +251,8 @@ class Reader:
             self.ends_part(self.at["P"].get("type"))
         elif local in ADDRESSES:
             self.ends_address(local)
+        elif local in TIMES and parent == "GSE" and re.fullmatch(r"[0-9]{1,9}", self.words.strip()):
+            self.times[local] = int(self.words)
         elif local == "IEDName" and self.path[-2:-1] == ["LN0"] and parent in SERVICES:
             self.station.controls[-1].receivers.add(self.words.strip())
         self.words = None if local in TEXTS else self.words
@@ -265,7 +269,7 @@ class Reader:
         if self.appids:
             key = ADDRESSES[local], self.at["ConnectedAP"]["iedName"], stated["ldInst"], stated["cbName"]
             held = self.station.addresses.setdefault(key, [])
-            held += [Address({**self.parts, "APPID": appid}) for appid in self.appids]
+            held += [Address({**self.parts, "APPID": appid}, self.times) for appid in self.appids]
 
     def text(self, text):
         if self.words is not None and not self.skipped:

@@ -1,6 +1,7 @@
 """What an SCL file configures, held beside what a capture has."""
 import scl
 import senders
+from reporting.rates import MODES
 
 
 class Configured:
@@ -8,11 +9,12 @@ class Configured:
 
     def __init__(self, path):
         self.path, self.station = path, scl.Station(path)
-        self.senders, self.unusable, self.used = {}, [], set()
+        self.senders, self.unusable, self.used, self.longest = {}, [], set(), {}
         for control in self.station.controls:
             try:
                 for it in self.station.senders(control):
                     self.senders.setdefault(it.key, []).append(it)
+                    self.longest.setdefault(it.text, it.more["address"].times.get("MaxTime"))
             except ValueError as why:
                 self.unusable.append((control.line, control.told(), str(why)))
 
@@ -29,6 +31,12 @@ class Configured:
     def missing(self):
         """The senders that are configured and not in the capture."""
         return [it for key, held in self.senders.items() if key not in self.used for it in {it.text: it for it in held}.values()]
+
+    def rates(self, seen):
+        """What is configured of the rate of a stream: smpRate, and what smpMod says of it."""
+        stated = [it.more["stated"] for it in self.senders.get(f"stream id={senders.quoted(seen.name)}", ())]
+        return [(int(it["smpRate"]), MODES[it.get("smpMod", "SmpPerPeriod")]) for it in stated
+                if it.get("smpRate", "").isdecimal() and it.get("smpMod", "SmpPerPeriod") in MODES]
 
     def received(self, ied):
         """The BLOCKs that an IED receives, each APPID and gocbRef once, and those of its blocks that have none."""

@@ -1,13 +1,19 @@
 """What is missing of control blocks and streams, and when: from goose losses."""
+import heapq
 import json
+import math
 import re
 
 from reporting import page
-from reporting.station import HEAD, Place, place
+from reporting.places import HEAD, Place, place
+from reporting.times import SECOND
 
 # How many findings of one kind and one sender the page lists one by one; the others are added up.
 MOST = 200
 SENDER = re.compile(rb',"appid":"[0-9a-f]{4}",(?:"gocbRef":"(?:[^"\\]|\\.)*","simulation":(?:true|false)|"source":"[0-9a-f]{12}","svID":"(?:[^"\\]|\\.)*")')
+STREAM = re.compile(rb',"appid":"([0-9a-f]{4})","source":"([0-9a-f]{12})","svID":("(?:[^"\\]|\\.)*")')
+PACKET = re.compile(rb'\{"packet":(\d+)')
+SINCE = re.compile(rb'"since":(\d+),.*"for":(\d+)\}$')
 # How much is missing, at the end of a line: a number, or the first and the last one.
 SIZE = re.compile(rb'"missing":(\d+)\}|"from":(\d+),"to":(\d+)\}')
 COLUMNS = [page.Column("Time"), page.Column("Packet"), page.Column("Sender"), page.Column("Finding"), page.Column("Details")]
@@ -69,11 +75,14 @@ class Many:
 
 
 class Missing:
-    """The findings of goose losses: rows as they come, totals, and marks of a picture."""
+    """The findings of goose losses: rows as they come, totals, and marks of a picture. Silences are held beside the capture's times:
+    those that come of these are no findings."""
 
-    def __init__(self, rows, picture, short):
-        self.rows, self.picture, self.short = rows, picture, short
+    def __init__(self, rows, picture, short, times):
+        self.rows, self.picture, self.short, self.times = rows, picture, short, times
         self.kinds, self.senders, self.many, self.totals = {}, {}, {}, []
+        # The last silence of each sender: its packet and the gap in all packets in which it began; and how many silences cannot be seen.
+        self.silences, self.hidden, self.periods = {}, 0, {}
 
     def see(self, lines):
         for line in lines:
@@ -82,6 +91,11 @@ class Missing:
                 self.finding(line, found)
             else:
                 self.ending(json.loads(line))
+        for gap in self.times.gaps:
+            if gap.silences and not gap.is_leap:
+                self.count("silent", gap.silences, gap.first)
+            if gap.outages and not gap.is_leap:
+                self.count("samples-missing", gap.samples, gap.first, gap.outages)
 
     def finding(self, line, found):
         """A finding at a packet."""
@@ -89,7 +103,8 @@ class Missing:
         sender = SENDER.match(line, found.end())
         held = (sender[0] if sender else b"", kind)
         number = self.senders[held] = self.senders.get(held, 0) + 1
-        self.count(kind.decode(), size_of(line, kind), int(found[1]))
+        if not self.of_times(kind, line, found, held[0]):
+            self.count(kind.decode(), size_of(line, kind), int(found[1]))
         if number <= MOST:
             self.list(json.loads(line), place(found))
             return
@@ -97,11 +112,49 @@ class Missing:
         many.number, many.last = many.number + 1, found
         many.first, many.record = many.first or place(found), many.record or json.loads(line)
 
-    def count(self, kind, size, packet):
-        """Counts a finding, and how many states, frames or samples it is."""
+    def of_times(self, kind, line, found, sender):
+        """Whether a finding can come of the capture's own times: it counts when these are judged, or not at all."""
+        if kind == b"silent":
+            return self.silence(line, found, sender)
+        if kind == b"samples-missing":
+            return self.outage(line, found, sender)
+        packet, gap = self.silences.get(sender, (None, None))
+        if packet == int(found[1]) and kind != b"late":
+            gap.is_lossy = True
+        return False
+
+    def silence(self, line, found, sender):
+        """A silence that began in a gap in all packets, or that times which go back show or hide."""
+        packet, now, (since, length) = int(found[1]), int(found[2]), map(int, SINCE.search(line).groups())
+        gap = self.times.gap_of(since)
+        if now < since + length or (gap and gap.is_undone):
+            self.hidden += 1
+            return True
+        # A sender that goes on where it was comes again within what was left of its lifetime.
+        if gap and now - gap.after <= since - gap.before:
+            gap.add_silence(sender, packet)
+            self.silences[sender] = packet, gap
+            return True
+        return False
+
+    def outage(self, line, found, sender):
+        """Samples that are missing where no packet came: whole seconds are no sign that any is."""
+        packet, now, size = int(found[1]), int(found[2]), size_of(line, b"samples-missing")
+        gap, period = self.times.gap_before(now), self.periods.get(sender)
+        if not gap or not period or gap.before < now - (size + 1) * SECOND // period - SECOND // 10 or now - gap.after >= SECOND:
+            return False
+        if size % period:
+            gap.is_lossy = True
+            return False
+        gap.add_outage(size, packet)
+        return True
+
+    def count(self, kind, size, packet, number=1):
+        """Counts findings, and how many states, frames or samples they are."""
         held = self.kinds.setdefault(kind, [0, 0, packet])
-        held[0] += 1
+        held[0] += number
         held[1] += size
+        held[2] = packet if held[2] is None or packet is None else min(packet, held[2])
 
     def list(self, record, where):
         self.rows.write(page.row(COLUMNS, [page.when(where, self.short), f"{where.packet}", sender_of(record),
@@ -114,7 +167,10 @@ class Missing:
         if kind.startswith("total-"):
             self.totals.append(record)
         elif kind == "end-silent":
-            self.count(kind, 1, None)
+            if self.times.ends_back:
+                self.hidden += 1
+            else:
+                self.count(kind, 1, None)
             self.rows.write(page.row(COLUMNS, ["end of the capture", "none after", sender_of(record), "silent at the end",
                                                details(record, self.short)], found=3))
             self.picture.finding(record, Place(None, record["since"] + record["for"], None))
@@ -130,6 +186,47 @@ class Missing:
     def found(self):
         """The kinds of findings that are there, in the order of the summary."""
         return [kind for kind in FOUND if kind in self.kinds]
+
+
+# ---- Runs --------------------------------------------------------------------
+
+
+def merged(runs, periods):
+    """The lines of several runs of goose losses in the order of packets, each a period and its lines: those of control blocks of the first
+    run, those of a stream of the run with its period. Of a stream without one only its samples and changes of smpSynch are told."""
+    held = [own(lines, period, periods, at == 0) for at, (period, lines) in enumerate(runs)]
+    return held[0] if len(held) == 1 else heapq.merge(*held, key=packet_of)
+
+
+def packet_of(line):
+    found = PACKET.match(line)
+    return int(found[1]) if found else math.inf
+
+
+def own(lines, period, periods, is_first):
+    """The lines of a run that count."""
+    for line in lines:
+        found = STREAM.search(line) if b',"source":"' in line else None
+        theirs = periods.get(found[0]) if found else None
+        if found and theirs is None and is_first:
+            yield from unjudged(line)
+        elif theirs == period if found else is_first:
+            yield line
+
+
+def unjudged(line):
+    """What a line says of a stream that is not judged."""
+    if line.startswith(b'{"kind":"total-sv"'):
+        record = json.loads(line)
+        yield json.dumps({name: record[name] for name in ("kind", "appid", "source", "svID", "samples")}, separators=(",", ":")).encode()
+    elif b'"kind":"synch"' in line:
+        yield line
+
+
+def key_of(stream):
+    """A stream as the lines of goose losses have it."""
+    appid, source, _ = stream.key
+    return b',"appid":"%s","source":"%s","svID":%s' % (appid.encode(), source.encode(), stream.text)
 
 
 # ---- Totals ------------------------------------------------------------------

@@ -7,13 +7,31 @@ import zlib
 PIECE = 1 << 20
 # What a file begins with: classic captures of both orders, in microseconds and nanoseconds, and pcapng.
 CLASSIC = {0xA1B2C3D4: "microseconds", 0xA1B23C4D: "nanoseconds"}
-SECTION, INTERFACE, OLD_PACKET, SIMPLE, PACKET = 0x0A0D0D0A, 1, 2, 3, 6
+SECTION, INTERFACE, OLD_PACKET, SIMPLE, STATISTICS, PACKET = 0x0A0D0D0A, 1, 2, 3, 5, 6
 LINKS = {1: "Ethernet", 105: "Wi-Fi (IEEE 802.11)", 113: "Linux cooked (LINUX_SLL)", 127: "Wi-Fi (radiotap)", 276: "Linux cooked (LINUX_SLL2)"}
+ETHERNET = 1
 # Options of an interface and of a section.
 NAME, DESCRIPTION, APPLICATION = 2, 3, 4
+# Options of an interface's statistics: packets that the card and that the system dropped, from the beginning on. Of a packet: how many
+# were dropped before it.
+CARD_DROPS, SYSTEM_DROPS, DROPS = 5, 7, 4
 # The most octets of a block that are looked into, and what is told of an interface whose names can lie behind them.
 MOST = 1 << 20
-CUT = "what its block says after 1 MiB is not read"
+UNREAD = "what its block says after 1 MiB is not read"
+
+
+TAKEN = (SECTION, INTERFACE, OLD_PACKET, SIMPLE, STATISTICS, PACKET)
+
+
+class Fields:
+    """How numbers of an order of octets are read."""
+
+    def __init__(self, order):
+        self.sizes, self.interface, self.packet, self.old_packet = (
+            struct.Struct(order + form).unpack_from for form in ("II", "HHI", "IIIII", "HHIIII"))
+
+
+FIELDS = {order: Fields(order) for order in "<>"}
 
 
 def checksum_of(path):
@@ -26,28 +44,47 @@ def checksum_of(path):
 
 
 class Interface:
-    """An interface of a capture: its names, its link type, its packets and the first of them."""
+    """An interface of a capture: its names, its link type, its packets and the first of them, and what it says that was dropped."""
 
-    def __init__(self, name, description, link):
+    def __init__(self, name, description, link, snapshot=0):
         self.name, self.description, self.link = name, description, LINKS.get(link, f"link type {link}")
-        self.packets, self.first, self.last = 0, None, None
+        self.is_ethernet, self.snapshot = link == ETHERNET, snapshot
+        self.packets, self.first, self.last, self.dropped, self.dropped_before = 0, None, None, 0, 0
+
+    def add(self, number):
+        self.packets, self.first, self.last = self.packets + 1, self.first or number, number
+
+    @property
+    def drops(self):
+        """How many packets were dropped, by what says more: its statistics or its packets."""
+        return max(self.dropped, self.dropped_before)
+
+
+class Cut:
+    """The packets of which less was captured than came: how many, and the first."""
+
+    def __init__(self):
+        self.number, self.first = 0, None
+
+    def add(self, number):
+        self.number, self.first = self.number + 1, self.first or number
 
 
 class Recorded:
     """A capture's file, read once from its beginning to its end; of its packets only those that goose has answered count."""
 
     def __init__(self, path, packets, progress):
-        self.size, self.digest, self.checksum, self.interfaces = os.stat(path).st_size, hashlib.sha256(), 0, []
+        self.size, self.digest, self.interfaces = os.stat(path).st_size, hashlib.sha256(), []
+        self.checksum = 0
         self.form, self.application, self.numbers, self.most = "", None, 0, packets
-        self.order, self.section, self.rest, self.skip, self.is_over = "<", [], b"", 0, False
+        self.order, self.section, self.rest, self.skip, self.is_over, self.cut = "<", [], b"", 0, False, Cut()
+        self.walk, self.fields = self.blocks, FIELDS["<"]
         with open(path, "rb") as file:
             while piece := file.read(PIECE):
                 self.digest.update(piece)
                 self.checksum = zlib.crc32(piece, self.checksum)
                 self.take(piece)
                 progress.tell("reading the file", self.numbers, packets)
-        if self.form.startswith("classic"):
-            self.classic_packets()
 
     @property
     def sha256(self):
@@ -61,7 +98,7 @@ class Recorded:
             self.skip -= len(piece)
             return
         octets, self.skip = self.rest + piece[max(self.skip, 0):], 0
-        at = self.blocks(octets)
+        at = self.walk(octets)
         self.rest, self.skip = octets[at:], max(at - len(octets), 0)
 
     def begin(self, piece):
@@ -73,55 +110,104 @@ class Recorded:
                 link = struct.unpack_from(f"{order}I", piece, 20)[0] & 0xFFFF
                 self.form = f"classic (libpcap), times in {CLASSIC[mark]}"
                 self.interfaces = [Interface(None, None, link)]
-        self.is_over = self.form != "pcapng"
+                self.walk, self.fields, self.skip = self.records, FIELDS[order], 24
+        self.is_over = self.form != "pcapng" and not self.interfaces
 
-    def classic_packets(self):
-        it = self.interfaces[0]
-        it.packets, it.first, it.last = self.most, 1 if self.most else None, self.most or None
+    def records(self, octets):
+        """Takes the records of a classic capture that begin in these octets, and answers where the next one begins."""
+        at, sizes, it = 0, self.fields.sizes, self.interfaces[0]
+        while at + 16 <= len(octets) and self.numbers < self.most:
+            captured, original = sizes(octets, at + 8)
+            self.numbers += 1
+            it.add(self.numbers)
+            if captured < original:
+                self.cut.add(self.numbers)
+            at += 16 + captured
+        self.is_over = self.numbers >= self.most
+        return at
 
     def blocks(self, octets):
         """Takes the blocks that begin in these octets, and answers where the next one begins: perhaps behind their end."""
         at = 0
         while at + 12 <= len(octets) and not self.is_over:
-            kind, size = struct.unpack_from(f"{self.order}II", octets, at)
+            kind, size = self.fields.sizes(octets, at)
             if kind == SECTION:
                 self.order = "<" if octets[at + 8:at + 12] == b"\x4d\x3c\x2b\x1a" else ">"
-                size = struct.unpack_from(f"{self.order}I", octets, at + 4)[0]
+                self.fields = FIELDS[self.order]
+                size = self.fields.sizes(octets, at)[1]
             self.is_over = size < 12 or size % 4 > 0
-            if kind in (SECTION, INTERFACE) and at + min(size, MOST) > len(octets):
+            if kind in TAKEN and at + min(size, MOST) > len(octets):
                 return at
-            self.block(kind, octets, at, size)
+            if not self.is_over and kind in TAKEN:
+                self.block(kind, octets, at, min(size, MOST + 4))
             at += size
         return at
 
     def block(self, kind, octets, at, size):
         if kind == SECTION:
             self.section = []
-            self.application = self.application or self.options(octets[at + 24:at + min(size - 4, MOST)]).get(APPLICATION)
+            self.application = self.application or self.text(self.options(octets[at + 24:at + size - 4]).get(APPLICATION))
         elif kind == INTERFACE:
-            told = self.options(octets[at + 16:at + min(size - 4, MOST)])
-            link = struct.unpack_from(f"{self.order}H", octets, at + 8)[0]
-            self.section.append(Interface(told.get(NAME), told.get(DESCRIPTION, CUT if size > MOST else None), link))
+            told = self.options(octets[at + 16:at + size - 4])
+            link, _, snapshot = self.fields.interface(octets, at + 8)
+            self.section.append(Interface(self.text(told.get(NAME)), self.text(told.get(DESCRIPTION, UNREAD if size > MOST else None)), link, snapshot))
             self.interfaces.append(self.section[-1])
-        elif kind in (OLD_PACKET, SIMPLE, PACKET):
-            which = 0 if kind == SIMPLE else struct.unpack_from(f"{self.order}{'I' if kind == PACKET else 'H'}", octets, at + 8)[0]
-            self.packet(which)
+        elif kind == STATISTICS:
+            self.statistics(octets, at, size)
+        elif self.numbers >= self.most or size < (16 if kind == SIMPLE else 32):
+            self.is_over = True
+        else:
+            self.packet(kind, octets, at, size)
 
-    def packet(self, which):
-        if self.numbers >= self.most or which >= len(self.section):
+    def packet(self, kind, octets, at, size):
+        """A packet: its interface, whether it is cut, and what was dropped before it."""
+        dropped = 0
+        if kind == PACKET:
+            which, _, _, captured, original = self.fields.packet(octets, at + 8)
+            if 36 + captured < size:
+                dropped = self.number(self.options(octets[at + 28 + (captured + 3) // 4 * 4:at + size - 4]).get(DROPS))
+        elif kind == OLD_PACKET:
+            which, dropped, _, _, captured, original = self.fields.old_packet(octets, at + 8)
+            dropped = dropped if dropped < 0xFFFF else 0
+        else:
+            which, original = 0, self.fields.sizes(octets, at + 8)[0]
+            captured = min(original, self.section[0].snapshot or original) if self.section else original
+        if which >= len(self.section):
             self.is_over = True
             return
         self.numbers += 1
-        it = self.section[which]
-        it.packets, it.first, it.last = it.packets + 1, it.first or self.numbers, self.numbers
+        self.section[which].add(self.numbers)
+        self.section[which].dropped_before += dropped
+        if captured < original:
+            self.cut.add(self.numbers)
+
+    def statistics(self, octets, at, size):
+        """The statistics of an interface, which count from the beginning on."""
+        which = self.fields.sizes(octets, at + 8)[0] if size >= 24 else len(self.section)
+        if which < len(self.section):
+            told, it = self.options(octets[at + 20:at + size - 4]), self.section[which]
+            it.dropped = max(it.dropped, self.number(told.get(CARD_DROPS)) + self.number(told.get(SYSTEM_DROPS)))
+
+    def number(self, octets):
+        """A number of eight octets, or 0; all ones say that it is not known."""
+        number = int.from_bytes(octets, "little" if self.order == "<" else "big") if octets and len(octets) == 8 else 0
+        return number if number < 2**64 - 1 else 0
+
+    def text(self, octets):
+        """The text of an option, or what is told in place of one."""
+        return octets.rstrip(b"\0").decode("utf-8", "replace") if isinstance(octets, bytes) else octets
+
+    @property
+    def drops(self):
+        return sum(it.drops for it in self.interfaces)
 
     def options(self, octets):
-        """The texts of options by their codes; the last of a code counts."""
+        """The octets of options by their codes; the last of a code counts."""
         found, at = {}, 0
         while at + 4 <= len(octets):
             code, size = struct.unpack_from(f"{self.order}HH", octets, at)
             if code == 0:
                 break
-            found[code] = octets[at + 4:at + 4 + size].rstrip(b"\0").decode("utf-8", "replace")
+            found[code] = octets[at + 4:at + 4 + size]
             at += 4 + (size + 3) // 4 * 4
         return found

@@ -2,7 +2,7 @@
 import shlex
 
 import senders
-from reporting import events, faults, missing, page, picture
+from reporting import clocks, events, faults, missing, page, picture, rates, synchronised
 
 # How many lifetimes of one block are told.
 MOST_LIFETIMES = 8
@@ -176,6 +176,9 @@ def station(found, own, short):
         told.append(page.table(what, heads, rows) if rows else paragraph(f"{what}: none in {found.all_packets}."))
     for line, reference, why in found.unusable:
         told.append(paragraph(f"{own.scd}, line {line}: {reference} is not compared: {why}."))
+    for it in found.clocks:
+        where = f"from packet\u00a0{it.first} on" if it.first else f"{found.all_packets}"
+        told += [page.table(f"Clocks of devices beside the capture's, {where}", clocks.COLUMNS, it.rows(short))] if it.off else []
     return section("Control blocks and streams", "station", *told)
 
 
@@ -213,6 +216,10 @@ def lost(found, _own, rows):
         told += [page.table(f"{what}, {found.all_packets}", columns, held)] if held else []
     if not it.totals and found.broken:
         told.append(paragraph("There are no totals, since the capture breaks off."))
+    streams = found.station.of_kind("stream")
+    if streams:
+        told += [page.table("Rates of streams, by which samples are judged", rates.COLUMNS, [rates.row(it, found.rates[it]) for it in streams]),
+                 page.table("How samples are synchronised", synchronised.COLUMNS, synchronised.rows(streams, found.is_short))]
     told.append(paragraph("What is lost at the end of a state that another followed cannot be seen.", class_="soft"))
     return section("Losses, silences, restarts and late frames", "losses", *told)
 

@@ -1,29 +1,24 @@
 """Which control blocks and streams a capture has, and how they are sent: from goose blocks and goose show."""
 import json
-import math
 import re
 
 import senders
+from reporting.clocks import Clock
+from reporting.places import HEAD, Span, place
+from reporting.rates import STRETCH, Rise
+from reporting.synchronised import Synch
+from reporting.times import SECOND, Times
 
-HEAD = re.compile(rb'\{"packet":(\d+),"microseconds":(\d+),"time":(?:"([^"]*)"|null),"kind":"([a-z-]+)"')
-ASDU = re.compile(rb'"svID":("(?:[^"\\]|\\.)*"),"datSet":(?:null|"(?:[^"\\]|\\.)*"),"smpCnt":\d+,"confRev":(\d+)')
+# Of an ASDU: svID, confRev, smpSynch, smpRate and smpMod, which stay from one frame to the next.
+ASDU = re.compile(rb'"svID":("(?:[^"\\]|\\.)*"),"datSet":(?:null|"(?:[^"\\]|\\.)*"),"smpCnt":\d+,"confRev":(\d+),"refrTm":(?:null|"[^"]*","refrTime":'
+                  rb'(?:null|"[^"]*"),"refrQuality":\{[^}]*\}),"smpSynch":(\d+),"smpRate":(\w+),"sample":"[^"]*","smpMod":(null|"[^"]*")')
+COUNT = re.compile(rb'"smpCnt":(\d+)')
 # How many sorts of frames are held before they are added up.
 MOST_SORTS = 10000
 # How many forms of one sender are told.
 MOST_FORMS = 50
-
-
-class Place:
-    """A packet and its time."""
-
-    def __init__(self, packet, microseconds, time):
-        self.packet, self.microseconds, self.time = packet, microseconds, time
-
-
-def place(found):
-    """The place of a line whose head was found."""
-    time = found[3]
-    return Place(int(found[1]), int(found[2]), time and time.decode())
+# The bit of Reserved 1 that says that a frame is simulated.
+SIMULATED = 0x8000
 
 
 class Seen:
@@ -31,12 +26,23 @@ class Seen:
 
     def __init__(self, kind, key, name, appid):
         self.kind, self.key, self.name, self.appid = kind, key, name, appid
-        self.frames, self.first, self.last, self.forms, self.envelopes, self.lifetimes = 0, None, None, {}, {}, {}
+        self.span, self.forms, self.envelopes, self.lifetimes = Span(), {}, {}, {}
+        # Its sources, each with whether frames are simulated; its simulated frames and the end of their lifetime; those of ndsCom true.
+        self.sources, self.simulated, self.commissioning, self.lives_until = {}, Span(), Span(), 0
+        # Of a stream: how fast its samples come, what it says of that, how they are synchronised, and its svID as goose writes it.
+        self.rise, self.rates, self.synch, self.text = Rise(), {}, Synch(), b""
 
-    def add(self, number, first, last):
-        self.frames += number
-        self.first = first if self.first is None or first.packet < self.first.packet else self.first
-        self.last = last if self.last is None or last.packet > self.last.packet else self.last
+    @property
+    def frames(self):
+        return self.span.number
+
+    @property
+    def first(self):
+        return self.span.first
+
+    @property
+    def last(self):
+        return self.span.last
 
     def note(self, held, what, packet):
         """Notes the first packet that has something."""
@@ -50,11 +56,22 @@ class Seen:
         return text if self.kind == "block" and text and senders.block_fields(text) else None
 
 
+class Sort:
+    """Frames of one sender that are the same in all that is told here: how many, the first and the last. Of GOOSE also the state of the
+    last one that was looked at, and since when; of Sampled Values what its ASDUs say, and its streams."""
+
+    __slots__ = ("record", "number", "first", "last", "state", "since", "clock", "streams")
+
+    def __init__(self, record, found):
+        self.record, self.number, self.first, self.last = record, 0, found, found
+        self.state, self.since, self.clock, self.streams = b"", 0, None, ()
+
+
 class Station:
     """The senders of a capture in the order in which they occur, and how many packets are what."""
 
     def __init__(self):
-        self.seen, self.sorts, self.kinds = {}, {}, {}
+        self.seen, self.sorts, self.flows, self.kinds, self.clocks, self.times = {}, {}, {}, {}, {}, Times()
         self.first, self.last, self.span = None, None, None
 
     def see_blocks(self, lines):
@@ -69,55 +86,131 @@ class Station:
         return self.seen.setdefault((kind, *key), Seen(kind, key, name, appid))
 
     def see_frames(self, lines):
-        """The lines of goose show. Frames that are the same in all that is told here are one sort."""
-        first, found, least, greatest, kinds, sorts = None, None, math.inf, 0, self.kinds, self.sorts
+        """The lines of goose show."""
+        first = found = top = None
+        least = greatest = 0
+        kinds, looks = self.kinds, {b"goose": self.goose, b"sv": self.sampled}
         for found in filter(None, map(HEAD.match, lines)):
             kind, now = found[4], int(found[2])
             kinds[kind] = kinds.get(kind, 0) + 1
-            first = first or found
-            least, greatest = now if now < least else least, now if now > greatest else greatest
-            sort = sort_of(kind, found.string, found.end())
-            held = sorts.get(sort)
-            if held:
-                held[0] += 1
-                held[2] = found
-            elif sort:
-                if len(sorts) >= MOST_SORTS:
-                    self.add_up()
-                sorts[sort] = [1, found, found]
+            if first is None:
+                first, least, greatest, top = found, now, now, found
+            ahead = now - greatest
+            if ahead > 0:
+                if ahead >= SECOND:
+                    self.times.gap(greatest, found)
+                greatest, top = now, found
+            elif ahead < 0:
+                least = min(now, least)
+                if ahead <= -SECOND:
+                    self.times.back(-ahead, found, top)
+            if kind in looks:
+                looks[kind](found, found.string, now)
         self.add_up()
         self.first, self.last = first and place(first), found and place(found)
         self.span = (least, greatest) if found else None
+        self.times.ends_back = bool(found) and int(found[2]) <= greatest - SECOND
+
+    # ---- Frames --------------------------------------------------------------
+
+    def goose(self, found, line, now):
+        """A frame of GOOSE. Only the first frame of a state is looked at whole, and one that comes before it."""
+        at = found.end()
+        until = line.find(b',"t":"', at)
+        upto = line.find(b',"sqNum":', until)
+        flags = line.find(b',"simulation":', upto)
+        key = line[at + 1:until], line[flags + 1:line.find(b',"members":', flags)]
+        sort = self.sorts.get(key) or self.sort_of_goose(key, found)
+        sort.number += 1
+        sort.last = found
+        state = line[until:upto]
+        if state != sort.state or now < sort.since:
+            sort.state, sort.since = state, now
+            if sort.clock:
+                sort.clock.see(found, line, until)
+
+    def sort_of_goose(self, key, found):
+        """A new sort of frames of GOOSE. The clock of a simulated one is not judged."""
+        record = json.loads(b"{%s,%s}" % key)
+        sort = self.sort(key, Sort(record, found))
+        if not record["simulation"]:
+            own = record["appid"], record["gocbRef"], record["source"]
+            sort.clock = self.clocks.get(own) or self.clocks.setdefault(own, Clock(record["source"], record["gocbRef"]))
+        return sort
+
+    def sampled(self, found, line, now):
+        """A frame of Sampled Values. Those of one envelope mostly are of one sort; smpCnt is looked at once a stretch."""
+        until = line.find(b',"asdus":[', found.end())
+        envelope, asdus = line[found.end() + 1:until], tuple(ASDU.findall(line, until))
+        sort = self.flows.get(envelope)
+        if sort is None or sort.state != asdus:
+            sort = self.sort_of_sampled(envelope, asdus, found)
+        sort.number += 1
+        sort.last = found
+        if not 0 <= now - sort.since < STRETCH:
+            sort.since = now
+            counts = COUNT.findall(line, until)
+            for at, stream in sort.streams:
+                stream.rise.see(now, int(counts[at]))
+
+    def sort_of_sampled(self, envelope, asdus, found):
+        """The sort of a frame that differs from the one before in what its ASDUs say."""
+        sort = self.sorts.get((envelope, asdus))
+        if sort is None:
+            sort = self.sort((envelope, asdus), Sort(json.loads(b"{%s}" % envelope), found))
+            sort.state, sort.streams = asdus, self.streams_of(sort.record, asdus)
+        self.flows[envelope] = sort
+        named = {json.loads(svid): synch for svid, _, synch, *_ in asdus}
+        for _, stream in sort.streams:
+            stream.synch.see(int(named[stream.name]), found)
+        return sort
+
+    def streams_of(self, record, asdus):
+        """The streams of a frame, each once, with the position of its first ASDU."""
+        found = {}
+        for at, (svid, _, _, rate, mode) in enumerate(asdus):
+            name = json.loads(svid)
+            it = self.sender("stream", (record["appid"], record["source"], name), name, record["appid"])
+            found.setdefault(name, (at, it))
+            it.text = svid
+            if rate != b"null" and len(it.rates) < MOST_FORMS:
+                it.rates[int(rate), None if mode == b"null" else int(mode[1:-1] or b"0", 16)] = None
+        return list(found.values())
+
+    def sort(self, key, sort):
+        if len(self.sorts) >= MOST_SORTS:
+            self.add_up()
+        self.sorts[key] = sort
+        return sort
 
     def add_up(self):
         """Adds the sorts to their senders."""
-        for (envelope, *rest), (number, first, last) in self.sorts.items():
-            record, packet = json.loads(b"{" + envelope + b"}"), int(first[1])
-            for it in self.of_goose(record, packet) if "gocbRef" in record else self.of_asdus(record, packet, *rest):
-                it.add(number, place(first), place(last))
-                it.note(it.envelopes, (record["destination"], record["source"], record["tag"]), packet)
+        for sort in self.sorts.values():
+            record, first, last = sort.record, place(sort.first), place(sort.last)
+            if "gocbRef" in record:
+                it = self.sender("block", (record["appid"], record["gocbRef"]), record["gocbRef"], record["appid"])
+                self.add(it, sort, record["simulation"], first, last)
+                it.note(it.lifetimes, record["timeAllowedtoLive"], first.packet)
+                if record["simulation"]:
+                    it.lives_until = max(it.lives_until, last.microseconds + 1000 * record["timeAllowedtoLive"])
+                if record["ndsCom"]:
+                    it.commissioning.add(sort.number, first, last)
+            for at, it in sort.streams:
+                self.add(it, sort, int(record["reserved1"], 16) >= SIMULATED, first, last)
+                it.note(it.forms, f"stream id={senders.quoted(it.name)} rev={sort.state[at][1].decode()}", first.packet)
         self.sorts.clear()
+        self.flows.clear()
 
-    def of_goose(self, record, packet):
-        it = self.sender("block", (record["appid"], record["gocbRef"]), record["gocbRef"], record["appid"])
-        it.note(it.lifetimes, record["timeAllowedtoLive"], packet)
-        return [it]
+    def add(self, seen, sort, is_simulated, first, last):
+        """Adds frames of one sort to their sender."""
+        record = sort.record
+        seen.span.add(sort.number, first, last)
+        seen.note(seen.envelopes, (record["destination"], record["source"], record["tag"]), first.packet)
+        own = is_simulated, record["source"]
+        if len(seen.sources) < MOST_FORMS or own in seen.sources:
+            seen.sources.setdefault(own, Span()).add(sort.number, first, last)
+        if is_simulated:
+            seen.simulated.add(sort.number, first, last)
 
-    def of_asdus(self, record, packet, asdus):
-        """The streams of a frame, each once."""
-        found = {}
-        for svid, revision in asdus:
-            name = json.loads(svid)
-            it = self.sender("stream", (record["appid"], record["source"], name), name, record["appid"])
-            it.note(it.forms, f"stream id={senders.quoted(name)} rev={revision.decode()}", packet)
-            found[id(it)] = it
-        return found.values()
-
-
-def sort_of(kind, line, at):
-    """What frames of one sender have in common from one to the next, or None of another kind of line: of a control block envelope,
-    texts and lifetime, of Sampled Values the envelope and the streams of the ASDUs."""
-    if kind == b"sv":
-        until = line.find(b',"asdus":[', at)
-        return line[at + 1:until], tuple(ASDU.findall(line, until))
-    return (line[at + 1:line.find(b',"t":"', at)],) if kind == b"goose" else None
+    def of_kind(self, kind):
+        return [it for it in self.seen.values() if it.kind == kind]

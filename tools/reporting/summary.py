@@ -1,15 +1,16 @@
 """The summary: what was found, not judged or clean of each topic, each with the packets that it rests on."""
-from reporting import missing, page
-from reporting.verdict import Line, Verdict, clean, found as finding, not_judged, some
+from reporting import clocks, looked, missing, page, rates, received, simulation, sources, synchronised
+from reporting.verdict import Line, Verdict, clean, found as finding, some
 
 
 def capture(found, _own):
     if found.broken:
         yield finding(f"it breaks off where packet\u00a0{found.broken.packet} should be ({found.broken.error}).")
-        return
-    others = found.passed
-    told = f"{found.all_packets} were read to the end of the file" if found.packets else "it has no packet"
-    yield clean(f"{told}; {page.count(others, 'frame')} of other protocols among them." if others else f"{told}.")
+    yield from looked.judge(found)
+    if not found.broken:
+        others = found.passed
+        told = f"{found.all_packets} were read to the end of the file" if found.packets else "it has no packet"
+        yield clean(f"{told}; {page.count(others, 'frame')} of other protocols among them." if others else f"{told}.")
 
 
 def losses(found, _own):
@@ -20,17 +21,9 @@ def losses(found, _own):
         told.append(f"{page.count(size, *missing.WORDS[kind])} ({where})")
     if told:
         yield finding(f"{'; '.join(told)}.")
-    else:
+    yield from looked.silences(found)
+    if not told:
         yield clean(f"nothing is missing, late, silent or restarted in {found.all_packets}.")
-
-
-def samples(found, own):
-    streams = [seen for seen in found.station.seen.values() if seen.kind == "stream"]
-    if streams and not own.period:
-        yield not_judged(f"samples of {page.count(len(streams), 'stream')} in {found.all_packets} are not judged, since no rate is known.",
-                         "give --period N")
-    else:
-        yield clean(f"{page.count(len(streams), 'stream')} in {found.all_packets}.")
 
 
 def errors(found, _own):
@@ -79,13 +72,16 @@ def events(found, _own):
 
 
 # The topics in the order in which they are told where they are in one state: each with the section that tells more, and what judges it.
-TOPICS = (("Capture", "recorded", capture), ("Losses", "losses", losses), ("Samples", "losses", samples), ("Errors", "errors", errors),
-          ("Configuration", "station", configuration), ("Events acted on", "events", events))
+TOPICS = (("Capture", "recorded", capture), ("Received", "events", received.judge), ("Losses", "losses", losses), ("Samples", "losses", rates.judge),
+          ("Errors", "errors", errors), ("Configuration", "station", configuration), ("Clocks", "station", clocks.judge),
+          ("Source addresses", "station", sources.judge), ("Simulation", "station", simulation.judge),
+          ("Synchronisation", "losses", synchronised.judge), ("Events acted on", "events", events))
 
 
 def verdict(found, own):
     """What each topic comes to."""
-    return Verdict([Line(topic, key, list(judge(found, own))) for topic, key, judge in TOPICS])
+    lines = [Line(topic, key, list(judge(found, own))) for topic, key, judge in TOPICS]
+    return Verdict([it for it in lines if it.statements])
 
 
 def section(judged):

@@ -1,0 +1,37 @@
+"""What a device gets of the control blocks that it subscribes to: a block of which it takes no frame is told by itself."""
+from reporting import page
+from reporting.verdict import clean, found as finding, not_judged
+
+# The kinds of what a device does with a frame that it takes for one of its block.
+ACCEPTED = ("act", "refreshed", "repeated", "old")
+# How long a recording has to be for a block of which nothing is configured to be in it, in microseconds.
+LONG, MILLISECOND = 60 * 10**6, 1000
+
+
+def reasons(block):
+    """Why frames of a block were refused, and how many."""
+    return ", ".join(f"{page.count(held.number, 'frame')} refused ({reason}), first: packet\u00a0{held.first.packet}"
+                     for (kind, reason), held in block.counts.items() if kind == "refused")
+
+
+def judge(found, own):
+    """What of the blocks of a subscriber came, one by one."""
+    if not own.ied:
+        return
+    length, accepted = found.station.span[1] - found.station.span[0] if found.station.span else 0, 0
+    for at, text in enumerate(found.blocks):
+        block, longest = found.events.blocks.get(at), found.configured.longest.get(text)
+        name = text.split(",")[1]
+        seen = found.station.seen.get(("block", *text.split(",")[:2]))
+        if block and any(kind in ACCEPTED for kind, _ in block.counts):
+            accepted += 1
+        elif block and reasons(block):
+            yield finding(f"{own.ied} accepts no frame of {name}: {reasons(block)}.")
+        elif seen and seen.frames:
+            yield finding(f"{own.ied} accepts no frame of {name}, of which {page.count(seen.frames, 'frame')} came (first: packet\u00a0{seen.first.packet}).")
+        elif length < (MILLISECOND * longest if longest else LONG):
+            until = f"MaxTime is {longest:,} ms" if longest else "its MaxTime is not known"
+            yield not_judged(f"no frame of {name} came in {found.all_packets}, {page.duration(length)} long; {until}.", "record for longer")
+        else:
+            yield finding(f"no frame of {name} came in {found.all_packets}, which {own.ied} receives.")
+    yield clean(f"{accepted:,} of {page.count(len(found.blocks), 'control block')} that {own.ied} receives came and were accepted in {found.all_packets}.")

@@ -1,0 +1,90 @@
+"""The clock of the capture itself: times that go back, and leaps after which all senders go on where they were."""
+import bisect
+
+from reporting.places import place
+
+SECOND = 10**6
+# How many runs of times that go back are told, and how many times without a packet are looked at.
+MOST, MOST_GAPS = 200, 10000
+# How many senders have to be silent at once, and then go on where they were, so that the capture's clock has leapt.
+SENDERS = 2
+
+
+class Back:
+    """A run of packets whose times are a second or more before the greatest time: by how much at most, and where it begins."""
+
+    def __init__(self, by, where, greatest):
+        self.by, self.first, self.last, self.greatest = by, where, where.packet, int(greatest[1])
+
+
+class Gap:
+    """A second or more in which no packet came: its times, the packet that ends it, and what became of the senders in it."""
+
+    def __init__(self, before, found):
+        self.before, self.after, self.packet = before, int(found[2]), int(found[1])
+        self.silent, self.is_lossy, self.is_undone = set(), False, False
+        self.silences, self.outages, self.samples, self.first = 0, 0, 0, None
+
+    def add_silence(self, sender, packet):
+        self.silent.add(sender)
+        self.silences, self.first = self.silences + 1, self.first or packet
+
+    def add_outage(self, samples, packet):
+        self.outages, self.samples, self.first = self.outages + 1, self.samples + samples, self.first or packet
+
+    @property
+    def is_leap(self):
+        return len(self.silent) >= SENDERS and not self.is_lossy and not self.is_undone
+
+
+class Times:
+    """What is odd in the times of packets."""
+
+    def __init__(self):
+        self.backs, self.gaps, self.number, self.ends_back = [], [], 0, False
+
+    def gap(self, before, found):
+        """The packet before which no packet came for a second or more."""
+        if len(self.gaps) < MOST_GAPS:
+            self.gaps.append(Gap(before, found))
+
+    def back(self, by, found, greatest):
+        """A packet whose time is a second or more before the greatest one."""
+        packet, now = int(found[1]), int(found[2])
+        self.number += 1
+        last = self.backs[-1] if self.backs else None
+        if last and last.last == packet - 1:
+            is_lower, last.by, last.last = by > last.by, max(by, last.by), packet
+        else:
+            is_lower = True
+            if len(self.backs) < MOST:
+                self.backs.append(Back(by, place(found), greatest))
+            else:
+                last.by, last.last = max(by, last.by), packet
+        if is_lower:
+            self.undo(now)
+
+    def undo(self, now):
+        """A gap is none where times go back over more than half of it."""
+        for gap in reversed(self.gaps):
+            if gap.after <= now:
+                break
+            gap.is_undone = gap.is_undone or now - gap.before < gap.after - now
+
+    def gap_of(self, moment):
+        """The gap in which a moment is, or None."""
+        at = bisect.bisect_right(self.gaps, moment, key=lambda it: it.before) - 1 if self.gaps else -1
+        return self.gaps[at] if at >= 0 and moment <= self.gaps[at].after else None
+
+    def gap_before(self, moment):
+        """The last gap that ended by then, or None."""
+        at = bisect.bisect_right(self.gaps, moment, key=lambda it: it.after) - 1 if self.gaps else -1
+        return self.gaps[at] if at >= 0 else None
+
+    @property
+    def leaps(self):
+        return [it for it in self.gaps if it.is_leap]
+
+    @property
+    def greatest_back(self):
+        return max(self.backs, key=lambda it: it.by)
