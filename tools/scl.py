@@ -76,7 +76,7 @@ class Station:
 
     def read(self, path):
         parser = expat.ParserCreate(namespace_separator=" ")
-        reader = Reader(self, parser)
+        reader = self.reader(parser)
         parser.StartElementHandler, parser.EndElementHandler = reader.starts, reader.ends
         parser.CharacterDataHandler, parser.StartDoctypeDeclHandler = reader.text, reader.refuse
         parser.buffer_text = True
@@ -87,6 +87,10 @@ class Station:
                 raise Ended(f"{path}: line {parser.CurrentLineNumber}: an element lacks {name}") from None
             except (expat.ExpatError, LookupError, ValueError, Ended) as why:
                 raise Ended(f"{path}: {why}") from None
+
+    def reader(self, parser):
+        """What sees the elements of the file."""
+        return Reader(self, parser)
 
     def senders(self, control):
         """What a control block sends, for each of its addresses. An error says why it sends nothing that could be told."""
