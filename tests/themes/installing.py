@@ -136,6 +136,24 @@ class Kept:
             return [] if is_well else [f"{made!r}, and there is {left}"]
 
 
+class KeptLink:
+    """A link that leads nowhere, and a file where the link to the tools comes, are somebody else's too."""
+
+    name = "links and files of somebody else are not written over"
+
+    def why_wrong(self, program):
+        file = binary(program)
+        for name in ("bin/goose", "share/doc/goose/tools", "share/doc/goose/PROVED"):
+            with tempfile.TemporaryDirectory() as folder:
+                other = pathlib.Path(folder) / name
+                other.parent.mkdir(parents=True)
+                other.symlink_to("nowhere")
+                made = ran([TOOLS / "install", "--program", file, folder])
+                if made.returncode != 1 or files(pathlib.Path(folder)) != [name] or not other.is_symlink():
+                    return [f"{name}: {made!r}, and there is {files(pathlib.Path(folder))}"]
+        return []
+
+
 class Cut:
     name = "an installation that is cut short, in a folder that is named from another one"
 
@@ -252,5 +270,6 @@ def cases():
     yield Installed()
     yield Completed()
     yield Kept()
+    yield KeptLink()
     yield Cut()
     yield Packed()

@@ -91,6 +91,9 @@ def configured():
             ("an address of another block", {"address": ADDRESS.format(1).replace('"g"', '"h"')}, b"no GSE address with an APPID"),
             ("an APPID that is none", {"address": ADDRESS.format("12345")}, b"'12345' is no number of a BLOCK"),
             ("an empty APPID", {"address": ADDRESS.format("")}, b"'' is no number of a BLOCK"),
+            ("a confRev that is too great", {"control": CONTROL.replace('"7"', '"4294967296"')}, b"IL/LLN0$GO$g: '4294967296' is no number of a BLOCK"),
+            ("a confRev of other digits", {"control": CONTROL.replace('"7"', '"\u0667"')}, b"is no number of a BLOCK"),
+            ("texts that no frame can have", {"control": CONTROL.replace('"ID"', f'"{"I" * 4096}"')}, b"its texts have over 4,096 octets"),
             ("no data set", {"data_set": ""}, b"no data set of that name"),
             ("a block without a data set", {"control": CONTROL.replace('datSet="d" ', "")}, b"no data set of that name"),
             ("no confRev", {"control": CONTROL.replace('confRev="7" ', "")}, b"no confRev"),
@@ -107,6 +110,11 @@ def configured():
     yield Configured("no XML", "SCL", status=3, stderr=[b": "])
     for encoding in ("GB2312", "no-such-encoding"):
         yield Configured(f"a file in {encoding}", scl().replace('"1.0"', f'"1.0" encoding="{encoding}"'), status=3, stderr=[b": "])
+    yield Configured("the greatest confRev", scl(control=CONTROL.replace('"7"', '"4294967295"')), [BLOCK.replace(",7,", ",4294967295,")])
+    nested = '<SCL><GSE ldInst="a" cbName="b"><Address><P type="APPID">1<P type="APPID"/></P></Address></GSE></SCL>'
+    yield Configured("a part of an address in another one", nested, status=3, stderr=[b"line 1: a P has an element P in it"])
+    yield Configured("an address of nobody", nested.replace('<P type="APPID"/>', ""), status=3, stderr=[b"line 1: an element lacks 'ConnectedAP'"])
+    yield Configured("a part of an address elsewhere", "<SCL><GSE><LN><P/></LN></GSE></SCL>")
     yield Configured("a block without a name", scl(control=CONTROL.replace('name="g" ', "")), status=3, stderr=[b"an element lacks 'name'"])
     yield Configured("an IED without a name", scl().replace('<IED name="I"', "<IED"), status=3, stderr=[b"an element lacks 'name'"])
     yield Configured("elements in elements", HEAD + "<Private>" * 100000 + "</Private>" * 100000 + "</SCL>")

@@ -108,6 +108,11 @@ def cases():
     yield Asked("times that are given", "hex_to_list", ["--time", "5", "--step", "1000"], text(["0102", "0304", "0506"]),
                 text(["V2", "F 5 0102", "F 1005 0304", "F 2005 0506"]))
     heads = ["Frame (67 bytes):", *tshark(WORKED), "Reassembled PDU (3 bytes):", *tshark(b"abc"), "Frame (67 bytes):", *tshark(WORKED)]
+    latest = str(10**18 - 1)
+    yield Asked("the latest time", "hex_to_list", ["--time", latest], b"00\n", f"V2\nF {latest} 00\n".encode())
+    yield Asked("a time that no list has", "hex_to_list", ["--time", "1" + "0" * 18], b"00\n", status=2, stderr=[b"times are from 0 to " + latest.encode()])
+    yield Asked("a step to a time that no list has", "hex_to_list", ["--time", latest, "--step", "1"], b"00\n11\n", f"V2\nF {latest} 00\n".encode(),
+                status=2, stderr=[b"a list has none after " + latest.encode()])
     yield Asked("a dump that is no frame", "hex_to_list", stdin=text(heads), stdout=text(["V2", *[f"F 0 {WORKED.hex()}"] * 2]))
     parted = ["Frame (67 bytes):", *tshark(WORKED), "Reassembled TCP (3 bytes):", *tshark(b"abc"), *tshark(WORKED) * 2]
     yield Asked("frames after one of two parts", "hex_to_list", stdin=text(parted), stdout=text(["V2", *[f"F 0 {WORKED.hex()}"] * 3]))

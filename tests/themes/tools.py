@@ -5,9 +5,11 @@ import re
 import shlex
 import shutil
 import subprocess
+import sys
 import tempfile
+from xml.etree import ElementTree
 
-from helpers.asked_tools import EXAMPLES, TOOLS
+from helpers.asked_tools import EXAMPLES, TOOLS, Asked, ask
 from helpers.harness import SECONDS, clipped
 
 # Those of a checkout alone, which have themes of their own, and what is no command.
@@ -128,6 +130,139 @@ class Unheard:
         return [] if (shut.returncode, shut.stdout) == (4, b"") else [f"{shut!r}"]
 
 
+class Listed:
+    """A case whose complaints are counted."""
+
+    def __init__(self, case):
+        self.case, self.name = case, case.name
+
+    def why_wrong(self, program):
+        return list(self.case.why_wrong(program))
+
+
+class Unforeseen:
+    """An error of a tool itself ends it with status 70 and a message that asks to report it, and shows where it is if asked."""
+
+    # What goes wrong, and its name.
+    errors = {"{}['a']": "KeyError", "(f := lambda: f())()": "RecursionError", "[0] * (1 << 62)": "MemoryError", "exec('assert 0')": "AssertionError"}
+    name = "errors of a tool itself"
+
+    def why_wrong(self, _program):
+        with tempfile.TemporaryDirectory() as folder:
+            tool = pathlib.Path(folder) / "tool"
+            for wrong, name in self.errors.items():
+                tool.write_text(f"import sys\nsys.path.insert(0, {str(TOOLS)!r})\nfrom running import end\n\ndef main():\n    print('so far')\n"
+                                f"    {wrong}\n\nend(main)\n")
+                told, shown = (ran([sys.executable, "-B", tool], env={**os.environ, "GOOSE_TRACEBACK": it}) for it in ("", "1"))
+                is_told = name in told.stderr.decode() and b"Please report it" in told.stderr and told.stderr.count(b"\n") == 1
+                if not is_told or (told.returncode, told.stdout) != (70, b"so far\n"):
+                    yield f"{wrong}: {told!r}"
+                if b"Traceback" not in shown.stderr or shown.returncode != 70:
+                    yield f"{wrong}, where it is: {shown.stderr[:300]!r}"
+
+
+class Unwritten:
+    """A tool whose standard error takes no more ends with status 4, whatever it had to say."""
+
+    name = "tools whose messages cannot be written"
+
+    def why_wrong(self, _program):
+        for words in (["list_to_pcap"], ["scl_blocks", "nothing.scd"], ["draw_replay", "nothing.list"]):
+            full = ran(["bash", "-c", 'echo none | "$@" 2>/dev/full', "bash", TOOLS / words[0], *words[1:]])
+            if full.returncode != 4 or full.stderr:
+                yield f"{words}: {full!r}"
+
+
+class Printed:
+    """What messages have of a file or an argument cannot change the terminal: characters that do not print are told by their numbers."""
+
+    name = "messages of texts that do not print"
+
+    def why_wrong(self, _program):
+        with tempfile.TemporaryDirectory() as folder:
+            file = pathlib.Path(folder) / "of\x1b[2J\n.scd"
+            file.write_text('<SCL><IED name="I"><AccessPoint name="A"><Server><LDevice inst="L&#x9b;31m"><LN0><GSEControl name="&#x202e;g&#10;h"/>'
+                            "</LN0></LDevice></Server></AccessPoint></IED></SCL>")
+            for words, part in ((["scl_blocks", file], rb"of\x1b[2J\n.scd: line 1: IL\x9b31m/LLN0$GO$\u202eg\nh: "),
+                                (["scl_blocks", "--ied", "\x1b[31m", file], rb"there is no IED \x1b[31m in "),
+                                (["scl_blocks", "--\u202e", file], rb"--\u202e"), (["to_json", f"{folder}/\x07"], rb"/\x07: No such file"),
+                                (["to_csv", "--columns", "\x9b"], rb"there is no column \x9b")):
+                told = ran([TOOLS / words[0], *words[1:]])
+                is_clean = set(told.stderr) <= {*b"\n", *range(0x20, 0x7F)}
+                if part not in told.stderr or not is_clean or (words[0] == "scl_blocks" and len(words) == 2 and told.stderr.count(b"\n") != 1):
+                    yield f"{words}: {told!r}"
+
+
+class Another:
+    """Where the first goose on PATH is another program, tools name it, and end with 127."""
+
+    name = "another program of the name goose"
+
+    def why_wrong(self, _program):
+        with tempfile.TemporaryDirectory() as folder:
+            folder = pathlib.Path(folder)
+            shutil.copytree(TOOLS, folder / "tools")
+            other = folder / "path" / "goose"
+            for does in ("echo goose version: v3.24.1", "exit 1", "printf '\\377'"):
+                put(other)
+                other.write_text(f"#!/bin/sh\n{does}\n")
+                for words in (["draw_recording", EXAMPLES / "one_frame.list", "0001,G,D,,1,1"], ["report", EXAMPLES / "two_frames.pcap"]):
+                    told = ran([folder / "tools" / words[0], *words[1:]], cwd=folder,
+                               env={**os.environ, "GOOSE": "", "PATH": f"{other.parent}:{os.environ['PATH']}"})
+                    if told.returncode != 127 or f"{other} is not the goose that reads".encode() not in told.stderr or told.stdout:
+                        yield f"{does}: {told!r}"
+            if sorted(it.name for it in folder.iterdir()) != ["path", "tools"]:
+                yield f"left {sorted(folder.iterdir())}"
+
+
+class Clean:
+    """A run of each tool closes its files and does nothing that Python warns of."""
+
+    runs = (["scl_blocks", EXAMPLES / "station.scd"], ["scl_blocks", "--json", "--subscriber", "BRK1", EXAMPLES / "station.scd"],
+            ["compare_blocks", "/dev/null"], ["list_to_pcap"], ["hex_to_list"], ["to_json", EXAMPLES / "one_frame.list"],
+            ["to_csv", EXAMPLES / "one_frame.list"], ["field_at", "2", "3"], ["draw_replay", EXAMPLES / "one_frame.list"],
+            ["draw_replay", "--losses", "/dev/null", EXAMPLES / "one_frame.list"], ["draw_recording", EXAMPLES / "one_frame.list", "0001,G,D,,1,1"],
+            ["report", "--scd", EXAMPLES / "station.scd", EXAMPLES / "two_frames.pcap"], ["report", "/dev/null"])
+    name = "tools that leave files open"
+
+    def why_wrong(self, program):
+        with tempfile.TemporaryDirectory() as folder:
+            for words in self.runs:
+                told = ran([sys.executable, "-X", "dev", "-W", "error", "-B", TOOLS / words[0], *words[1:]], cwd=folder,
+                           env={**os.environ, "GOOSE": shlex.join(program)})
+                if told.returncode not in (0, 1, 3) or b"Warning" in told.stderr or b"Traceback" in told.stderr:
+                    yield f"{words}: {told!r}"
+
+
+class Harmless:
+    """What comes from a file is text in a picture, whatever it is, or is no picture at all."""
+
+    name = "draw_replay: markup among what is lost"
+
+    def why_wrong(self, program):
+        with tempfile.TemporaryDirectory() as folder:
+            list_of, losses = pathlib.Path(folder) / "of.list", pathlib.Path(folder) / "losses"
+            frame = re.search(r"(?m)^F \d+ (\w+)", (EXAMPLES / "one_frame.list").read_text())[1]
+            list_of.write_text(f"F 0 {frame}\nF 9 {frame}\n")
+            found = '"line":2,"kind":"frames-missing","appid":"0001","gocbRef":"G","from":{},"to":{},"stNum":{}'
+            for values in (('"<script>alert(1)</script>"', "2", "1"), ("1", '"<script/>"', "1"), ("1", "2", '"<script/>"'), ("[]", "{}", "null")):
+                losses.write_text("{" + found.format(*values) + "}\n")
+                entry = b'{"line":1,"block":0,"kind":"act","stNum":1}\n'
+                wrote, said, status = ask(program, "draw_replay", ["--losses", losses, list_of], entry)
+                if b"<script" in wrote or status not in (0, 3) or (status == 0 and ElementTree.fromstring(wrote) is None):
+                    yield f"{values}: status {status}, {said!r}: {clipped(wrote)!r}"
+
+
+def objects():
+    """Objects that goose replay does not write: of each draw_replay says so."""
+    another = b"this is not what goose replay writes for that list"
+    for line in ('{"line":2,"block":0}', '{"line":2,"block":"<","kind":"act","stNum":1}', '{"line":2,"block":0,"kind":"act"}', '{"line":2}',
+                 '{"line":2,"block":0,"kind":["act"]}', '{"line":2,"block":0,"kind":"act","stNum":{}}', '{"line":"2","kind":"fault"}'):
+        yield Asked(f"{line}", "draw_replay", [EXAMPLES / "one_frame.list"], f"{line}\n".encode(), status=3, stderr=[another])
+    yield Asked("an object of another kind", "draw_replay", [EXAMPLES / "one_frame.list"], b'{"line":2,"block":0,"kind":"x"}\n', status=3,
+                stderr=[b"line 2: goose replay writes no such line x"])
+
+
 def cases():
     for words in (["to_csv"], ["list_to_pcap"], ["hex_to_list"]):
         yield Shut(*words)
@@ -137,3 +272,5 @@ def cases():
     yield Finds()
     yield Missing()
     yield Closed()
+    yield from map(Listed, (Unforeseen(), Unwritten(), Printed(), Another(), Clean(), Harmless()))
+    yield from objects()
