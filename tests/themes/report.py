@@ -26,10 +26,10 @@ from themes.installing import binary
 
 OPTIONS = ["--capture", "--json", "--skip-other"]
 UNITS = {"ms": 1000, "s": 10**6, "min": 60 * 10**6, "h": 3600 * 10**6, "d": 86400 * 10**6}
-EVENTS, FINDINGS = "Events in the order of packets", "Findings in the order of packets"
+EVENTS, FIRST, FINDINGS = "Events in the order of packets", "First states", "Findings in the order of packets"
 FRAMES_OF_ALL = "What the device did with all frames of its control blocks"
 ERRORS, NOTES, OTHERS = "Errors of frames, by kind", "Notes on valid frames", "Frames of other protocols, which are counted and not judged"
-HEADINGS = ["Summary", "Events acted on", "Picture", "Losses, silences, restarts and late frames", "Control blocks and streams", "Errors",
+HEADINGS = ["Summary", "The trip", "Events acted on", "Picture", "Losses, silences, restarts and late frames", "Control blocks and streams", "Errors",
             "What was recorded", "Commands"]
 # The states of a line of the summary, by the class of its element, the worst first; and the statuses of a page.
 STATES, STATUSES = ("found", "unjudged", "clean"), {"found": 1, "unjudged": 6, "clean": 0}
@@ -172,30 +172,46 @@ def leaves(members, path=""):
 
 
 def changes(acts):
-    """What changed with each event of its block."""
-    before = {}
+    """The rows of events: those of first states, and those of others, each with the members that it tells."""
+    before, first, others = {}, [], []
     for it in acts:
         now, old = dict(leaves(it["members"])), before.get(it["gocbRef"])
-        changed = [f"{at}: {old[at]} \u2192 {value}" for at, value in now.items() if old and old[at] != value]
-        yield ", ".join(changed) or "none" if old else "first state seen: " + ", ".join(f"{at}: {value}" for at, value in now.items())
+        told = [f"{at}: {old[at]} \u2192 {value}" for at, value in now.items() if old[at] != value] or ["none"] if old else map(": ".join, now.items())
+        row = (it["packet"], it["gocbRef"], it["stNum"], it["sqNum"], it["time"], ", ".join(told))
+        (others if old else first).append(row)
         before[it["gocbRef"]] = now
+    return first, others
 
 
 def why_events_wrong(page, found):
     acts = [it for it in found if it["kind"] == "act"]
-    wanted = [(at, it["packet"], it["gocbRef"], it["stNum"], it["sqNum"], it["time"]) for at, it in enumerate(acts, 1)]
-    rows = page.rows(EVENTS)
-    got = [(int(row[0]), int(row[2]), row[3], int(row[4]), int(row[5]), times[0]) for row, times in zip(rows, page.times.get(EVENTS, []))]
-    yield from compared("events", wanted, got)
-    yield from compared("delays", [it["delay"] for it in acts if abs(it["delay"]) < 600 * 10**6],
-                        [length(row[6]) for row, it in zip(rows, acts) if abs(it["delay"]) < 600 * 10**6])
-    yield from compared("members", list(changes(acts)), [row[7] for row in rows])
+    for caption, wanted in zip((FIRST, EVENTS), changes(acts)):
+        rows = list(zip(page.rows(caption), page.times.get(caption, [])))
+        told = [(int(row[1]), row[2], int(row[3]), int(row[4]), times[0], row[6]) for row, times in rows if row[5]]
+        yield from compared(caption, wanted, told)
+    delays = {int(row[1]): length(row[5]) for caption in (FIRST, EVENTS) for row in page.rows(caption) if row[5]}
+    yield from compared("delays", {it["packet"]: it["delay"] for it in acts if abs(it["delay"]) < 600 * 10**6},
+                        {packet: it for packet, it in delays.items() if packet in {it["packet"] for it in acts if abs(it["delay"]) < 600 * 10**6}})
+    yield from compared("other events", others(found), {(int(re.match(r"\d+", row[1])[0]), row[2], re.match(r"\w+", row[6])[0])
+                                                        for row in page.rows(EVENTS) if not row[5]})
     counts = collections.Counter((it["gocbRef"], it["kind"], it.get("reason", "")) for it in found if "block" in it)
     kinds = [kind for kind in ("act", "refreshed", "repeated", "old", "refused", "expired", "switched") if any(kind == it[1] for it in counts)]
     got = {(row[0], kind, line[2]): int(line[1].replace(",", "")) for row in page.rows(FRAMES_OF_ALL) for kind, cell in zip(kinds, row[2:])
            for line in re.finditer(r"^([\d,]+)(?: (\w+))? \(packet", cell, re.M)}
     got = {(name, kind, reason or ""): count for (name, kind, reason), count in got.items()}
     yield from compared("entries", sorted(counts.items()), sorted(got.items()))
+
+
+def others(found):
+    """The first packets of the other events: of old and refused frames that follow one another one is told."""
+    before, told = {}, set()
+    for it in found:
+        if it["kind"] in ("act", "old", "refused", "expired", "switched"):
+            sort = (it["kind"], it.get("reason"))
+            if it["kind"] != "act" and (before.get(it["gocbRef"]) != sort or it["kind"] in ("expired", "switched")):
+                told.add((it["packet"], it["gocbRef"], it["kind"]))
+            before[it["gocbRef"]] = sort
+    return told
 
 
 def why_errors_wrong(page, found):
@@ -355,14 +371,14 @@ class Drawn:
     wanted = {"act": 7, "repeated": 1, "old": 1, "refused": 1, "expired": 1, "lost": 3, "late": 2, "silent": 1, "valid": 3}
     places = {("act", 24), ("act", 210), ("act", 796), ("expired", 647), ("refused", 945)}
     silence = {"x": "609", "width": "187"}
-    bursts = ["Events at packets 1 to 4", "Events at packets 13 to 27", "Event at packet 51"]
+    bursts = ["Events at packets 13 to 27", "Event at packet 51"]
 
     def why_wrong(self, program):
         octets, said, _, _ = reported(program, (EXAMPLES / "two_bays.pcapng").read_bytes())
         return list(self.why_pictures_wrong(body(octets))) if octets else [said]
 
     def why_pictures_wrong(self, root):
-        over, *close = root.iter("figure")
+        _, over, *close = root.iter("figure")
         marks = [it for it in over.iter() if it.get("class") in self.wanted and it.tag != "text"]
         yield from compared("marks", self.wanted, dict(collections.Counter(it.get("class") for it in marks)))
         places = {(it.get("class"), int(re.findall(r"\d+", it.get("transform"))[0])) for it in marks if it.get("transform")}
@@ -386,7 +402,7 @@ class Strange:
         if octets is None:
             return [said]
         page = Page(octets)
-        got = (page.rows(BLOCKS)[0][0], page.rows(STREAMS)[0][0], page.rows("Interfaces")[0][0], "\"<b>\\\"\"" in page.rows(EVENTS)[0][7])
+        got = (page.rows(BLOCKS)[0][0], page.rows(STREAMS)[0][0], page.rows("Interfaces")[0][0], "\"<b>\\\"\"" in page.rows(FIRST)[0][6])
         return [] if got == ("<i>&\"'G", "<", "</td>& (\u00dc)", True) else [f"{got}"]
 
 

@@ -1,22 +1,26 @@
-"""What a device does with each frame of its control blocks: the states that it acts on, and the rest by counts; from goose replay."""
+"""What a device does with each frame of its control blocks: the events, and the rest by counts; from goose replay."""
+import collections
 import json
 import re
 
-from reporting import page
-from reporting.station import HEAD, place
+from reporting import naming, page
+from reporting.places import HEAD, place
 
-# How many events the page lists; the others are counted.
-MOST = 5000
 ENTRY = re.compile(HEAD.pattern + rb',"block":(\d+),')
 # What a line ends with that tells of a frame of Sampled Values: most of many captures.
 SAMPLED = b'"kind":"sampled"}'
 REASON = re.compile(rb'"reason":"(\w+)"')
-COLUMNS = [page.Column("No.", page.NUMBER), page.Column("Time"), page.Column("Packet", page.NUMBER), page.Column("Control block"),
-           page.Column("stNum", page.NUMBER), page.Column("sqNum", page.NUMBER), page.Column("Delay from t", page.NUMBER),
-           page.Column("Members that changed")]
-# The kinds of entries of a block, in the order in which they are told.
+COLUMNS = [page.Column("Time"), page.Column("Packet", page.NUMBER), page.Column("Control block"), page.Column("stNum", page.NUMBER),
+           page.Column("sqNum", page.NUMBER), page.Column("Delay from t", page.NUMBER), page.Column("Members that changed, or what else happened")]
+FIRST = [*COLUMNS[:-1], page.Column("Members")]
+# The kinds of entries of a block, in the order in which they are told, and those that are listed beside what is acted on.
 KINDS = ("act", "refreshed", "repeated", "old", "refused", "expired", "switched")
+STATE = ("stNum", "sqNum", "delay", "tQuality")
+OTHERS = {"expired": "expired: valid data ends", "switched": "switched between real and simulated frames", "refused": "refused", "old": "old"}
+RESTART = "a device may act here: restart within the lifetime"
 HOUR = 3600 * 10**6
+# The most members of one event that are told.
+MOST_MEMBERS = 40
 
 
 class Counted:
@@ -39,6 +43,7 @@ class Block:
 
     def __init__(self, record):
         self.appid, self.name, self.counts, self.members = record["appid"], record["gocbRef"], {}, None
+        self.names, self.event = naming.POSITIONS, None
 
     def count(self, kind, found):
         if kind in self.counts:
@@ -47,27 +52,73 @@ class Block:
             self.counts[kind] = Counted(found)
 
 
-class Events:
-    """The entries of a replay: rows of the table of events as they come, and a picture of all entries."""
+class Event:
+    """What happened at a packet: a state that is acted on, with the members that changed, or frames of another kind one after another, or
+    a comment of the capture."""
 
-    def __init__(self, rows, picture, short):
-        self.rows, self.picture, self.short = rows, picture, short
-        self.blocks, self.acts, self.first, self.last, self.slowest, self.beyond = {}, 0, None, None, None, None
+    def __init__(self, kind, where, block, reason=None):
+        self.kind, self.place, self.block, self.reason, self.number, self.last = kind, where, block, reason, 1, where.packet
+        self.record, self.changes, self.members, self.note, self.names = None, [], None, None, block and block.names
+        self.is_test = False
+
+    def packets(self):
+        return f"{self.place.packet} to\u00a0{self.last}" if self.last != self.place.packet else f"{self.place.packet}"
+
+    def told(self):
+        """What happened, where no member changed."""
+        if self.kind == "act":
+            return "none" if self.members is None else "other members"
+        told = f"{OTHERS[self.kind]}{f': {self.reason}' if self.reason else ''}" if self.kind in OTHERS else f"comment: {self.reason}"
+        told += f", {self.number:,} frames" if self.number > 1 else ""
+        return f"{told}; {self.note}" if self.note else told
+
+    def act(self, record, changes, is_whole):
+        """The state that is acted on. All its members are kept only where they are told."""
+        self.record, self.changes = {name: record[name] for name in STATE}, changes
+        self.members = record["members"] if is_whole else None
+        self.is_test = any(is_test(record["members"], path) for path, _, _ in changes)
+
+    def words(self):
+        """The members that changed, each with its name, its old and its new value in words."""
+        return [(self.names.path(path), self.names.word(path, old), self.names.word(path, new)) for path, old, new in self.changes]
+
+
+class Events:
+    """The entries of a replay: the events, and a picture of all entries. Comments of the capture stand among them."""
+
+    def __init__(self, picture, trip, names=None, restarts=(), comments=(), most=page.MOST_ROWS):
+        self.picture, self.trip, self.names, self.restarts, self.comments = picture, trip, names or naming.Unnamed(), restarts, collections.deque(comments)
+        self.blocks, self.acts, self.first, self.last, self.slowest = {}, 0, None, None, None
+        self.listed, self.beyond, self.more, self.firsts, self.started, self.restarted = [], None, 0, [], 0, None
+        self.most = most
 
     def see(self, lines):
         lines = (line for line in lines if not line.endswith(SAMPLED))
         for found in filter(None, map(ENTRY.match, lines)):
             self.entry(found.string, found, int(found[5]))
+        self.comment(None)
 
     def entry(self, line, found, position):
         kind = found[4].decode()
+        if self.comments:
+            self.comment(int(found[1]))
         if position not in self.blocks:
             self.blocks[position] = Block(json.loads(line))
         block = self.blocks[position]
         reason = REASON.search(line, found.end()) if kind == "refused" else None
         block.count((kind, reason[1].decode()) if reason else (kind, None), found)
-        state = self.act(json.loads(line), block, place(found)) if kind == "act" else None
-        self.picture.mark((block.appid, block.name), kind, int(found[2]), state, int(found[1]))
+        state = None
+        if kind == "act":
+            state = self.act(json.loads(line), block, place(found))
+        elif kind in OTHERS:
+            self.other(kind, reason and reason[1].decode(), block, line, place(found))
+        self.picture.mark((block.appid, block.name), kind, int(found[2]), state, int(found[1]), block.counts["act", None].number == 1 if state else False)
+
+    def comment(self, packet):
+        """The comments up to a packet, or all that are left."""
+        while self.comments and (packet is None or self.comments[0].packet <= packet):
+            it = self.comments.popleft()
+            self.list(Event("comment", it, None, it.told))
 
     def act(self, record, block, where):
         """An event that the device acts on. Its stNum is answered."""
@@ -77,13 +128,102 @@ class Events:
         is_timed = record["sqNum"] == 0 and not quality["clockFailure"] and not quality["clockNotSynchronized"] and abs(delay) < HOUR
         if is_timed and (self.slowest is None or delay > self.slowest[0]):
             self.slowest = (delay, where.packet, block.name)
-        if self.acts <= MOST:
-            self.rows.write(page.row(COLUMNS, [self.acts, page.when(where, self.short), where.packet, page.element("span", page.named(
-                block.name), class_="name"), record["stNum"], record["sqNum"], delay_of(record), changed(block.members, record["members"])]))
+        members, is_first = record["members"], block.members is None
+        changes = [] if is_first else changes_of(block.members, members)
+        if is_first or changes is None:
+            block.names = self.names.names_of(block.appid, block.name, members)
+        event = block.event = Event("act", where, block)
+        event.act(record, changes or [], is_first or changes is None)
+        block.members = members
+        if is_first:
+            self.first_state(event)
         else:
-            self.beyond = self.beyond or where
-        block.members = record["members"]
+            self.list(event)
         return record["stNum"]
+
+    def first_state(self, event):
+        self.started += 1
+        if self.most is None or len(self.firsts) < self.most:
+            self.firsts.append(event)
+
+    def other(self, kind, reason, block, line, where):
+        """An event that is no state. Frames of one kind that follow one another are one."""
+        last = block.event
+        is_restart = kind == "old" and where.packet in self.restarts
+        if last and (last.kind, last.reason) == (kind, reason) and kind in ("refused", "old") and not is_restart:
+            last.number, last.last = last.number + 1, where.packet
+            return
+        event = block.event = Event(kind, where, block, reason)
+        if kind == "old":
+            event.record = json.loads(line)
+        if is_restart:
+            event.note, self.restarted = RESTART, self.restarted or where
+        self.list(event)
+
+    def list(self, event):
+        self.trip.see(event)
+        if self.most is None or len(self.listed) < self.most:
+            self.listed.append(event)
+        else:
+            self.beyond, self.more = self.beyond or event.place, self.more + 1
+
+
+# ---- Members -----------------------------------------------------------------
+
+
+def inside_of(member):
+    """The members of a structure or array, or None."""
+    return next((member[kind] for kind in ("structure", "array") if kind in member), None) if isinstance(member, dict) else None
+
+
+def leaves(members, path=""):
+    """The members with their positions from 1 on, those of structures and arrays too: 2.1 is the first one in the second."""
+    for position, it in enumerate(members, 1):
+        inside = inside_of(it)
+        if inside is None:
+            yield f"{path}{position}", it
+        else:
+            yield from leaves(inside, f"{path}{position}.")
+
+
+def is_time(member):
+    """Whether a member is a Timestamp, which says when others changed."""
+    return isinstance(member, dict) and "utc" in member
+
+
+def changes_of(before, members, path=""):
+    """The members that changed, each with its path, its old and its new value; None where they are others."""
+    if before == members:
+        return []
+    if len(before) != len(members):
+        return None
+    found = []
+    for position, (old, new) in enumerate(zip(before, members), 1):
+        if old == new:
+            continue
+        inside = inside_of(old), inside_of(new)
+        if None not in inside:
+            deeper = changes_of(*inside, f"{path}{position}.")
+            if deeper is None:
+                return None
+            found += deeper
+        elif inside != (None, None):
+            return None
+        elif not (is_time(old) and is_time(new)):
+            found.append((f"{path}{position}", old, new))
+    return found
+
+
+def is_test(members, path):
+    """Whether the quality behind a member has the bit test: that is the first one of 13 bits in what holds the member."""
+    *outer, last = map(int, path.split("."))
+    for at in outer:
+        members = inside_of(members[at - 1])
+    quality = next((it["bits"] for it in members[last - 1:] if isinstance(it, dict) and len(it.get("bits", "")) == 13), "")
+    return quality[11:12] == "1"
+
+
+# ---- Rows --------------------------------------------------------------------
 
 
 def delay_of(record):
@@ -95,28 +235,51 @@ def delay_of(record):
     return page.element("span", [*told, *(page.element("span", f" {it}", class_="soft note") for it in notes)])
 
 
-def leaves(members, path=""):
-    """The members with their positions from 1 on, those of structures and arrays too: 2.1 is the first one in the second."""
-    for position, it in enumerate(members, 1):
-        inside = next((it[kind] for kind in ("structure", "array") if isinstance(it, dict) and kind in it), None)
-        if inside is None:
-            yield f"{path}{position}", page.shown(it)
-        else:
-            yield from leaves(inside, f"{path}{position}.")
+def some(told):
+    """Some of the members in a cell, and how many more there are."""
+    more = f", {len(told) - MOST_MEMBERS:,} more" if len(told) > MOST_MEMBERS else ""
+    return page.digits(", ".join(told[:MOST_MEMBERS]) + more)
 
 
-def changed(before, members):
-    """The members that changed, or all of the first state that was seen."""
-    now = dict(leaves(members))
-    if before is None:
-        told = [f"{path}: {value}" for path, value in now.items()]
-        return page.element("span", [page.element("span", "first state seen: ", class_="soft"), page.digits(", ".join(told) or "no members")])
-    old = dict(leaves(before))
-    if list(old) != list(now):
-        return page.element("span", [page.element("span", "other members: ", class_="soft"), page.digits(", ".join(
-            f"{path}: {value}" for path, value in now.items()))])
-    told = [f"{path}: {old[path]} \u2192 {value}" for path, value in now.items() if old[path] != value]
-    return page.digits(", ".join(told)) if told else page.element("span", "none", class_="soft")
+def what(event):
+    """What happened with an event, in a cell."""
+    if event.changes:
+        told = some([f"{name}: {old} \u2192 {new}" for name, old, new in event.words()])
+        return page.element("span", [told, page.element("span", " test", class_="note mark")]) if event.is_test else told
+    is_whole = event.members is not None
+    soft = page.element("span", f"{event.told()}{': ' if is_whole else ''}", class_="soft" if event.kind == "act" else "mark")
+    return page.element("span", [soft, some(values(event))]) if is_whole else soft
+
+
+def values(event):
+    """All members of an event, in words."""
+    return [f"{event.names.path(path)}: {event.names.word(path, it)}" for path, it in leaves(event.members)]
+
+
+def row(event, short):
+    """A row of the list of events."""
+    record = event.record or {}
+    return page.row(COLUMNS, [page.when(event.place, short), event.packets(), event.block and page.element("span", page.named(event.block.name), class_=
+                    "name"), record.get("stNum"), record.get("sqNum"), delay_of(record) if event.kind == "act" else "", what(event)])
+
+
+def first_row(event, short):
+    """A row of the first states."""
+    told = some(values(event)) if event.members else "no members"
+    return page.row(FIRST, [page.when(event.place, short), event.place.packet, page.element("span", page.named(event.block.name), class_="name"),
+                            event.record["stNum"], event.record["sqNum"], delay_of(event.record), told])
+
+
+def beyond(events, rows):
+    """What the list of events leaves out."""
+    packet = events.listed[rows.shown].place.packet if rows.more else events.beyond and events.beyond.packet
+    if packet is not None:
+        yield page.left_out(events.more + rows.more, f"event, from packet\u00a0{packet} on,", f"events, from packet\u00a0{packet} on,")
+
+
+def beyond_first(events, rows):
+    """What the list of first states leaves out."""
+    yield page.left_out(events.started - rows.shown, "first state")
 
 
 # ---- Counts ------------------------------------------------------------------
@@ -128,11 +291,11 @@ def told(block, kind):
     return page.Raw("<br/>".join(page.text(f"{it.number:,}{f' {reason}' if reason else ''} ({it.packets()})") for reason, it in held))
 
 
-def counts(events):
+def counts(events, order, room):
     """A table of what the device did with the frames of each block, with the kinds of entries that there are."""
     there = {kind for block in events.blocks.values() for kind, _ in block.counts}
     kinds = [kind for kind in KINDS if kind in there]
     columns = [page.Column("Control block"), page.Column("APPID"), *(page.Column(kind) for kind in kinds)]
     rows = (page.row(columns, [page.element("span", page.named(it.name), class_="name"), page.digits(it.appid), *(told(it, kind) for kind in kinds)])
-            for it in events.blocks.values())
-    return page.table("What the device did with all frames of its control blocks", columns, rows)
+            for it in sorted(events.blocks.values(), key=lambda it: order(it.name, it.appid)))
+    return page.bounded("What the device did with all frames of its control blocks", columns, rows, room, "control block")

@@ -1,4 +1,5 @@
 """The page as HTML: its elements, its style, and the octets of it, which are also XML."""
+import datetime
 import re
 
 from markup import escaped
@@ -37,7 +38,9 @@ caption { text-align: left; font-weight: 600; padding: 0.3rem 0; font-size: 0.95
 th, td { text-align: left; vertical-align: top; padding: 0.3rem 0.5rem; border-bottom: 1px solid var(--line); }
 thead th { border-bottom: 2px solid var(--line); color: var(--soft); font-weight: 600; }
 tbody th { font-weight: 600; }
-td.number, th.number { text-align: right; font-variant-numeric: tabular-nums; }
+td.number, th.number { text-align: right; font-variant-numeric: tabular-nums; } .wide td.number, .wide th.number { width: 1%; }
+.mark { color: var(--alarm); font-weight: 600; }
+details { margin: 0.6rem 0; } summary { font-weight: 600; cursor: pointer; }
 time { font-variant-numeric: tabular-nums; white-space: nowrap; }
 td.found { color: var(--alarm); font-weight: 600; }
 pre { overflow-wrap: anywhere; }
@@ -55,13 +58,14 @@ figcaption { font-size: 0.9rem; margin-bottom: 0.3rem; }
 svg text { fill: var(--ink); font: 13px system-ui, "Segoe UI", Roboto, "DejaVu Sans", Arial, sans-serif; }
 svg .scale, svg .state { fill: var(--soft); font-size: 12px; }
 svg .lane { font-weight: 600; }
-svg .grid { stroke: var(--line); }
+svg .grid { stroke: var(--line); } svg .moment { stroke: var(--alarm); stroke-width: 1.5; stroke-dasharray: 4 3; } svg .words { font-size: 12px; }
 svg .valid { fill: var(--held); } svg .flow { fill: var(--flow); } svg .silent { fill: var(--silent); }
 svg .act { fill: var(--act); } svg .refreshed { stroke: var(--refreshed); stroke-width: 1.5; }
 svg .repeated { fill: none; stroke: var(--repeated); stroke-width: 1.5; } svg .old { fill: var(--old); }
 svg .refused { fill: none; stroke: var(--refused); stroke-width: 2; } svg .switched { fill: var(--switched); }
 svg .expired { stroke: var(--expired); stroke-width: 3; } svg .lost { fill: var(--lost); } svg .late { fill: none; stroke: var(--lost);
   stroke-width: 1.8; } svg text.act { fill: var(--act); font-size: 12px; }
+@media screen and (min-width: 1000px) { .wide .name { display: inline-block; min-width: 9rem; } }
 @media screen and (max-width: 719px) {
   body { padding: 0.7rem; } h1 { font-size: 1.35rem; }
   table.wide thead { position: absolute; width: 1px; height: 1px; overflow: hidden; clip-path: inset(50%); }
@@ -76,7 +80,7 @@ svg .expired { stroke: var(--expired); stroke-width: 3; } svg .lost { fill: var(
 @page { size: A4; margin: 14mm 12mm; }
 @media print {
   body { max-width: none; padding: 0; font-size: 9.5pt; } h1 { font-size: 16pt; } h2 { font-size: 12.5pt; margin-top: 1.2rem; }
-  h2, h3, caption, figcaption { break-after: avoid; } tr, .summary li, figure { break-inside: avoid; } thead { display: table-header-group; }
+  h2, h3, caption, figcaption { break-after: avoid; } tr, .summary li, figure { break-inside: avoid; } thead { display: table-header-group; break-after: avoid; } thead tr { break-after: avoid; }
   table { font-size: 7.6pt; } .legend, figcaption { font-size: 8pt; } th, td { padding: 0.15rem 0.3rem; } .summary a { display: none; }
   a { color: inherit; text-decoration: none; }
   .scroll { overflow: visible; border: 0; } .scroll svg { min-width: 0; max-height: 255mm; } pre { font-size: 7.5pt; }
@@ -88,6 +92,10 @@ svg .expired { stroke: var(--expired); stroke-width: 3; } svg .lost { fill: var(
 # What means something else in HTML, or perhaps does not print; what does not print and stays: ends of lines, and blanks that hold words together.
 SPECIAL = re.compile("[&<>\"'\\0-\\x1f\\x7f-\\x9f\\xad\\u0300-\\U0010ffff]")
 KEPT = "\n\u00a0"
+
+
+# The most rows of a table, the most octets of them, and of all tables together; what a table has in any case.
+MOST_ROWS, MOST_OCTETS, ALL_OCTETS, LEAST_OCTETS = 200, 250_000, 900_000, 8_000
 
 
 class Raw(str):
@@ -119,12 +127,27 @@ def digits(value):
     return element("span", value, class_="digits")
 
 
+class Zone:
+    """The time zone whose local times are told beside UTC, where one is asked for."""
+
+    zone = None
+
+    @classmethod
+    def local(cls, time, day):
+        """The local time of a time, with its day where that is another one than is told."""
+        if cls.zone is None:
+            return ""
+        told = datetime.datetime.fromisoformat(time.replace("Z", "+00:00")).astimezone(cls.zone)
+        form = "%H:%M:%S.%f %Z" if told.date().isoformat() == day else "%Y-%m-%d %H:%M:%S.%f %Z"
+        return element("span", f" {told.strftime(form)}", class_="soft local")
+
+
 def moment(time, short=True):
-    """A time of the program's, in UTC; the day is left out where the page says it once."""
+    """A time of the program's, in UTC; the day is left out where the page says it once. A local time is told behind it."""
     if time is None:
         return Raw("")
     day, _, hour = time.rstrip("Z").partition("T")
-    return element("time", hour if short else f"{day} {hour}", datetime=time)
+    return Raw(element("time", hour if short else f"{day} {hour}", datetime=time) + Zone.local(time, day))
 
 
 def when(place, short=True):
@@ -195,6 +218,57 @@ def head(caption, columns, is_wide=True):
 
 
 FOOT = Raw("</tbody>\n</table>\n")
+
+
+class Room:
+    """How much room the tables of a page have: rows of one, and octets of one and of all. A table has a little where the room is taken.
+    There is no limit where all rows were asked for."""
+
+    def __init__(self, is_all=False):
+        self.rows, self.left, self.is_all = None if is_all else MOST_ROWS, ALL_OCTETS, is_all
+
+    def of_table(self):
+        return None if self.is_all else max(min(MOST_OCTETS, self.left), LEAST_OCTETS)
+
+
+class Limited:
+    """Rows of a table, as many as there is room for. The others are counted."""
+
+    def __init__(self, rows, room):
+        self.rows, self.room, self.shown, self.octets, self.more = rows, room, 0, 0, 0
+
+    def __iter__(self):
+        most = self.room.of_table()
+        for it in self.rows:
+            if self.more or (most is not None and self.shown and (self.shown >= self.room.rows or self.octets + len(it) > most)):
+                self.more += 1
+            else:
+                self.shown, self.octets = self.shown + 1, self.octets + len(it)
+                yield it
+        self.room.left -= self.octets
+
+    def left_out(self, one, many=None):
+        """What is told behind the table of those that are not in it."""
+        return left_out(self.more, one, many)
+
+
+def left_out(number, one, many=None):
+    """A sentence on what a table leaves out, or nothing."""
+    if not number:
+        return Raw("")
+    told = f"{count(number, f'more {one}', many and f'more {many}')} {'is' if number == 1 else 'are'} not listed: --all lists all."
+    return Raw(element("p", told, class_="soft") + "\n")
+
+
+def bounded(caption, columns, rows, room, one, many=None):
+    """A table of as many rows as there is room for, and behind it how many are left out."""
+    held = Limited(rows, room)
+    return pieces([table(caption, columns, held), behind(held, one, many)])
+
+
+def behind(held, *names):
+    """What is known only when a table is over."""
+    yield held.left_out(*names)
 
 
 def table(caption, columns, rows, is_wide=True):

@@ -6,7 +6,7 @@ from output import date
 from reporting import page
 from time_axis import places_of, step_of
 
-WIDTH, SIDE, TOP, LANE, BAR, TRACK = 1000, 24, 34, 64, 14, 37
+WIDTH, SIDE, TOP, LANE, BAR, TRACK = 1000, 24, 34, 54, 14, 33
 # How each entry is drawn around (0, 0), in the order of the legend, and what it is.
 MARKS = {
     "act": ('<circle class="act" {at} r="5"/>', "act: the device takes a new state; its stNum below"),
@@ -31,7 +31,7 @@ BEFORE, AFTER, LONGEST = 20_000, 250_000, 1_000_000
 # The most letters of a lane's name.
 LONGEST_NAME = 100
 # The most pictures of bursts, marks in one of them, and lanes of one picture.
-MOST_BURSTS, MOST_MARKS, MOST_LANES, MOST_CLOSE = 30, 5000, 14, 21
+MOST_BURSTS, MOST_MARKS, MOST_LANES, MOST_CLOSE = 4, 5000, 24, 24
 
 
 class Axis:
@@ -96,13 +96,13 @@ class Picture:
             self.lanes[key] = Lane(key, name, self.axis)
         return self.lanes[key]
 
-    def mark(self, key, kind, moment, state, packet):
-        """An entry of a control block. Times that go back count as the greatest so far."""
+    def mark(self, key, kind, moment, state, packet, is_first=False):
+        """An entry of a control block. Times that go back count as the greatest so far. The first state of a block begins no burst."""
         self.now = max(self.now, moment)
         lane, label = self.lane(key, key[1]), "" if state is None else str(state)
         if self.burst and self.now > self.burst.until:
             self.burst = None
-        if kind == "act" and not (self.burst and self.burst.add(self.now, packet)):
+        if kind == "act" and not is_first and not (self.burst and self.burst.add(self.now, packet)):
             self.begin(packet)
         lane.mark(kind, self.now, label)
         self.recent.append((lane, kind, self.now, label))
@@ -123,7 +123,9 @@ class Picture:
         self.lane(key, name).bar("flow", first, last)
 
     def finding(self, record, where):
-        """A finding of goose losses."""
+        """A finding of goose losses. What simulated frames lack is nothing that the lane of a block's own frames shows."""
+        if record.get("simulation"):
+            return
         if "svID" in record:
             lane = self.lanes.get((record["appid"], record["source"], record["svID"]))
         else:
@@ -178,7 +180,7 @@ def labels(marks, y):
     for (kind, x), label in sorted(marks.items(), key=lambda it: it[0][1]):
         half = 4 * len(label) + 2
         if label and x - half >= free:
-            yield text(x, y + 20, label, class_="act", text_anchor="middle")
+            yield text(x, y + 18, label, class_="act", text_anchor="middle")
             free = x + half
 
 

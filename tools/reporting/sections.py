@@ -4,8 +4,6 @@ import shlex
 import senders
 from reporting import clocks, events, faults, missing, page, picture, rates, synchronised
 
-# How many lifetimes of one block are told.
-MOST_LIFETIMES = 8
 BLOCKS = [page.Column("Reference"), page.Column("APPID"), page.Column("Addresses"), page.Column("Lifetime"), page.Column("Frames", page.NUMBER),
           page.Column("First and last"), page.Column("Data set, goID, confRev, members")]
 STREAMS = [page.Column("svID"), page.Column("APPID"), page.Column("Addresses"), page.Column("Frames", page.NUMBER), page.Column("First and last"),
@@ -102,12 +100,12 @@ def addresses(seen):
         yield vlan if is_one else f"{vlan} (packet\u00a0{packet} on)"
 
 
-def lifetimes(seen):
-    """The lifetimes of a block's frames, in the order of packets: of several each with the first packet that has it."""
-    held = sorted(seen.lifetimes.items(), key=lambda it: it[1])
-    more = [f"{len(held) - MOST_LIFETIMES} more"] if len(held) > MOST_LIFETIMES else []
-    told = [f"{live:,}\u00a0ms" + (f" (packet\u00a0{packet} on)" if len(held) > 1 else "") for live, packet in held[:MOST_LIFETIMES]]
-    return lines_of(told + more)
+def lifetimes(seen, changes):
+    """The lifetime of a block's frames: where it changes, the least and the greatest with their first packets, and how often it did."""
+    if len(seen.lives) == 1:
+        return f"{seen.lives[0][0]:,}\u00a0ms"
+    told = [f"{live:,}\u00a0ms (packet\u00a0{packet} on)" for live, packet in seen.lives]
+    return lines_of([*told, f"changed {page.count(changes, 'time')}"] if changes else told)
 
 
 def time_span(seen, short):
@@ -142,13 +140,13 @@ def agreement(differences, name):
     return lines_of(f"differs: {what} {theirs} (packet\u00a0{packet}), configured {ours}" for (what, ours, theirs), packet in differences), True
 
 
-def block_row(seen, columns, short, compared):
-    cells = [page.element("span", page.named(seen.name), class_="name"), page.digits(seen.appid), lines_of(addresses(seen)), lifetimes(seen),
+def block_row(seen, columns, short, compared, changes=0):
+    cells = [page.element("span", page.named(seen.name), class_="name"), page.digits(seen.appid), lines_of(addresses(seen)), lifetimes(seen, changes),
              f"{seen.frames:,}", time_span(seen, short), forms(seen)]
     return page.row(columns, [*cells, *compared[:1]], found=len(cells) if compared[1:] == (True,) else None)
 
 
-def stream_row(seen, columns, short, compared):
+def stream_row(seen, columns, short, compared, _changes=0):
     revisions = [f"{text.rpartition('=')[2]}" + (f" (packet\u00a0{packet})" if len(seen.forms) > 1 else "") for text, packet in seen.forms.items()]
     cells = [page.element("span", page.named(seen.name), class_="name"), page.digits(seen.appid), lines_of(addresses(seen)), f"{seen.frames:,}",
              time_span(seen, short), lines_of(revisions)]
@@ -170,11 +168,13 @@ def station(found, own, short):
     told = []
     for kind, what, columns, row in (("block", "Control blocks (GOOSE)", BLOCKS, block_row), ("stream", "Streams (Sampled Values)", STREAMS, stream_row)):
         heads = [*columns, *([page.Column(f"Beside {own.scd}")] if own.scd else [])]
-        rows = [row(it, heads, short, agreement(found.differences[id(it)], own.scd) if own.scd else ())
-                for it in found.station.seen.values() if it.kind == kind]
+        held = [it for it in found.station.seen.values() if it.kind == kind]
+        held.sort(key=lambda it: (*found.devices.order(it.name), it.appid))
+        rows = [row(it, heads, short, agreement(found.differences[id(it)], own.scd) if own.scd else (),
+                    found.station.sequences.changes(it.appid, it.name)) for it in held]
         rows += [missing_row(it, heads, found.all_packets, own.scd) for it in found.missing_senders if it.kind == kind]
-        told.append(page.table(what, heads, rows) if rows else paragraph(f"{what}: none in {found.all_packets}."))
-    for line, reference, why in found.unusable:
+        told.append(page.bounded(what, heads, rows, found.room, "row") if rows else paragraph(f"{what}: none in {found.all_packets}."))
+    for line, reference, why in found.unusable[:found.room.rows]:
         told.append(paragraph(f"{own.scd}, line {line}: {reference} is not compared: {why}."))
     for it in found.clocks:
         where = f"from packet\u00a0{it.first} on" if it.first else f"{found.all_packets}"
@@ -185,21 +185,26 @@ def station(found, own, short):
 # ---- Events, losses, errors, pictures ----------------------------------------
 
 
-def acted(found, own, rows):
-    """The events, and what the device did with the other frames."""
+def acted(found, own):
+    """The events, the first states, and what the device did with the other frames."""
     it = found.events
     who = (f"{own.ied}, which receives {page.count(found.replayed, 'control block')} by {own.scd}" if own.ied
            else f"a device that subscribes to each of {page.count(found.replayed, 'control block')} as it was first sent")
-    told = [paragraph(f"Told of {who}. A member is counted from 1; t is when its state began, by the sender's clock.")]
-    told += [paragraph(f"Not told of {what}: {why}.") for what, why in found.untold]
-    if it.acts:
-        told += [page.head("Events in the order of packets", events.COLUMNS), rows, page.FOOT]
+    told = [paragraph(f"Told of {who}. t is when a state began, by the sender's clock. A member t is no change.")]
+    told += [paragraph(f"Not told of {what}: {why}.") for what, why in found.untold[:found.room.rows]]
+    told += [paragraph(f"A device that takes any change of stNum acts earlier than these rules say, as in packet\u00a0{it.restarted.packet}: "
+                       "a restart within the lifetime.")] if it.restarted else []
+    if it.listed:
+        rows = page.Limited((events.row(event, found.is_short) for event in it.listed), found.room)
+        told += [page.table("Events in the order of packets", events.COLUMNS, rows), events.beyond(it, rows)]
     else:
-        told.append(paragraph(f"No event was acted on in {found.all_packets}."))
-    if it.beyond:
-        told.append(paragraph(f"{it.acts - events.MOST:,} more events, from packet\u00a0{it.beyond.packet} on, are not listed."))
+        told.append(paragraph(f"No event was acted on in {found.all_packets}" + (" but first states." if it.firsts else ".")))
+    if it.firsts:
+        rows = page.Limited((events.first_row(event, found.is_short) for event in it.firsts), found.room)
+        summary = page.element("summary", page.count(it.started, "first state"))
+        told += [page.Raw(f"<details>{summary}\n"), page.table("First states", events.FIRST, rows), events.beyond_first(it, rows), page.Raw("</details>\n")]
     if it.blocks:
-        told.append(events.counts(it))
+        told.append(events.counts(it, found.devices.order, found.room))
     return section("Events acted on", "events", *told)
 
 

@@ -6,6 +6,7 @@ import senders
 from reporting.clocks import Clock
 from reporting.places import HEAD, Span, place
 from reporting.rates import STRETCH, Rise
+from reporting.sequence import Sequences
 from reporting.synchronised import Synch
 from reporting.times import SECOND, Times
 
@@ -31,6 +32,8 @@ class Seen:
         self.sources, self.simulated, self.commissioning, self.lives_until = {}, Span(), Span(), 0
         # Of a stream: how fast its samples come, what it says of that, how they are synchronised, and its svID as goose writes it.
         self.rise, self.rates, self.synch, self.text = Rise(), {}, Synch(), b""
+        # The least and the greatest lifetime in milliseconds, each with its first packet.
+        self.lives = []
 
     @property
     def frames(self):
@@ -49,6 +52,12 @@ class Seen:
         if len(held) < MOST_FORMS or what in held:
             held[what] = min(packet, held.get(what, packet))
 
+    def live(self, milliseconds, packet):
+        """Notes a lifetime."""
+        told = dict(self.lives)
+        told[milliseconds] = min(packet, told.get(milliseconds, packet))
+        self.lives = [(it, told[it]) for it in sorted({min(told), max(told)})]
+
     @property
     def replayed(self):
         """The BLOCK by which it was seen first, or None."""
@@ -60,11 +69,11 @@ class Sort:
     """Frames of one sender that are the same in all that is told here: how many, the first and the last. Of GOOSE also the state of the
     last one that was looked at, and since when; of Sampled Values what its ASDUs say, and its streams."""
 
-    __slots__ = ("record", "number", "first", "last", "state", "since", "clock", "streams")
+    __slots__ = ("record", "number", "first", "last", "state", "since", "clock", "sequence", "streams")
 
     def __init__(self, record, found):
         self.record, self.number, self.first, self.last = record, 0, found, found
-        self.state, self.since, self.clock, self.streams = b"", 0, None, ()
+        self.state, self.since, self.clock, self.sequence, self.streams = b"", 0, None, None, ()
 
 
 class Station:
@@ -72,6 +81,7 @@ class Station:
 
     def __init__(self):
         self.seen, self.sorts, self.flows, self.kinds, self.clocks, self.times = {}, {}, {}, {}, {}, Times()
+        self.sequences = Sequences()
         self.first, self.last, self.span = None, None, None
 
     def see_blocks(self, lines):
@@ -124,8 +134,12 @@ class Station:
         sort.number += 1
         sort.last = found
         state = line[until:upto]
+        if sort.sequence and sort.sequence.sort is not sort:
+            sort.sequence.go_on(sort)
         if state != sort.state or now < sort.since:
             sort.state, sort.since = state, now
+            if sort.sequence:
+                sort.sequence.see(found, state)
             if sort.clock:
                 sort.clock.see(found, line, until)
 
@@ -135,6 +149,7 @@ class Station:
         sort = self.sort(key, Sort(record, found))
         if not record["simulation"]:
             own = record["appid"], record["gocbRef"], record["source"]
+            sort.sequence = self.sequences.of(record)
             sort.clock = self.clocks.get(own) or self.clocks.setdefault(own, Clock(record["source"], record["gocbRef"]))
         return sort
 
@@ -191,6 +206,7 @@ class Station:
                 it = self.sender("block", (record["appid"], record["gocbRef"]), record["gocbRef"], record["appid"])
                 self.add(it, sort, record["simulation"], first, last)
                 it.note(it.lifetimes, record["timeAllowedtoLive"], first.packet)
+                it.live(record["timeAllowedtoLive"], first.packet)
                 if record["simulation"]:
                     it.lives_until = max(it.lives_until, last.microseconds + 1000 * record["timeAllowedtoLive"])
                 if record["ndsCom"]:
