@@ -111,11 +111,16 @@ def member(types, node, stated, front):
     return Leaf(".".join(it for it in (name, ".".join(objects) + index, *attributes) if it))
 
 
+def node_named(stated):
+    """The device and the parts of the name of the logical node that an FCDA or an ExtRef names."""
+    return tuple(stated.get(it) or "" for it in ("ldInst", "prefix", "lnClass", "lnInst"))
+
+
 class Station(scl.Station):
     """A station with the types of its data, and the blocks that its supervising logical nodes name."""
 
     def __init__(self, path):
-        self.types, self.nodes, self.supervised = Types(), {}, []
+        self.types, self.nodes, self.nodes_of, self.supervised = Types(), {}, {}, []
         super().__init__(path)
 
     def reader(self, parser):
@@ -131,7 +136,23 @@ class Station(scl.Station):
 
     def node(self, owner, stated):
         """The type of the logical node of an FCDA."""
-        return self.nodes.get((owner, *(stated.get(it) or "" for it in ("ldInst", "prefix", "lnClass", "lnInst"))))
+        return self.nodes.get((owner, *node_named(stated)))
+
+    def has_data(self, ied, stated):
+        """Whether an IED has the data that an ExtRef names: its logical node, and of that what its type says, where the file has it."""
+        if not self.nodes_of:
+            for (owner, *node), sort in self.nodes.items():
+                self.nodes_of.setdefault((owner[0], *node), sort)
+        key = (ied, *node_named(stated))
+        if key not in self.nodes_of:
+            return False
+        parts, steps = self.types.nodes.get(self.nodes_of[key]), [it for name in ("doName", "daName") for it in (stated.get(name) or "").split(".") if it]
+        for step in steps if parts is not None else ():
+            found = next((it for it in parts if it.name == step), None)
+            if found is None:
+                return False
+            parts = self.types.inside(found) or ()
+        return True
 
 
 class Supervised:

@@ -1,5 +1,5 @@
 """What an SCL file configures, held beside what a capture has."""
-import scl
+import data_types
 import senders
 from reporting.rates import MODES
 
@@ -8,7 +8,7 @@ class Configured:
     """The control blocks and streams of an SCL file, and those of which it cannot be told what they send."""
 
     def __init__(self, path):
-        self.path, self.station = path, scl.Station(path)
+        self.path, self.station = path, data_types.Station(path)
         self.senders, self.unusable, self.used, self.longest = {}, [], set(), {}
         for control in self.station.controls:
             try:

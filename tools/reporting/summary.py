@@ -1,5 +1,5 @@
 """The summary: what was found, not judged or clean of each topic, each with the packets that it rests on."""
-from reporting import clocks, looked, missing, page, rates, received, simulation, sources, synchronised
+from reporting import clocks, looked, missing, page, rates, received, simulation, sources, subscriptions, synchronised
 from reporting.verdict import Line, Verdict, clean, found as finding, some
 
 
@@ -73,7 +73,8 @@ def events(found, _own):
 
 # The topics in the order in which they are told where they are in one state: each with the section that tells more, and what judges it.
 TOPICS = (("Capture", "recorded", capture), ("Received", "events", received.judge), ("Losses", "losses", losses), ("Samples", "losses", rates.judge),
-          ("Errors", "errors", errors), ("Configuration", "station", configuration), ("Clocks", "station", clocks.judge),
+          ("Errors", "errors", errors), ("Configuration", "station", configuration),
+          ("Subscriptions", "subscriptions", subscriptions.judge), ("Clocks", "station", clocks.judge),
           ("Source addresses", "station", sources.judge), ("Simulation", "station", simulation.judge),
           ("Synchronisation", "losses", synchronised.judge), ("Events acted on", "events", events))
 

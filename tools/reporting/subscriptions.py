@@ -1,0 +1,323 @@
+"""Every IED of an SCL file beside the control blocks and streams that it subscribes to, and what came of each: from one replay of all
+of them.
+
+An IED subscribes to a block that has its name as IEDName, that an ExtRef of its Inputs names, or that a supervising logical node (LGOS,
+LSVS) names. An ExtRef without srcCBName is served by any block that has its data: of those that name the IED first, else of all.
+"""
+import re
+
+import scl
+from reporting import page
+from reporting.events import ENTRY, REASON, SAMPLED, Counted
+from reporting.sections import paragraph, section as section_of
+from reporting.verdict import State, clean, found as finding, not_judged, some
+
+# How many rows a table has, and how many names a line: what is left out is counted.
+MOST_ROWS, MOST_NAMES = 200, 8
+# The most octets of BLOCKs that one command line takes.
+MOST_WORDS = 1000000
+ACCEPTED = ("act", "refreshed", "repeated", "old")
+REVISION = re.compile(r" rev=(\d+)$")
+COLUMNS = [page.Column("IED"), page.Column("Subscribes to"), page.Column("Named by"), page.Column("Received", page.NUMBER),
+           page.Column("Accepted", page.NUMBER), page.Column("Refused"), page.Column("Expired", page.NUMBER), page.Column("So it is")]
+UNNAMED = [page.Column("IED"), page.Column("Line of the SCL file", page.NUMBER), page.Column("Names what is not there")]
+
+
+# ---- Who subscribes to what --------------------------------------------------
+
+
+class Subscriptions:
+    """The subscriptions of a station: for each IED and each of its control blocks by what it is named; and what its ExtRefs name that is
+    not there."""
+
+    def __init__(self, station):
+        self.station, self.by, self.rivals, self.unnamed, self.unbound, self.elsewhere = station, {}, {}, [], 0, 0
+        self.controls = {id(it): it for it in station.controls}
+        self.named, self.told = {}, {}
+        for control in station.controls:
+            for ied in sorted(control.receivers):
+                self.add(ied, control, "IEDName")
+            for reference in references_of(control):
+                self.told.setdefault((control.service, reference), control)
+        for reference in station.references:
+            self.bind(reference)
+        for it in station.supervised:
+            self.supervise(it)
+
+    def add(self, ied, control, by):
+        held = self.by.setdefault((ied, id(control)), [])
+        held += [by] if by not in held else []
+
+    def bind(self, reference):
+        """What one ExtRef comes to. One that is not bound, is bound to its own IED, or is served by reports or polling subscribes to
+        nothing."""
+        stated, ied = reference.stated, reference.ied
+        if not stated.get("iedName"):
+            self.unbound += 1
+        elif stated["iedName"] not in ("@", ied) and stated.get("serviceType") not in ("Poll", "Report"):
+            there = self.candidates(reference)
+            if not there:
+                self.is_not_there(reference)
+            elif stated.get("srcCBName"):
+                for control in there:
+                    self.add(ied, control, "ExtRef")
+            else:
+                self.serve(ied, [it for it in there if ied in it.receivers] or there)
+
+    def serve(self, ied, there):
+        """Any of these blocks serves an input of an IED."""
+        for control in there:
+            self.add(ied, control, "ExtRef" if len(there) == 1 else f"ExtRef: one of {len(there):,}")
+            if len(there) > 1:
+                self.rivals.setdefault((ied, id(control)), set()).update(id(it) for it in there if it is not control)
+
+    def candidates(self, reference):
+        """The control blocks that an ExtRef names."""
+        stated = reference.stated
+        names = ("srcLDInst", "ldInst", "srcCBName") if stated.get("srcCBName") else (*scl.DATA, "daName")
+        key = tuple(stated.get(it) for it in ("iedName", "serviceType", "srcCBName", *names))
+        if key not in self.named:
+            self.named[key] = list(self.station.named(reference))
+        return self.named[key]
+
+    def is_not_there(self, reference):
+        """An ExtRef that names no control block. Data that a file has can still come by reports."""
+        stated = reference.stated
+        is_of_block = stated.get("srcCBName") or stated.get("serviceType") in scl.KINDS
+        if not is_of_block and self.station.has_data(stated["iedName"], stated):
+            self.elsewhere += 1
+            return
+        names = ("iedName", "srcLDInst", "ldInst", "srcCBName") if stated.get("srcCBName") else ("iedName", *scl.DATA, "daName", "serviceType")
+        told = ", ".join(f"{name} {stated[name]}" for name in names if stated.get(name))
+        self.unnamed.append((reference.ied, reference.line, f"an ExtRef: {told}"))
+
+    def supervise(self, it):
+        """What a supervising logical node names."""
+        of = "GoCBRef of LGOS" if it.service == "GOOSE" else "SvCBRef of LSVS"
+        control = self.told.get((it.service, it.reference))
+        if control:
+            self.add(it.ied, control, of)
+        elif not it.reference.startswith("@"):
+            self.unnamed.append((it.ied, it.line, f"{of}: {it.reference}"))
+
+    def of(self, ied):
+        return [self.controls[at] for name, at in self.by if name == ied]
+
+
+def references_of(control):
+    """How others refer to a control block: with its functional constraint, as in a frame, or without, as an object."""
+    kind = scl.KINDS[control.service]
+    return control.told(), control.reference(f"{kind}${control.name}").replace("$", "."), control.reference(control.name).replace("$", ".")
+
+
+# ---- What came ---------------------------------------------------------------
+
+
+class Outcome:
+    """What came of one control block or stream, by whom it does not matter."""
+
+    def __init__(self):
+        self.why, self.accepted, self.refused, self.expired, self.first, self.last = None, 0, {}, None, None, None
+
+    def see(self, kind, reason, found):
+        """An entry of a replay."""
+        if kind == "expired":
+            self.expired = counted(self.expired, found)
+            return
+        if kind in ACCEPTED:
+            self.accepted += 1
+        elif kind == "refused":
+            self.refused[reason] = counted(self.refused.get(reason), found)
+        if kind != "switched":
+            self.first, self.last = self.first or int(found[1]), int(found[1])
+
+    @property
+    def received(self):
+        return self.accepted + sum(it.number for it in self.refused.values())
+
+    def reasons(self):
+        """Why frames were refused, how many, and where first."""
+        return ", ".join(f"{it.number:,} refused ({reason}), first: packet\u00a0{it.first.packet}" for reason, it in self.refused.items())
+
+
+def counted(held, found):
+    """A count with one entry more."""
+    if not held:
+        return Counted(found)
+    held.add(found)
+    return held
+
+
+class Streamed(Outcome):
+    """What came of one stream: its frames by the confRev that they have."""
+
+    def __init__(self, frames, revisions, wanted):
+        super().__init__()
+        self.frames, self.revisions, self.wanted = frames, revisions, wanted
+        self.accepted = frames if wanted in revisions else 0
+
+    @property
+    def received(self):
+        return self.frames
+
+    def reasons(self):
+        told = ", ".join(f"confRev {it}, configured {self.wanted}, first: packet\u00a0{packet}" for it, packet in self.revisions.items() if it != self.wanted)
+        return f"{self.frames:,} refused ({told})" if told and not self.accepted else told
+
+
+class Matrix:
+    """The subscriptions of a station, and what a capture has of each."""
+
+    def __init__(self, station):
+        self.station, self.subscriptions = station, Subscriptions(station)
+        self.outcomes, self.blocks, self.streams = {}, {}, {}
+        for at in dict.fromkeys(at for _, at in self.subscriptions.by):
+            self.look_for(self.subscriptions.controls[at])
+
+    def look_for(self, control):
+        """What is replayed or counted of a control block."""
+        outcome = self.outcomes[id(control)] = Outcome()
+        try:
+            for it in self.station.senders(control):
+                if it.kind == "block":
+                    self.blocks.setdefault(it.key, (it.text, []))[1].append(outcome)
+                else:
+                    self.streams[id(control)] = it
+        except ValueError as why:
+            outcome.why = str(why)
+
+    def runs(self):
+        """The BLOCKs of all, in as many runs as command lines take: one, but for thousands."""
+        run, size = [], 0
+        for text, outcomes in self.blocks.values():
+            if size + len(text) + 16 > MOST_WORDS:
+                yield run
+                run, size = [], 0
+            run.append((text, outcomes))
+            size += len(text) + 16
+        if run:
+            yield run
+
+    def see(self, run, lines):
+        """The lines of a replay of these BLOCKs."""
+        for found in filter(None, map(ENTRY.match, (line for line in lines if not line.endswith(SAMPLED)))):
+            kind = found[4].decode()
+            reason = REASON.search(found.string, found.end()) if kind == "refused" else None
+            for it in run[int(found[5])][1]:
+                it.see(kind, reason and reason[1].decode(), found)
+
+    def see_streams(self, seen):
+        """The streams that a capture has."""
+        for at, wanted in self.streams.items():
+            of = [it for it in seen if it.kind == "stream" and it.name == wanted.more["svID"]]
+            revisions = {}
+            for text, packet in (form for it in of for form in it.forms.items()):
+                revision = REVISION.search(text)[1]
+                revisions[revision] = min(packet, revisions.get(revision, packet))
+            if of:
+                self.outcomes[at] = Streamed(sum(it.frames for it in of), revisions, wanted.fields["confRev"])
+
+    def state(self, ied, control):
+        """What a subscription comes to: clean, found or not judged, and why."""
+        outcome = self.outcomes[id(control)]
+        if outcome.accepted:
+            return clean("accepted")
+        others = [self.subscriptions.controls[at] for at in self.subscriptions.rivals.get((ied, id(control)), ()) if self.outcomes[at].accepted]
+        is_sole = any(by == "IEDName" or "one of" not in by for by in self.subscriptions.by[ied, id(control)])
+        if others and not is_sole:
+            return clean(f"not needed: {name_of(others[0])} serves")
+        if outcome.received:
+            return finding("no frame accepted")
+        if outcome.why:
+            return not_judged(outcome.why, "mend the SCL file")
+        return not_judged("never seen", "record where its frames pass")
+
+    def rows(self):
+        """A row for each subscription with its state: those that were found first, then those not judged; of each in the order of IEDs."""
+        held = [(ied, self.subscriptions.controls[at], by, self.state(ied, self.subscriptions.controls[at]))
+                for (ied, at), by in self.subscriptions.by.items()]
+        order = {ied: number for number, ied in enumerate(self.station.ieds)}
+        return sorted(held, key=lambda it: (-it[3].state, order.get(it[0], len(order)), it[0]))
+
+
+def name_of(control):
+    """What a control block is told by."""
+    return control.told() if control.service == "GOOSE" else f"{control.stated.get('smvID') or control.told()} (stream)"
+
+
+def asked(configured, found):
+    """The matrix of a configuration, and what a capture has of it."""
+    matrix = Matrix(configured.station)
+    for run in matrix.runs():
+        matrix.see(run, found.asked.lines("looking for subscriptions", "replay", "--", *(text for text, _ in run)))
+    matrix.see_streams(found.station.seen.values())
+    return matrix
+
+
+# ---- On the page -------------------------------------------------------------
+
+
+def listed(names, most=MOST_NAMES):
+    more = [f"{len(names) - most:,} more IEDs"] if len(names) > most else []
+    return ", ".join([*names[:most], *more])
+
+
+def judge(found, _own):
+    """What the subscriptions come to. A block of which no frame was accepted is told by itself, with all that subscribe to it."""
+    matrix = found.matrix
+    if not matrix:
+        return
+    rows, by_block = matrix.rows(), {}
+    for ied, control, _, state in rows:
+        by_block.setdefault((id(control), state.state, state.told), (control, state, []))[2].append(ied)
+    for control, state, ieds in by_block.values():
+        if state.state == State.FOUND:
+            yield finding(f"no frame of {name_of(control)} is accepted by {listed(ieds)}: {matrix.outcomes[id(control)].reasons()}.")
+    unnamed = matrix.subscriptions.unnamed
+    if unnamed:
+        told = [f"{ied}, line {line}" for ied, line, _ in unnamed]
+        yield finding(f"{page.count(len(unnamed), 'input names', 'inputs name')} no block or data of the file ({some(told)}).")
+    for control, state, ieds in by_block.values():
+        if matrix.outcomes[id(control)].why and state.state == State.NOT_JUDGED:
+            yield not_judged(f"{name_of(control)} ({listed(ieds)}) is not looked for: {state.told}.", state.todo)
+    unseen = [f"{name_of(control)} ({listed(ieds, 2)})" for control, state, ieds in by_block.values()
+              if state.state == State.NOT_JUDGED and not matrix.outcomes[id(control)].why]
+    if unseen:
+        yield not_judged(f"no frame came of {page.count(len(unseen), 'block or stream', 'blocks and streams')} that are subscribed to in "
+                         f"{found.all_packets}: {some(unseen)}.", "record where their frames pass")
+    accepted = sum(state.state == State.CLEAN for *_, state in rows)
+    yield clean(f"{accepted:,} of {page.count(len(rows), 'subscription')} are served in {found.all_packets}.")
+
+
+def section(found, own):
+    """The table of all subscriptions, and what of them is not in it."""
+    matrix = found.matrix
+    if not matrix:
+        return ()
+    rows, subscriptions = matrix.rows(), matrix.subscriptions
+    told = [paragraph(f"Each IED of {own.scd} beside what it subscribes to there. A frame is accepted where it is as the file says: not refused by "
+                      "datSet, goID, confRev, size, simulation or needed commissioning.")]
+    shown = rows[:None if getattr(own, "all", False) else MOST_ROWS]
+    told += [page.table("Subscriptions", COLUMNS, (row(matrix, *it) for it in shown))] if rows else [paragraph(f"{own.scd} has no subscription.")]
+    if len(shown) < len(rows):
+        told.append(paragraph(f"{page.count(len(rows) - len(shown), 'more subscription')}, all served or like those above, are not listed."))
+    if subscriptions.unnamed:
+        told.append(page.table("Inputs that name no block or data of the file", UNNAMED, [page.row(UNNAMED, [ied, line, what])
+                                                                                         for ied, line, what in subscriptions.unnamed[:MOST_ROWS]]))
+        more = len(subscriptions.unnamed) - MOST_ROWS
+        told += [paragraph(f"{more:,} more are not listed.")] if more > 0 else []
+    silent = [ied for ied in found.configured.station.ieds if not subscriptions.of(ied)]
+    told += [paragraph(f"Without a subscription: {listed(silent, 40)}.")] if silent else []
+    counts = [(subscriptions.unbound, "ExtRef is bound to nothing", "ExtRefs are bound to nothing"),
+              (subscriptions.elsewhere, "ExtRef names data that no control block sends", "ExtRefs name data that no control block sends")]
+    told += [paragraph(f"{page.count(*it)}.", class_="soft") for it in counts if it[0]]
+    return section_of("Subscriptions", "subscriptions", *told)
+
+
+def row(matrix, ied, control, by, state):
+    outcome = matrix.outcomes[id(control)]
+    received = f"{outcome.received:,}" + (f" ({page.packets(outcome.first, outcome.last)})" if outcome.first else "")
+    expired = outcome.expired and f"{outcome.expired.number:,} (first: packet\u00a0{outcome.expired.first.packet})"
+    cells = [ied, page.element("span", page.named(name_of(control)), class_="name"), "; ".join(by), received, f"{outcome.accepted:,}", outcome.reasons(),
+             expired or "0", state.told]
+    return page.row(COLUMNS, cells, found=len(cells) - 1 if state.state == State.FOUND else None)
