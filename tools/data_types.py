@@ -47,9 +47,23 @@ class Types:
 
     def inside(self, part):
         """The parts of a part, or None where it has one value."""
-        if part.tag in ("DO", "SDO"):
-            return self.objects.get(part.type, ())
-        return self.structures.get(part.type, ()) if part.sort == "Struct" else None
+        is_object = part.tag in ("DO", "SDO")
+        if not is_object and part.sort != "Struct":
+            return None
+        found = (self.objects if is_object else self.structures).get(part.type)
+        if found is None:
+            raise Unresolved
+        return found
+
+
+    def has(self, parts, steps):
+        """Whether steps lead from these parts to one."""
+        for step in steps:
+            found = next((it for it in parts or () if it.name == step), None)
+            if found is None:
+                return False
+            parts = self.inside(found)
+        return True
 
 
 class Grown:
@@ -120,7 +134,7 @@ class Station(scl.Station):
     """A station with the types of its data, and the blocks that its supervising logical nodes name."""
 
     def __init__(self, path):
-        self.types, self.nodes, self.nodes_of, self.supervised = Types(), {}, {}, []
+        self.types, self.nodes, self.nodes_of, self.supervised, self.references_to = Types(), {}, {}, [], {}
         super().__init__(path)
 
     def reader(self, parser):
@@ -133,6 +147,22 @@ class Station(scl.Station):
             return None
         is_of_several = len({it.get("ldInst") for it in stated}) > 1
         return [member(self.types, self.node(owner, it), it, f"{it.get('ldInst', '')}/" if is_of_several else "") for it in stated]
+
+    def received(self, ied):
+        """The control blocks that an IED receives: those that its supervising logical nodes name too."""
+        named = {id(self.by_reference.get((it.service, it.reference))) for it in self.supervised if it.ied == ied}
+        received = {id(it) for it in super().received(ied)} | named
+        return [it for it in self.controls if id(it) in received]
+
+    @property
+    def by_reference(self):
+        """The control blocks by what supervising logical nodes call them: with their functional constraint, as in a frame, or without."""
+        if not self.references_to:
+            for it in self.controls:
+                for name in (f"{scl.KINDS[it.service]}${it.name}", it.name):
+                    for reference in (it.reference(name), it.reference(name).replace("$", ".")):
+                        self.references_to.setdefault((it.service, reference), it)
+        return self.references_to
 
     def node(self, owner, stated):
         """The type of the logical node of an FCDA."""
@@ -147,12 +177,10 @@ class Station(scl.Station):
         if key not in self.nodes_of:
             return False
         parts, steps = self.types.nodes.get(self.nodes_of[key]), [it for name in ("doName", "daName") for it in (stated.get(name) or "").split(".") if it]
-        for step in steps if parts is not None else ():
-            found = next((it for it in parts if it.name == step), None)
-            if found is None:
-                return False
-            parts = self.types.inside(found) or ()
-        return True
+        try:
+            return parts is None or self.types.has(parts, steps)
+        except Unresolved:
+            return True
 
 
 class Supervised:
@@ -175,16 +203,18 @@ class Reader(scl.Reader):
     """Reads what a Station reads, and the types. Another reader takes the place of this one in the elements that it does not look into."""
 
     def starts(self, name, stated):
-        if not self.skipped:
-            local = local_name(name)
-            if local == "DataTypeTemplates" and self.path == ["SCL"]:
-                self.give_way(TypesReader(self.station.types), name, stated)
-                return
-            if local == "DOI" and self.path[-1:] == ["LN"] and SUPERVISED.get(self.at["LN"].get("lnClass")) == stated.get("name"):
-                self.give_way(ValueReader(self.sees_reference), name, stated)
-                return
+        if self.skipped:
+            self.skipped += 1
+            return
+        local = local_name(name)
+        if local == "DataTypeTemplates" and self.path == ["SCL"]:
+            self.give_way(TypesReader(self.station.types), name, stated)
+            return
+        if local == "DOI" and self.path[-1:] == ["LN"] and SUPERVISED.get(self.at["LN"].get("lnClass")) == stated.get("name"):
+            self.give_way(ValueReader(self.sees_reference), name, stated)
+            return
         super().starts(name, stated)
-        if self.path[-1:] in (["LN"], ["LN0"]) and not self.skipped and "LDevice" in self.path:
+        if local in ("LN", "LN0") and not self.skipped and "LDevice" in self.path:
             parts = ("LLN0" if it == "lnClass" and self.path[-1] == "LN0" else stated.get(it, "") for it in ("prefix", "lnClass", "inst"))
             self.station.nodes[(self.owner(), self.at["LDevice"].get("inst", ""), *parts)] = stated.get("lnType")
 
@@ -207,15 +237,18 @@ class Within:
     parser = after = None
 
     def __init__(self):
-        self.path, self.words = [], ""
+        self.path, self.words = [], []
 
     def starts(self, name, stated):
         self.path.append(local_name(name))
-        self.words = ""
+        self.words = []
         self.begins(stated)
 
     def text(self, text):
-        self.words += text
+        self.words.append(text)
+
+    def told(self):
+        return "".join(self.words).strip()
 
     def ends(self, _name):
         self.closes()
@@ -244,7 +277,7 @@ class TypesReader(Within):
 
     def closes(self):
         if self.path[1:] == ["EnumType", "EnumVal"] and self.ordinal is not None:
-            self.held[self.ordinal.strip()] = self.words.strip()
+            self.held[self.ordinal.strip()] = self.told()
 
 
 class ValueReader(Within):
@@ -259,5 +292,5 @@ class ValueReader(Within):
             self.name = stated.get("name")
 
     def closes(self):
-        if self.path == ["DOI", "DAI", "Val"] and self.name == "setSrcRef" and self.words.strip():
-            self.sees(self.words.strip())
+        if self.path == ["DOI", "DAI", "Val"] and self.name == "setSrcRef" and self.told():
+            self.sees(self.told())

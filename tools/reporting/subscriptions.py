@@ -33,12 +33,10 @@ class Subscriptions:
     def __init__(self, station):
         self.station, self.by, self.rivals, self.unnamed, self.unbound, self.elsewhere = station, {}, {}, [], 0, 0
         self.controls = {id(it): it for it in station.controls}
-        self.named, self.told = {}, {}
+        self.named = {}
         for control in station.controls:
             for ied in sorted(control.receivers):
                 self.add(ied, control, "IEDName")
-            for reference in references_of(control):
-                self.told.setdefault((control.service, reference), control)
         for reference in station.references:
             self.bind(reference)
         for it in station.supervised:
@@ -94,7 +92,7 @@ class Subscriptions:
     def supervise(self, it):
         """What a supervising logical node names."""
         of = "GoCBRef of LGOS" if it.service == "GOOSE" else "SvCBRef of LSVS"
-        control = self.told.get((it.service, it.reference))
+        control = self.station.by_reference.get((it.service, it.reference))
         if control:
             self.add(it.ied, control, of)
         elif not it.reference.startswith("@"):
@@ -102,12 +100,6 @@ class Subscriptions:
 
     def of(self, ied):
         return [self.controls[at] for name, at in self.by if name == ied]
-
-
-def references_of(control):
-    """How others refer to a control block: with its functional constraint, as in a frame, or without, as an object."""
-    kind = scl.KINDS[control.service]
-    return control.told(), control.reference(f"{kind}${control.name}").replace("$", "."), control.reference(control.name).replace("$", ".")
 
 
 # ---- What came ---------------------------------------------------------------
