@@ -222,6 +222,7 @@ class Clean:
             ["compare_blocks", "/dev/null"], ["list_to_pcap"], ["hex_to_list"], ["to_json", EXAMPLES / "one_frame.list"],
             ["to_csv", EXAMPLES / "one_frame.list"], ["field_at", "2", "3"], ["draw_replay", EXAMPLES / "one_frame.list"],
             ["draw_replay", "--losses", "/dev/null", EXAMPLES / "one_frame.list"], ["draw_recording", EXAMPLES / "one_frame.list", "0001,G,D,,1,1"],
+            ["name_members", "--scd", EXAMPLES / "station.scd"], ["scl_blocks", "--names", EXAMPLES / "station.scd"],
             ["report", "--scd", EXAMPLES / "station.scd", EXAMPLES / "two_frames.pcap"], ["report", "/dev/null"])
     name = "tools that leave files open"
 

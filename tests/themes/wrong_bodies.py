@@ -49,6 +49,7 @@ class Tree:
         self.top, self.room, self.runs = (pathlib.Path(folder) / name for name in ("a tree", "room", "runs"))
         self.room.mkdir()
         self.put("tools/wrong_bodies", (TOP / "tools" / "wrong_bodies").read_text(), 0o755)
+        self.put("tools/running.py", (TOP / "tools" / "running.py").read_text())
         self.put("bin/rt", RT, 0o755)
         self.put("crates.txt", CRATES)
         self.put("HANDLES", "Handles allowed: none.\n")
