@@ -1,4 +1,5 @@
 """Recorded lists, by the rules of docs/FORMATS.md: their events, and the time of each line."""
+import functools
 import re
 import time
 import weakref
@@ -66,10 +67,15 @@ class Lines:
         return self.number, kind.decode(), int(moment) * self.unit, held
 
 
+def next_line(file):
+    """The next line of an open file, or as much of it as shows that it is too long."""
+    return file.readline(MOST_OCTETS + 2)
+
+
 def events(file):
     """The events of a list in an open file of octets, as Lines has them."""
     lines = Lines()
-    for line in file:
+    for line in iter(functools.partial(next_line, file), b""):
         event = lines.event(line)
         if event:
             yield event
@@ -121,9 +127,9 @@ class Times:
         """Reads on up to a line. One that is not there yet is waited for a little."""
         until = None
         while self.lines.number < number and not self.error:
-            self.begun += self.file.readline()
+            self.begun += next_line(self.file)
             until = until or time.monotonic() + PATIENCE
-            if not self.begun.endswith(b"\n") and time.monotonic() < until:
+            if not self.begun.endswith(b"\n") and len(self.begun) <= MOST_OCTETS and time.monotonic() < until:
                 time.sleep(0.01)
             elif self.begun:
                 self.take()

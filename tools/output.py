@@ -9,6 +9,8 @@ import datetime
 import json
 import re
 
+from running import Ended
+
 COLUMNS = ("line", "microseconds", "time", "kind", "block", "reason", "offset", "error", "mode", "destination", "source", "tag",
            "appid", "reserved1", "reserved2", "gocbRef", "timeAllowedtoLive", "datSet", "goID", "t", "tTime", "stNum", "sqNum",
            "simulation", "confRev", "ndsCom", "members", "asdus", "trailer", "asdu", "smpCnt", "missing", "svID", "text",
@@ -25,8 +27,13 @@ SHOWN = {"tag": "tag", "appid": "appid", "r1": "reserved1", "r2": "reserved2", "
 ASDU = {"id": "svID", "set": "datSet", "cnt": "smpCnt", "rev": "confRev", "t": "refrTm", "synch": "smpSynch", "rate": "smpRate",
         "sample": "sample", "mod": "smpMod", "f89": "field89"}
 NUMBERS = ("timeAllowedtoLive", "stNum", "sqNum", "confRev", "smpCnt", "smpSynch", "smpRate")
-TOKEN = re.compile(r'[\[\](){}]|(?:\w+=)?"(?:[^"\\]|\\.)*"|[^ "\[\](){}]+')
+# A text that does not end is the last token.
+TOKEN = re.compile(r'[\[\](){}]|(?:\w+=)?"(?:[^"\\]|\\.)*(?:"|\\?$)|[^ "\[\](){}]+')
+UNCLOSED = re.compile(r'(?:\w+=)?"(?:[^"\\]|\\.)*\\?')
 OPENS = {"{": "}", "(": ")", "[": "]"}
+# How deep brackets can be in brackets: a data set has 16 levels, and an object names each of them.
+MOST_DEPTH = 64
+UTC_TIME = re.compile("[0-9a-f]{16}")
 EPOCH = datetime.datetime(1970, 1, 1)
 read_object = json.JSONDecoder().raw_decode
 
@@ -48,13 +55,27 @@ def unquoted(text):
     return re.sub(r"\\(.)", r"\1", text[1:-1])
 
 
-def nested(tokens, until=None):
+class TooDeep(Exception):
+    """A line has more brackets in brackets than goose writes."""
+
+
+def tokens_of(text):
+    """The tokens of a shown line."""
+    found = TOKEN.findall(text)
+    if found and UNCLOSED.fullmatch(found[-1]):
+        raise ValueError("a text that does not end")
+    return found
+
+
+def nested(tokens, until=None, depth=0):
     """The tokens up to a closing bracket. What stands in brackets is a list that begins with the bracket."""
+    if depth > MOST_DEPTH:
+        raise TooDeep
     found = []
     for token in tokens:
         if token == until:
             break
-        found.append([token, *nested(tokens, OPENS[token])] if token in OPENS else token)
+        found.append([token, *nested(tokens, OPENS[token], depth + 1)] if token in OPENS else token)
     return found
 
 
@@ -87,12 +108,16 @@ def named(tokens, names):
 
 def with_change(record):
     """A record with the date of its field t."""
-    return {**record, "tTime": date(change(record["t"]))} if "t" in record else record
+    if "t" not in record:
+        return record
+    if not UTC_TIME.fullmatch(record["t"]):
+        raise ValueError("t is no time")
+    return {**record, "tTime": date(change(record["t"]))}
 
 
 def goose(rest):
     """A shown frame of GOOSE."""
-    destination, source, *tokens = nested(iter(TOKEN.findall(rest)))
+    destination, source, *tokens = nested(iter(tokens_of(rest)))
     held = next(it for it in tokens if isinstance(it, list))
     return {"destination": destination, "source": source, **named([it for it in tokens if it is not held], SHOWN),
             "members": [member(it) for it in held[1:]]}
@@ -100,7 +125,7 @@ def goose(rest):
 
 def sampled(rest):
     """A shown frame of Sampled Values."""
-    destination, source, *tokens = nested(iter(TOKEN.findall(rest)))
+    destination, source, *tokens = nested(iter(tokens_of(rest)))
     held = next(it for it in tokens if isinstance(it, list))
     return {"destination": destination, "source": source, **named([it for it in tokens if it is not held], SHOWN),
             "asdus": [named(it[1:], ASDU) for it in held[1:]]}
@@ -108,7 +133,7 @@ def sampled(rest):
 
 def entry(rest):
     """What a device does with a frame of a block: the block, and words WORD=VALUE and members where there are any."""
-    block, *tokens = nested(iter(TOKEN.findall(rest)))
+    block, *tokens = nested(iter(tokens_of(rest)))
     held = [it for it in tokens if isinstance(it, list)]
     record = {"block": int(block), **named([it for it in tokens if it not in held], SHOWN)}
     return {**record, "members": [member(it) for it in held[0][1:]]} if held else record
@@ -116,7 +141,7 @@ def entry(rest):
 
 def stream(rest):
     """A stream of Sampled Values."""
-    return named(TOKEN.findall(rest), ASDU)
+    return named(tokens_of(rest), ASDU)
 
 
 def spread(pattern, *names):
@@ -144,38 +169,57 @@ def of_object(line):
     """The record that a line of JSON is, or None."""
     try:
         found, end = read_object(line)
-    except (RecursionError, ValueError):
+    except RecursionError:
+        raise TooDeep from None
+    except ValueError:
         return None
+    if line.count("{") + line.count("[") > MOST_DEPTH:
+        check_depth(found)
     return found if end == len(line) else None
+
+
+def check_depth(value):
+    """Goes through the levels of an object."""
+    level, depth = [value], 0
+    while level:
+        if depth > MOST_DEPTH:
+            raise TooDeep
+        level = [it for held in level if isinstance(held, (list, dict)) for it in (held.values() if isinstance(held, dict) else held)]
+        depth += 1
 
 
 def record(line):
     """The record of one line of a text."""
     number, _, rest = line.partition(" ")
     kind, _, rest = rest.partition(" ")
-    if number.isdigit() and kind in KINDS:
-        try:
+    try:
+        if number.isdigit() and kind in KINDS:
             return {"line": int(number), "kind": kind, **KINDS[kind](rest)}
-        except (AttributeError, KeyError, StopIteration, TypeError, ValueError):
-            return {"text": line}
-    counted = COUNTED.fullmatch(line)
-    if counted:
-        number, asdu, count, skipped, missing, word = counted.groups()
-        held = {"line": int(number), "kind": skipped or word, "asdu": int(asdu), "smpCnt": int(count)}
-        return {**held, "missing": int(missing)} if skipped else held
-    twice = re.fullmatch(r"blocks (\w+) (\d+)", line)
-    return {"kind": "blocks", "block": int(twice[2]), "error": twice[1]} if twice else {"text": line}
+        counted = COUNTED.fullmatch(line)
+        if counted:
+            number, asdu, count, skipped, missing, word = counted.groups()
+            held = {"line": int(number), "kind": skipped or word, "asdu": int(asdu), "smpCnt": int(count)}
+            return {**held, "missing": int(missing)} if skipped else held
+        twice = re.fullmatch(r"blocks (\w+) (\d+)", line)
+        return {"kind": "blocks", "block": int(twice[2]), "error": twice[1]} if twice else {"text": line}
+    except (AttributeError, KeyError, StopIteration, TypeError, ValueError):
+        return {"text": line}
 
 
-def records(lines, times=None):
+def records(lines, times=None, is_done=None):
     """The records of lines, in the order of COLUMNS, with the time of each line's event where the list's Times are given. An object is
-    its own record."""
-    for line in lines:
-        found = of_object(line) if line.startswith("{") else None
-        if found:
-            yield found
+    its own record. Lines that are done with, as is_done tells, have none."""
+    for number, line in enumerate(lines, 1):
+        if is_done and is_done(line):
             continue
-        found = record(line[:-1] if line.endswith("\n") else line)
+        try:
+            told = of_object(line) if line.startswith("{") else None
+            found = told or record(line[:-1] if line.endswith("\n") else line)
+        except TooDeep:
+            raise Ended(f"line {number}: its brackets are over {MOST_DEPTH} deep, which goose writes in no line") from None
+        if told:
+            yield told
+            continue
         moment = times.of(found) if times else found.get("microseconds")
         if moment is not None:
             found.update(microseconds=moment, time=date(moment))

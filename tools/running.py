@@ -14,8 +14,8 @@ import sys
 import traceback
 
 FIND = pathlib.Path(__file__).resolve().parent / "find_goose"
-# The octets that are read at once.
-PIECE = 1 << 16
+# The octets that are read at once, and the most of a line: goose writes none of a tenth of that.
+PIECE, MOST_LINE = 1 << 16, 1 << 20
 # What goose says of its version. Other programs of that name say something else.
 VERSION = re.compile(r"goose \d[\w.+-]*\n?")
 # The status of a tool that has an error of its own, and the variable that has it show where.
@@ -101,20 +101,30 @@ def standard_input():
     return sys.stdin
 
 
-def lines_given():
-    """The lines of standard input, each octet a character. Before each wait for more, what was written is handed on."""
-    return lines_of(standard_input().buffer.raw)
+def lines_given(before=None):
+    """The lines of standard input, each octet a character. Before each wait for more, what was written is handed on, or what is given
+    is called."""
+    return lines_of(standard_input().buffer.raw, before=before)
 
 
-def lines_of(octets):
-    rest, piece = "", b"first"
+def lines_of(octets, path="", before=None):
+    """The lines of an open file. One that is too long ends the tool."""
+    begun, size, number, piece = [], 0, 1, b"first"
     while piece:
-        sys.stdout.flush()
+        (before or sys.stdout.flush)()
         piece = octets.read(PIECE)
-        *whole, rest = (rest + piece.decode("latin-1")).split("\n")
-        yield from whole
-    if rest:
-        yield rest
+        first, *others = piece.decode("latin-1").split("\n")
+        begun.append(first)
+        size += len(first)
+        if size > MOST_LINE:
+            raise Ended(f"{path and path + ': '}line {number}: it has over {MOST_LINE} octets, and no longer line is read")
+        if others:
+            yield "".join(begun)
+            *whole, rest = others
+            yield from whole
+            begun, size, number = [rest], len(rest), number + len(others)
+    if size:
+        yield "".join(begun)
 
 
 def reason(why):

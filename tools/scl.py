@@ -71,7 +71,7 @@ class Station:
 
     def __init__(self, path):
         self.path, self.ieds, self.controls, self.addresses, self.members, self.references = path, [], [], {}, {}, []
-        self.by_ied = {}
+        self.has_address, self.index = False, {}
         self.read(path)
 
     def read(self, path):
@@ -132,29 +132,45 @@ class Station:
             stream.more.update(address=address, stated=stated)
             yield stream
 
-    def sent_by(self, ied):
-        if not self.by_ied:
-            for control in self.controls:
-                self.by_ied.setdefault(control.owner[0], []).append(control)
-        return self.by_ied.get(ied, [])
+    def indexed(self):
+        """The control blocks by what an ExtRef can name them by: their names, with or without their device, and each data of theirs."""
+        for control in self.controls if not self.index else ():
+            of = control.service, control.owner[0]
+            for key in ((*of, control.name), (*of, control.name, control.device[0])):
+                self.index.setdefault(key, {})[id(control)] = control
+            for member in self.members.get(control.data_set(), ()):
+                held = self.index.setdefault((*of, *data_of(member)), {}).setdefault(member.get("daName") or None, {})
+                held[id(control)] = control
+        return self.index
 
     def received(self, ied):
         """The control blocks that an IED receives: those whose IEDName it is, and those that its ExtRefs name."""
-        named = {id(control) for reference in self.references if reference.ied == ied for control in self.named(reference)}
+        named, gone_through = set(), set()
+        for stated in {tuple(it.stated.items()): it.stated for it in self.references if it.ied == ied}.values():
+            for held in self.groups(stated):
+                if id(held) not in gone_through:
+                    gone_through.add(id(held))
+                    named.update(held)
         return [control for control in self.controls if ied in control.receivers or id(control) in named]
 
-    def named(self, reference):
-        """The control blocks that an ExtRef names: by srcCBName, or where it has none by data that is in their data sets."""
-        stated = reference.stated
-        for control in self.sent_by(stated.get("iedName")):
-            if stated.get("serviceType", control.service) != control.service:
+    def groups(self, stated):
+        """The groups of control blocks that an ExtRef names: by srcCBName, or where it has none by data that is in their data sets. One
+        that names no attribute has all of the data."""
+        index, device = self.indexed(), stated.get("srcLDInst") or stated.get("ldInst")
+        for service in KINDS:
+            of = service, stated.get("iedName")
+            if stated.get("serviceType", service) != service:
                 continue
             if stated.get("srcCBName"):
-                device = stated.get("srcLDInst") or stated.get("ldInst") or control.device[0]
-                if (control.name, control.device[0]) == (stated["srcCBName"], device):
-                    yield control
-            elif any(is_data_of(stated, member) for member in self.members.get(control.data_set(), ())):
-                yield control
+                yield index.get((*of, stated["srcCBName"], device) if device else (*of, stated["srcCBName"]), {})
+                continue
+            held, attribute = index.get((*of, *data_of(stated)), {}), stated.get("daName") or None
+            yield from (held.values() if attribute is None else (held.get(it, {}) for it in (attribute, None)))
+
+    def named(self, reference):
+        """The control blocks that an ExtRef names, in the order of the file."""
+        held = {it for group in self.groups(reference.stated) for it in group}
+        return [control for control in self.controls if id(control) in held] if held else []
 
     def unnamed(self, ied):
         """What the ExtRefs of an IED say of blocks of GOOSE or Sampled Values that the file does not have, each with its first line."""
@@ -162,7 +178,7 @@ class Station:
         for reference in self.references:
             stated = reference.stated
             is_of_block = stated.get("serviceType") in KINDS or (stated.get("srcCBName") and "serviceType" not in stated)
-            if reference.ied == ied and is_of_block and not any(self.named(reference)):
+            if reference.ied == ied and is_of_block and not any(self.groups(stated)):
                 names = [f"{name} {stated[name]}" for name in ("iedName", "srcLDInst", "ldInst", "srcCBName") if stated.get(name)]
                 said.setdefault(f"an ExtRef of {ied} names a block that is not there: {', '.join(names)}", reference.line)
         return said.items()
@@ -197,10 +213,9 @@ def is_visible(text):
     return all(" " <= it <= "~" for it in text)
 
 
-def is_data_of(reference, member):
-    """Whether an ExtRef names data of an FCDA. One that names no attribute has all of them."""
-    names = [(it.get("daName") or None) for it in (reference, member)]
-    return (all((reference.get(it) or "") == (member.get(it) or "") for it in DATA) and (None in names or names[0] == names[1]))
+def data_of(stated):
+    """The data that an ExtRef or an FCDA names, without the attribute."""
+    return tuple(stated.get(it) or "" for it in DATA)
 
 
 class Reader:
@@ -225,9 +240,9 @@ class Reader:
         self.path.append(local)
         self.at[local] = stated
         if parent == "Address" or local == "IEDName" or (parent == "GSE" and local in TIMES):
-            self.words = ""
+            self.words = []
         elif local in ADDRESSES:
-            self.parts, self.appids, self.times = {}, [], {}
+            self.parts, self.appids, self.times, self.station.has_address = {}, [], {}, True
         elif self.path == ["SCL", "IED"]:
             self.station.ieds.append(stated.get("name", ""))
         elif parent == "Inputs":
@@ -255,18 +270,18 @@ class Reader:
             self.ends_part(self.at["P"].get("type"))
         elif local in ADDRESSES:
             self.ends_address(local)
-        elif local in TIMES and parent == "GSE" and re.fullmatch(r"[0-9]{1,9}", self.words.strip()):
-            self.times[local] = int(self.words)
+        elif local in TIMES and parent == "GSE" and re.fullmatch(r"[0-9]{1,9}", self.told()):
+            self.times[local] = int(self.told())
         elif local == "IEDName" and self.path[-2:-1] == ["LN0"] and parent in SERVICES:
-            self.station.controls[-1].receivers.add(self.words.strip())
+            self.station.controls[-1].receivers.add(self.told())
         self.words = None if local in TEXTS else self.words
 
     def ends_part(self, sort):
         """A part of an address. APPID can be there twice."""
         if sort == "APPID":
-            self.appids.append(self.words.strip())
+            self.appids.append(self.told())
         elif sort in FORMS:
-            self.parts[sort] = self.words.strip()
+            self.parts[sort] = self.told()
 
     def ends_address(self, local):
         stated = self.at[local]
@@ -277,7 +292,11 @@ class Reader:
 
     def text(self, text):
         if self.words is not None and not self.skipped:
-            self.words += text
+            self.words.append(text)
+
+    def told(self):
+        """The text of the element that is read, without blanks around it."""
+        return "".join(self.words).strip()
 
     def owner(self):
         return self.at["IED"]["name"], self.at["AccessPoint"]["name"]

@@ -3,11 +3,14 @@
 A block is the same as another of its APPID and gocbRef, a stream as another of its svID. What only one side tells is not
 compared.
 """
+import functools
 import json
 import re
 
 NAMES = ("APPID", "gocbRef", "datSet", "goID", "confRev", "entries")
-STREAM = re.compile(r'(stream id=".*") rev=(\d+)')
+STREAM = re.compile(r'(stream id=".*") rev=([0-9]{1,20})')
+# The texts of frames, and numbers.
+VISIBLE, DIGITS = re.compile("[ -~]*"), re.compile("[0-9]{1,20}")
 # What only objects tell of both.
 ADDRESS = ("MAC address", "VLAN", "priority")
 
@@ -71,7 +74,7 @@ def address_fields(destination=None, vlan=None, priority=None):
 def block_fields(text):
     """The fields of a BLOCK, APPID in lower case and numbers without leading zeros, or None where it is none."""
     fields = text.split(",")
-    if len(fields) != 6 or not re.fullmatch(r"[0-9a-fA-F]{4}", fields[0]) or not all(it.isdigit() for it in fields[4:]):
+    if len(fields) != 6 or not re.fullmatch(r"[0-9a-fA-F]{4}", fields[0]) or not all(map(DIGITS.fullmatch, fields[4:])):
         return None
     return dict(zip(NAMES, [fields[0].lower(), *fields[1:4], *(str(int(it)) for it in fields[4:])]))
 
@@ -117,12 +120,51 @@ def of_frame(record):
     yield Sender(text, "block", {**(block_fields(text) or {}), **envelope})
 
 
+# What a value of an object is, and which names each kind has: those that it needs, and those that can be absent or null.
+def hexadecimal(size):
+    return lambda it: isinstance(it, str) and re.fullmatch("[0-9a-f]{%d}" % size, it)
+
+
+VALUES = {
+    **dict.fromkeys(("text", "gocbRef", "datSet", "goID", "svID"), lambda it: isinstance(it, str) and VISIBLE.fullmatch(it)),
+    **dict.fromkeys(("confRev", "vlan", "priority"), lambda it: type(it) is int and 0 <= it < 1 << 64),
+    **dict.fromkeys(("members", "asdus"), lambda it: isinstance(it, list)),
+    "destination": hexadecimal(12), "tag": hexadecimal(8), "appid": hexadecimal(4),
+}
+NEEDED = {"goose": ("destination", "appid", "gocbRef", "datSet", "confRev", "members"), "sv": ("destination", "appid", "asdus"),
+          "asdu": ("svID", "confRev"), "block": ("text",), "stream": ("svID", "confRev")}
+ABSENT = {"goose": ("tag", "goID"), "sv": ("tag",), "asdu": (), "block": ("destination", "vlan", "priority"),
+          "stream": ("appid", "destination", "vlan", "priority")}
+
+
+def check_object(sort, record):
+    """An error says what of an object of this sort is not there, or is another value than goose and scl_blocks write."""
+    if not isinstance(record, dict):
+        raise ValueError(f"its {sort} is no object")
+    for name in NEEDED[sort]:
+        if name not in record:
+            raise ValueError(f"its {sort} lacks {name}")
+    for name in (*NEEDED[sort], *(it for it in ABSENT[sort] if record.get(it) is not None)):
+        if not VALUES[name](record[name]):
+            raise ValueError(f"its {sort} has the {name} {clipped(record[name])}")
+    for asdu in record["asdus"] if sort == "sv" else ():
+        check_object("asdu", asdu)
+
+
+def clipped(value):
+    text = json.dumps(value)
+    return text if len(text) <= 60 else text[:60] + ".."
+
+
 def of_object(record):
-    """The senders that an object tells, of goose show, goose blocks or scl_blocks, or None where it is of another command."""
+    """The senders that an object tells, of goose show, goose blocks or scl_blocks, or None where it is of another command. An error says
+    what is wrong with it."""
     kind = record.get("kind")
     if kind in ("goose", "sv") and "destination" in record:
-        return list(of_frame(record))
+        check_object(kind, record)
+        return list(of_frame({"tag": None, "goID": None, **record}))
     if kind in ("block", "block-changed", "stream", "stream-changed"):
+        check_object(kind.partition("-")[0], record)
         address = address_fields(record.get("destination") and hyphened(record["destination"]), record.get("vlan"), record.get("priority"))
         if kind.startswith("block"):
             text = record["text"]
@@ -137,7 +179,41 @@ def read_object(line):
         found = json.loads(line)
     except (RecursionError, ValueError):
         return None
-    return found if isinstance(found, dict) else None
+    return found if isinstance(found, dict) and isinstance(found.get("kind"), str) else None
+
+
+# ---- Frames that tell what others told ---------------------------------------
+
+TEXT = r'"[^"\\]*(?:\\.[^"\\]*)*"'
+HEAD = r'\{"(?:line|packet)":[0-9]+,"microseconds":[0-9]+,"time":(?:"[^"\\]*"|null),"kind":"%s",'
+ENVELOPE = (r'"destination":"[0-9a-f]{12}","source":"[0-9a-f]{12}","tag":(?:"[0-9a-f]{8}"|null),"appid":"[0-9a-f]{4}",'
+            r'"reserved1":"[0-9a-f]{4}","reserved2":"[0-9a-f]{4}",')
+TRAILER = r',"trailer":(?:"[0-9a-f]*"|null)\}'
+QUALITY = r'\{(?:"\w+":(?:true|false|[0-9]+),?)*\}'
+GOOSE = re.compile(
+    HEAD % "goose" + rf'({ENVELOPE}"gocbRef":{TEXT}),"timeAllowedtoLive":[0-9]+,("datSet":{TEXT},"goID":(?:{TEXT}|null)),"t":"[0-9a-f]{{16}}",'
+    rf'"tTime":(?:"[^"\\]*"|null),"tQuality":{QUALITY},"stNum":[0-9]+,"sqNum":[0-9]+,"simulation":\w+,"confRev":([0-9]+),"ndsCom":\w+,'
+    rf'"members":(\[.*\]){TRAILER}')
+# Of an ASDU all but svID and confRev differs from frame to frame.
+OWN = re.compile(r'"(?:smpCnt|smpSynch|smpRate)":(?:[0-9]+|null)|"(?:refrTm|refrTime|sample|smpMod|field89)":(?:"[^"\\]*"|null)|"refrQuality":' + QUALITY)
+SAMPLED = re.compile(HEAD % "sv" + rf'({ENVELOPE}"asdus":)(\[.*\]){TRAILER}')
+
+
+@functools.lru_cache(4096)
+def entries_of(members):
+    return len(json.loads(members))
+
+
+def told_by(line):
+    """What a frame of goose show --json tells of its senders, as a key: frames of one key tell the same. None of another line."""
+    if '"kind":"goose"' in line[:150]:
+        found = GOOSE.fullmatch(line)
+        try:
+            return found and (*found.groups()[:3], entries_of(found[4]))
+        except (RecursionError, ValueError):
+            return None
+    found = SAMPLED.fullmatch(line)
+    return found and (found[1], OWN.sub("", found[2]))
 
 
 # ---- Comparison --------------------------------------------------------------
@@ -151,20 +227,35 @@ def differences(wanted, found):
             yield name, ours, theirs or "absent"
 
 
+def by_key(senders):
+    """The forms of each sender, each once."""
+    found = {}
+    for it in {it.form: it for it in senders}.values():
+        found.setdefault(it.key, []).append(it)
+    return found
+
+
+def unwanted(wanted, forms):
+    """The forms of a sender that none of those that were wanted agrees with, by their numbers."""
+    return {at for at, form in enumerate(forms) if all(any(differences(it, form)) for it in wanted)}
+
+
 def compared(texts, found):
     """For each sender that was wanted, in order: agrees, missing or differs, itself, and the differences in words. Then each other one
     that was found, as extra."""
-    wanted, there = {}, {}
-    for of, held in ((texts, wanted), (found, there)):
-        for it in {it.form: it for it in of}.values():
-            held.setdefault(it.key, []).append(it)
+    wanted, there, alone = by_key(texts), by_key(found), {}
     for it in texts:
-        forms, others = there.get(it.key, []), wanted[it.key]
+        forms = there.get(it.key, [])
         if not forms:
             yield "missing", it, []
+            continue
+        if it.key not in alone:
+            alone[it.key] = unwanted(wanted[it.key], forms)
         # A form that another of them wants is no difference of this one.
-        own = [form for form in forms if not any(differences(it, form)) or all(any(differences(other, form)) for other in others)]
-        told = {(form.text, tuple(differences(it, form))): None for form in own or forms}
-        yield from (("differs" if why else "agrees", it, [f"{name} {theirs}" for name, _, theirs in why]) for _, why in told)
+        told, others = {}, {}
+        for at, form in enumerate(forms):
+            differs = tuple(differences(it, form))
+            (told if not differs or at in alone[it.key] else others)[form.text, differs] = None
+        yield from (("differs" if why else "agrees", it, [f"{name} {theirs}" for name, _, theirs in why]) for _, why in told or others)
     for key, forms in there.items():
         yield from (("extra", it, []) for it in {it.text: it for it in forms}.values() if key not in wanted)

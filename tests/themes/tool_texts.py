@@ -25,6 +25,9 @@ COLUMNS = ("line", "microseconds", "time", "kind", "block", "reason", "offset", 
            "appid", "reserved1", "reserved2", "gocbRef", "timeAllowedtoLive", "datSet", "goID", "t", "tTime", "stNum", "sqNum",
            "simulation", "confRev", "ndsCom", "members", "asdus", "trailer", "asdu", "smpCnt", "missing", "svID", "text",
            "packet", "tQuality", "delay", "entries")
+LOSSES = ("since", "sinceTime", "for", "from", "to", "frames", "statesMissing", "framesMissing", "late", "repeated", "restarted", "silent",
+          "samples", "outOfRange", "outages", "longest")
+FRONT = ("time", "packet", "line", "kind", "gocbRef", "stNum", "sqNum")
 REPLAYED = ["0001,G,D,,1,1", "0002,G,D,,1,1", "3001,BAY1PROT/LLN0$GO$gcbTrip,BAY1PROT/LLN0$dsTrip,BAY1_Trip,1,2"]
 COMMANDS = (["show"], ["check"], ["replay", *REPLAYED], ["replay", REPLAYED[0], REPLAYED[0]], ["watch", "--period", "4000", "--id", "MU01"])
 
@@ -129,13 +132,37 @@ class Whole:
             yield f"to_csv ended with status {status}: {clipped(complained)!r}"
         head, *rows = csv.reader(io.StringIO(made.decode(), newline=""))
         cells = [{name: cell for name, cell in zip(head, row) if cell} for row in rows]
-        wanted = [{name: cell(it) for name, it in record.items() if it not in (None, "")} for record in records]
+        wanted = [{name: it for name, it in cells_of(record) if it} for record in records]
         yield from different(wanted, cells, "rows")
+
+
+def cells_of(record):
+    """What the cells of a record of a text have: a member or a field of an ASDU each."""
+    for name, it in record.items():
+        if name == "members":
+            yield from (cell for at, held in enumerate(it, 1) for cell in cells_of_member(f"member{at}", held))
+        elif name == "asdus":
+            yield from ((f"asdu{at}.{field}", cell(held)) for at, fields in enumerate(it, 1) for field, held in fields.items())
+        else:
+            yield name, cell(it)
+
+
+def cells_of_member(name, it):
+    """A text or a number as it is, arrays and structures part by part, and others as they are shown."""
+    (kind, held), = it.items() if isinstance(it, dict) else [(None, it)]
+    if kind in ("array", "structure") and held:
+        return [cell for at, part in enumerate(held, 1) for cell in cells_of_member(f"{name}.{at}", part)]
+    return [(name, cell(held) if kind in (None, "int", "uint") else member(it))]
 
 
 def cell(it):
     """What a cell has of a value."""
-    return it if isinstance(it, str) else json.dumps(it)
+    return guarded(it) if isinstance(it, str) else "" if it is None else json.dumps(it)
+
+
+def guarded(it):
+    """A text with a ' where a spreadsheet would begin a formula."""
+    return "".join("'" * (letter in "=+-@" and it[:at][-1:] in ("", ";")) + letter for at, letter in enumerate(it))
 
 
 def different(wanted, got, what):
@@ -240,8 +267,11 @@ class LiveObjects(Live):
 
 
 def live():
-    head = ",".join(COLUMNS).encode() + b"\n"
-    rows = [f"{number + 1},{number},1970-01-01T00:00:00.00000{number}Z,clock".encode() + b"," * (len(COLUMNS) - 4) + b"\n" for number in (1, 2)]
+    """The head has all names that goose writes, as none can be waited for."""
+    columns = [it for it in dict.fromkeys(FRONT + COLUMNS + LOSSES) if it not in ("members", "asdus", "tQuality")]
+    head = ",".join(columns).encode() + b"\n"
+    of_clock = lambda number: {"line": number + 1, "microseconds": number, "time": f"1970-01-01T00:00:00.00000{number}Z", "kind": "clock"}
+    rows = [",".join(str(of_clock(number).get(it, "")) for it in columns).encode() + b"\n" for number in (1, 2)]
     objects = [f'{{"line":{number + 1},"microseconds":{number},"time":"1970-01-01T00:00:00.00000{number}Z","kind":"clock"}}\n'.encode()
                for number in (1, 2)]
     for is_late in (False, True):
