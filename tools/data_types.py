@@ -3,10 +3,13 @@
 A member is a Leaf, which has one value, or a Whole, a structure or an array of others. An FCDA that names a data object alone (an FCD)
 is the structure of its SDOs and DAs of that functional constraint, in the order of its type.
 """
+import re
+
 import scl
 
 # How deep types can be in one another, and how many parts of them one member is looked up in: no frame has members enough for more.
 MOST_DEEP, MOST_PARTS = 16, 10000
+COUNT = re.compile("[0-9]{1,9}")
 TYPES = {"LNodeType": "nodes", "DOType": "objects", "DAType": "structures", "EnumType": "enums"}
 PARTS = {"DO", "SDO", "DA", "BDA"}
 # The logical nodes that supervise subscriptions, and the data object by which each names its control block.
@@ -88,7 +91,7 @@ class Grown:
 
     def array(self, part, name, depth):
         """An array. One whose count is that of another attribute is not known."""
-        if not part.count.isdigit() or int(part.count) > self.left:
+        if not COUNT.fullmatch(part.count):
             raise Unresolved
         return Whole("array", present(self.one(part, f"{name}({at})", depth + 1) for at in range(int(part.count))))
 

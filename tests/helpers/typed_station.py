@@ -11,7 +11,7 @@ TYPES = """<DataTypeTemplates>
 <LNodeType id="RREC_T" lnClass="RREC"><DO name="Op" type="ACT_T"/><DO name="Tr" type="ACT_T"/></LNodeType>
 <LNodeType id="MMXU_T" lnClass="MMXU"><DO name="PhV" type="WYE_T"/><DO name="TotW" type="MV_T"/></LNodeType>
 <LNodeType id="MHAI_T" lnClass="MHAI"><DO name="HA" type="HWYE_T"/></LNodeType>
-<LNodeType id="ENDLESS_T" lnClass="GGIO"><DO name="Loop" type="LOOP_T"/><DO name="Wide" type="WIDE_T"/></LNodeType>
+<LNodeType id="ENDLESS_T" lnClass="GGIO"><DO name="Loop" type="LOOP_T"/><DO name="Wide" type="WIDE_T"/><DO name="Half" type="HALF_T"/></LNodeType>
 <DOType id="ENS_T" cdc="ENS"><DA name="stVal" bType="Enum" type="BehKind" fc="ST"/><DA name="q" bType="Quality" fc="ST"/>
  <DA name="t" bType="Timestamp" fc="ST"/><DA name="d" bType="VisString255" fc="DC"/></DOType>
 <DOType id="INS_T" cdc="INS"><DA name="stVal" bType="INT32" fc="ST"/></DOType>
@@ -32,6 +32,7 @@ TYPES = """<DataTypeTemplates>
  <DA name="rms" bType="FLOAT32" fc="MX" count="2"/></DOType>
 <DOType id="LOOP_T" cdc="DPL"><SDO name="again" type="LOOP_T"/><DA name="stVal" bType="BOOLEAN" fc="ST"/></DOType>
 <DOType id="WIDE_T" cdc="DPL"><DA name="many" bType="INT32" fc="ST" count="999999999"/><DA name="asMany" bType="INT32" fc="MX" count="numHar"/></DOType>
+<DOType id="HALF_T" cdc="DPL"><DA name="part" bType="Struct" type="none" fc="ST"/><DA name="stVal" bType="BOOLEAN" fc="ST"/></DOType>
 <DAType id="OPER_T"><BDA name="ctlVal" bType="BOOLEAN"/></DAType>
 <DAType id="ORIGIN_T"><BDA name="orCat" bType="Enum" type="OrCat"/><BDA name="orIdent" bType="Octet64"/></DAType>
 <DAType id="VECTOR_T"><BDA name="mag" bType="Struct" type="ANALOGUE_T"/><BDA name="ang" bType="Struct" type="ANALOGUE_T"/></DAType>
@@ -60,7 +61,7 @@ DATA_SETS = {
     "dsMeasured": [fcda(",MMXU,1,PhV", "MX"), fcda(",MMXU,1,PhV.phsB,cVal", "MX"), fcda(",MMXU,1,TotW,mag.f", "MX")],
     "dsArrays": [fcda(",MHAI,1,HA.phsAHar,cVal.mag.f", "MX", ix="2"), fcda(",MHAI,1,HA,rms", "MX", ix="0"), fcda(",MHAI,1,HA,rms", "MX")],
     "dsDevices": [fcda("Q0,XCBR,1,Pos,stVal"), fcda("Q0,XCBR,1,Pos,stVal", device="LD1")],
-    "dsUnknown": [fcda("Q0,XCBR,1,NoSuch,stVal"), fcda(",GGIO,1,Loop"), fcda(",GGIO,1,Wide"), fcda(",GGIO,1,Wide,asMany", "MX"), fcda(",CALH,1,GrAlm,stVal"),
+    "dsUnknown": [fcda("Q0,XCBR,1,NoSuch,stVal"), fcda(",GGIO,1,Loop"), fcda(",GGIO,1,Wide"), fcda(",GGIO,1,Wide,asMany", "MX"), fcda(",CALH,1,GrAlm,stVal"), fcda(",GGIO,1,Half"),
                   fcda(",MHAI,1,HA.phsAHar,cVal.mag.f", "MX"), fcda("Q0,XCBR,1,Pos,stVal", ix="1")],
     "dsTrips": [fcda(f",{node},1,{name}") for node, name in (("PTRC", "Tr"), ("PTOC", "Op"), ("PTOC", "Str"), ("RBRF", "OpEx"), ("RBRF", "Str"), ("RREC", "Op"),
                                                            ("RREC", "Tr"))],

@@ -47,8 +47,8 @@ NAMED = [
      ["MHAI1.HA.phsAHar(2).cVal.mag.f", "MHAI1.HA.rms(0)", ["MHAI1.HA.rms(0)", "MHAI1.HA.rms(1)"]]),
     ("an array of another size", "dsArrays", [FLOAT, FLOAT, {"array": [FLOAT] * 3}], None),
     ("two logical devices", "dsDevices", [POSITION, POSITION], ["LD0/Q0XCBR1.Pos.stVal", "LD1/Q0XCBR1.Pos.stVal"]),
-    ("members that the types do not have", "dsUnknown", [True, structure(True, False), FLOAT, "x", POSITION, FLOAT, POSITION],
-     ["Q0XCBR1.NoSuch.stVal", ["GGIO1.Loop.1", "GGIO1.Loop.2"], "GGIO1.Wide", "GGIO1.Wide.asMany", "CALH1.GrAlm.stVal", "MHAI1.HA.phsAHar.cVal.mag.f",
+    ("members that the types do not have", "dsUnknown", [True, structure(True, False), FLOAT, "x", POSITION, structure(True, False), FLOAT, POSITION],
+     ["Q0XCBR1.NoSuch.stVal", ["GGIO1.Loop.1", "GGIO1.Loop.2"], "GGIO1.Wide", "GGIO1.Wide.asMany", "CALH1.GrAlm.stVal", ["GGIO1.Half.1", "GGIO1.Half.2"], "MHAI1.HA.phsAHar.cVal.mag.f",
       "Q0XCBR1.Pos(1).stVal"]),
 ]
 
@@ -179,8 +179,8 @@ def lines():
     members, names = NAMED[0][2], NAMED[0][3]
     yield frame(90, "dsAttributes", members, trailer='"00ff"'), frame(90, "dsAttributes", members, names, trailer='"00ff"')
     odd = ['a","members":[', '"trailer":null', "\\", "\u00fc"]
-    yield (frame(91, "dsUnknown", [it for it in odd] + [True] * 3),
-           frame(91, "dsUnknown", [it for it in odd] + [True] * 3, [it if isinstance(it, str) else "GGIO1.Loop" for it in NAMED[-1][3]]))
+    single = [it if isinstance(it, str) else it[0].rpartition(".")[0] for it in NAMED[-1][3]]
+    yield frame(91, "dsUnknown", odd + [True] * 4), frame(91, "dsUnknown", odd + [True] * 4, single)
     spaced = json.loads(frame(92, "dsAttributes", members))
     yield json.dumps(spaced), frame(92, "dsAttributes", members, names)
     short = {name: spaced[name] for name in ("appid", "gocbRef", "members")}
