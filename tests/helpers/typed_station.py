@@ -9,6 +9,7 @@ TYPES = """<DataTypeTemplates>
 <LNodeType id="PTRC_T" lnClass="PTRC"><DO name="Tr" type="ACT_T"/></LNodeType>
 <LNodeType id="RBRF_T" lnClass="RBRF"><DO name="OpEx" type="ACT_T"/><DO name="OpIn" type="ACT_T"/><DO name="Str" type="ACD_T"/></LNodeType>
 <LNodeType id="RREC_T" lnClass="RREC"><DO name="Op" type="ACT_T"/><DO name="Tr" type="ACT_T"/></LNodeType>
+<LNodeType id="GAPC_T" lnClass="GAPC"><DO name="Op" type="ACT_T"/></LNodeType>
 <LNodeType id="MMXU_T" lnClass="MMXU"><DO name="PhV" type="WYE_T"/><DO name="TotW" type="MV_T"/></LNodeType>
 <LNodeType id="MHAI_T" lnClass="MHAI"><DO name="HA" type="HWYE_T"/></LNodeType>
 <LNodeType id="ENDLESS_T" lnClass="GGIO"><DO name="Loop" type="LOOP_T"/><DO name="Wide" type="WIDE_T"/><DO name="Half" type="HALF_T"/></LNodeType>
@@ -42,7 +43,7 @@ TYPES = """<DataTypeTemplates>
 <EnumType id="OrCat"><EnumVal ord="-1">none of these</EnumVal><EnumVal ord="3">remote-control</EnumVal></EnumType>
 </DataTypeTemplates>"""
 NODES = ('<LN lnClass="XCBR" prefix="Q0" inst="1" lnType="XCBR_T"/><LN lnClass="PTOC" inst="1" lnType="PTOC_T"/><LN lnClass="PTRC" inst="1" lnType="PTRC_T"/>'
-         '<LN lnClass="RBRF" inst="1" lnType="RBRF_T"/><LN lnClass="RREC" inst="1" lnType="RREC_T"/><LN lnClass="MMXU" inst="1" lnType="MMXU_T"/>'
+         '<LN lnClass="RBRF" inst="1" lnType="RBRF_T"/><LN lnClass="RREC" inst="1" lnType="RREC_T"/><LN lnClass="GAPC" inst="1" lnType="GAPC_T"/><LN lnClass="MMXU" inst="1" lnType="MMXU_T"/>'
          '<LN lnClass="MHAI" inst="1" lnType="MHAI_T"/><LN lnClass="GGIO" inst="1" lnType="ENDLESS_T"/>')
 
 
@@ -64,7 +65,7 @@ DATA_SETS = {
     "dsUnknown": [fcda("Q0,XCBR,1,NoSuch,stVal"), fcda(",GGIO,1,Loop"), fcda(",GGIO,1,Wide"), fcda(",GGIO,1,Wide,asMany", "MX"), fcda(",CALH,1,GrAlm,stVal"), fcda(",GGIO,1,Half"),
                   fcda(",MHAI,1,HA.phsAHar,cVal.mag.f", "MX"), fcda("Q0,XCBR,1,Pos,stVal", ix="1")],
     "dsTrips": [fcda(f",{node},1,{name}") for node, name in (("PTRC", "Tr"), ("PTOC", "Op"), ("PTOC", "Str"), ("RBRF", "OpEx"), ("RBRF", "Str"), ("RREC", "Op"),
-                                                           ("RREC", "Tr"))],
+                                                           ("RREC", "Tr"), ("GAPC", "Op"))],
 }
 
 

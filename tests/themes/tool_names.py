@@ -139,8 +139,8 @@ class Trips(Each):
             yield f"{how}: other positions of a breaker"
         if [attributes.is_trip(f"{at}") for at in range(1, 6)] != [False, False, False, True, False]:
             yield f"{how}: other trips of attributes"
-        trips = names.names_of(appid("dsTrips"), reference("dsTrips"), [act, act, start, act, start, act, act])
-        told = [f"{at}.{part}" for at in range(1, 8) for part in range(1, 8) if trips.is_trip(f"{at}.{part}")]
+        trips = names.names_of(appid("dsTrips"), reference("dsTrips"), [act, act, start, act, start, act, act, act])
+        told = [f"{at}.{part}" for at in range(1, 9) for part in range(1, 8) if trips.is_trip(f"{at}.{part}")]
         wanted = [f"{at}.{part}" for at in (1, 2, 4) for part in range(1, 6)]
         # Without types nobody knows which part of an object is which.
         if told != (wanted if trips.path("1.1") == "PTRC1.Tr.general" else []):

@@ -98,8 +98,10 @@ class Subscriptions:
         elif not it.reference.startswith("@"):
             self.unnamed.append((it.ied, it.line, f"{of}: {it.reference}"))
 
-    def of(self, ied):
-        return [self.controls[at] for name, at in self.by if name == ied]
+    def without(self):
+        """The IEDs that subscribe to nothing."""
+        subscribers = {ied for ied, _ in self.by}
+        return [ied for ied in self.station.ieds if ied not in subscribers]
 
 
 # ---- What came ---------------------------------------------------------------
@@ -298,7 +300,7 @@ def section(found, own):
                                                                                          for ied, line, what in subscriptions.unnamed[:MOST_ROWS]]))
         more = len(subscriptions.unnamed) - MOST_ROWS
         told += [paragraph(f"{more:,} more are not listed.")] if more > 0 else []
-    silent = [ied for ied in found.configured.station.ieds if not subscriptions.of(ied)]
+    silent = subscriptions.without()
     told += [paragraph(f"Without a subscription: {listed(silent, 40)}.")] if silent else []
     counts = [(subscriptions.unbound, "ExtRef is bound to nothing", "ExtRefs are bound to nothing"),
               (subscriptions.elsewhere, "ExtRef names data that no control block sends", "ExtRefs name data that no control block sends")]
