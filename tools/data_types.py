@@ -179,7 +179,8 @@ class Station(scl.Station):
         key = (ied, *node_named(stated))
         if key not in self.nodes_of:
             return False
-        parts, steps = self.types.nodes.get(self.nodes_of[key]), [it for name in ("doName", "daName") for it in (stated.get(name) or "").split(".") if it]
+        parts = self.types.nodes.get(self.nodes_of[key])
+        steps = [it for name in ("doName", "daName") for it in (stated.get(name) or "").split(".") if it]
         try:
             return parts is None or self.types.has(parts, steps)
         except Unresolved:

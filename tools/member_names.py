@@ -14,7 +14,8 @@ from running import Ended
 # The kinds of members that the basic types have, bits with their number. int and uint are one.
 KINDS = {"BOOLEAN": "boolean", "Enum": "int", "FLOAT32": "float", "FLOAT64": "float", "Dbpos": 2, "Tcmd": 2, "Check": 2, "Quality": 13,
          "Timestamp": "utc", "EntryTime": "btime", "ObjRef": "text", "Currency": "text", "EntryID": "oct"}
-FORMS = ((re.compile(r"INT\d+U?"), "int"), (re.compile(r"VisString\d+"), "text"), (re.compile(r"Unicode\d+"), "mms"), (re.compile(r"Octet\d+"), "oct"))
+FORMS = ((re.compile(r"INT\d+U?"), "int"), (re.compile(r"VisString\d+"), "text"), (re.compile(r"Unicode\d+"), "mms"),
+         (re.compile(r"Octet\d+"), "oct"))
 # The logical node, data object and attributes of a name.
 NAME = re.compile(r"(?:[^/]*/)?[^./]*?(?P<node>[A-Z]{4}|LLN0)\d*\.(?P<data>.+)")
 PHASES = ("general", "phsA", "phsB", "phsC", "neut")

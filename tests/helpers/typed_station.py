@@ -32,7 +32,8 @@ TYPES = """<DataTypeTemplates>
 <DOType id="HWYE_T" cdc="HWYE"><SDO name="phsAHar" type="CMV_T" count="3"/><DA name="numHar" bType="INT16U" fc="CF"/>
  <DA name="rms" bType="FLOAT32" fc="MX" count="2"/></DOType>
 <DOType id="LOOP_T" cdc="DPL"><SDO name="again" type="LOOP_T"/><DA name="stVal" bType="BOOLEAN" fc="ST"/></DOType>
-<DOType id="WIDE_T" cdc="DPL"><DA name="many" bType="INT32" fc="ST" count="999999999"/><DA name="asMany" bType="INT32" fc="MX" count="numHar"/></DOType>
+<DOType id="WIDE_T" cdc="DPL"><DA name="many" bType="INT32" fc="ST" count="999999999"/>
+ <DA name="asMany" bType="INT32" fc="MX" count="numHar"/></DOType>
 <DOType id="HALF_T" cdc="DPL"><DA name="part" bType="Struct" type="none" fc="ST"/><DA name="stVal" bType="BOOLEAN" fc="ST"/></DOType>
 <DAType id="OPER_T"><BDA name="ctlVal" bType="BOOLEAN"/></DAType>
 <DAType id="ORIGIN_T"><BDA name="orCat" bType="Enum" type="OrCat"/><BDA name="orIdent" bType="Octet64"/></DAType>
@@ -42,8 +43,10 @@ TYPES = """<DataTypeTemplates>
 <EnumType id="Dir"><EnumVal ord="0">unknown</EnumVal><EnumVal ord="1">forward</EnumVal></EnumType>
 <EnumType id="OrCat"><EnumVal ord="-1">none of these</EnumVal><EnumVal ord="3">remote-control</EnumVal></EnumType>
 </DataTypeTemplates>"""
-NODES = ('<LN lnClass="XCBR" prefix="Q0" inst="1" lnType="XCBR_T"/><LN lnClass="PTOC" inst="1" lnType="PTOC_T"/><LN lnClass="PTRC" inst="1" lnType="PTRC_T"/>'
-         '<LN lnClass="RBRF" inst="1" lnType="RBRF_T"/><LN lnClass="RREC" inst="1" lnType="RREC_T"/><LN lnClass="GAPC" inst="1" lnType="GAPC_T"/><LN lnClass="MMXU" inst="1" lnType="MMXU_T"/>'
+NODES = ('<LN lnClass="XCBR" prefix="Q0" inst="1" lnType="XCBR_T"/>'
+         '<LN lnClass="PTOC" inst="1" lnType="PTOC_T"/><LN lnClass="PTRC" inst="1" lnType="PTRC_T"/>'
+         '<LN lnClass="RBRF" inst="1" lnType="RBRF_T"/><LN lnClass="RREC" inst="1" lnType="RREC_T"/><LN lnClass="GAPC" inst="1" lnType="GAPC_T"/>'
+         '<LN lnClass="MMXU" inst="1" lnType="MMXU_T"/>'
          '<LN lnClass="MHAI" inst="1" lnType="MHAI_T"/><LN lnClass="GGIO" inst="1" lnType="ENDLESS_T"/>')
 
 
@@ -51,21 +54,24 @@ def fcda(text, fc="ST", device="LD0", ix=None):
     """An FCDA of a text: prefix, class and instance of the logical node, data object, and where it has one the attribute, with a comma
     between each two."""
     prefix, node, instance, name, *attribute = text.split(",")
-    told = {"ldInst": device, "prefix": prefix, "lnClass": node, "lnInst": instance, "doName": name, "daName": attribute and attribute[0], "fc": fc, "ix": ix}
+    told = {"ldInst": device, "prefix": prefix, "lnClass": node, "lnInst": instance, "doName": name, "daName": attribute and attribute[0], "fc": fc,
+            "ix": ix}
     return "<FCDA " + " ".join(f'{key}="{value}"' for key, value in told.items() if value) + "/>"
 
 
 # The data sets: the FCDAs of each.
 DATA_SETS = {
-    "dsAttributes": [fcda("Q0,XCBR,1,Pos,stVal"), fcda("Q0,XCBR,1,Pos,q"), fcda("Q0,XCBR,1,Pos,t"), fcda(",PTRC,1,Tr,general"), fcda(",LLN0,,Beh,stVal")],
+    "dsAttributes": [fcda("Q0,XCBR,1,Pos,stVal"), fcda("Q0,XCBR,1,Pos,q"), fcda("Q0,XCBR,1,Pos,t"), fcda(",PTRC,1,Tr,general"),
+                     fcda(",LLN0,,Beh,stVal")],
     "dsObjects": [fcda("Q0,XCBR,1,Pos"), fcda(",PTOC,1,Str")],
     "dsMeasured": [fcda(",MMXU,1,PhV", "MX"), fcda(",MMXU,1,PhV.phsB,cVal", "MX"), fcda(",MMXU,1,TotW,mag.f", "MX")],
     "dsArrays": [fcda(",MHAI,1,HA.phsAHar,cVal.mag.f", "MX", ix="2"), fcda(",MHAI,1,HA,rms", "MX", ix="0"), fcda(",MHAI,1,HA,rms", "MX")],
     "dsDevices": [fcda("Q0,XCBR,1,Pos,stVal"), fcda("Q0,XCBR,1,Pos,stVal", device="LD1")],
-    "dsUnknown": [fcda("Q0,XCBR,1,NoSuch,stVal"), fcda(",GGIO,1,Loop"), fcda(",GGIO,1,Wide"), fcda(",GGIO,1,Wide,asMany", "MX"), fcda(",CALH,1,GrAlm,stVal"), fcda(",GGIO,1,Half"),
+    "dsUnknown": [fcda("Q0,XCBR,1,NoSuch,stVal"), fcda(",GGIO,1,Loop"), fcda(",GGIO,1,Wide"), fcda(",GGIO,1,Wide,asMany", "MX"),
+                  fcda(",CALH,1,GrAlm,stVal"), fcda(",GGIO,1,Half"),
                   fcda(",MHAI,1,HA.phsAHar,cVal.mag.f", "MX"), fcda("Q0,XCBR,1,Pos,stVal", ix="1")],
-    "dsTrips": [fcda(f",{node},1,{name}") for node, name in (("PTRC", "Tr"), ("PTOC", "Op"), ("PTOC", "Str"), ("RBRF", "OpEx"), ("RBRF", "Str"), ("RREC", "Op"),
-                                                           ("RREC", "Tr"), ("GAPC", "Op"))],
+    "dsTrips": [fcda(f",{node},1,{name}") for node, name in (("PTRC", "Tr"), ("PTOC", "Op"), ("PTOC", "Str"), ("RBRF", "OpEx"),
+                                                           ("RBRF", "Str"), ("RREC", "Op"), ("RREC", "Tr"), ("GAPC", "Op"))],
 }
 
 

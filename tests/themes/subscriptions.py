@@ -84,8 +84,9 @@ INPUTS = {
              bound(iedName="M02", srcLDInst="LD0", srcCBName="ms1", serviceType="SMV"), block_of(6)],
     # Without srcCBName: two blocks of P05 have the data.
     "SUB2": [data_of(5)], "SUB3": [data_of(5)],
-    "SUB5": [bound(pLN="GGIO", intAddr="1"), bound(pLN="CSWI"), bound(iedName="@", ldInst="LD0", lnClass="GGIO", doName="Ind9"), block_of(1, "none", serviceType="Report"),
-             data_of(1, "Ind9", serviceType="Poll"), data_of(1, "Ind2"), bound(iedName="SUB5", ldInst="LD0", srcCBName="none")],
+    "SUB5": [bound(pLN="GGIO", intAddr="1"), bound(pLN="CSWI"), bound(iedName="@", ldInst="LD0", lnClass="GGIO", doName="Ind9"),
+             block_of(1, "none", serviceType="Report"), data_of(1, "Ind9", serviceType="Poll"), data_of(1, "Ind2"),
+             bound(iedName="SUB5", ldInst="LD0", srcCBName="none")],
     "SUB6": [block_of(1, "none"), data_of(1, "Ind9"), data_of(1, "Ind2", serviceType="GOOSE"),
              bound(iedName="P77", ldInst="LD0", lnClass="GGIO", lnInst="1", doName="Ind1")],
 }
@@ -100,8 +101,9 @@ def scd():
     supervising = (supervision("LGOS", "GoCBRef", "P01LD0/LLN0.gcb1") + supervision("LSVS", "SvCBRef", "M01LD0/LLN0$MS$ms1")
                    + supervision("LGOS", "GoCBRef", "P01LD0/LLN0.none") + supervision("LGOS", "NdsCom", "P03LD0/LLN0.gcb1"))
     receivers = [device(name, f"<Inputs>{''.join(held)}</Inputs>") for name, held in INPUTS.items()] + [device("SUB4", "", supervising)]
+    devices = [it for _, it in parts] + receivers
     return ('<?xml version="1.0"?>\n<SCL xmlns="http://www.iec.ch/61850/2003/SCL"><Communication><SubNetwork name="S">'
-            + "".join(access for access, _ in parts) + "</SubNetwork></Communication>" + "".join(it for _, it in parts) + "".join(receivers) + TYPES + "</SCL>")
+            + "".join(access for access, _ in parts) + "</SubNetwork></Communication>" + "".join(devices) + TYPES + "</SCL>")
 
 
 # What the table says of each subscription: by what it is named, received, accepted, refused (up to the first packet), expired, and what it
@@ -155,7 +157,8 @@ class Matrix:
         tables = {words(it.find("caption")): [[words(cell) for cell in row] for row in it.find("tbody")] for it in root.iter("table")}
         found = {}
         for ied, name, by, received, accepted, refused, expired, state in tables["Subscriptions"]:
-            found[ied, name] = (by, int(received.partition(" ")[0]), int(accepted), refused.partition(", first")[0], int(expired.partition(" ")[0]), state)
+            first = [it.partition(" ")[0] for it in (received, expired)]
+            found[ied, name] = (by, int(first[0]), int(accepted), refused.partition(", first")[0], int(first[1]), state)
         for key in found.keys() | ROWS.keys():
             if found.get(key) != ROWS.get(key):
                 yield f"{key}: wanted {ROWS.get(key)}, got {found.get(key)}"

@@ -5,7 +5,7 @@ import subprocess
 import tempfile
 
 from helpers.asked_tools import EXAMPLES, TOOLS, Asked, ask, module
-from helpers.harness import SECONDS, text
+from helpers.harness import SECONDS, run, text
 from helpers.typed_station import appid, reference, scd
 
 POSITION, GOOD = {"bits": "10"}, {"bits": "0000000000000"}
@@ -47,9 +47,10 @@ NAMED = [
      ["MHAI1.HA.phsAHar(2).cVal.mag.f", "MHAI1.HA.rms(0)", ["MHAI1.HA.rms(0)", "MHAI1.HA.rms(1)"]]),
     ("an array of another size", "dsArrays", [FLOAT, FLOAT, {"array": [FLOAT] * 3}], None),
     ("two logical devices", "dsDevices", [POSITION, POSITION], ["LD0/Q0XCBR1.Pos.stVal", "LD1/Q0XCBR1.Pos.stVal"]),
-    ("members that the types do not have", "dsUnknown", [True, structure(True, False), FLOAT, "x", POSITION, structure(True, False), FLOAT, POSITION],
-     ["Q0XCBR1.NoSuch.stVal", ["GGIO1.Loop.1", "GGIO1.Loop.2"], "GGIO1.Wide", "GGIO1.Wide.asMany", "CALH1.GrAlm.stVal", ["GGIO1.Half.1", "GGIO1.Half.2"], "MHAI1.HA.phsAHar.cVal.mag.f",
-      "Q0XCBR1.Pos(1).stVal"]),
+    ("members that the types do not have", "dsUnknown",
+     [True, structure(True, False), FLOAT, "x", POSITION, structure(True, False), FLOAT, POSITION],
+     ["Q0XCBR1.NoSuch.stVal", ["GGIO1.Loop.1", "GGIO1.Loop.2"], "GGIO1.Wide", "GGIO1.Wide.asMany", "CALH1.GrAlm.stVal",
+      ["GGIO1.Half.1", "GGIO1.Half.2"], "MHAI1.HA.phsAHar.cVal.mag.f", "Q0XCBR1.Pos(1).stVal"]),
 ]
 
 
@@ -101,17 +102,19 @@ class Words(Each):
         for path, member, wanted in (
                 ("1", {"bits": "00"}, "intermediate"), ("1", {"bits": "01"}, "off"), ("1", {"bits": "10"}, "on"), ("1", {"bits": "11"}, "bad"),
                 ("2", GOOD, "good"), ("2", {"bits": "0110000000000"}, "invalid overflow"), ("2", {"bits": "1100000100000"}, "questionable oldData"),
-                ("2", {"bits": "0000000000010"}, "test"), ("2", {"bits": "0000000000001"}, "operatorBlocked"), ("2", {"bits": "1000000000000"}, "reserved"),
-                ("2", {"bits": "0000000000100"}, "substituted"), ("2", {"bits": "0101111110011"},
-                                                                 "invalid outOfRange badReference oscillatory failure oldData inconsistent test operatorBlocked"),
-                ("2", {"bits": "0000000001000"}, "inaccurate"), ("3", TIME, TIME["time"]), ("3", {"utc": "ff" * 8, "time": None}, "utc:ffffffffffffffff"),
+                ("2", {"bits": "0000000000010"}, "test"), ("2", {"bits": "0000000000001"}, "operatorBlocked"),
+                ("2", {"bits": "1000000000000"}, "reserved"),
+                ("2", {"bits": "0000000000100"}, "substituted"), ("2", {"bits": "0000000001000"}, "inaccurate"),
+                ("2", {"bits": "0101111110011"}, "invalid outOfRange badReference oscillatory failure oldData inconsistent test operatorBlocked"),
+                ("3", TIME, TIME["time"]), ("3", {"utc": "ff" * 8, "time": None}, "utc:ffffffffffffffff"),
                 ("4", True, "true"), ("5", {"int": 1}, "on"), ("5", {"uint": 5}, "off"), ("5", {"int": 7}, "7")):
             if named.word(path, member) != wanted:
                 yield f"{member}: wanted {wanted}, got {named.word(path, member)}"
         if [named.kind(f"{at}") for at in range(1, 6)] != ["Dbpos", "Quality", "Timestamp", "BOOLEAN", "Enum"]:
             yield "other kinds"
         measured = names.names_of(appid("dsMeasured"), reference("dsMeasured"), NAMED[12][2])
-        for octets, value, wanted in (("0843c80000", 400.0, "400"), ("083dcccccd", 0.10000000149011612, "0.1"), ("087f800000", None, "float:087f800000"),
+        for octets, value, wanted in (("0843c80000", 400.0, "400"), ("083dcccccd", 0.10000000149011612, "0.1"),
+                                      ("087f800000", None, "float:087f800000"),
                                       ("084b800001", 16777218.0, "16777218"), ("0b3fb999999999999a", 0.1, "0.1")):
             if measured.word("3", {"float": octets, "value": value}) != wanted:
                 yield f"{octets}: wanted {wanted}, got {measured.word('3', {'float': octets, 'value': value})}"
@@ -151,8 +154,8 @@ class Trips(Each):
 
 HEAD = '{{"line":{},"microseconds":7,"time":"1970-01-01T00:00:00.000007Z","kind":"{}"'
 FRAME = (',"destination":"010ccd010001","source":"001122334455","tag":null,"appid":"{}","reserved1":"0000","reserved2":"0000","gocbRef":"{}",'
-         '"timeAllowedtoLive":2000,"datSet":"{}","goID":null,"t":"6553f1000000000a","tTime":"2023-11-14T22:13:20.000000Z","tQuality":{{}},"stNum":1,"sqNum":2,'
-         '"simulation":false,"confRev":1,"ndsCom":false,"members":{}{},"trailer":{}}}')
+         '"timeAllowedtoLive":2000,"datSet":"{}","goID":null,"t":"6553f1000000000a","tTime":"2023-11-14T22:13:20.000000Z","tQuality":{{}},'
+         '"stNum":1,"sqNum":2,"simulation":false,"confRev":1,"ndsCom":false,"members":{}{},"trailer":{}}}')
 ACTED = ',"block":0,"appid":"{}","gocbRef":"{}","t":"6553f1000000000a","tTime":null,"tQuality":{{}},"delay":1,"stNum":1,"sqNum":2,"members":{}{}}}'
 
 
@@ -163,7 +166,8 @@ def compact(value):
 def frame(line, data_set, members, names=None, trailer="null", told=None):
     """An object of goose show, with names where they are given."""
     added = f',"names":{compact(names)}' if names else ""
-    return HEAD.format(line, "goose") + FRAME.format(appid(data_set), reference(data_set), told or f"CTLLD0/LLN0${data_set}", compact(members), added, trailer)
+    data_set, of = told or f"CTLLD0/LLN0${data_set}", (appid(data_set), reference(data_set))
+    return HEAD.format(line, "goose") + FRAME.format(*of, data_set, compact(members), added, trailer)
 
 
 def acted(line, data_set, members, names=None):
@@ -243,17 +247,17 @@ class OfExample(Each):
 
     def wrong(self, program):
         scl = EXAMPLES / "station.scd"
-        shown = subprocess.run([*program, "show", "--json"], stdin=open(EXAMPLES / "two_bays.list", "rb"), stdout=subprocess.PIPE, timeout=SECONDS).stdout
-        block = "3001,BAY1PROT/LLN0$GO$gcbTrip,BAY1PROT/LLN0$dsTrip,BAY1_Trip,1,2"
-        replayed = subprocess.run([*program, "replay", "--json", block], stdin=open(EXAMPLES / "two_bays.list", "rb"), stdout=subprocess.PIPE,
-                                  timeout=SECONDS).stdout
+        octets, block = (EXAMPLES / "two_bays.list").read_bytes(), "3001,BAY1PROT/LLN0$GO$gcbTrip,BAY1PROT/LLN0$dsTrip,BAY1_Trip,1,2"
+        shown, _, _ = run(program, ["show", "--json"], octets)
+        replayed, _, _ = run(program, ["replay", "--json", block], octets)
         for given, kinds in ((shown, ("goose",)), (replayed, ("act",))):
             wrote, complained, status = ask(program, "name_members", ["--scd", scl], given)
             if complained or status or not given:
                 yield f"status {status}: {complained!r}, given {len(given)} octets"
             for before, after in zip(given.splitlines(), wrote.splitlines(), strict=True):
                 record, named = json.loads(before), json.loads(after)
-                names = {"BAY1PROT/LLN0$GO$gcbTrip": ["PTRC1.Tr.general", "PTRC1.Tr.q"], "BAY2PROT/LLN0$GO$gcbStart": ["PTOC1.Str.general", "PTOC1.Str.q"]}
+                names = {"BAY1PROT/LLN0$GO$gcbTrip": ["PTRC1.Tr.general", "PTRC1.Tr.q"],
+                         "BAY2PROT/LLN0$GO$gcbStart": ["PTOC1.Str.general", "PTOC1.Str.q"]}
                 wanted = {**record, "names": names[record["gocbRef"]]} if record["kind"] in kinds else record
                 if named != wanted or (record["kind"] in kinds and list(named).index("names") != list(named).index("members") + 1):
                     yield f"{after!r}"
@@ -270,4 +274,5 @@ def cases():
     yield OfExample()
     yield Asked("a file of names that is none", "name_members", ["--names", "/dev/stdin"], b"{}\n", status=3,
                 stderr=[b"/dev/stdin: line 1 is none that scl_blocks --names writes"])
+    yield Asked("a line that is no object", "name_members", ["--scd", str(EXAMPLES / "station.scd")], b"no object\n", b"no object\n", status=1)
     yield Asked("neither a file nor names", "name_members", [], status=2, stderr=[b"one of the arguments --scd --names is required"])

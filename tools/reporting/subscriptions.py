@@ -155,7 +155,8 @@ class Streamed(Outcome):
         return self.frames
 
     def reasons(self):
-        told = ", ".join(f"confRev {it}, configured {self.wanted}, first: packet\u00a0{packet}" for it, packet in self.revisions.items() if it != self.wanted)
+        told = ", ".join(f"confRev {it}, configured {self.wanted}, first: packet\u00a0{packet}"
+                         for it, packet in self.revisions.items() if it != self.wanted)
         return f"{self.frames:,} refused ({told})" if told and not self.accepted else told
 
 
@@ -312,6 +313,6 @@ def row(matrix, ied, control, by, state):
     outcome = matrix.outcomes[id(control)]
     received = f"{outcome.received:,}" + (f" ({page.packets(outcome.first, outcome.last)})" if outcome.first else "")
     expired = outcome.expired and f"{outcome.expired.number:,} (first: packet\u00a0{outcome.expired.first.packet})"
-    cells = [ied, page.element("span", page.named(name_of(control)), class_="name"), "; ".join(by), received, f"{outcome.accepted:,}", outcome.reasons(),
-             expired or "0", state.told]
+    name = page.element("span", page.named(name_of(control)), class_="name")
+    cells = [ied, name, "; ".join(by), received, f"{outcome.accepted:,}", outcome.reasons(), expired or "0", state.told]
     return page.row(COLUMNS, cells, found=len(cells) - 1 if state.state == State.FOUND else None)
