@@ -178,7 +178,7 @@ class Judged:
 
     def why_wrong(self, _program):
         code = "\n".join(file.read_text() for crate in tables.crates() for file in (TOP / "crates" / crate / "src").rglob("*.rt"))
-        rows = re.findall(r"(?m)^\| (.*`.*) \| .* \|$", part(PROOFS.read_text(), "What a wrong body gets through"))
+        rows = re.findall(r"(?m)^\| (.*`.*) \| .* \|$", part(PROOFS.read_text(), "Surviving mutants"))
         named = re.findall(r"`(?:\w+::)*(\w+)`", " ".join(rows).replace("`laws`", ""))
         return [f"there is no function {it}" for it in named if not re.search(rf"\bfn {it}\b", code)] or ([] if named else ["no row"])
 
