@@ -118,10 +118,9 @@ def configured():
     yield Configured("a block without a name", scl(control=CONTROL.replace('name="g" ', "")), status=3, stderr=[b"an element lacks 'name'"])
     yield Configured("an IED without a name", scl().replace('<IED name="I"', "<IED"), status=3, stderr=[b"an element lacks 'name'"])
     yield Configured("elements in elements", scl(before="<Private>" * 100000 + "</Private>" * 100000), [BLOCK])
-    nothing = [b": it has no GSE and no SMV", b": it has no GSEControl and no SampledValueControl"]
-    yield Configured("neither addresses nor control blocks", f"{HEAD}</SCL>", status=1, stderr=nothing)
-    yield Configured("no control block", scl(control=""), status=1, stderr=nothing[1:])
-    yield Configured("no addresses", scl(address=""), status=1, stderr=[b"no GSE address with an APPID", nothing[0]])
+    nothing = b": it has no GSE and no SMV"
+    yield Configured("neither addresses nor control blocks", f"{HEAD}</SCL>", status=1, stderr=[nothing])
+    yield Configured("no addresses", scl(address=""), status=1, stderr=[b"no GSE address with an APPID", nothing])
 
 
 # ---- Blocks compared ---------------------------------------------------------
