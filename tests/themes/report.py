@@ -640,6 +640,22 @@ class Escaped:
         return why + ([] if status == 2 and r"there is no IED X\u202e\x1b in" in said and said.isascii() else [f"status {status}: {said!r}"])
 
 
+class Unsendable:
+    """A block of an SCL file that no BLOCK can say is named on the page of a device that receives it, and the others are replayed."""
+
+    name = "a page for a device that receives a block of a confRev that is too great"
+
+    def why_wrong(self, program):
+        scd = (EXAMPLES / "station.scd").read_text()
+        for stated, revision in (('confRev="1" appID="BAY1_Trip" type="GOOSE"/>', 9999999999), ('confRev="1" appID="BAY2_Start"/>', 1)):
+            scd = scd.replace(stated, f'{stated[:-2].replace("1", str(revision), 1)}><IEDName>BRK1</IEDName></GSEControl>')
+        octets, said, status, _ = reported(program, (EXAMPLES / "two_bays.pcapng").read_bytes(), "--scd", "of.scd", "--ied", "BRK1", scd=scd)
+        shown = words(body(octets)) if octets else ""
+        is_told = "gcbTrip: '9999999999' is no number of a BLOCK" in shown or "gcbTrip (line 43 of the SCL file)" in shown
+        is_replayed = re.search(r"replay .* -- \S*3002,BAY2PROT/LLN0\$GO\$gcbStart,\S+ <", shown)
+        return [] if is_told and is_replayed and status == 1 else [f"status {status}: {said!r}, page of {len(shown)} letters"]
+
+
 class Watched:
     """On a terminal a line tells what is being done, at which packet and second, and is taken away; elsewhere nothing is told."""
 
@@ -760,6 +776,7 @@ def cases():
     yield Failing()
     yield Placed()
     yield Spared()
+    yield Unsendable()
     yield Changed("show")
     yield Changed("losses")
     yield FarInterface()
