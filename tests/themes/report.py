@@ -757,7 +757,7 @@ def cases():
     both = [with_asdus(asdu(), asdu(sv_id=element(0x80, b"T")), asdu(), count=b"\3"), with_asdus(asdu(sv_id=element(0x80, b"T")))]
     yield Told("frames of two streams", section() + interface() + packet(3, both[0]) + packet(9, both[1]), status=6)
     linked = section() + interface() + interface(link=113) + packet(3, WORKED) + packet(4, WORKED, which=1) + packet(5, put(WORKED, at13=0))
-    yield Told("packets that are no Ethernet frames", linked, status=0, said="1 GOOSE frame; 1 of another protocol; 1 no Ethernet frame")
+    yield Told("packets that are no Ethernet frames", linked, status=6, said="1 GOOSE frame; 1 of another protocol; 1 no Ethernet frame")
     yield Told("no packet", section() + interface(), status=0, said="There is nothing to draw in no packets.")
     yield Told("other protocols alone", section() + interface() + packet(9, put(WORKED, at13=0)), status=0)
     yield Broken("a capture that is cut", bays[:5000], status=3, said="CaptureShort")

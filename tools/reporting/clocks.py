@@ -111,9 +111,9 @@ def reason(offset):
 
 
 def told(offset):
-    """How far t is off, in words."""
+    """How far t is off, to a millisecond, in words."""
     why = reason(offset)
-    return f"{page.duration(abs(offset))} {'ahead' if offset > 0 else 'behind'}{f' ({why})' if why else ''}"
+    return f"{page.duration(round(abs(offset), -3))} {'ahead' if offset > 0 else 'behind'}{f' ({why})' if why else ''}"
 
 
 class Stretch:
@@ -134,7 +134,7 @@ class Stretch:
         for device, worst in self.off:
             beside = " beside the other devices" if self.common else ""
             yield page.row(COLUMNS, [page.element("span", senders.hyphened(device.source), class_="whole"), page.Raw("<br/>".join(map(page.text, device.names))),
-                                     page.duration(worst.offset), worst.where.packet, page.when(worst.where, short),
+                                     page.duration(round(worst.offset, -3)), worst.where.packet, page.when(worst.where, short),
                                      f"{told(worst.offset - self.common)}{beside}"], found=5)
 
 
@@ -152,7 +152,7 @@ def judge(found, _own):
         yield finding(f"clock: {some(off)}.")
     if common:
         yield not_judged(f"{some(common)}: the capture's clock is off, or the station's; each device is held beside the others.",
-                         "look at the clock of the recording computer")
+                         "look at the clock of the computer that captured")
     if not off and not common:
         unsynchronized = sum(it.unsynchronized > 0 for it in found.station.clocks.values())
         beside = f"; {page.count(unsynchronized, 'control block')} with a clock that says it is not synchronized" if unsynchronized else ""

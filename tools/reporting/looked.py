@@ -4,11 +4,11 @@ from reporting import page
 from reporting.verdict import found as finding, not_judged, some
 
 # The EtherTypes of frames in which others are, and what to do.
-CARRIERS = {"892f": ("HSR", "record where the frames have no HSR tag, or with one that takes it off"),
-            "88a8": ("an outer VLAN tag", "record where the frames have no outer tag"),
-            "8100": ("a tag in a tag", "record where the frames have one VLAN tag"),
-            "9100": ("an outer VLAN tag", "record where the frames have no outer tag"),
-            "88e5": ("MACsec", "record where the frames are not encrypted")}
+CARRIERS = {"892f": ("HSR", "capture where the frames have no HSR tag, or with one that takes it off"),
+            "88a8": ("an outer VLAN tag", "capture where the frames have no outer tag"),
+            "8100": ("a tag in a tag", "capture where the frames have one VLAN tag"),
+            "9100": ("an outer VLAN tag", "capture where the frames have no outer tag"),
+            "88e5": ("MACsec", "capture where the frames are not encrypted")}
 
 
 def of_links(found):
@@ -29,20 +29,20 @@ def of_others(found):
         kind = name.replace("EtherType ", "").split(" ")[0]
         what, todo = CARRIERS.get(kind, ("", ""))
         if kind == "others":
-            what, todo, name = "the kinds behind sixteen", "look at them in Wireshark", "other protocols"
+            what, todo, kind = "the kinds after sixteen", "look at them in Wireshark", "other protocols"
         if what:
-            yield not_judged(f"{page.count(number, 'frame')} of {name.split(' (')[0]} ({what}), from packet\u00a0{first} on, may carry GOOSE: not read.", todo)
+            yield not_judged(f"{page.count(number, 'frame')} of {kind} ({what}), from packet\u00a0{first} on, may carry GOOSE: not read.", todo)
 
 
 def of_recorder(found):
     """Packets that the recorder dropped or cut."""
     drops = [f"{page.count(it.drops, 'packet')} at {it.name or f'interface {at}'}" for at, it in enumerate(found.recorded.interfaces) if it.drops]
     if drops:
-        yield not_judged(f"the recorder dropped {some(drops)}: what is missing may be its own.", "record again with a larger buffer, or filter while recording")
+        yield not_judged(f"the recorder dropped {some(drops)}: what is missing may be its own.", "capture again with a larger buffer, or filter while capturing")
     cut = found.recorded.cut
     if cut.number:
         yield not_judged(f"the recorder cut {page.count(cut.number, 'packet')}, from packet\u00a0{cut.first} on: errors of these may be its own.",
-                         "record whole packets, without a snapshot length")
+                         "capture whole packets, without a snapshot length")
 
 
 def of_times(found):
@@ -52,11 +52,11 @@ def of_times(found):
         it = times.greatest_back
         more = f", first at packet\u00a0{times.backs[0].first.packet}" if it is not times.backs[0] else ""
         yield finding(f"times go back, at packet\u00a0{it.first.packet} by up to {page.duration(it.by)} from that of packet\u00a0{it.greatest}{more}: "
-                      "silences behind it cannot be seen.")
+                      "silences after it cannot be seen.")
     leaps = [f"by {page.duration(it.after - it.before)} before packet\u00a0{it.packet}" for it in times.leaps]
     if leaps:
         yield not_judged(f"the capture's clock leapt {some(leaps)}: all senders were silent at once, and none left out a sqNum.",
-                         "look at the clock of the recording computer")
+                         "look at the clock of the computer that captured")
 
 
 def judge(found):
@@ -71,9 +71,9 @@ def silences(found):
     times = found.station.times
     if times.backs:
         more = f"; {page.count(found.missing.hidden, 'silence')} that they show may be none" if found.missing.hidden else ""
-        yield not_judged(f"times go back at packet\u00a0{times.backs[0].first.packet}: silences behind packet\u00a0{times.backs[0].greatest} cannot be seen{more}.",
+        yield not_judged(f"times go back at packet\u00a0{times.backs[0].first.packet}: silences after packet\u00a0{times.backs[0].greatest} cannot be seen{more}.",
                          "mend the times, as with editcap -t or reordercap, and report again")
     own = sum(it.silences + it.outages for it in times.leaps)
     if own:
         yield not_judged(f"{page.count(own, 'silence')} where the capture's clock leapt, first: packet\u00a0{times.leaps[0].first}.",
-                         "look at the clock of the recording computer")
+                         "look at the clock of the computer that captured")

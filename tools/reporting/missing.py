@@ -82,7 +82,7 @@ class Missing:
         self.rows, self.picture, self.short, self.times = rows, picture, short, times
         self.kinds, self.senders, self.many, self.totals = {}, {}, {}, []
         # The last silence of each sender: its packet and the gap in all packets in which it began; and how many silences cannot be seen.
-        self.silences, self.hidden, self.periods = {}, 0, {}
+        self.silences, self.hidden, self.periods, self.devices = {}, 0, {}, {}
 
     def see(self, lines):
         for line in lines:
@@ -98,8 +98,10 @@ class Missing:
                 self.count("samples-missing", gap.samples, gap.first, gap.outages)
 
     def finding(self, line, found):
-        """A finding at a packet."""
+        """A finding at a packet. Times that go back are told of the capture itself."""
         kind = found[4]
+        if kind == b"time-back":
+            return
         sender = SENDER.match(line, found.end())
         held = (sender[0] if sender else b"", kind)
         number = self.senders[held] = self.senders.get(held, 0) + 1
@@ -127,12 +129,12 @@ class Missing:
         """A silence that began in a gap in all packets, or that times which go back show or hide."""
         packet, now, (since, length) = int(found[1]), int(found[2]), map(int, SINCE.search(line).groups())
         gap = self.times.gap_of(since)
-        if now < since + length or (gap and gap.is_undone):
+        if since + length - now >= SECOND or (gap and gap.is_undone):
             self.hidden += 1
             return True
         # A sender that goes on where it was comes again within what was left of its lifetime.
         if gap and now - gap.after <= since - gap.before:
-            gap.add_silence(sender, packet)
+            gap.add_silence(self.devices.get(sender.partition(b',"simulation"')[0], sender), packet)
             self.silences[sender] = packet, gap
             return True
         return False
@@ -223,10 +225,12 @@ def unjudged(line):
         yield line
 
 
-def key_of(stream):
-    """A stream as the lines of goose losses have it."""
-    appid, source, _ = stream.key
-    return b',"appid":"%s","source":"%s","svID":%s' % (appid.encode(), source.encode(), stream.text)
+def key_of(seen):
+    """A stream as the lines of goose losses have it, or a control block but for simulation."""
+    if seen.kind == "stream":
+        appid, source, _ = seen.key
+        return b',"appid":"%s","source":"%s","svID":%s' % (appid.encode(), source.encode(), seen.text)
+    return f',"appid":"{seen.appid}","gocbRef":{json.dumps(seen.name)}'.encode()
 
 
 # ---- Totals ------------------------------------------------------------------

@@ -7,7 +7,7 @@ from reporting.verdict import clean, found as finding, not_judged, some
 SECOND = 10**6
 # The time over which the rise of smpCnt is measured, in microseconds, how many of them tell a rate, and how many are held.
 STRETCH, FEWEST, MOST = SECOND // 10, 3, 1000
-# The rates of IEC 61850-9-2 LE and IEC 61869-9 that a recording shows, and by how much it may show another one.
+# The rates of IEC 61850-9-2 LE and IEC 61869-9 that a capture shows, and by how much it may show another one.
 USUAL = (4000, 4800, 5760, 12800, 14400, 15360)
 # The rate of IEC 61869-9 that two octets cannot count.
 FAST = 96000
@@ -19,7 +19,7 @@ FREQUENCIES = (50, 60)
 PER_PERIOD, PER_SECOND, PER_SAMPLE = range(3)
 FRAMES = "its frames"
 MODES = {"SmpPerPeriod": PER_PERIOD, "SmpPerSec": PER_SECOND, "SecPerSmp": PER_SAMPLE}
-COLUMNS = [page.Column("Stream"), page.Column("Samples a second", page.NUMBER), page.Column("By"), page.Column("The recording shows", page.NUMBER),
+COLUMNS = [page.Column("Stream"), page.Column("Samples a second", page.NUMBER), page.Column("By"), page.Column("The capture shows", page.NUMBER),
            page.Column("Judged")]
 
 
@@ -58,18 +58,18 @@ class Rate:
     def why_not(self):
         """Why samples of this rate cannot be judged, or None."""
         if self.number is None:
-            return f"no rate is known{f', and the recording shows about {self.measured:,.0f} samples a second' if self.measured else ''}"
+            return f"no rate is known{f', and the capture shows about {self.measured:,.0f} samples a second' if self.measured else ''}"
         if self.number > GREATEST:
             return f"{self.number:,} samples a second ({self.source}) are more than two octets can count"
         if self.number < LEAST:
             return f"{self.number:,} samples a second ({self.source}) are too few"
         if self.is_other:
-            return f"the recording shows about {self.measured:,.0f} samples a second, and not {self.number:,} ({self.source})"
+            return f"the capture shows about {self.measured:,.0f} samples a second, and not {self.number:,} ({self.source})"
         return None
 
     @property
     def is_other(self):
-        """Whether the recording shows another rate than was given."""
+        """Whether the capture shows another rate than was given."""
         return self.number is not None and self.measured is not None and not is_like(self.number, self.measured)
 
     @property
@@ -94,10 +94,10 @@ class Asked:
         return self.own.get(name, self.all)
 
     def a_second(self, rate, measured):
-        """Samples a second of those of a period, by the frequency that is given, else by the one that the recording shows; or None."""
+        """Samples a second of those of a period, by the frequency that is given, else by the one that the capture shows; or None."""
         frequencies = (self.frequency,) if self.frequency else FREQUENCIES
         fitting = [it * rate for it in frequencies if measured and is_like(it * rate, measured)]
-        # Where neither fits, the recording shows another rate than was given, whichever frequency it is.
+        # Where neither fits, the capture shows another rate than was given, whichever frequency it is.
         return fitting[0] if fitting else rate * frequencies[0] if self.frequency or measured else None
 
     def by_mode(self, rate, mode, measured, source):
@@ -108,12 +108,12 @@ class Asked:
             return Rate(rate, f"by {source}: smpRate {rate}, a second", measured)
         number = self.a_second(rate, measured)
         if number is None:
-            return Rate(None, None, measured, f"smpRate {rate} of {source} is a period, and the recording is too short to show how long one is",
+            return Rate(None, None, measured, f"smpRate {rate} of {source} is a period, and the capture is too short to show how long one is",
                         "give --frequency 50 or 60")
         return Rate(number, f"by {source}: smpRate {rate}, a period at {number // rate if rate else 0} Hz", measured)
 
     def rate(self, seen, configured, name):
-        """The rate of a stream, by what comes first: the arguments, the SCL file of this name, its frames, the recording."""
+        """The rate of a stream, by what comes first: the arguments, the SCL file of this name, its frames, the capture."""
         measured = seen.rise.measured
         given = self.of(seen.name)
         if given:
@@ -136,9 +136,9 @@ class Asked:
 
 
 def shown(measured):
-    """The rate that the recording shows."""
+    """The rate that the capture shows."""
     usual = [it for it in (*USUAL, FAST) if measured and is_like(it, measured)]
-    return Rate(usual[0], "by what the recording shows", measured) if usual else Rate(None, None, measured)
+    return Rate(usual[0], "by what the capture shows", measured) if usual else Rate(None, None, measured)
 
 
 def row(stream, rate):

@@ -4,7 +4,7 @@ from reporting.verdict import clean, found as finding, not_judged
 
 # The kinds of what a device does with a frame that it takes for one of its block.
 ACCEPTED = ("act", "refreshed", "repeated", "old")
-# How long a recording has to be for a block of which nothing is configured to be in it, in microseconds.
+# How long a capture has to be for a block of which nothing is configured to be in it, in microseconds.
 LONG, MILLISECOND = 60 * 10**6, 1000
 
 
@@ -31,7 +31,7 @@ def judge(found, own):
             yield finding(f"{own.ied} accepts no frame of {name}, of which {page.count(seen.frames, 'frame')} came (first: packet\u00a0{seen.first.packet}).")
         elif length < (MILLISECOND * longest if longest else LONG):
             until = f"MaxTime is {longest:,} ms" if longest else "its MaxTime is not known"
-            yield not_judged(f"no frame of {name} came in {found.all_packets}, {page.duration(length)} long; {until}.", "record for longer")
+            yield not_judged(f"no frame of {name} came in {found.all_packets}, {page.duration(length)} long; {until}.", "capture for longer")
         else:
             yield finding(f"no frame of {name} came in {found.all_packets}, which {own.ied} receives.")
     yield clean(f"{accepted:,} of {page.count(len(found.blocks), 'control block')} that {own.ied} receives came and were accepted in {found.all_packets}.")

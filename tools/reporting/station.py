@@ -14,6 +14,12 @@ from reporting.times import SECOND, Times
 ASDU = re.compile(rb'"svID":("(?:[^"\\]|\\.)*"),"datSet":(?:null|"(?:[^"\\]|\\.)*"),"smpCnt":\d+,"confRev":(\d+),"refrTm":(?:null|"[^"]*","refrTime":'
                   rb'(?:null|"[^"]*"),"refrQuality":\{[^}]*\}),"smpSynch":(\d+),"smpRate":(\w+),"sample":"[^"]*","smpMod":(null|"[^"]*")')
 COUNT = re.compile(rb'"smpCnt":(\d+)')
+# What differs from one frame of a stream to the next, each by what it looks like.
+DIFFERS = {b"smpCnt": rb'"smpCnt":\d+', b"refrTm": rb'"refrTm":"[^"]*","refrTime":(?:null|"[^"]*"),"refrQuality":\{[^}]*\}',
+           b"sample": rb'"sample":"[^"]*"', b"field89": rb'"field89":(?:null|"[^"]*")'}
+DIFFERENT = re.compile(b"|".join(DIFFERS.values()))
+# After how many frames of a sort it pays to know the next ones by a pattern of their own.
+MANY = 100
 # How many sorts of frames are held before they are added up.
 MOST_SORTS = 10000
 # How many forms of one sender are told.
@@ -69,11 +75,21 @@ class Sort:
     """Frames of one sender that are the same in all that is told here: how many, the first and the last. Of GOOSE also the state of the
     last one that was looked at, and since when; of Sampled Values what its ASDUs say, and its streams."""
 
-    __slots__ = ("record", "number", "first", "last", "state", "since", "clock", "sequence", "streams")
+    __slots__ = ("record", "number", "first", "last", "state", "since", "clock", "sequence", "streams", "is_alike")
 
     def __init__(self, record, found):
         self.record, self.number, self.first, self.last = record, 0, found, found
-        self.state, self.since, self.clock, self.sequence, self.streams = b"", 0, None, None, ()
+        self.state, self.since, self.clock, self.sequence, self.streams, self.is_alike = b"", 0, None, None, (), None
+
+
+def pattern_of(line, at):
+    """What matches the ASDUs of lines that are of one sort with this one, from there on."""
+    until = line.rfind(b'],"trailer":') + 1
+    pattern, begin = b"", at
+    for it in DIFFERENT.finditer(line, at, until):
+        pattern += re.escape(line[begin:it.start()]) + DIFFERS[it[0][1:it[0].index(b'"', 1)]]
+        begin = it.end()
+    return re.compile(pattern + re.escape(line[begin:until])).match
 
 
 class Station:
@@ -156,10 +172,12 @@ class Station:
     def sampled(self, found, line, now):
         """A frame of Sampled Values. Those of one envelope mostly are of one sort; smpCnt is looked at once a stretch."""
         until = line.find(b',"asdus":[', found.end())
-        envelope, asdus = line[found.end() + 1:until], tuple(ASDU.findall(line, until))
+        envelope = line[found.end() + 1:until]
         sort = self.flows.get(envelope)
-        if sort is None or sort.state != asdus:
-            sort = self.sort_of_sampled(envelope, asdus, found)
+        if sort is None or sort.is_alike is None or not sort.is_alike(line, until):
+            sort = self.sort_of_sampled(envelope, tuple(ASDU.findall(line, until)), found)
+            if sort.number == MANY:
+                sort.is_alike = pattern_of(line, until)
         sort.number += 1
         sort.last = found
         if not 0 <= now - sort.since < STRETCH:
@@ -169,7 +187,10 @@ class Station:
                 stream.rise.see(now, int(counts[at]))
 
     def sort_of_sampled(self, envelope, asdus, found):
-        """The sort of a frame that differs from the one before in what its ASDUs say."""
+        """The sort of a frame that is not known to be alike the one before."""
+        before = self.flows.get(envelope)
+        if before and before.state == asdus:
+            return before
         sort = self.sorts.get((envelope, asdus))
         if sort is None:
             sort = self.sort((envelope, asdus), Sort(json.loads(b"{%s}" % envelope), found))

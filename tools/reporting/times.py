@@ -6,8 +6,8 @@ from reporting.places import place
 SECOND = 10**6
 # How many runs of times that go back are told, and how many times without a packet are looked at.
 MOST, MOST_GAPS = 200, 10000
-# How many senders have to be silent at once, and then go on where they were, so that the capture's clock has leapt.
-SENDERS = 2
+# How many devices have to be silent at once, and then go on where they were, so that the capture's clock has leapt.
+DEVICES = 2
 
 
 class Back:
@@ -18,15 +18,15 @@ class Back:
 
 
 class Gap:
-    """A second or more in which no packet came: its times, the packet that ends it, and what became of the senders in it."""
+    """A second or more in which no packet came: its times, the packet that ends it, and what became of the devices in it."""
 
     def __init__(self, before, found):
         self.before, self.after, self.packet = before, int(found[2]), int(found[1])
         self.silent, self.is_lossy, self.is_undone = set(), False, False
         self.silences, self.outages, self.samples, self.first = 0, 0, 0, None
 
-    def add_silence(self, sender, packet):
-        self.silent.add(sender)
+    def add_silence(self, device, packet):
+        self.silent.add(device)
         self.silences, self.first = self.silences + 1, self.first or packet
 
     def add_outage(self, samples, packet):
@@ -34,7 +34,7 @@ class Gap:
 
     @property
     def is_leap(self):
-        return len(self.silent) >= SENDERS and not self.is_lossy and not self.is_undone
+        return len(self.silent) >= DEVICES and not self.is_lossy and not self.is_undone
 
 
 class Times:

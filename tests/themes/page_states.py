@@ -1,0 +1,299 @@
+"""A page is never green where it has not looked: for each fault that is put into a station it says what in which state, and where
+nothing is wrong nothing is red."""
+from helpers import page_station
+from helpers.capture_parts import block, fours, header, interface, old_packet, option, packet, record, section, statistics, twos
+from helpers.frames import element
+from helpers.page_station import (FAILED, HOUR, SECOND, START, UNSYNCHRONIZED, capture, configured_blocks, configured_stream, in_order, packets, stream)
+from themes.report import STATUSES, Page, reported
+
+# The states of statements, by the words of the tables below.
+RED, AMBER, GREEN = "found", "unjudged", "clean"
+TOPICS = {"Capture", "Received", "Losses", "Samples", "Errors", "Configuration", "Clocks", "Source addresses", "Simulation", "Synchronisation",
+          "Events acted on"}
+
+
+class Judged:
+    """A capture, and what its page says of some topics: the state of each, and words of it. All other topics are green."""
+
+    def __init__(self, name, octets, told, *asked, scd=None):
+        self.name, self.octets, self.told, self.asked, self.scd = f"a page of {name}", octets, told, asked, scd
+
+    def why_wrong(self, program):
+        asked = (*self.asked, *(("--scd", "of.scd") if self.scd else ()))
+        octets, said, status, _ = reported(program, self.octets, *asked, scd=self.scd or "")
+        return [f"status {status}: {said}"] if octets is None or said else list(self.why_page_wrong(Page(octets), status))
+
+    def why_page_wrong(self, page, status):
+        lines = {words.partition(",")[0]: (state, words) for words, state in page.summary}
+        if not lines.keys() <= TOPICS:
+            yield f"the topics are {sorted(lines)}"
+        for topic, (state, words) in lines.items():
+            wanted, *parts = self.told.get(topic, (GREEN,))
+            yield from [] if state == wanted else [f"{topic} is {state}: {words}"]
+            yield from (f"{topic} lacks {part!r}: {words}" for part in parts if part not in words)
+        yield from (f"there is no line on {topic}" for topic in self.told.keys() - lines.keys())
+        worst = min((it[0] for it in self.told.values()), key=list(STATUSES).index, default=GREEN)
+        yield from [] if status == STATUSES[worst] else [f"ended with status {status}"]
+
+
+def changed(which, **fields):
+    """What is done with the frames that `which` holds for: these fields are set, or made of the frame."""
+    def change(it):
+        for name, value in fields.items() if which(it) else ():
+            setattr(it, name, value(it) if callable(value) else value)
+    return change
+
+
+def without(which):
+    return packets(lambda it: not which(it))
+
+
+def of(*devices):
+    return lambda it: it.device in devices
+
+
+def later(seconds):
+    """From so many seconds after the beginning on."""
+    return lambda it: it.at >= START + seconds * SECOND
+
+
+# ---- What was not captured, or not read --------------------------------------
+
+
+def carried(frame, head):
+    """A frame behind a head of its EtherType."""
+    return frame[:12] + bytes.fromhex(head) + frame[12:]
+
+
+def recorded():
+    good = packets()
+    yield Judged("a station in which nothing is wrong", capture(good), {})
+    yield Judged("a classic capture in which nothing is wrong", header() + b"".join(record(*divmod(at, SECOND), it) for at, it in good), {})
+    for link, name in ((113, "LINUX_SLL"), (276, "LINUX_SLL2")):
+        told = {"Capture": (AMBER, f"{len(good)} packets of Linux cooked ({name}), from packet 1 on", "capture on the network card itself")}
+        yield Judged(f"the interface any, link type {link}", capture(good, link), told)
+    both = section() + interface() + interface(link=113) + b"".join(packet(at, it) for at, it in good) + packet(good[-1][0], good[0][1], which=1)
+    yield Judged("one packet of the interface any", both, {"Capture": (AMBER, f"1 packet of Linux cooked (LINUX_SLL), from packet {len(good) + 1} on")})
+    for name, head, what in (("an HSR ring", "892f00400001", "892f (HSR)"), ("frames with an outer tag", "88a80005", "88a8"),
+                             ("frames of MACsec", "88e5000000000001", "88e5 (MACsec)"), ("frames with an old outer tag", "91000005", "9100"),
+                             ("frames with a tag in a tag", "8100000581000006", "8100 (a tag in a tag)")):
+        told = {"Capture": (AMBER, f"{len(good)} frames of {what}", "from packet 1 on", "may carry GOOSE: not read")}
+        yield Judged(f"{name}, of which no frame is read", capture((at, carried(it, head)) for at, it in good), told)
+        one = [*good, (good[-1][0], carried(good[-1][1], head))]
+        told = {"Capture": (AMBER, f"1 frame of {what}", f"from packet {len(one)} on")}
+        yield Judged(f"{name}, one of many", capture(one), told)
+    kinds = [(good[-1][0], b"\xff" * 6 + bytes([2, 0, 0, 0, 0, 9, 0x77, it]) + bytes(46)) for it in range(18)]
+    yield Judged("frames of more than sixteen protocols", capture([*good, *kinds]), {"Capture": (AMBER, "2 frames of other protocols", "not read")})
+    yield Judged("frames of sixteen protocols", capture([*good, *kinds[:16]]), {})
+
+
+def dropped():
+    good, octets = packets(), capture(packets())
+    told = {"Capture": (AMBER, "the recorder dropped 5 packets", "what is missing may be its own")}
+    for name, options in (("card", option(5, (5).to_bytes(8, "little"))), ("system", option(7, (5).to_bytes(8, "little"))),
+                          ("card and the system", option(5, (2).to_bytes(8, "little")) + option(7, (3).to_bytes(8, "little")))):
+        yield Judged(f"packets that the {name} dropped", octets + block(5, fours("little", 0, 0, 7) + options), told)
+    yield Judged("statistics of which the last counts", octets + b"".join(
+        block(5, fours("little", 0, 0, 7) + option(5, it.to_bytes(8, "little"))) for it in (3, 5)), told)
+    yield Judged("statistics in which nothing was dropped", octets + statistics() + block(5, fours("little", 0, 0, 7) + option(5, bytes(8))), {})
+    drops = [option(4, it.to_bytes(8, "little")) for it in (2, 3)]
+    counted = section() + interface() + b"".join(packet(at, it, options=drops[place] if place < 2 else b"") for place, (at, it) in enumerate(good))
+    yield Judged("packets that say how many were dropped before them", counted, told)
+    turned = section("big") + interface("big") + b"".join(packet(at, it, "big") for at, it in good)
+    turned += block(5, fours("big", 0, 0, 7) + twos("big", 5, 8) + (5).to_bytes(8, "big"), "big")
+    yield Judged("statistics in the other order", turned, told)
+    old = section() + interface() + b"".join(old_packet(at, it, drops=5 if place == 3 else 0) for place, (at, it) in enumerate(good))
+    yield Judged("old packets that say how many were dropped", old, told)
+    other = b"\xff" * 6 + bytes([2, 0, 0, 0, 0, 9, 8, 6]) + bytes(46)
+    told = {"Capture": (AMBER, "the recorder cut 1 packet", f"from packet {len(good) + 1} on")}
+    yield Judged("a packet that is cut", octets + packet(good[-1][0], other, original=90), told)
+    cut = header() + b"".join(record(*divmod(at, SECOND), it) for at, it in good)
+    end = good[-1][0]
+    cut += b"".join(it.to_bytes(4, "little") for it in (*divmod(end, SECOND), len(other), 90)) + other
+    yield Judged("a packet that is cut in a classic capture", cut, told)
+
+
+# ---- Times -------------------------------------------------------------------
+
+
+def leapt(held, by, since):
+    """Packets whose times are later by so much from some time on."""
+    return [(at + by if at >= since else at, it) for at, it in held]
+
+
+def times():
+    middle = START + 5 * SECOND + 800_000
+    quiet = lambda it: not middle <= it.at < middle + 3 * SECOND
+    shifted = capture(leapt(packets(), 20 * SECOND, middle))
+    yield Judged("a capture whose clock leaps by 20 s", shifted, {
+        "Capture": (AMBER, "the capture's clock leapt by 20", "none left out a sqNum"), "Losses": (AMBER, "4 silences where the capture's clock leapt"),
+        "Clocks": (AMBER, "the capture's clock is off, or the station's"), "Events acted on": (RED, "expired")})
+    yield Judged("all senders silent, each of which leaves out frames", capture(leapt(packets(quiet), 20 * SECOND, middle)), {
+        "Losses": (RED, "4 silences", "missing"), "Events acted on": (RED,)})
+    alone = packets(lambda it: it.device < 3 and setattr(it, "source", 0x55) is None)
+    yield Judged("a device that pauses for 20 s, and with it both of its blocks", capture(leapt(alone, 20 * SECOND, middle)), {
+        "Losses": (RED, "2 silences"), "Clocks": (RED, "20"), "Events acted on": (RED,)})
+    one = [it if at != 20 else (it[0] + 2 * HOUR, it[1]) for at, it in enumerate(packets())]
+    hides = lambda it: it.device != 2 or not START + 5 * SECOND <= it.at < START + 9 * SECOND
+    ahead = in_order((it.at, it.octets()) for it in page_station.frames(hides))
+    back = {"Capture": (RED, "times go back, at packet 22 by up to 1 h 59 min 59 s", "from that of packet 21"), "Losses": (AMBER, "silences after packet 21 cannot be seen"),
+            "Events acted on": (RED,)}
+    yield Judged("one packet two hours ahead", capture(one), back)
+    one = [it if at != 20 else (it[0] + 2 * HOUR, it[1]) for at, it in enumerate(ahead)]
+    yield Judged("a silence behind one packet two hours ahead", capture(one), {**back, "Losses": (RED, "cannot be seen")})
+    one = [(at - 1_000_000 if place == 20 else at, it) for place, (at, it) in enumerate(packets())]
+    one[20] = (one[19][0] - 1_000_000, one[20][1])
+    yield Judged("a time that goes back by a second", capture(one), {
+        "Capture": (RED, "times go back, at packet 21 by up to 1.000 s from that of packet 20"), "Losses": (AMBER, "cannot be seen")})
+    one[20] = (one[19][0] - 999_999, one[20][1])
+    yield Judged("a time that goes back by less than a second", capture(one), {})
+
+
+# ---- Clocks, sources, simulation ---------------------------------------------
+
+
+def shifted(devices, seconds, **fields):
+    return capture(packets(changed(of(*devices), t=lambda it: it.t + seconds * SECOND, **fields)))
+
+
+def clocks():
+    d2 = "02-00-00-00-01-02 (D2LD0/LLN0$GO$gcb1): t is"
+    for seconds, words in ((37, "36.999 s ahead (as far as TAI is from UTC)"), (18, "17.999 s ahead (as far as GPS time is from UTC)"),
+                           (3600, "ahead (quarters of an hour: a time zone)"), (5, "4.999 s ahead, packet"), (-12, "12.001 s behind, packet"),
+                           (-3600, "behind (quarters of an hour: a time zone)")):
+        yield Judged(f"a device whose t is off by {seconds} s", shifted([2], seconds), {"Clocks": (RED, d2, words)})
+    yield Judged("a device whose t is off by less than is judged", shifted([2], -9), {})
+    yield Judged("a device of which one frame is ahead", capture(packets(changed(lambda it: it.device == 2 and it.state == 6, t=lambda it: it.t + 37 * SECOND))),
+                 {"Clocks": (RED, d2, "36.999 s ahead")})
+    for name, quality in (("failed", FAILED), ("not synchronized", UNSYNCHRONIZED)):
+        yield Judged(f"a clock that says it is {name}", shifted([2], 37, quality=quality), {"Clocks": (GREEN, "1 control block with a clock")})
+    told = {"Simulation": (RED,), "Events acted on": (RED, "Simulated")}
+    yield Judged("simulated frames whose t is ahead", shifted([2], 37, simulated=True), told)
+    yield Judged("a station whose devices all are ahead", shifted([1, 2, 3, 4], 37), {"Clocks": (AMBER, "36.999 s ahead (as far as TAI is from UTC) alike",
+                                                                                               "the capture's clock is off, or the station's")})
+    yield Judged("a station of which three devices of four are ahead", shifted([1, 3, 4], 37), {
+        "Clocks": (RED, d2, "37.000 s behind", "the capture's clock is off, or the station's")})
+    yield Judged("two devices of four that are ahead", shifted([1, 2], 37), {"Clocks": (RED, d2, "36.999 s ahead", "D1LD0/LLN0$GO$gcb1")})
+
+
+def sources():
+    turns = capture(packets(changed(lambda it: it.device == 3 and it.sequence % 2 == 0, source=0x99)))
+    yield Judged("two sources in turns", turns, {"Source addresses": (RED, "D3LD0/LLN0$GO$gcb1", "02-00-00-00-01-03 from packet", "02-00-00-00-01-99 from packet")})
+    taken = capture(packets(changed(lambda it: it.device == 3 and later(6)(it), source=0x99)))
+    yield Judged("a source that takes over", taken, {"Source addresses": (AMBER, "took over for good", "02-00-00-00-01-99 from packet")})
+    twin = in_order([*packets(), *packets(lambda it: it.device == 3 and setattr(it, "simulated", True) is None and setattr(it, "source", 0x99) is None)])
+    yield Judged("a simulated copy from a test set", capture(twin), {"Simulation": (RED, "D3LD0/LLN0$GO$gcb1", "still on at the end"), "Events acted on": (RED,)})
+    streams = in_order([*stream(100, 1, a_frame=1), *stream(100, 1, a_frame=1, source=0x32)])
+    yield Judged("a stream of two sources in turns", capture(streams), {"Source addresses": (RED, "MU1: 02-00-00-00-00-31 from packet 1 on")},
+                 "--period", "100")
+
+
+def simulation():
+    some = changed(lambda it: it.device == 2 and START + 3 * SECOND < it.at < START + 5 * SECOND, simulated=True)
+    yield Judged("simulated frames for a while", capture(packets(some)), {
+        "Simulation": (RED, "D2LD0/LLN0$GO$gcb1: 3 frames from packet 14, 22:13:23.002000 UTC, to packet 22, 22:13:24.002000 UTC"),
+        "Losses": (RED,), "Events acted on": (RED,)})
+    needing = changed(lambda it: it.device == 2 and later(9)(it), commissioning=True)
+    yield Judged("a block that needs commissioning", capture(packets(needing)), {"Simulation": (RED, "ndsCom is true: D2LD0", "still on at the end"),
+                                                                                "Events acted on": (RED,)})
+    early = changed(lambda it: it.device == 2 and not later(2)(it), commissioning=True)
+    yield Judged("a block that needed commissioning", capture(packets(early)), {"Simulation": (RED, "ndsCom is true: D2LD0", "to packet"),
+                                                                               "Events acted on": (RED,)})
+
+
+def synchronised():
+    def sampled(*values):
+        """A second of samples, each part of it with another smpSynch."""
+        held = list(stream(100, 1, a_frame=1))
+        size = len(held) // len(values)
+        return capture((at, it.replace(b"\x85\x01\x02", bytes([0x85, 1, values[min(place // size, len(values) - 1)]]))) for place, (at, it) in enumerate(held))
+
+    for name, octets, *told in (
+            ("samples by a global clock", sampled(2), GREEN, "2 (global clock)"), ("samples by a local clock", sampled(1), GREEN, "1 (local clock)"),
+            ("samples of another clock", sampled(2, 1), AMBER, "smpSynch changes: MU1: 2 from packet 1 on", "1 from packet 51 on (22:13:20.510000 UTC)"),
+            ("samples of another clock for a while", sampled(1, 254, 1), AMBER, "254 from packet 34 on", "1 from packet 67 on"),
+            ("samples that are not synchronised", sampled(0), AMBER, "smpSynch is 0", "from packet 1 on"),
+            ("samples that are synchronised later", sampled(0, 2), AMBER, "smpSynch is 0", "2 from packet 51 on"),
+            ("samples that lose their clock", sampled(2, 0), RED, "smpSynch goes to 0", "MU1: 0 from packet 51 on (22:13:20.510000 UTC)")):
+        yield Judged(name, octets, {"Synchronisation": told}, "--period", "100")
+    differing = in_order([*stream(100, 1, a_frame=1), *stream(100, 1, b"MU2", a_frame=1, smp_synch=element(0x85, b"\1"))])
+    yield Judged("streams of two clocks", capture(differing), {"Synchronisation": (AMBER, "differs between streams", "1 (local clock); 2 (global clock)")},
+                 "--period", "100")
+
+
+# ---- Rates -------------------------------------------------------------------
+
+# As many seconds of a stream show its rate.
+SHORT = 0.45
+
+
+def gone(held, since, until):
+    """Samples without those of some time, in seconds."""
+    return [it for it in held if not START + since * SECOND <= it[0] < START + until * SECOND]
+
+
+def rates():
+    good = capture(stream(4000, SHORT))
+    lost = capture(gone(stream(4000, 1.45), 0.21, 1.21))
+    yield Judged("a stream whose rate the capture shows", good, {"Samples": (GREEN, "MU1: 4,000 samples a second by what the capture shows")})
+    yield Judged("a whole second of samples gone, and no rate given", lost, {"Losses": (RED, "4,000 samples missing")})
+    yield Judged("another rate than is given", lost, {"Samples": (AMBER, "the capture shows about 4,000 samples a second, and not 4,800 (by --period)")},
+                 "--period", "4800")
+    yield Judged("the rate that is given", good, {"Samples": (GREEN, "4,000 samples a second by --period")}, "--period", "4000")
+    slow = capture(stream(200, 1, a_frame=1))
+    yield Judged("a stream of no usual rate", slow, {"Samples": (AMBER, "samples of 1 stream are not judged: MU1", "no rate is known", "give --period N")})
+    yield Judged("a stream of no usual rate that is given", slow, {}, "--period", "200")
+    two = capture(in_order([*gone(stream(4000, 0.5), 0.2, 0.25), *stream(4800, 0.45, b"MU2", source=0x32)]))
+    both = [f"{name}: {rate} samples a second by what the capture shows" for name, rate in (("MU1", "4,000"), ("MU2", "4,800"))]
+    yield Judged("two streams of two rates", two, {"Losses": (RED, "200 samples missing"), "Samples": (GREEN, *both)})
+    yield Judged("two streams of two rates that are given", two, {"Losses": (RED, "200 samples missing"), "Samples": (GREEN, "MU2: 4,800 samples a second by --period")},
+                 "--period", "MU2=4800", "--period", "4000")
+    yield Judged("a rate that is given twice", two, {"Losses": (RED, "200 samples missing")}, "--period", "MU1=50", "--period", "MU1=4000")
+    for rate, mode, words in ((80, None, "smpRate 80, a period at 50 Hz"), (80, "SmpPerPeriod", "smpRate 80, a period at 50 Hz"), (4000, "SmpPerSec", "smpRate 4000, a second")):
+        yield Judged(f"the rate of an SCL file, {rate} of {mode}", capture(stream(4000, SHORT)), {"Samples": (GREEN, f"4,000 samples a second by of.scd: {words}")},
+                     scd=configured_stream("MU1", rate, mode))
+    other = {"Samples": (RED, "another rate than in of.scd: MU1", "the capture shows about 4,000 samples a second, and not 4,800")}
+    yield Judged("another rate than in the SCL file", capture(stream(4000, SHORT)), other, scd=configured_stream("MU1", 4800, "SmpPerSec"))
+    yield Judged("a rate of the SCL file that --frequency makes another", capture(stream(4000, SHORT)), other, "--frequency", "60", scd=configured_stream("MU1", 80))
+    yield Judged("a rate of the SCL file at 60 Hz", capture(stream(4800, SHORT)), {"Samples": (GREEN, "smpRate 80, a period at 60 Hz")}, scd=configured_stream("MU1", 80))
+    yield Judged("seconds a sample", capture(stream(4000, SHORT)), {"Samples": (AMBER, "smpRate is seconds a sample")}, scd=configured_stream("MU1", 2, "SecPerSmp"))
+    yield Judged("96,000 samples a second", capture(stream(4000, 0.1)), {"Samples": (AMBER, "96,000 samples a second", "more than two octets can count")},
+                 scd=configured_stream("MU1", 96000, "SmpPerSec"))
+    short = capture(stream(4000, 0.2))
+    yield Judged("a recording too short to show the frequency", short, {"Samples": (AMBER, "give --frequency 50 or 60")}, scd=configured_stream("MU1", 80))
+    yield Judged("a frequency that is given", short, {"Samples": (GREEN, "a period at 60 Hz")}, "--frequency", "60", scd=configured_stream("MU1", 80))
+    for rate, mode, words in ((80, 0, "smpRate 80, a period at 50 Hz"), (4000, 1, "smpRate 4000, a second")):
+        fields = {"smp_rate": element(0x86, rate.to_bytes(2, "big")), "smp_mod": element(0x88, bytes([0, mode]))}
+        yield Judged(f"the rate that frames tell, {mode}", capture(stream(4000, SHORT, **fields)), {"Samples": (GREEN, f"by its frames: {words}")})
+    fields = {"smp_rate": element(0x86, (80).to_bytes(2, "big")), "smp_mod": b""}
+    yield Judged("the rate that frames tell without smpMod", capture(stream(4000, SHORT, **fields)), {"Samples": (GREEN, "4,000 samples a second by its frames: smpRate 80")})
+
+
+# ---- What a device receives --------------------------------------------------
+
+
+def received():
+    scd, clean = configured_blocks(range(1, 6)), configured_blocks(range(1, 5))
+    good = capture(packets())
+    asked = ("--ied", "SUB")
+    yield Judged("a device that receives all", good, {"Received": (GREEN, "4 of 4 control blocks that SUB receives")}, *asked, scd=clean)
+    refused = capture(packets(changed(of(1, 2, 3, 4), revision=7)))
+    names = [f"SUB accepts no frame of D{it}LD0/LLN0$GO$gcb1: 14 frames refused (ConfRev)" for it in range(1, 5)]
+    yield Judged("a device that accepts no frame", refused, {"Received": (RED, *names), "Configuration": (RED,), "Events acted on": (RED,)}, *asked, scd=clean)
+    never = {"Received": (AMBER, "no frame of D5LD0/LLN0$GO$gcb1 came", "capture for longer"), "Configuration": (RED,)}
+    yield Judged("a block that did not come in a short recording", good, never, *asked, scd=scd)
+    yield Judged("a block that did not come in less than its MaxTime", good, never, *asked, scd=configured_blocks(range(1, 6), 20000))
+    told = {"Received": (RED, "no frame of D5LD0/LLN0$GO$gcb1 came"), "Configuration": (RED,)}
+    yield Judged("a block that did not come in its MaxTime", good, told, *asked, scd=configured_blocks(range(1, 6), 5000))
+
+
+def cases():
+    yield from recorded()
+    yield from dropped()
+    yield from times()
+    yield from clocks()
+    yield from sources()
+    yield from simulation()
+    yield from synchronised()
+    yield from rates()
+    yield from received()
