@@ -52,16 +52,16 @@ def parts(name, value):
     return [(name, None if value in ({}, []) else value)]
 
 
-def flat(record, names_of=None):
-    """A record of which each value is one cell. `names_of` answers the names of a record's members, in order, or None: then they are
-    member1, member2 .."""
+def flat(record, members_of=None):
+    """A record of which each value is one cell. `members_of` answers the members of a record as pairs of a name and a value, or None: then
+    they are member1, member2 .."""
     if not any(isinstance(it, (list, dict)) for it in record.values()):
         return record
     found = {}
     for name, value in record.items():
         if name == "members" and isinstance(value, list):
-            names = (names_of and names_of(record)) or [f"member{at}" for at in range(1, len(value) + 1)]
-            found.update(it for name, member in zip(names, value) for it in member_cells(name, member))
+            told = (members_of and members_of(record)) or ((f"member{at}", it) for at, it in enumerate(value, 1))
+            found.update(it for of, member in told for it in member_cells(of, member))
         else:
             found.update(parts(name, value))
     return found

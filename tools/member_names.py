@@ -182,6 +182,44 @@ class Names:
         return Named(found.leaves, found.names)
 
 
+# ---- As cells ----------------------------------------------------------------
+
+
+class Cells:
+    """The members of records as pairs of a name and a value, one for each value: a text where the type has words. A name that two members
+    have is that of the first."""
+
+    def __init__(self, names):
+        self.names, self.differing = names, {}
+
+    def of(self, record):
+        """The pairs of a record's members, or None where their names are not known."""
+        try:
+            named = self.names.names_of(record["appid"], record["gocbRef"], record["members"], record.get("datSet"))
+        except (AttributeError, KeyError, StopIteration, TypeError):
+            return None
+        if named.differs:
+            self.differing[record["appid"], record["gocbRef"]] = None
+        if not named.is_known:
+            return None
+        found = {}
+        for path, member in leaves(record["members"]):
+            leaf, name = named.leaves[path], named.path(path)
+            told = value_words.word(leaf, member) if leaf.words or leaf.sort in value_words.IN_WORDS else member
+            found[f"member{path}" if name in found or name == path else name] = told
+        return found.items()
+
+
+def leaves(members, path=""):
+    """The values of members, each with its path."""
+    for at, it in enumerate(members, 1):
+        inside = next((it[kind] for kind in ("structure", "array") if kind in it), None) if isinstance(it, dict) else None
+        if inside is None:
+            yield f"{path}{at}", it
+        else:
+            yield from leaves(inside, f"{path}{at}.")
+
+
 # ---- Where they come from ----------------------------------------------------
 
 

@@ -9,7 +9,8 @@ VALIDITY = {"00": "", "01": "invalid", "10": "reserved", "11": "questionable"}
 # The bits of a quality behind its validity. The source is a process, or a substituted value.
 FLAGS = ("overflow", "outOfRange", "badReference", "oscillatory", "failure", "oldData", "inconsistent", "inaccurate", "substituted", "test",
          "operatorBlocked")
-TEST = 2 + FLAGS.index("test")
+# The types whose values are words, beside enumerations.
+IN_WORDS = ("Dbpos", "Tcmd", "Quality")
 
 
 def quality(bits):

@@ -263,6 +263,38 @@ class OfExample(Each):
                     yield f"{after!r}"
 
 
+CSV = ("kind,gocbRef,member1,member2,member2.1,PTRC1.Tr.general,Q0XCBR1.Pos.origin.orCat,LLN0.Beh.stVal,Q0XCBR1.Pos.stVal,Q0XCBR1.Pos.q,Q0XCBR1.Pos.t,"
+       "PTOC1.Str.general,MMXU1.TotW.mag.f")
+
+
+class Table(Each):
+    """Columns of to_csv by the names of members: words, times and numbers, and positions where a data set differs."""
+
+    def __init__(self, how):
+        self.how, self.name = how, f"to_csv {how}"
+
+    def wrong(self, program):
+        given = [acted(1, "dsAttributes", NAMED[0][2], None), frame(2, "dsObjects", [structure(ORIGIN, POSITION, GOOD, TIME), True, {"int": 0}, GOOD, TIME]),
+                 acted(3, "dsAttributes", [True, structure(POSITION)]), frame(4, "dsMeasured", NAMED[12][2]), HEAD.format(5, "clock") + "}"]
+        of = [reference(it) for it in ("dsAttributes", "dsObjects", "dsAttributes", "dsMeasured")]
+        wanted = [CSV, f"act,{of[0]},,,,true,,on,on,good,2023-11-14T22:13:20.000000Z,,", f"goose,{of[1]},,,,,3,,on,good,2023-11-14T22:13:20.000000Z,true,",
+                  f"act,{of[2]},true,,bits:10,,,,,,,,", f"goose,{of[3]},,,,,,,,,,,400.0", "clock,,,,,,,,,,,,"]
+        wanted[2] = wanted[2].replace(",,3,", ",,remote-control,")
+        with tempfile.TemporaryDirectory() as folder:
+            file = pathlib.Path(folder) / "of"
+            file.write_text(scd())
+            if self.how == "--names":
+                file.write_bytes(ask(program, "scl_blocks", ["--names", file])[0])
+            wrote, complained, status = ask(program, "to_csv", [self.how, file, "--columns", CSV], text(given))
+            all_names, _, _ = ask(program, "to_csv", [self.how, file], text(given))
+        said = f"to_csv: {of[0]} (APPID {appid('dsAttributes')}): data set differs from the file: its members are not named\n"
+        if (wrote.decode().splitlines(), complained.decode(), status) != (wanted, said, 1):
+            yield f"status {status}, {complained!r}: wanted {wanted}, got {wrote.decode().splitlines()}"
+        head = all_names.decode().split("\n")[0].split(",")
+        if not {*CSV.split(",")} - {"member2"} <= {*head} or "members" in head:
+            yield f"the head of all columns is {head}"
+
+
 def cases():
     yield Names("--scd")
     yield Names("--names")
@@ -271,6 +303,8 @@ def cases():
     yield Put("--scd")
     yield Put("--names")
     yield Live()
+    yield Table("--scd")
+    yield Table("--names")
     yield OfExample()
     yield Asked("a file of names that is none", "name_members", ["--names", "/dev/stdin"], b"{}\n", status=3,
                 stderr=[b"/dev/stdin: line 1 is none that scl_blocks --names writes"])

@@ -75,7 +75,8 @@ class Subscriptions:
         names = ("srcLDInst", "ldInst", "srcCBName") if stated.get("srcCBName") else (*scl.DATA, "daName")
         key = tuple(stated.get(it) for it in ("iedName", "serviceType", "srcCBName", *names))
         if key not in self.named:
-            self.named[key] = list(self.station.named(reference))
+            held = {at: it for group in self.station.groups(stated) for at, it in group.items()}
+            self.named[key] = list(held.values())
         return self.named[key]
 
     def is_not_there(self, reference):
