@@ -89,6 +89,8 @@ INPUTS = {
              bound(iedName="SUB5", ldInst="LD0", srcCBName="none")],
     "SUB6": [block_of(1, "none"), data_of(1, "Ind9"), data_of(1, "Ind2", serviceType="GOOSE"),
              bound(iedName="P77", ldInst="LD0", lnClass="GGIO", lnInst="1", doName="Ind1")],
+    # What another block serves too, and by its name.
+    "SUB7": [block_of(5, "gcb2"), data_of(5)],
 }
 TYPES = ('<DataTypeTemplates><LNodeType id="GGIO_T" lnClass="GGIO"><DO name="Ind1" type="SPS_T"/><DO name="Ind2" type="SPS_T"/></LNodeType>'
          '<DOType id="SPS_T" cdc="SPS"><DA name="stVal" bType="BOOLEAN" fc="ST"/><DA name="q" bType="Quality" fc="ST"/></DOType></DataTypeTemplates>')
@@ -120,6 +122,8 @@ ROWS = {
     ("SUB2", "P05LD0/LLN0$GO$gcb1"): ("ExtRef: one of 2", 2, 2, "", 1, "accepted"),
     ("SUB2", "P05LD0/LLN0$GO$gcb2"): ("ExtRef: one of 2", 0, 0, "", 0, "not needed: P05LD0/LLN0$GO$gcb1 serves"),
     ("SUB3", "P05LD0/LLN0$GO$gcb2"): ("IEDName; ExtRef", 0, 0, "", 0, "never seen"),
+    ("SUB7", "P05LD0/LLN0$GO$gcb1"): ("ExtRef: one of 2", 2, 2, "", 1, "accepted"),
+    ("SUB7", "P05LD0/LLN0$GO$gcb2"): ("ExtRef; ExtRef: one of 2", 0, 0, "", 0, "never seen"),
     ("SUB4", "P01LD0/LLN0$GO$gcb1"): ("GoCBRef of LGOS", 3, 3, "", 1, "accepted"),
     ("SUB4", "MU01 (stream)"): ("SvCBRef of LSVS", 4, 4, "", 0, "accepted"),
 }
@@ -131,8 +135,8 @@ TOLD = ["no frame of P02LD0/LLN0$GO$gcb1 is accepted by SUB1: 2 refused (ConfRev
         "no frame of P06LD0/LLN0$GO$gcb1 is accepted by SUB1: 1 refused (Entries), first: packet 4.",
         "no frame of MU02 (stream) is accepted by SUB1: 2 refused (confRev 7, configured 1, first: packet 10).",
         "5 inputs name no block or data of the file (",
-        "no frame came of 2 blocks and streams that are subscribed to in packets 1 to 17: P03LD0/LLN0$GO$gcb1 (SUB1); P05LD0/LLN0$GO$gcb2 (SUB3).",
-        "7 of 12 subscriptions are served in packets 1 to 17.",
+        "no frame came of 2 blocks and streams that are subscribed to in packets 1 to 17: P03LD0/LLN0$GO$gcb1 (SUB1); P05LD0/LLN0$GO$gcb2 (SUB3, SUB7).",
+        "8 of 14 subscriptions are served in packets 1 to 17.",
         "Without a subscription: P01, P02, P03, P04, P06, M01, M02, P05, SUB5, SUB6.", "2 ExtRefs are bound to nothing.",
         "1 ExtRef names data that no control block sends."]
 

@@ -12,8 +12,8 @@ from reporting.events import ENTRY, REASON, SAMPLED, Counted
 from reporting.sections import paragraph, section as section_of
 from reporting.verdict import State, clean, found as finding, not_judged, some
 
-# How many rows a table has, and how many names a line: what is left out is counted.
-MOST_ROWS, MOST_NAMES = 200, 8
+# How many names a line has: the others are counted.
+MOST_NAMES = 8
 # The most octets of BLOCKs that one command line takes.
 MOST_WORDS = 1000000
 ACCEPTED = ("act", "refreshed", "repeated", "old")
@@ -293,15 +293,13 @@ def section(found, own):
     rows, subscriptions = matrix.rows(), matrix.subscriptions
     told = [paragraph(f"Each IED of {own.scd} beside what it subscribes to there. A frame is accepted where it is as the file says: not refused by "
                       "datSet, goID, confRev, size, simulation or needed commissioning.")]
-    shown = rows[:None if getattr(own, "all", False) else MOST_ROWS]
-    told += [page.table("Subscriptions", COLUMNS, (row(matrix, *it) for it in shown))] if rows else [paragraph(f"{own.scd} has no subscription.")]
-    if len(shown) < len(rows):
-        told.append(paragraph(f"{page.count(len(rows) - len(shown), 'more subscription')}, all served or like those above, are not listed."))
+    if rows:
+        told.append(page.bounded("Subscriptions", COLUMNS, (row(matrix, *it) for it in rows), found.room, "subscription"))
+    else:
+        told.append(paragraph(f"{own.scd} has no subscription."))
     if subscriptions.unnamed:
-        told.append(page.table("Inputs that name no block or data of the file", UNNAMED, [page.row(UNNAMED, [ied, line, what])
-                                                                                         for ied, line, what in subscriptions.unnamed[:MOST_ROWS]]))
-        more = len(subscriptions.unnamed) - MOST_ROWS
-        told += [paragraph(f"{more:,} more are not listed.")] if more > 0 else []
+        inputs = (page.row(UNNAMED, it) for it in subscriptions.unnamed)
+        told.append(page.bounded("Inputs that name no block or data of the file", UNNAMED, inputs, found.room, "input"))
     silent = subscriptions.without()
     told += [paragraph(f"Without a subscription: {listed(silent, 40)}.")] if silent else []
     counts = [(subscriptions.unbound, "ExtRef is bound to nothing", "ExtRefs are bound to nothing"),
