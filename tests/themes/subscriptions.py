@@ -64,7 +64,8 @@ def stream(at):
 
 
 def supervision(node, name, reference):
-    return f'<LN lnClass="{node}" inst="1" lnType="none"><DOI name="{name}"><DAI name="setSrcRef"><Val>{reference}</Val></DAI></DOI></LN>'
+    return (f'<LN lnClass="{node}" inst="1" lnType="none"><DOI name="{name}"><DAI name="d"><Val>what is received</Val></DAI><DAI name="setSrcRef">'
+            f'<Val>{reference}</Val></DAI></DOI></LN>')
 
 
 def bound(**stated):
