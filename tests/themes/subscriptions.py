@@ -2,7 +2,7 @@
 import pathlib
 import tempfile
 
-from helpers.asked_tools import ask
+from helpers.asked_tools import EXAMPLES, ask
 from helpers.capture_parts import interface, packet, section
 from helpers.made_station import Device, address, sample
 from themes.report import body, words
@@ -177,6 +177,19 @@ class Matrix:
         yield from (f"the page lacks {it!r}" for it in TOLD if it not in text)
 
 
+class NoSubscription:
+    """A file without a subscription judges none."""
+
+    name = "a file without a subscription"
+
+    def why_wrong(self, program):
+        with tempfile.TemporaryDirectory() as folder:
+            ask(program, "report", ["--scd", EXAMPLES / "station.scd", "--subscriptions", EXAMPLES / "two_bays.pcapng"], cwd=folder)
+            text = words(body((pathlib.Path(folder) / "report.html").read_bytes()))
+        wanted = "Subscriptions, not judged: station.scd has no subscription, so none is judged."
+        return [] if wanted in text and "Without a subscription: BAY1, BAY2, BRK1." in text else [text]
+
+
 class Refused:
     """--subscriptions without a file is refused."""
 
@@ -189,4 +202,5 @@ class Refused:
 
 def cases():
     yield Matrix()
+    yield NoSubscription()
     yield Refused()

@@ -258,7 +258,7 @@ def listed(names, most=MOST_NAMES):
     return ", ".join([*names[:most], *more])
 
 
-def judge(found, _own):
+def judge(found, own):
     """What the subscriptions come to. A block of which no frame was accepted is told by itself, with all that subscribe to it."""
     matrix = found.matrix
     if not matrix:
@@ -282,7 +282,10 @@ def judge(found, _own):
         yield not_judged(f"no frame came of {page.count(len(unseen), 'block or stream', 'blocks and streams')} that are subscribed to in "
                          f"{found.all_packets}: {some(unseen)}.", "record where their frames pass")
     accepted = sum(state.state == State.CLEAN for *_, state in rows)
-    yield clean(f"{accepted:,} of {page.count(len(rows), 'subscription')} are served in {found.all_packets}.")
+    if rows:
+        yield clean(f"{accepted:,} of {page.count(len(rows), 'subscription')} are served in {found.all_packets}.")
+    else:
+        yield not_judged(f"{own.scd} has no subscription, so none is judged.", "give a file with IEDNames, or Inputs that are bound")
 
 
 def section(found, own):
