@@ -52,6 +52,18 @@ def parts(name, value):
     return [(name, None if value in ({}, []) else value)]
 
 
+def named_members(names, members, otherwise):
+    """The members of a record by the names that tools/name_members put into it, else by positions."""
+    has_names = isinstance(names, list) and len(names) == len(members)
+    for at, it in enumerate(members, 1):
+        name = names[at - 1] if has_names else None
+        inside = next(iter(it.values()), None) if isinstance(it, dict) else None
+        if isinstance(name, list) and isinstance(inside, list):
+            yield from named_members(name, inside, f"{otherwise}{at}.")
+        else:
+            yield name if isinstance(name, str) else f"{otherwise}{at}", it
+
+
 def flat(record, members_of=None):
     """A record of which each value is one cell. `members_of` answers the members of a record as pairs of a name and a value, or None: then
     they are member1, member2 .."""
@@ -59,8 +71,10 @@ def flat(record, members_of=None):
         return record
     found = {}
     for name, value in record.items():
+        if name == "names" and isinstance(record.get("members"), list):
+            continue
         if name == "members" and isinstance(value, list):
-            told = (members_of and members_of(record)) or ((f"member{at}", it) for at, it in enumerate(value, 1))
+            told = (members_of and members_of(record)) or named_members(record.get("names"), value, "member")
             found.update(it for of, member in told for it in member_cells(of, member))
         else:
             found.update(parts(name, value))

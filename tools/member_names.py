@@ -35,7 +35,7 @@ def form(member):
         return "boolean"
     if isinstance(member, str):
         return "text"
-    kind, told = next(iter(member.items()))
+    kind, told = next(iter(member.items()), ("", None))
     if kind in ("structure", "array"):
         return kind, forms(told)
     return len(told) if kind == "bits" else "int" if kind == "uint" else kind

@@ -306,6 +306,11 @@ def cases():
     yield Table("--scd")
     yield Table("--names")
     yield OfExample()
+    named = frame(2, "dsObjects", NAMED[7][2], NAMED[7][3]).replace(',"tQuality":{}', "")
+    yield Asked("objects that have names", "to_csv", ["--columns", "line,member1"], text([named]), b"line,member1\n2,\n")
+    yield Asked("all columns of objects that have names", "to_csv", [], text([compact({name: json.loads(named)[name] for name in ("kind", "members", "names")})]),
+                text(["kind," + ",".join([*OBJECTS[0], *OBJECTS[1:], *START]),
+                      "goose,3,oct:00,bits:10,bits:0000000000000,2023-11-14T22:13:20.000000Z,true,0,bits:0000000000000,2023-11-14T22:13:20.000000Z"]))
     yield Asked("a file of names that is none", "name_members", ["--names", "/dev/stdin"], b"{}\n", status=3,
                 stderr=[b"/dev/stdin: line 1 is none that scl_blocks --names writes"])
     yield Asked("a line that is no object", "name_members", ["--scd", str(EXAMPLES / "station.scd")], b"no object\n", b"no object\n", status=1)
