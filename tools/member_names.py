@@ -179,7 +179,8 @@ class Names:
             found = Matched(wanted, given)
         except Differs:
             return OTHER
-        return Named(found.leaves, found.names)
+        is_told = any(it.name for it in found.leaves.values())
+        return Named(found.leaves, found.names) if is_told else NONE
 
 
 # ---- As cells ----------------------------------------------------------------

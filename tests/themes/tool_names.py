@@ -4,6 +4,7 @@ import pathlib
 import subprocess
 import tempfile
 
+from helpers import made_station
 from helpers.asked_tools import EXAMPLES, TOOLS, Asked, ask, module
 from helpers.harness import SECONDS, run, text
 from helpers.typed_station import appid, reference, scd
@@ -89,6 +90,19 @@ class Names(Each):
             yield f"a block that is not in the file: {vars(other)}"
         if not names.names_of(appid("dsDevices"), reference("dsDevices"), [POSITION, POSITION], "CTLLD0/LLN0$ds").differs:
             yield "another data set does not differ"
+
+
+class Nameless(Each):
+    """FCDAs that name nothing tell the number of members alone."""
+
+    name = "FCDAs that name nothing"
+
+    def wrong(self, _program):
+        names = names_by("--scd", made_station.scd())
+        for members, wanted in (([True, POSITION], (False, False)), ([True], (False, True))):
+            found = names.names_of("3001", "P01LD0/LLN0$GO$gcb1", members)
+            if (found.is_known, found.differs) != wanted:
+                yield f"{members}: known {found.is_known}, differs {found.differs}"
 
 
 class Words(Each):
@@ -299,6 +313,7 @@ class Table(Each):
 def cases():
     yield Names("--scd")
     yield Names("--names")
+    yield Nameless()
     yield Words()
     yield Trips()
     yield Put("--scd")
