@@ -753,7 +753,7 @@ def cases():
     own = [f"{0x3000 + at:04x},P{at:02}LD0/LLN0$GO$gcb1,P{at:02}LD0/LLN0$ds1,P{at:02},1,2" for at in (1, 2, 7, 10)]
     yield Told("what one device of a station receives", station, "--scd", "of.scd", "--ied", "SUB", scd=made_station.scd(), blocks=own, status=1,
                said="Told of SUB, which receives 4 control blocks by of.scd.")
-    yield Told("a classic capture", (EXAMPLES / "two_frames.pcap").read_bytes(), status=0)
+    yield Told("a classic capture", (EXAMPLES / "two_frames.pcap").read_bytes(), status=6, said="the recorder cut 1 packet, from packet 2 on")
     both = [with_asdus(asdu(), asdu(sv_id=element(0x80, b"T")), asdu(), count=b"\3"), with_asdus(asdu(sv_id=element(0x80, b"T")))]
     yield Told("frames of two streams", section() + interface() + packet(3, both[0]) + packet(9, both[1]), status=6)
     linked = section() + interface() + interface(link=113) + packet(3, WORKED) + packet(4, WORKED, which=1) + packet(5, put(WORKED, at13=0))

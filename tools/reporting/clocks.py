@@ -1,4 +1,5 @@
 """The clocks of devices beside the capture's: t of their states, and when these came."""
+import bisect
 import re
 import statistics
 
@@ -15,6 +16,8 @@ SECOND = 10**6
 AHEAD, BEHIND = SECOND, 10 * SECOND
 # How many states of a sender are held; of the others only those further ahead or behind.
 MOST = 1000
+# At how many leaps of the capture's clock its beginning is looked at anew.
+MOST_LEAPS = 20
 # How many devices tell whether they or the capture are off.
 DEVICES = 3
 # How far other times are from UTC, in seconds.
@@ -93,10 +96,12 @@ def common_of(devices):
     offsets = sorted(it.offset for it in devices if it.offset is not None)
     if len(offsets) < DEVICES:
         return 0
-    for at in range(len(offsets) - len(offsets) // 2):
-        alike = [it for it in offsets[at:] if it - offsets[at] <= SECOND]
-        if 2 * len(alike) > len(offsets) and is_off(statistics.median(alike)):
-            return round(statistics.median(alike))
+    # Over half of them in a row: where these are alike, the others that are so are beside them.
+    many = len(offsets) // 2 + 1
+    for at in range(len(offsets) - many + 1):
+        if offsets[at + many - 1] - offsets[at] <= SECOND:
+            alike = statistics.median(offsets[at:bisect.bisect_right(offsets, offsets[at] + SECOND)])
+            return round(alike) if is_off(alike) else 0
     return 0
 
 
@@ -140,7 +145,7 @@ class Stretch:
 
 def stretches(clocks, leaps):
     """The parts of a capture, each up to the next leap of its clock."""
-    clocks, starts = list(clocks), [0, *(it.packet for it in leaps)]
+    clocks, starts = list(clocks), [0, *(it.packet for it in leaps[:MOST_LEAPS])]
     return [Stretch(clocks, first, last) for first, last in zip(starts, [*starts[1:], float("inf")])]
 
 

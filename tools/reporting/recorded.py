@@ -20,7 +20,8 @@ MOST = 1 << 20
 UNREAD = "what its block says after 1 MiB is not read"
 
 
-TAKEN = (SECTION, INTERFACE, OLD_PACKET, SIMPLE, STATISTICS, PACKET)
+PACKETS = {OLD_PACKET, SIMPLE, PACKET}
+TAKEN = {SECTION, INTERFACE, STATISTICS} | PACKETS
 
 
 class Fields:
@@ -50,9 +51,6 @@ class Interface:
         self.name, self.description, self.link = name, description, LINKS.get(link, f"link type {link}")
         self.is_ethernet, self.snapshot = link == ETHERNET, snapshot
         self.packets, self.first, self.last, self.dropped, self.dropped_before = 0, None, None, 0, 0
-
-    def add(self, number):
-        self.packets, self.first, self.last = self.packets + 1, self.first or number, number
 
     @property
     def drops(self):
@@ -119,11 +117,11 @@ class Recorded:
         while at + 16 <= len(octets) and self.numbers < self.most:
             captured, original = sizes(octets, at + 8)
             self.numbers += 1
-            it.add(self.numbers)
             if captured < original:
                 self.cut.add(self.numbers)
             at += 16 + captured
         self.is_over = self.numbers >= self.most
+        it.packets, it.first, it.last = self.numbers, 1 if self.numbers else None, self.numbers or None
         return at
 
     def blocks(self, octets):
@@ -138,7 +136,9 @@ class Recorded:
             self.is_over = size < 12 or size % 4 > 0
             if kind in TAKEN and at + min(size, MOST) > len(octets):
                 return at
-            if not self.is_over and kind in TAKEN:
+            if kind in PACKETS:
+                self.packet(kind, octets, at, size)
+            elif kind in TAKEN and not self.is_over:
                 self.block(kind, octets, at, min(size, MOST + 4))
             at += size
         return at
@@ -152,16 +152,15 @@ class Recorded:
             link, _, snapshot = self.fields.interface(octets, at + 8)
             self.section.append(Interface(self.text(told.get(NAME)), self.text(told.get(DESCRIPTION, UNREAD if size > MOST else None)), link, snapshot))
             self.interfaces.append(self.section[-1])
-        elif kind == STATISTICS:
-            self.statistics(octets, at, size)
-        elif self.numbers >= self.most or size < (16 if kind == SIMPLE else 32):
-            self.is_over = True
         else:
-            self.packet(kind, octets, at, size)
+            self.statistics(octets, at, size)
 
     def packet(self, kind, octets, at, size):
         """A packet: its interface, whether it is cut, and what was dropped before it."""
         dropped = 0
+        self.is_over = self.is_over or self.numbers >= self.most or size < (16 if kind == SIMPLE else 32)
+        if self.is_over:
+            return
         if kind == PACKET:
             which, _, _, captured, original = self.fields.packet(octets, at + 8)
             if 36 + captured < size:
@@ -176,8 +175,9 @@ class Recorded:
             self.is_over = True
             return
         self.numbers += 1
-        self.section[which].add(self.numbers)
-        self.section[which].dropped_before += dropped
+        it = self.section[which]
+        it.packets, it.first, it.last = it.packets + 1, it.first or self.numbers, self.numbers
+        it.dropped_before += dropped
         if captured < original:
             self.cut.add(self.numbers)
 

@@ -4,6 +4,8 @@ import shlex
 import senders
 from reporting import clocks, events, faults, missing, page, picture, rates, synchronised
 
+# How many leaps of the capture's clock are told.
+MOST_LEAPS = 20
 BLOCKS = [page.Column("Reference"), page.Column("APPID"), page.Column("Addresses"), page.Column("Lifetime"), page.Column("Frames", page.NUMBER),
           page.Column("First and last"), page.Column("Data set, goID, confRev, members")]
 STREAMS = [page.Column("svID"), page.Column("APPID"), page.Column("Addresses"), page.Column("Frames", page.NUMBER), page.Column("First and last"),
@@ -211,7 +213,7 @@ def acted(found, own):
 def lost(found, _own, rows):
     """Losses, silences, restarts, late frames, and totals."""
     it, told = found.missing, []
-    if it.kinds:
+    if it.kinds or it.senders or it.hidden:
         told += [page.head("Findings in the order of packets", missing.COLUMNS), rows, it.rest(), page.FOOT]
     else:
         told.append(paragraph(f"Nothing is missing, late, silent or restarted in {found.all_packets}."))
@@ -221,6 +223,9 @@ def lost(found, _own, rows):
         told += [page.table(f"{what}, {found.all_packets}", columns, held)] if held else []
     if not it.totals and found.broken:
         told.append(paragraph("There are no totals, since the capture breaks off."))
+    for leap in found.station.times.leaps[:MOST_LEAPS]:
+        told.append(paragraph(f"The capture's clock leapt before packet\u00a0{leap.packet}: {page.count(leap.silences + leap.outages, 'silence')} "
+                              f"that it shows from packet\u00a0{leap.first} on may be none."))
     streams = found.station.of_kind("stream")
     if streams:
         told += [page.table("Rates of streams, by which samples are judged", rates.COLUMNS, [rates.row(it, found.rates[it]) for it in streams]),

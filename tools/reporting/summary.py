@@ -19,10 +19,11 @@ def losses(found, _own):
         number, size, packet = it.kinds[kind]
         where = f"up to packet\u00a0{found.packets}" if packet is None else f"first: packet\u00a0{packet}"
         told.append(f"{page.count(size, *missing.WORDS[kind])} ({where})")
+    unsure = list(looked.silences(found))
+    yield from unsure
     if told:
         yield finding(f"{'; '.join(told)}.")
-    yield from looked.silences(found)
-    if not told:
+    elif not unsure:
         yield clean(f"nothing is missing, late, silent or restarted in {found.all_packets}.")
 
 
