@@ -26,9 +26,10 @@ def sent(at, *milliseconds, **fields):
 
 
 def capture():
-    """P01 and P05 send in time, P02 and P06 what their receivers refuse, P04 is silent for 8 s, P03 sends nothing; two streams, one of another
-    confRev than it is configured with."""
-    frames = [*sent(1, 0, 1000, 2000), *sent(2, 0, 1000), *sent(4, 0, 1000, 9000), *sent(5, 100, 1100), *sent(6, 0)]
+    """P01 and P05 send in time, P02 and P06 what their receivers refuse, and so P07 in its last frame; P04 is silent for 8 s, P03 sends
+    nothing; two streams, one of another confRev than it is configured with."""
+    frames = [*sent(1, 0, 1000, 2000), *sent(2, 0, 1000), *sent(4, 0, 1000, 9000), *sent(5, 100, 1100), *sent(6, 0),
+              *sent(7, 0, 1000), *sent(7, 2000, confrev=2)]
     frames += [(START + 500_000 + at * 1000, sample(b"MU01", at)) for at in range(4)]
     frames += [(START + 600_000 + at * 1000, sample(b"MU02", at, 7, appid=0x4002, source=0x32)) for at in range(2)]
     frames.sort(key=lambda it: it[0])
@@ -82,7 +83,7 @@ def block_of(at, name="gcb1", **more):
 
 INPUTS = {
     "SUB1": [block_of(1), block_of(1, serviceType="GOOSE"), block_of(2), block_of(3), bound(iedName="M01", ldInst="LD0", srcCBName="ms1"),
-             bound(iedName="M02", srcLDInst="LD0", srcCBName="ms1", serviceType="SMV"), block_of(6)],
+             bound(iedName="M02", srcLDInst="LD0", srcCBName="ms1", serviceType="SMV"), block_of(6), block_of(7)],
     # Without srcCBName: two blocks of P05 have the data.
     "SUB2": [data_of(5)], "SUB3": [data_of(5)],
     "SUB5": [bound(pLN="GGIO", intAddr="1"), bound(pLN="CSWI"), bound(iedName="@", ldInst="LD0", lnClass="GGIO", doName="Ind9"),
@@ -99,7 +100,7 @@ TYPES = ('<DataTypeTemplates><LNodeType id="GGIO_T" lnClass="GGIO"><DO name="Ind
 
 def scd():
     second = '<GSEControl name="gcb2" datSet="ds1" confRev="1"><IEDName>SUB3</IEDName></GSEControl>'
-    parts = [sender(1), sender(2), sender(3), sender(4, "<IEDName>SUB1</IEDName>"), sender(6), stream(1), stream(2),
+    parts = [sender(1), sender(2), sender(3), sender(4, "<IEDName>SUB1</IEDName>"), sender(6), sender(7), stream(1), stream(2),
              sender(5, more=second, more_addresses=address("GSE", "gcb2", APPID="3055"))]
     supervising = (supervision("LGOS", "GoCBRef", "P01LD0/LLN0.gcb1") + supervision("LSVS", "SvCBRef", "M01LD0/LLN0$MS$ms1")
                    + supervision("LGOS", "GoCBRef", "P01LD0/LLN0.none") + supervision("LGOS", "NdsCom", "P03LD0/LLN0.gcb1"))
@@ -118,6 +119,7 @@ ROWS = {
     ("SUB1", "P03LD0/LLN0$GO$gcb1"): ("ExtRef", 0, 0, "", 0, "never seen"),
     ("SUB1", "P04LD0/LLN0$GO$gcb1"): ("IEDName", 3, 3, "", 1, "accepted"),
     ("SUB1", "P06LD0/LLN0$GO$gcb1"): ("ExtRef", 1, 0, "1 refused (Entries)", 0, "no frame accepted"),
+    ("SUB1", "P07LD0/LLN0$GO$gcb1"): ("ExtRef", 3, 2, "1 refused (ConfRev)", 1, "refused in part"),
     ("SUB1", "MU01 (stream)"): ("ExtRef", 4, 4, "", 0, "accepted"),
     ("SUB1", "MU02 (stream)"): ("ExtRef", 2, 0, "2 refused (confRev 7, configured 1", 0, "no frame accepted"),
     ("SUB2", "P05LD0/LLN0$GO$gcb1"): ("ExtRef: one of 2", 2, 2, "", 1, "accepted"),
@@ -134,11 +136,13 @@ UNNAMED = [("SUB4", "GoCBRef of LGOS: P01LD0/LLN0.none"), ("SUB6", "an ExtRef: i
            ("SUB6", "an ExtRef: iedName P77, ldInst LD0, lnClass GGIO, lnInst 1, doName Ind1")]
 TOLD = ["no frame of P02LD0/LLN0$GO$gcb1 is accepted by SUB1: 2 refused (ConfRev), first: packet 2.",
         "no frame of P06LD0/LLN0$GO$gcb1 is accepted by SUB1: 1 refused (Entries), first: packet 4.",
-        "no frame of MU02 (stream) is accepted by SUB1: 2 refused (confRev 7, configured 1, first: packet 10).",
+        "no frame of MU02 (stream) is accepted by SUB1: 2 refused (confRev 7, configured 1, first: packet 11).",
+        "some frames of P07LD0/LLN0$GO$gcb1 are refused by SUB1: 1 refused (ConfRev), first: packet 19.",
         "5 inputs name no block or data of the file (",
-        "no frame came of 2 blocks and streams that are subscribed to in packets 1 to 17: P03LD0/LLN0$GO$gcb1 (SUB1); P05LD0/LLN0$GO$gcb2 (SUB3, SUB7).",
-        "8 of 14 subscriptions are served in packets 1 to 17.",
-        "Without a subscription: P01, P02, P03, P04, P06, M01, M02, P05, SUB5, SUB6.", "2 ExtRefs are bound to nothing.",
+        "no frame came of 2 blocks and streams that are subscribed to in packets 1 to 20: P03LD0/LLN0$GO$gcb1 (SUB1); "
+        "P05LD0/LLN0$GO$gcb2 (SUB3, SUB7).",
+        "8 of 15 subscriptions are served in packets 1 to 20.",
+        "Without a subscription: P01, P02, P03, P04, P06, P07, M01, M02, P05, SUB5, SUB6.", "2 ExtRefs are bound to nothing.",
         "1 ExtRef names data that no control block sends."]
 
 
@@ -167,8 +171,8 @@ class Matrix:
         for key in found.keys() | ROWS.keys():
             if found.get(key) != ROWS.get(key):
                 yield f"{key}: wanted {ROWS.get(key)}, got {found.get(key)}"
-        states = [row[-1] in ("no frame accepted", "never seen") for row in tables["Subscriptions"]]
-        if states != sorted(states, reverse=True):
+        states = [1 if row[-1] == "never seen" else 0 if "refused" in row[-1] or "no frame" in row[-1] else 2 for row in tables["Subscriptions"]]
+        if states != sorted(states):
             yield f"the rows stand in another order: {states}"
         unnamed = [(ied, what) for ied, _, what in tables["Inputs that name no block or data of the file"]]
         if sorted(unnamed) != sorted(UNNAMED):

@@ -130,6 +130,15 @@ class Outcome:
     def received(self):
         return self.accepted + sum(it.number for it in self.refused.values())
 
+    @property
+    def is_partly_refused(self):
+        """Whether frames were refused beside those accepted. Simulated ones are meant to be."""
+        return any(reason != "Simulated" for reason in self.refused)
+
+    def told(self):
+        """How many frames were accepted."""
+        return f"{self.accepted:,}"
+
     def reasons(self):
         """Why frames were refused, how many, and where first."""
         return ", ".join(f"{it.number:,} refused ({reason}), first: packet\u00a0{it.first.packet}" for reason, it in self.refused.items())
@@ -150,6 +159,13 @@ class Streamed(Outcome):
         super().__init__()
         self.frames, self.revisions, self.wanted = frames, revisions, wanted
         self.accepted = frames if wanted in revisions else 0
+
+    @property
+    def is_partly_refused(self):
+        return len(self.revisions) > 1
+
+    def told(self):
+        return "some" if self.accepted and self.is_partly_refused else super().told()
 
     @property
     def received(self):
@@ -217,7 +233,7 @@ class Matrix:
         """What a subscription comes to: clean, found or not judged, and why."""
         outcome = self.outcomes[id(control)]
         if outcome.accepted:
-            return clean("accepted")
+            return finding("refused in part") if outcome.is_partly_refused else clean("accepted")
         others = [self.subscriptions.controls[at] for at in self.subscriptions.rivals.get((ied, id(control)), ()) if self.outcomes[at].accepted]
         is_sole = any(by == "IEDName" or "one of" not in by for by in self.subscriptions.by[ied, id(control)])
         if others and not is_sole:
@@ -268,7 +284,9 @@ def judge(found, own):
         by_block.setdefault((id(control), state.state, state.told), (control, state, []))[2].append(ied)
     for control, state, ieds in by_block.values():
         if state.state == State.FOUND:
-            yield finding(f"no frame of {name_of(control)} is accepted by {listed(ieds)}: {matrix.outcomes[id(control)].reasons()}.")
+            outcome = matrix.outcomes[id(control)]
+            frames = f"some frames of {name_of(control)} are refused" if outcome.accepted else f"no frame of {name_of(control)} is accepted"
+            yield finding(f"{frames} by {listed(ieds)}: {outcome.reasons()}.")
     unnamed = matrix.subscriptions.unnamed
     if unnamed:
         told = [f"{ied}, line {line}" for ied, line, _ in unnamed]
@@ -316,5 +334,5 @@ def row(matrix, ied, control, by, state):
     received = f"{outcome.received:,}" + (f" ({page.packets(outcome.first, outcome.last)})" if outcome.first else "")
     expired = outcome.expired and f"{outcome.expired.number:,} (first: packet\u00a0{outcome.expired.first.packet})"
     name = page.element("span", page.named(name_of(control)), class_="name")
-    cells = [ied, name, "; ".join(by), received, f"{outcome.accepted:,}", outcome.reasons(), expired or "0", state.told]
+    cells = [ied, name, "; ".join(by), received, outcome.told(), outcome.reasons(), expired or "0", state.told]
     return page.row(COLUMNS, cells, found=len(cells) - 1 if state.state == State.FOUND else None)
