@@ -28,7 +28,7 @@ def of_others(found):
     for number, name, first in found.others:
         kind = name.replace("EtherType ", "").split(" ")[0]
         what, todo = CARRIERS.get(kind, ("", ""))
-        if kind == "others":
+        if kind in ("other", "others"):
             what, todo, kind = "the kinds after sixteen", "look at them in Wireshark", "other protocols"
         if what:
             yield not_judged(f"{page.count(number, 'frame')} of {kind} ({what}), from packet\u00a0{first} on, may carry GOOSE: not read.", todo)
