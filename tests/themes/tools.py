@@ -265,7 +265,7 @@ def objects():
 
 
 def cases():
-    for words in (["to_csv"], ["list_to_pcap"], ["hex_to_list"], ["name_members", "--scd", "examples/station.scd"]):
+    for words in (["to_csv"], ["list_to_pcap"], ["hex_to_list"]):
         yield Shut(*words)
     yield Unheard()
     for tool in TOLD:
