@@ -129,7 +129,7 @@ VALUES = {
     **dict.fromkeys(("text", "gocbRef", "datSet", "goID", "svID"), lambda it: isinstance(it, str) and VISIBLE.fullmatch(it)),
     **dict.fromkeys(("confRev", "vlan", "priority"), lambda it: type(it) is int and 0 <= it < 1 << 64),
     **dict.fromkeys(("members", "asdus"), lambda it: isinstance(it, list)),
-    "destination": hexadecimal(12), "tag": hexadecimal(8), "appid": hexadecimal(4),
+    "destination": hexadecimal(12), "tag": hexadecimal(4), "appid": hexadecimal(4),
 }
 NEEDED = {"goose": ("destination", "appid", "gocbRef", "datSet", "confRev", "members"), "sv": ("destination", "appid", "asdus"),
           "asdu": ("svID", "confRev"), "block": ("text",), "stream": ("svID", "confRev")}
@@ -186,7 +186,7 @@ def read_object(line):
 
 TEXT = r'"[^"\\]*(?:\\.[^"\\]*)*"'
 HEAD = r'\{"(?:line|packet)":[0-9]+,"microseconds":[0-9]+,"time":(?:"[^"\\]*"|null),"kind":"%s",'
-ENVELOPE = (r'"destination":"[0-9a-f]{12}","source":"[0-9a-f]{12}","tag":(?:"[0-9a-f]{8}"|null),"appid":"[0-9a-f]{4}",'
+ENVELOPE = (r'"destination":"[0-9a-f]{12}","source":"[0-9a-f]{12}","tag":(?:"[0-9a-f]{4}"|null),"appid":"[0-9a-f]{4}",'
             r'"reserved1":"[0-9a-f]{4}","reserved2":"[0-9a-f]{4}",')
 TRAILER = r',"trailer":(?:"[0-9a-f]*"|null)\}'
 QUALITY = r'\{(?:"\w+":(?:true|false|[0-9]+),?)*\}'
