@@ -194,6 +194,19 @@ class NoSubscription:
         return [] if wanted in text and "Without a subscription: BAY1, BAY2, BRK1." in text else [text]
 
 
+class Received:
+    """scl_blocks --subscriber has what supervising logical nodes name too."""
+
+    name = "scl_blocks: what a supervising node names"
+
+    def why_wrong(self, program):
+        with tempfile.TemporaryDirectory() as folder:
+            (pathlib.Path(folder) / "of.scd").write_text(scd())
+            told = ask(program, "scl_blocks", ["--streams", "--subscriber", "SUB4", "of.scd"], cwd=folder)
+        wanted = (b'3001,P01LD0/LLN0$GO$gcb1,P01LD0/LLN0$ds1,,1,2\nstream id="MU01" rev=1\n', b"", 0)
+        return [] if sorted(told[0].splitlines()) == sorted(wanted[0].splitlines()) and told[1:] == wanted[1:] else [f"wanted {wanted}, got {told}"]
+
+
 class Refused:
     """--subscriptions without a file is refused."""
 
@@ -207,4 +220,5 @@ class Refused:
 def cases():
     yield Matrix()
     yield NoSubscription()
+    yield Received()
     yield Refused()
