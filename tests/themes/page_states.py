@@ -145,6 +145,10 @@ def times():
     one[20] = (one[19][0] - 1_000_000, one[20][1])
     yield Judged("a time that goes back by a second", capture(one), {
         "Capture": (RED, "times go back, at packet 21 by up to 1.000 s from that of packet 20"), "Losses": (AMBER, "cannot be seen")})
+    # The frame that ends the silence stands a place later, so that its time goes back by a millisecond.
+    late = next(place for place, (at, it) in enumerate(ahead) if at >= START + 9 * SECOND and it[11] == 2)
+    swapped = [*ahead[:late], ahead[late + 1], ahead[late], *ahead[late + 2:]]
+    yield Judged("a silence that ends where a time goes back by a millisecond", capture(swapped), {"Losses": (RED, "1 silence"), "Events acted on": (RED,)})
     one[20] = (one[19][0] - 999_999, one[20][1])
     yield Judged("a time that goes back by less than a second", capture(one), {})
 
@@ -165,6 +169,11 @@ def clocks():
     yield Judged("a device whose t is off by less than is judged", shifted([2], -9), {})
     yield Judged("a device of which one frame is ahead", capture(packets(changed(lambda it: it.device == 2 and it.state == 6, t=lambda it: it.t + 37 * SECOND))),
                  {"Clocks": (RED, d2, "36.999 s ahead")})
+    told = {"Clocks": (GREEN,), "Losses": (RED,), "Events acted on": (RED,)}
+    again = changed(lambda it: it.device == 2 and later(8)(it), state=1, sequence=lambda it: (it.at - START) // SECOND - 8, t=START - HOUR)
+    yield Judged("a device that restarts with an old state", capture(packets(again)), told)
+    headless = packets(lambda it: not (it.device == 2 and it.state > 5) or (it.sequence > 0 and setattr(it, "t", it.t - 30 * SECOND) is None))
+    yield Judged("old states whose first frames are lost", capture(headless), {"Clocks": (GREEN,), "Losses": (RED, "frames missing")})
     for name, quality in (("failed", FAILED), ("not synchronized", UNSYNCHRONIZED)):
         yield Judged(f"a clock that says it is {name}", shifted([2], 37, quality=quality), {"Clocks": (GREEN, "1 control block with a clock")})
     told = {"Simulation": (RED,), "Events acted on": (RED, "Simulated")}
