@@ -21,7 +21,7 @@ fn task_named(rt: &HostRuntime, words: &[&str]) -> &'static str {
 }
 
 // Words that ask for a task, and which one.
-const TASKS: [(&[&str], &str); 9] = [
+const TASKS: [(&[&str], &str); 11] = [
     (&["goose", "show"], "show"),
     (&["goose", "check"], "check"),
     (&["goose", "rewrite"], "rewrite"),
@@ -35,6 +35,9 @@ const TASKS: [(&[&str], &str); 9] = [
     ),
     // A mark of no more flags may follow.
     (&["goose", "show", "--"], "show"),
+    // Options may stand beside it, and what is missing is a task as any other.
+    (&["goose", "show", "--capture", "--json"], "show"),
+    (&["goose", "losses"], "losses"),
 ];
 
 #[test]
@@ -164,12 +167,13 @@ fn is_refused_by(rt: &HostRuntime, words: &[&str], kind: ErrorKind) -> bool {
 }
 
 // Words that are refused, and by which kind of error: no mistake is told as want of memory.
-const REFUSALS: [(&[&str], ErrorKind); 15] = [
+const REFUSALS: [(&[&str], ErrorKind); 16] = [
     (&[], ErrorKind::MissingSubcommand),
     (&["goose"], ErrorKind::MissingSubcommand),
     (&["goose", "fly"], ErrorKind::InvalidSubcommand),
-    // What is missing is told beside the options alone.
-    (&["goose", "losses"], ErrorKind::InvalidSubcommand),
+    // Two options exclude each other, and a command that writes lists takes none.
+    (&["goose", "show", "--json", "--time"], ErrorKind::ArgumentConflict),
+    (&["goose", "rewrite", "--capture"], ErrorKind::UnknownArgument),
     (&["goose", "--loud", "show"], ErrorKind::UnknownArgument),
     (&["goose", "show", "list"], ErrorKind::UnknownArgument),
     (
@@ -524,23 +528,4 @@ fn an_option_is_no_text_of_a_block(rt: HostRuntime) {
     // Behind the mark it is one, and says no block.
     let words = ["goose", "replay", "0001,G,D,,1,1", "--", "--capture"];
     assert!(rt; bad_block_of_request(&rt, words.as_slice()) == 1);
-}
-
-// The commands without the options, which `read_words` reads, refuse them.
-#[test]
-fn words_without_options_refuse_them(rt: HostRuntime) {
-    assert!(rt;
-        is_refused_by(
-            &rt,
-            &["goose", "show", "--capture"],
-            ErrorKind::UnknownArgument
-        )
-    );
-    assert!(rt;
-        is_refused_by(
-            &rt,
-            &["goose", "watch", "--skip-other"],
-            ErrorKind::UnknownArgument
-        )
-    );
 }

@@ -1,74 +1,28 @@
 -- Words that ask for a task are taken, and that task is theirs, with the options that stand there.
-use Rattle.std.proofs.Common.{◌≡◌, ◌&&◌, ◌∙◌, ◌+◌, ◌≤◌, ℕ, zero, Bool, true, false, true≢false, List, [], ◌∷◌, ◌++◌, length, Option, Some, None, Ok, is_some, option_and_then, inl, inr, refl, sym, ap, ap₂, subst, arith}
+use Rattle.std.proofs.Common.{◌≡◌, ◌&&◌, ◌∙◌, ◌+◌, ◌≤◌, ℕ, Bool, true, false, true≢false, List, [], ◌∷◌, ◌++◌, length, Option, Some, None, Ok, is_some, option_and_then, inl, inr, refl, sym, ap, ap₂, subst, arith}
 use Rattle.std.specs.Prelude.{codes, if◌then◌else◌}
 use Rattle.std.specs.Global.{Global}
 use Rattle.std.specs.List.{list_all}
 use Rattle.std.specs.Str.{bytes_eq}
-use Rattle.std.proofs.lemmas.List.{append-nil}
 use Rattle.clap.specs.Lexer.{usize_max}
-use Rattle.clap.specs.Words.{Row, Text, takes}
+use Rattle.clap.specs.Words.{Row, Text}
 use Rattle.clap.specs.Simple.{entered}
 use Rattle.clap.specs.Takes.{entered_passes, level_passes}
 use Rattle.clap.specs.Walk.{idle, nothing_held, rows_after, subcommand_met}
 use Rattle.clap.proofs.OnLiterals.{clap_on_literals}
 use Rattle.block_core.specs.declared.block.Block.{Block}
 use Rattle.words_core.specs.declared.option_words.Options.{Options}
-use Rattle.words_core.specs.CommandLine.{Asked, Asks, AsksReplay, AsksWatch, check, import, list_blocks, losses, name_of, publish, replay, rewrite, show, watch}
-use Rattle.words_core.specs.RequestLine.{AsksByNameWith, AsksLossesWith, AsksReplayWith, AsksWatchWith, AsksWith, Switch, asked_beside, is_on, is_option, no_options, switch_word, takes_options, times}
-use Rattle.words_core.specs.computed.OfferedLine.{line_of, request_by, task_by}
+use Rattle.words_core.specs.CommandLine.{Asked, check, import, list_blocks, losses, name_of, publish, replay, rewrite, show, takes_options, task_asked, watch}
+use Rattle.words_core.specs.RequestLine.{AsksByNameWith, AsksLossesWith, AsksReplayWith, AsksWatchWith, AsksWith, Switch, is_on, is_option, request_asked, switch_word, times}
 use Rattle.words_core.proofs.AskingWords.{line, names, stops}
 use Rattle.words_core.proofs.LossesWords.{in_both, losses_asked_for}
 use Rattle.words_core.proofs.NamedWords.{IsTaken, all_off, at_most, taken_behind, wished}
-use Rattle.words_core.proofs.OptionRows.{AtMostOnce, once_if, times_of, use_all, words_of}
+use Rattle.words_core.proofs.OptionRows.{AtMostOnce, times_of, use_all, words_of}
 use Rattle.words_core.proofs.OptionWalks.{dashes, level_ends}
 use Rattle.words_core.proofs.PlainWords.{IsEnd, plain_leaf, plain_rows, plain_set}
-use Rattle.words_core.proofs.ReplayWords.{all_texts, no_times, replay_asked_for, some_option, texts_in, texts_no_options}
-use Rattle.words_core.proofs.Switches.{is_off}
+use Rattle.words_core.proofs.ReplayWords.{replay_asked_for, some_option}
+use Rattle.words_core.proofs.Switches.{no_options}
 use Rattle.words_core.proofs.WatchWords.{in_all, watch_asked_for}
-use Rattle.words_core.proofs.WordLemmas.{asked_by_name, task_wished}
-
--- ---- where no options are offered
-
-none_on : (o : Switch) → zero ≡ once_if (is_on no_options o)
-none_on o = ap once_if (sym (is_off o))
-
-abbrev TaskTaken : List Text → Asked → Type 0
-TaskTaken words t = (task_by false words ≡ Some (Ok t)) × (takes (line_of false) words ≡ true)
-
-task_taken : (words : List Text) (t : Asked) → IsTaken false words t no_options → TaskTaken words t
-task_taken words t taken = (task_wished false words t no_options taken.0, taken.1)
-
-replay_asked : (words : List Text) (blocks : List (Block Global)) → length words ≤ usize_max → AsksReplay words blocks → TaskTaken words (replay blocks)
-replay_asked [] blocks fits a = absurd a
-replay_asked (called ∷ []) blocks fits a = absurd a
-replay_asked (called ∷ word ∷ []) blocks fits a = absurd a
-replay_asked (called ∷ word ∷ text ∷ texts) blocks fits a =
-    let none = texts_no_options (text ∷ texts) a.1 in
-    let less : length (text ∷ texts) ≤ usize_max = omega (arith, fits) in
-    let asks : AsksReplay (called ∷ codes "replay" ∷ texts_in (text ∷ texts)) blocks =
-    subst (λ (l : List Text). AsksReplay (called ∷ codes "replay" ∷ l) blocks) (sym (all_texts (text ∷ texts) none)) (refl, a.1, a.2) in
-    subst (λ (n : Text). TaskTaken (called ∷ n ∷ text ∷ texts) (replay blocks)) (sym a.0)
-    (task_taken (called ∷ codes "replay" ∷ text ∷ texts) (replay blocks)
-    (replay_asked_for false called (text ∷ texts) blocks no_options less (λ f. none) asks (λ o. no_times (text ∷ texts) none o ∙ none_on o)))
-
-watch_asked : (words : List Text) (period : ℕ) (id : Text) → AsksWatch words period id → TaskTaken words (watch period id)
-watch_asked words period id a =
-    let taken = watch_asked_for false words period id no_options a [] [] [] (λ f. refl) (λ f. refl) (λ f. refl) none_on in
-    let same : a.called ∷ codes "watch" ∷ (a.first ++ (a.second ++ [])) ≡ words = ap (λ (l : List Text). a.called ∷ codes "watch" ∷ (a.first ++ l)) (append-nil a.second) ∙ sym a.behind in
-    task_taken words (watch period id) (subst (λ (w : List Text). IsTaken false w (watch period id) no_options) same taken)
-
-pub asked : (words : List Text) (t : Asked) → length words ≤ usize_max → Asks words t → TaskTaken words t
-asked words show fits a = asked_by_name words show refl a
-asked words check fits a = asked_by_name words check refl a
-asked words rewrite fits a = asked_by_name words rewrite refl a
-asked words list_blocks fits a = asked_by_name words list_blocks refl a
-asked words publish fits a = asked_by_name words publish refl a
-asked words import fits a = asked_by_name words import refl a
-asked words (replay blocks) fits a = replay_asked words blocks fits a
-asked words (watch period id) fits a = watch_asked words period id a
-asked words (losses period) fits a = absurd a
-
--- ---- where they are
 
 -- words that are options, as options
 abbrev Switches : List Text → Type 0
@@ -103,10 +57,10 @@ times_append word (x ∷ first) second = go (bytes_eq x word) refl (times_append
 
 -- a task whose subcommand takes options alone
 record TakesThem (t : Asked) : Type 0 where
-  met : subcommand_met (names true) idle (name_of t) ≡ Some (name_of t)
-  enters : (rest : List Text) → entered (line true) (Some (name_of t, rest)) ≡ Some (name_of t, rows_after (plain_leaf true t).rules [] rest)
-  asks : (rows : List Row) → asked_beside (name_of t, rows) ≡ Some (Ok t)
-  passes : (rest : List Text) → level_passes (plain_leaf true t) [] nothing_held rest false ≡ true → entered_passes (line true) (Some (name_of t, rest)) ≡ true
+  met : subcommand_met names idle (name_of t) ≡ Some (name_of t)
+  enters : (rest : List Text) → entered line (Some (name_of t, rest)) ≡ Some (name_of t, rows_after (plain_leaf true t).rules [] rest)
+  asks : (rows : List Row) → task_asked (name_of t, rows) ≡ Some (Ok t)
+  passes : (rest : List Text) → level_passes (plain_leaf true t) [] nothing_held rest false ≡ true → entered_passes line (Some (name_of t, rest)) ≡ true
 
 show_takes : TakesThem show
 show_takes = record { met = refl; enters = λ rest. refl; asks = λ rows. refl; passes = λ rest p. p }
@@ -122,27 +76,27 @@ there_is t rest None e = cc
 there_is t rest (Some r) e = refl
 
 options_asked : (t : Asked) → TakesThem t → (called : Text) (os : List Switch) (mark : List Text) (options : Options) → IsEnd mark → ((o : Switch) → times_of o os ≡ (if is_on options o then 1 else 0))
-    → IsTaken true (called ∷ name_of t ∷ (words_of os ++ mark)) t options
+    → IsTaken (called ∷ name_of t ∷ (words_of os ++ mark)) t options
 options_asked t k called os mark options end gives =
     let rest = words_of os ++ mark in
     let rows = rows_after (plain_leaf true t).rules [] rest in
     let new : AtMostOnce (λ o. 0) os = λ o. let m = at_most (is_on options o) (times_of o os) (gives o) in omega (arith, m) in
     let ended = plain_rows t os mark end new in
     let level = level_ends (plain_leaf true t) (use_all os) rest ended refl refl refl in (
-      ap (λ (o : Option (Text × List Text)). option_and_then (request_by true) (entered (line true) o)) (stops true (name_of t) (name_of t) rest k.met) ∙ ap (option_and_then (request_by true)) (k.enters rest)
-          ∙ wished true options rows (λ o. times_of o os) t (asked_beside (name_of t, rows)) (k.asks rows) (plain_set t os mark end new) gives (λ f. absurd (true≢false f)),
-      taken_behind true called (name_of t) rest k.met (there_is t rest (entered (line true) (Some (name_of t, rest))) (k.enters rest)) (k.passes rest level),
+      ap (λ (o : Option (Text × List Text)). option_and_then request_asked (entered line o)) (stops (name_of t) (name_of t) rest k.met) ∙ ap (option_and_then request_asked) (k.enters rest)
+          ∙ wished options rows (λ o. times_of o os) t (task_asked (name_of t, rows)) (k.asks rows) (plain_set t os mark end new) gives,
+      taken_behind called (name_of t) rest k.met (there_is t rest (entered line (Some (name_of t, rest))) (k.enters rest)) (k.passes rest level),
     )
 
-with_options_asked : (words : List Text) (t : Asked) (options : Options) → TakesThem t → AsksByNameWith words t options → IsTaken true words t options
+with_options_asked : (words : List Text) (t : Asked) (options : Options) → TakesThem t → AsksByNameWith words t options → IsTaken words t options
 with_options_asked words t options k a =
     let os = as_switches a.given a.are_options in
     let gives : (o : Switch) → times_of o os.0 ≡ (if is_on options o then 1 else 0) = λ o. sym (ap (times (switch_word o)) os.1) ∙ a.give o in
     let same : a.called ∷ name_of t ∷ (words_of os.0 ++ a.mark) ≡ words = ap (λ (l : List Text). a.called ∷ name_of t ∷ (l ++ a.mark)) (sym os.1) ∙ sym a.behind in
-    subst (λ (w : List Text). IsTaken true w t options) same (options_asked t k a.called os.0 a.mark options a.end gives)
+    subst (λ (w : List Text). IsTaken w t options) same (options_asked t k a.called os.0 a.mark options a.end gives)
 
 -- a task whose subcommand takes none
-name_alone : (called : Text) (t : Asked) → takes_options t ≡ false → (IsTaken true (called ∷ name_of t ∷ []) t no_options) × (IsTaken true (called ∷ name_of t ∷ dashes ∷ []) t no_options)
+name_alone : (called : Text) (t : Asked) → takes_options t ≡ false → (IsTaken (called ∷ name_of t ∷ []) t no_options) × (IsTaken (called ∷ name_of t ∷ dashes ∷ []) t no_options)
 unfolding clap_on_literals
 name_alone called rewrite e = ((refl, refl), (refl, refl))
 name_alone called publish e = ((refl, refl), (refl, refl))
@@ -154,25 +108,25 @@ name_alone called (replay blocks) e = absurd (true≢false e)
 name_alone called (watch period id) e = absurd (true≢false e)
 name_alone called (losses period) e = absurd (true≢false e)
 
-without_options_asked : (words : List Text) (t : Asked) (options : Options) → takes_options t ≡ false → AsksByNameWith words t options → IsTaken true words t options
+without_options_asked : (words : List Text) (t : Asked) (options : Options) → takes_options t ≡ false → AsksByNameWith words t options → IsTaken words t options
 without_options_asked words t options none a =
     let no_given = a.taken none in
     let same : a.called ∷ name_of t ∷ a.mark ≡ words = ap (λ (l : List Text). a.called ∷ name_of t ∷ (l ++ a.mark)) (sym no_given) ∙ sym a.behind in
     let is_off = all_off options (λ o. sym (ap (times (switch_word o)) no_given) ∙ a.give o) in
     let both = name_alone a.called t none in
-    subst (λ (w : List Text). IsTaken true w t options) same (subst (λ (o : Options). IsTaken true (a.called ∷ name_of t ∷ a.mark) t o) (sym is_off) (elim a.end [
-      | inl e ↦ subst (λ (m : List Text). IsTaken true (a.called ∷ name_of t ∷ m) t no_options) (sym e) both.0
-      | inr e ↦ subst (λ (m : List Text). IsTaken true (a.called ∷ name_of t ∷ m) t no_options) (sym e) both.1
+    subst (λ (w : List Text). IsTaken w t options) same (subst (λ (o : Options). IsTaken (a.called ∷ name_of t ∷ a.mark) t o) (sym is_off) (elim a.end [
+      | inl e ↦ subst (λ (m : List Text). IsTaken (a.called ∷ name_of t ∷ m) t no_options) (sym e) both.0
+      | inr e ↦ subst (λ (m : List Text). IsTaken (a.called ∷ name_of t ∷ m) t no_options) (sym e) both.1
     ]))
 
-replay_with_asked : (words : List Text) (blocks : List (Block Global)) (options : Options) → length words ≤ usize_max → AsksReplayWith words blocks options → IsTaken true words (replay blocks) options
+replay_with_asked : (words : List Text) (blocks : List (Block Global)) (options : Options) → length words ≤ usize_max → AsksReplayWith words blocks options → IsTaken words (replay blocks) options
 replay_with_asked words blocks options fits a =
     let size = ap length a.behind in
     let less : length a.arguments ≤ usize_max = omega (arith, fits, size) in
-    subst (λ (w : List Text). IsTaken true w (replay blocks) options) (sym a.behind)
-    (replay_asked_for true a.called a.arguments blocks options less (λ f. absurd (true≢false f)) a.asks a.give)
+    subst (λ (w : List Text). IsTaken w (replay blocks) options) (sym a.behind)
+    (replay_asked_for a.called a.arguments blocks options less a.asks a.give)
 
-watch_with_asked : (words : List Text) (period : ℕ) (id : Text) (options : Options) → AsksWatchWith words period id options → IsTaken true words (watch period id) options
+watch_with_asked : (words : List Text) (period : ℕ) (id : Text) (options : Options) → AsksWatchWith words period id options → IsTaken words (watch period id) options
 watch_with_asked words period id options a =
     let first = all_append a.before (a.between ++ a.after) a.are_options in
     let second = all_append a.between a.after first.1 in
@@ -187,13 +141,13 @@ watch_with_asked words period id options a =
     let m : times (switch_word o) a.between ≡ times_of o middle.0 = ap (times (switch_word o)) middle.1 in
     let l : times (switch_word o) a.after ≡ times_of o after.0 = ap (times (switch_word o)) after.1 in
     omega (arith, all, rest, give, b, m, l) in
-    let taken = watch_asked_for true a.alone period id options a.asks before.0 middle.0 after.0 (λ f. absurd (true≢false f)) (λ f. absurd (true≢false f)) (λ f. absurd (true≢false f)) gives in
+    let taken = watch_asked_for a.alone period id options a.asks before.0 middle.0 after.0 gives in
     let same : a.asks.called ∷ codes "watch" ∷ (words_of before.0 ++ (a.asks.first ++ (words_of middle.0 ++ (a.asks.second ++ words_of after.0)))) ≡ words =
     ap (λ (l : List Text). a.asks.called ∷ codes "watch" ∷ (l ++ (a.asks.first ++ (words_of middle.0 ++ (a.asks.second ++ words_of after.0))))) (sym before.1)
     ∙ ap₂ (λ (m l : List Text). a.asks.called ∷ codes "watch" ∷ (a.before ++ (a.asks.first ++ (m ++ (a.asks.second ++ l))))) (sym middle.1) (sym after.1) ∙ sym a.behind in
-    subst (λ (w : List Text). IsTaken true w (watch period id) options) same taken
+    subst (λ (w : List Text). IsTaken w (watch period id) options) same taken
 
-losses_with_asked : (words : List Text) (period : Option ℕ) (options : Options) → AsksLossesWith words period options → IsTaken true words (losses period) options
+losses_with_asked : (words : List Text) (period : Option ℕ) (options : Options) → AsksLossesWith words period options → IsTaken words (losses period) options
 losses_with_asked words period options a =
     let parts = all_append a.before a.after a.are_options in
     let before = as_switches a.before parts.0 in
@@ -207,9 +161,9 @@ losses_with_asked words period options a =
     let taken = losses_asked_for a.called period a.said options a.says before.0 after.0 a.mark a.end gives in
     let same : a.called ∷ codes "losses" ∷ ((words_of before.0 ++ (a.said ++ words_of after.0)) ++ a.mark) ≡ words =
     ap₂ (λ (b l : List Text). a.called ∷ codes "losses" ∷ ((b ++ (a.said ++ l)) ++ a.mark)) (sym before.1) (sym after.1) ∙ sym a.behind in
-    subst (λ (w : List Text). IsTaken true w (losses period) options) same taken
+    subst (λ (w : List Text). IsTaken w (losses period) options) same taken
 
-pub asked_with : (words : List Text) (t : Asked) (options : Options) → length words ≤ usize_max → AsksWith words t options → IsTaken true words t options
+pub asked_with : (words : List Text) (t : Asked) (options : Options) → length words ≤ usize_max → AsksWith words t options → IsTaken words t options
 asked_with words show options fits a = with_options_asked words show options show_takes a
 asked_with words check options fits a = with_options_asked words check options check_takes a
 asked_with words list_blocks options fits a = with_options_asked words list_blocks options blocks_take a

@@ -1,5 +1,5 @@
 -- Words without a fault ask for their task by its name alone.
-use Rattle.std.proofs.Common.{◌≡◌, ◌&&◌, ◌∙◌, ℕ, zero, Bool, true, false, true≢false, List, [], ◌∷◌, ◌++◌, Option, Some, None, option_map, option_and_then, unwrap_or, cond, inl, inr, refl, sym, ap, ap₂, subst, append_assoc}
+use Rattle.std.proofs.Common.{◌≡◌, ◌∙◌, ℕ, zero, Bool, true, false, true≢false, List, [], ◌∷◌, ◌++◌, Option, Some, None, option_map, option_and_then, unwrap_or, cond, inl, inr, refl, sym, ap, ap₂, subst, append_assoc}
 use Rattle.std.specs.Prelude.{codes, find, fold, if◌then◌else◌, Ok, Err}
 use Rattle.std.specs.Global.{Global}
 use Rattle.std.specs.Option.{option_map_or}
@@ -7,41 +7,39 @@ use Rattle.std.specs.List.{list_all, list_any}
 use Rattle.std.specs.Str.{bytes_eq}
 use Rattle.std.proofs.lemmas.List.{append-nil}
 use Rattle.std.proofs.lemmas.Slice.Eq.{bytes_eq-Decides}
-use Rattle.clap.specs.Words.{App, Row, Shape, Text, all_of, built, first_of, one_of}
+use Rattle.clap.specs.Words.{App, Row, Shape, Text, all_of, built, fault_of, first_of, one_of}
 use Rattle.clap.specs.Faults.{entered_fault, level_fault, walk_fault}
 use Rattle.clap.specs.Simple.{entered, label_of, names_of, rows_at}
 use Rattle.clap.specs.Walk.{Names, Walk, answers_to, idle, nothing_held, rows_after, stop_after, subcommand_met, walk_from, walked}
 use Rattle.clap.proofs.OnLiterals.{clap_on_literals}
 use Rattle.clap.proofs.WalkLemmas.{find-map}
 use Rattle.block_core.specs.declared.block.Block.{Block}
-use Rattle.words_core.specs.CommandLine.{Asked, Asks, AsksByName, Meaning, Subcommand, blocks_in, check, first_bad_block, import, is_plain, list_blocks, losses, name_of, number_said, plain, publish, replay, replay_of, replay_shape, replaying, rewrite, show, subcommands, task_asked, watch, watch_shape, watching}
-use Rattle.words_core.proofs.KeptRows.{first_none, last_subs, leaf, then_none}
+use Rattle.words_core.specs.CommandLine.{Asked, Meaning, Subcommand, blocks_in, check, first_bad_block, import, is_plain, list_blocks, losing, losses, losses_shape, name_of, number_said, plain, publish, replay, replay_of, replay_shape, replaying, rewrite, show, subcommands, takes_options, task_asked, watch, watch_shape, watching}
+use Rattle.words_core.proofs.KeptRows.{first_none, leaf, then_none}
 use Rattle.words_core.specs.declared.option_words.Options.{Options}
-use Rattle.words_core.specs.RequestLine.{AsksByNameWith, AsksWith, Switch, Wish, is_on, is_option, is_set, losses_asked, losses_shape, no_options, switch_name, takes_options, with_these}
-use Rattle.words_core.specs.computed.OfferedLine.{asked_for, faults_by, line_of, offered, options_by, request_by, wish_by}
+use Rattle.words_core.specs.RequestLine.{AsksByNameWith, AsksWith, Switch, Wish, is_on, is_option, is_set, offered, options_in, request_asked, request_line, request_of_words, switch_name, with_these}
 use Rattle.words_core.proofs.LoneFlags.{AreFlags, help_flag, lone_mark, version_flag}
 use Rattle.words_core.proofs.OptionRows.{once_if, times_of, words_of}
 use Rattle.words_core.proofs.OptionWalks.{dashes}
 use Rattle.words_core.proofs.PlainWords.{IsEnd, given, none_given_at, none_yet, plain_leaf, plain_set}
-use Rattle.words_core.proofs.Switches.{an_option, is_off, is_on_in}
+use Rattle.words_core.proofs.Switches.{an_option, is_on_in}
 
 -- the built command, its words before a subcommand, and the names of its subcommands
-abbrev pub line : Bool → App
-line offers = built (line_of offers)
+abbrev pub line : App
+line = built request_line
 
 abbrev pub top : Shape
-top = (line false).top
+top = line.top
 
-abbrev pub names : Bool → Names
-names offers = names_of (line offers)
+abbrev pub names : Names
+names = names_of line
 
 abbrev has_none : {X : Type 0} → List X → Bool
 has_none [] = true
 has_none (x ∷ xs) = false
 
-no_aliases : (offers : Bool) → list_all (λ s. has_none s.1) (names offers) ≡ true
-no_aliases true = refl
-no_aliases false = refl
+no_aliases : list_all (λ s. has_none s.1) names ≡ true
+no_aliases = refl
 
 abbrev wish_or : Asked × Options → Option Wish → Asked × Options
 wish_or d (Some (Ok wish)) = wish
@@ -68,16 +66,16 @@ met_name word name ((n, []) ∷ xs) all e = go (bytes_eq n word) refl (met_name 
     go true t rest = let same : Some n ≡ Some name = rw t at e in sym (ap (λ (o : Option Text). unwrap_or o n) same) ∙ (bytes_eq-Decides n word).0 t
     go false t rest = rest (rw t at e)
 
-entered_name : (offers : Bool) (name : Text) (words : List Text) (r : Text × List Row) → entered (line offers) (Some (name, words)) ≡ Some r → r.0 ≡ name
-entered_name offers name words r e = go (find (λ s. answers_to name (label_of s)) (line offers).subs) refl
+entered_name : (name : Text) (words : List Text) (r : Text × List Row) → entered line (Some (name, words)) ≡ Some r → r.0 ≡ name
+entered_name name words r e = go (find (λ s. answers_to name (label_of s)) line.subs) refl
   where
-    go : (o : Option Shape) → find (λ s. answers_to name (label_of s)) (line offers).subs ≡ o → r.0 ≡ name
+    go : (o : Option Shape) → find (λ s. answers_to name (label_of s)) line.subs ≡ o → r.0 ≡ name
     go None f = let bad : None ≡ Some r = rw f at e in cc
     go (Some s) f =
         let same : Some (rows_at s words) ≡ Some r = rw f at e in
-        let found : option_map (λ l. l.0) (find (answers_to name) (names offers)) ≡ Some s.name =
-        ap (λ (o : Option (Text × List Text)). option_map (λ l. l.0) o) (sym (find-map (answers_to name) label_of (line offers).subs) ∙ ap (option_map label_of) f) in
-        sym (ap (λ (o : Option (Text × List Row)). (unwrap_or o r).0) same) ∙ met_name name s.name (names offers) (no_aliases offers) found
+        let found : option_map (λ l. l.0) (find (answers_to name) names) ≡ Some s.name =
+        ap (λ (o : Option (Text × List Text)). option_map (λ l. l.0) o) (sym (find-map (answers_to name) label_of line.subs) ∙ ap (option_map label_of) f) in
+        sym (ap (λ (o : Option (Text × List Row)). (unwrap_or o r).0) same) ∙ met_name name s.name names (no_aliases) found
 
 -- ---- a task has the name of its subcommand
 
@@ -116,8 +114,11 @@ watch_named (Some n) (Some id) t e = sym (ap (λ (o : Option Meaning). name_of (
 named_watch : HasName watching
 named_watch rows t e = watch_named (option_and_then number_said (one_of (codes "period") rows)) (first_of (codes "id") rows) t e
 
+named_losses : HasName losing
+named_losses rows t e = sym (ap (λ (o : Option Meaning). name_of (asked_or t o)) e)
+
 all_named : Named subcommands
-all_named = (named_plain show, (named_plain check, (named_plain rewrite, (named_plain list_blocks, (named_replay, (named_plain publish, (named_watch, (named_plain import, tt))))))))
+all_named = (named_plain show, (named_plain check, (named_plain rewrite, (named_plain list_blocks, (named_replay, (named_plain publish, (named_watch, (named_losses, (named_plain import, tt)))))))))
 
 asked_name : (xs : List Subcommand) → Named xs → (name : Text) (rows : List Row) (t : Asked)
     → option_and_then (λ s. s.task rows) (find (λ s. bytes_eq s.shape.name name) xs) ≡ Some (Ok t) → name_of t ≡ name
@@ -129,33 +130,21 @@ asked_name (c ∷ cs) h name rows t e = go (bytes_eq c.shape.name name) refl (as
     go true u rest = h.0 rows t (rw u at e) ∙ (bytes_eq-Decides c.shape.name name).0 u
     go false u rest = rest (rw u at e)
 
--- with the options offered as without, another name asks for the same
-pub asked_other : (offers : Bool) (met : Text × List Row) → bytes_eq (codes "losses") met.0 ≡ false → asked_for offers met ≡ task_asked met
-asked_other true met e = rw e refl
-asked_other false met e = refl
-
 -- a request has the name of its subcommand too
-pub for_name : (offers : Bool) (r : Text × List Row) (t : Asked) → asked_for offers r ≡ Some (Ok t) → name_of t ≡ r.0
-for_name false r t e = asked_name subcommands all_named r.0 r.1 t e
-for_name true r t e = go (bytes_eq (codes "losses") r.0) refl
-  where
-    go : (b : Bool) → bytes_eq (codes "losses") r.0 ≡ b → name_of t ≡ r.0
-    go true u =
-        let same : losses_asked r.1 ≡ Some (Ok t) = rw u at e in
-        sym (ap (λ (o : Option Meaning). name_of (asked_or t o)) same) ∙ (bytes_eq-Decides (codes "losses") r.0).0 u
-    go false u = let same : task_asked r ≡ Some (Ok t) = rw u at e in asked_name subcommands all_named r.0 r.1 t same
+pub for_name : (r : Text × List Row) (t : Asked) → task_asked r ≡ Some (Ok t) → name_of t ≡ r.0
+for_name r t e = asked_name subcommands all_named r.0 r.1 t e
 
 -- ---- the words behind a subcommand are its own
 
-pub follow : (offers : Bool) (w : Walk) (p : Text × List Text) (words : List Text) → w.stopped ≡ Some p → (fold (walked top.rules (names offers)) w words).stopped ≡ Some (p.0, p.1 ++ words)
+pub follow : (w : Walk) (p : Text × List Text) (words : List Text) → w.stopped ≡ Some p → (fold (walked top.rules names) w words).stopped ≡ Some (p.0, p.1 ++ words)
 unfolding walked
-follow offers w p [] e = e ∙ ap (λ (l : List Text). Some (p.0, l)) (sym (append-nil p.1))
-follow offers w p (x ∷ xs) e =
-    follow offers (walked top.rules (names offers) w x) (p.0, p.1 ++ x ∷ []) xs (rw e refl) ∙ ap (λ (l : List Text). Some (p.0, l)) (append_assoc p.1 (x ∷ []) xs)
+follow w p [] e = e ∙ ap (λ (l : List Text). Some (p.0, l)) (sym (append-nil p.1))
+follow w p (x ∷ xs) e =
+    follow (walked top.rules names w x) (p.0, p.1 ++ x ∷ []) xs (rw e refl) ∙ ap (λ (l : List Text). Some (p.0, l)) (append_assoc p.1 (x ∷ []) xs)
 
-pub stops : (offers : Bool) (word name : Text) (words : List Text) → subcommand_met (names offers) idle word ≡ Some name → stop_after top.rules (names offers) (word ∷ words) ≡ Some (name, words)
+pub stops : (word name : Text) (words : List Text) → subcommand_met names idle word ≡ Some name → stop_after top.rules names (word ∷ words) ≡ Some (name, words)
 unfolding walked
-stops offers word name words m = follow offers (walked top.rules (names offers) (walk_from nothing_held) word) (name, []) words (rw m refl)
+stops word name words m = follow (walked top.rules names (walk_from nothing_held) word) (name, []) words (rw m refl)
 
 -- the flags of the program
 program_flags : AreFlags top.rules []
@@ -172,20 +161,20 @@ takes_by_name name = list_any (λ t. bytes_eq (name_of t) name) (show ∷ check 
 
 -- words behind the name of a subcommand without words of its own are options, each set where it stands, and then
 -- nothing or the mark
-record Behind (offers : Bool) (s : Shape) (words : List Text) : Type 0 where
+record Behind (s : Shape) (words : List Text) : Type 0 where
   options : List Switch
   mark : List Text
   are : words ≡ words_of options ++ mark
   end : IsEnd mark
   sets : (o : Switch) → times_of o options ≡ (if is_set (switch_name o) (rows_after s.rules [] words) then 1 else 0)
-  none : (offers && takes_by_name s.name) ≡ false → options ≡ []
+  none : takes_by_name s.name ≡ false → options ≡ []
 
-abbrev HasOptions : Bool → Shape → Type 0
-HasOptions offers s = (t : Asked) → is_plain t ≡ true → name_of t ≡ s.name → (words : List Text) → walk_fault s [] (walk_from nothing_held) words ≡ [] → Behind offers s words
+abbrev HasOptions : Shape → Type 0
+HasOptions s = (t : Asked) → is_plain t ≡ true → name_of t ≡ s.name → (words : List Text) → walk_fault s [] (walk_from nothing_held) words ≡ [] → Behind s words
 
-abbrev EachHasOptions : Bool → List Shape → Type 0
-EachHasOptions offers [] = Unit {0}
-EachHasOptions offers (s ∷ rest) = HasOptions offers s × EachHasOptions offers rest
+abbrev EachHasOptions : List Shape → Type 0
+EachHasOptions [] = Unit {0}
+EachHasOptions (s ∷ rest) = HasOptions s × EachHasOptions rest
 
 -- no option is set where none is offered
 unset : (t : Asked) (mark : List Text) → IsEnd mark → (o : Switch) → zero ≡ once_if (is_set (switch_name o) (rows_after (plain_leaf false t).rules [] mark))
@@ -195,14 +184,13 @@ unset t mark end o = elim end [
   | inr e ↦ subst (λ (m : List Text). zero ≡ once_if (is_set (switch_name o) (rows_after (plain_leaf false t).rules [] m))) (sym e) refl
 ]
 
-plain_has_none : (offers : Bool) (u : Asked) → HasOptions offers (plain_leaf false u)
-plain_has_none offers u t plainly name words e =
+plain_has_none : (u : Asked) → HasOptions (plain_leaf false u)
+plain_has_none u t plainly name words e =
     let end = none_given_at u words e in
     record { options = []; mark = words; are = refl; end = end; sets = unset u words end; none = λ f. refl }
 
-plain_has : (offers : Bool) (u : Asked) → takes_by_name (name_of u) ≡ true → HasOptions offers (plain_leaf offers u)
-plain_has false u takes t plainly name words e = plain_has_none false u t plainly name words e
-plain_has true u takes t plainly name words e =
+plain_has : (u : Asked) → takes_by_name (name_of u) ≡ true → HasOptions (plain_leaf true u)
+plain_has u takes t plainly name words e =
     let g = given u words (λ o. 0) [] none_yet e in
     record {
       options = g.options;
@@ -228,89 +216,85 @@ other_name (replay blocks) name e other n = true≢false (sym e)
 other_name (watch period id) name e other n = true≢false (sym e)
 other_name (losses period) name e other n = true≢false (sym e)
 
-other_has_none : (offers : Bool) (s : Shape) → is_plain_name s.name ≡ false → HasOptions offers s
-other_has_none offers s other t e n words f = absurd (other_name t s.name e other n)
+other_has_none : (s : Shape) → is_plain_name s.name ≡ false → HasOptions s
+other_has_none s other t e n words f = absurd (other_name t s.name e other n)
 
-last_have : (offers : Bool) → EachHasOptions offers (last_subs offers)
-last_have true = (other_has_none true (leaf (offered true losses_shape)) refl, (plain_has_none true import, tt))
-last_have false = (plain_has_none false import, tt)
-
-all_have : (offers : Bool) → EachHasOptions offers (line offers).subs
-all_have offers = (
-  plain_has offers show refl,
+all_have : EachHasOptions line.subs
+all_have = (
+  plain_has show refl,
   (
-    plain_has offers check refl,
+    plain_has check refl,
     (
-      plain_has_none offers rewrite,
+      plain_has_none rewrite,
       (
-        plain_has offers list_blocks refl,
+        plain_has list_blocks refl,
         (
-          other_has_none offers (leaf (offered offers replay_shape)) refl,
-          (plain_has_none offers publish, (other_has_none offers (leaf (offered offers watch_shape)) refl, last_have offers)),
+          other_has_none (leaf (offered true replay_shape)) refl,
+          (plain_has_none publish, (other_has_none (leaf (offered true watch_shape)) refl, (other_has_none (leaf (offered true losses_shape)) refl, (plain_has_none import, tt)))),
         ),
       ),
     ),
   ),
 )
 
-found_has : (offers : Bool) (xs : List Shape) → EachHasOptions offers xs → (test : Shape → Bool) (s : Shape) → find test xs ≡ Some s → HasOptions offers s
-found_has offers [] h test s f = cc
-found_has offers (x ∷ xs) h test s f = go (test x) refl (found_has offers xs h.1 test s)
+found_has : (xs : List Shape) → EachHasOptions xs → (test : Shape → Bool) (s : Shape) → find test xs ≡ Some s → HasOptions s
+found_has [] h test s f = cc
+found_has (x ∷ xs) h test s f = go (test x) refl (found_has xs h.1 test s)
   where
-    go : (b : Bool) → test x ≡ b → (find test xs ≡ Some s → HasOptions offers s) → HasOptions offers s
-    go true u rest = let same : Some x ≡ Some s = rw u at f in subst (HasOptions offers) (ap (λ (o : Option Shape). unwrap_or o x) same) h.0
+    go : (b : Bool) → test x ≡ b → (find test xs ≡ Some s → HasOptions s) → HasOptions s
+    go true u rest = let same : Some x ≡ Some s = rw u at f in subst (HasOptions) (ap (λ (o : Option Shape). unwrap_or o x) same) h.0
     go false u rest = rest (rw u at f)
 
 -- the words are the name of a task without words of its own, options, and nothing or the mark
-pub record NamesPlainly (offers : Bool) (words : List Text) (t : Asked) (options : Options) : Type 0 where
+pub record NamesPlainly (words : List Text) (t : Asked) (options : Options) : Type 0 where
   pub called : Text
   pub given : List Switch
   pub mark : List Text
   pub are : words ≡ called ∷ name_of t ∷ (words_of given ++ mark)
   pub end : IsEnd mark
   pub gives : (o : Switch) → times_of o given ≡ (if is_on options o then 1 else 0)
-  pub none : (offers && takes_by_name (name_of t)) ≡ false → given ≡ []
+  pub none : takes_by_name (name_of t) ≡ false → given ≡ []
 
 -- what stands behind the name, with the options of its rows
-record Below (offers : Bool) (t : Asked) (words : List Text) (rows : List Row) : Type 0 where
+record Below (t : Asked) (words : List Text) (rows : List Row) : Type 0 where
   options : List Switch
   mark : List Text
   are : words ≡ words_of options ++ mark
   end : IsEnd mark
   sets : (o : Switch) → times_of o options ≡ (if is_set (switch_name o) rows then 1 else 0)
-  none : (offers && takes_by_name (name_of t)) ≡ false → options ≡ []
+  none : takes_by_name (name_of t) ≡ false → options ≡ []
 
-below : (offers : Bool) (name : Text) (words : List Text) (r : Text × List Row) (t : Asked) → is_plain t ≡ true → name_of t ≡ r.0
-    → entered (line offers) (Some (name, words)) ≡ Some r → entered_fault (line offers) (Some (name, words)) ≡ [] → Below offers t words r.1
-below offers name words r t plainly named e f = go (find (λ s. answers_to name (label_of s)) (line offers).subs) refl
+below : (name : Text) (words : List Text) (r : Text × List Row) (t : Asked) → is_plain t ≡ true → name_of t ≡ r.0
+    → entered line (Some (name, words)) ≡ Some r → entered_fault line (Some (name, words)) ≡ [] → Below t words r.1
+below name words r t plainly named e f = go (find (λ s. answers_to name (label_of s)) line.subs) refl
   where
-    go : (o : Option Shape) → find (λ s. answers_to name (label_of s)) (line offers).subs ≡ o → Below offers t words r.1
+    go : (o : Option Shape) → find (λ s. answers_to name (label_of s)) line.subs ≡ o → Below t words r.1
     go None g = absurd (no_pair r (rw g at e))
     go (Some s) g =
         let level : level_fault s [] nothing_held words false [] ≡ [] = rw g at f in
         let same : Some (rows_at s words) ≡ Some r = rw g at e in
         let is : s.name ≡ r.0 = ap (λ (o : Option (Text × List Row)). (unwrap_or o r).0) same in
         let rows_are : rows_after s.rules [] words ≡ r.1 = ap (λ (o : Option (Text × List Row)). (unwrap_or o r).1) same in
-        let has = found_has offers (line offers).subs (all_have offers) (λ s. answers_to name (label_of s)) s g t plainly (named ∙ sym is) words (first_none (walk_fault s [] (walk_from nothing_held) words) _ level) in
+        let has = found_has line.subs (all_have) (λ s. answers_to name (label_of s)) s g t plainly (named ∙ sym is) words (first_none (walk_fault s [] (walk_from nothing_held) words) _ level) in
         record {
           options = has.options;
           mark = has.mark;
           are = has.are;
           end = has.end;
           sets = λ o. subst (λ (l : List Row). times_of o has.options ≡ (if is_set (switch_name o) l then 1 else 0)) rows_are (has.sets o);
-          none = λ h. has.none (subst (λ (n : Text). (offers && takes_by_name n) ≡ false) (named ∙ sym is) h);
+          none = λ h. has.none (subst (λ (n : Text). takes_by_name n ≡ false) (named ∙ sym is) h);
         }
 
 -- ---- the words that ask for a task
 
-abbrev stop : Bool → List Text → Option (Text × List Text)
-stop offers words = stop_after top.rules (names offers) words
+abbrev stop : List Text → Option (Text × List Text)
+stop words = stop_after top.rules names words
 
 -- what fails neither in the walk nor below it
-parts_none : (offers : Bool) (p : Text) (words : List Text) → faults_by offers (p ∷ words) ≡ [] → (walk_fault top (names offers) (walk_from nothing_held) words ≡ []) × (entered_fault (line offers) (stop offers words) ≡ [])
-parts_none offers p words f =
-    let rest = then_none (walk_fault top (names offers) (walk_from nothing_held) words) _ f in
-    (first_none (walk_fault top (names offers) (walk_from nothing_held) words) _ f, first_none (entered_fault (line offers) (stop offers words)) _ rest)
+parts_none : (p : Text) (words : List Text) → fault_of request_line (p ∷ words) ≡ [] → (walk_fault top names (walk_from nothing_held) words ≡ []) × (entered_fault line (stop words) ≡ [])
+parts_none p words f =
+    let rest = then_none (walk_fault top names (walk_from nothing_held) words) _ f in
+    (first_none (walk_fault top names (walk_from nothing_held) words) _ f, first_none (entered_fault line (stop words)) _ rest)
 
 -- a wish is a task and the options of the rows
 wish_parts : (m : Option Meaning) (o : Option Options) (t : Asked) (options : Options) → option_and_then (λ x. option_map (with_these x) m) o ≡ Some (Ok (t, options)) → (m ≡ Some (Ok t)) × (o ≡ Some options)
@@ -322,87 +306,60 @@ wish_parts (Some (Ok u)) (Some o) t options e = (
   ap (λ (w : Option Wish). Some (wish_or (u, o) w).1) e,
 )
 
--- options are given where they are set, or none where none are offered
-gives_by : (offers : Bool) (os : List Switch) (rows : List Row) (options : Options) → options_by offers rows ≡ Some options → ((o : Switch) → times_of o os ≡ (if is_set (switch_name o) rows then 1 else 0))
-    → (offers ≡ false → os ≡ []) → (o : Switch) → times_of o os ≡ (if is_on options o then 1 else 0)
-gives_by true os rows options e sets none o = sets o ∙ ap once_if (is_on_in rows options e o)
-gives_by false os rows options e sets none o =
-    ap (times_of o) (none refl) ∙ ap once_if (sym (is_off o) ∙ ap (λ (x : Option Options). is_on (unwrap_or x no_options) o) e)
+-- options are given where they are set
+gives_by : (os : List Switch) (rows : List Row) (options : Options) → options_in rows ≡ Some options → ((o : Switch) → times_of o os ≡ (if is_set (switch_name o) rows then 1 else 0))
+    → (o : Switch) → times_of o os ≡ (if is_on options o then 1 else 0)
+gives_by os rows options e sets o = sets o ∙ ap once_if (is_on_in rows options e o)
 
-subcommand_asks : (offers : Bool) (p word name : Text) (words : List Text) (t : Asked) (options : Options) → is_plain t ≡ true → subcommand_met (names offers) idle word ≡ Some name → faults_by offers (p ∷ word ∷ words) ≡ []
-    → wish_by offers (p ∷ word ∷ words) ≡ Some (Ok (t, options)) → NamesPlainly offers (p ∷ word ∷ words) t options
-subcommand_asks offers p word name words t options plainly m f e = go (entered (line offers) (Some (name, words))) refl
+subcommand_asks : (p word name : Text) (words : List Text) (t : Asked) (options : Options) → is_plain t ≡ true → subcommand_met names idle word ≡ Some name → fault_of request_line (p ∷ word ∷ words) ≡ []
+    → request_of_words (p ∷ word ∷ words) ≡ Some (Ok (t, options)) → NamesPlainly (p ∷ word ∷ words) t options
+subcommand_asks p word name words t options plainly m f e = go (entered line (Some (name, words))) refl
   where
-    met : option_and_then (request_by offers) (entered (line offers) (Some (name, words))) ≡ Some (Ok (t, options))
-    met = subst (λ (o : Option (Text × List Text)). option_and_then (request_by offers) (entered (line offers) o) ≡ Some (Ok (t, options))) (stops offers word name words m) e
+    met : option_and_then request_asked (entered line (Some (name, words))) ≡ Some (Ok (t, options))
+    met = subst (λ (o : Option (Text × List Text)). option_and_then request_asked (entered line o) ≡ Some (Ok (t, options))) (stops word name words m) e
 
-    fault : entered_fault (line offers) (Some (name, words)) ≡ []
-    fault = subst (λ (o : Option (Text × List Text)). entered_fault (line offers) o ≡ []) (stops offers word name words m) (parts_none offers p (word ∷ words) f).1
+    fault : entered_fault line (Some (name, words)) ≡ []
+    fault = subst (λ (o : Option (Text × List Text)). entered_fault line o ≡ []) (stops word name words m) (parts_none p (word ∷ words) f).1
 
-    go : (o : Option (Text × List Row)) → entered (line offers) (Some (name, words)) ≡ o → NamesPlainly offers (p ∷ word ∷ words) t options
+    go : (o : Option (Text × List Row)) → entered line (Some (name, words)) ≡ o → NamesPlainly (p ∷ word ∷ words) t options
     go None n = absurd (no_wish (Ok (t, options)) (rw n at met))
     go (Some r) n =
-        let both = wish_parts (asked_for offers r) (options_by offers r.1) t options (rw n at met) in
-        let named : name_of t ≡ r.0 = for_name offers r t both.0 in
-        let is : word ≡ name_of t = sym (named ∙ (entered_name offers name words r n ∙ met_name word name (names offers) (no_aliases offers) m)) in
-        let b = below offers name words r t plainly named n fault in
+        let both = wish_parts (task_asked r) (options_in r.1) t options (rw n at met) in
+        let named : name_of t ≡ r.0 = for_name r t both.0 in
+        let is : word ≡ name_of t = sym (named ∙ (entered_name name words r n ∙ met_name word name names (no_aliases) m)) in
+        let b = below name words r t plainly named n fault in
         record {
           called = p;
           given = b.options;
           mark = b.mark;
           are = ap₂ (λ (w : Text) (l : List Text). p ∷ w ∷ l) is b.are;
           end = b.end;
-          gives = gives_by offers b.options r.1 options both.1 b.sets (λ f. b.none (rw f refl));
+          gives = gives_by b.options r.1 options both.1 b.sets;
           none = b.none;
         }
 
-mark_asks_nothing : (offers : Bool) (p : Text) (t : Asked) (options : Options) → wish_by offers (p ∷ dashes ∷ []) ≡ Some (Ok (t, options)) → ⊥
+mark_asks_nothing : (p : Text) (t : Asked) (options : Options) → request_of_words (p ∷ dashes ∷ []) ≡ Some (Ok (t, options)) → ⊥
 unfolding clap_on_literals
-mark_asks_nothing true p t options e = cc
-mark_asks_nothing false p t options e = cc
+mark_asks_nothing p t options e = cc
 
-no_task : (offers : Bool) (p word : Text) (words : List Text) (t : Asked) (options : Options) → subcommand_met (names offers) idle word ≡ None → faults_by offers (p ∷ word ∷ words) ≡ []
-    → wish_by offers (p ∷ word ∷ words) ≡ Some (Ok (t, options)) → ⊥
-no_task offers p word words t options m f e =
-    let lone = lone_mark top (names offers) program_flags refl word words m (parts_none offers p (word ∷ words) f).0 in
-    mark_asks_nothing offers p t options
-    (subst (λ (rest : List Text). wish_by offers (p ∷ dashes ∷ rest) ≡ Some (Ok (t, options))) lone.1 (subst (λ (w : Text). wish_by offers (p ∷ w ∷ words) ≡ Some (Ok (t, options))) lone.0 e))
+no_task : (p word : Text) (words : List Text) (t : Asked) (options : Options) → subcommand_met names idle word ≡ None → fault_of request_line (p ∷ word ∷ words) ≡ []
+    → request_of_words (p ∷ word ∷ words) ≡ Some (Ok (t, options)) → ⊥
+no_task p word words t options m f e =
+    let lone = lone_mark top names program_flags refl word words m (parts_none p (word ∷ words) f).0 in
+    mark_asks_nothing p t options
+    (subst (λ (rest : List Text). request_of_words (p ∷ dashes ∷ rest) ≡ Some (Ok (t, options))) lone.1 (subst (λ (w : Text). request_of_words (p ∷ w ∷ words) ≡ Some (Ok (t, options))) lone.0 e))
 
 -- words without a fault, and of a task without words of its own, name it with its options
-pub words_name : (offers : Bool) (words : List Text) (t : Asked) (options : Options) → faults_by offers words ≡ [] → wish_by offers words ≡ Some (Ok (t, options)) → is_plain t ≡ true → NamesPlainly offers words t options
-words_name offers [] t options f e plainly = cc
-words_name offers (p ∷ []) t options f e plainly = cc
-words_name offers (p ∷ word ∷ words) t options f e plainly = go (subcommand_met (names offers) idle word) refl
+pub words_name : (words : List Text) (t : Asked) (options : Options) → fault_of request_line words ≡ [] → request_of_words words ≡ Some (Ok (t, options)) → is_plain t ≡ true → NamesPlainly words t options
+words_name [] t options f e plainly = cc
+words_name (p ∷ []) t options f e plainly = cc
+words_name (p ∷ word ∷ words) t options f e plainly = go (subcommand_met names idle word) refl
   where
-    go : (o : Option Text) → subcommand_met (names offers) idle word ≡ o → NamesPlainly offers (p ∷ word ∷ words) t options
-    go (Some name) m = subcommand_asks offers p word name words t options plainly m f e
-    go None m = absurd (no_task offers p word words t options m f e)
+    go : (o : Option Text) → subcommand_met names idle word ≡ o → NamesPlainly (p ∷ word ∷ words) t options
+    go (Some name) m = subcommand_asks p word name words t options plainly m f e
+    go None m = absurd (no_task p word words t options m f e)
 
 -- ---- such words ask as the definitions say
-
-asks_plainly : (words : List Text) (t : Asked) → is_plain t ≡ true → AsksByName words (name_of t) → Asks words t
-asks_plainly words show e a = a
-asks_plainly words check e a = a
-asks_plainly words rewrite e a = a
-asks_plainly words list_blocks e a = a
-asks_plainly words publish e a = a
-asks_plainly words import e a = a
-asks_plainly words (replay blocks) e a = absurd (true≢false (sym e))
-asks_plainly words (watch period id) e a = absurd (true≢false (sym e))
-asks_plainly words (losses period) e a = absurd (true≢false (sym e))
-
-by_name : (called name : Text) (mark : List Text) → IsEnd mark → AsksByName (called ∷ name ∷ mark) name
-by_name called name mark end = elim end [
-  | inl e ↦ subst (λ (m : List Text). AsksByName (called ∷ name ∷ m) name) (sym e) refl
-  | inr e ↦ subst (λ (m : List Text). AsksByName (called ∷ name ∷ m) name) (sym e) (refl, refl)
-]
-
--- where no options are offered
-pub words_ask : (words : List Text) (t : Asked) (options : Options) → faults_by false words ≡ [] → wish_by false words ≡ Some (Ok (t, options)) → is_plain t ≡ true → Asks words t
-words_ask words t options f e plainly =
-    let n = words_name false words t options f e plainly in
-    let are : words ≡ n.called ∷ name_of t ∷ n.mark = n.are ∙ ap (λ (os : List Switch). n.called ∷ name_of t ∷ (words_of os ++ n.mark)) (n.none refl) in
-    asks_plainly words t plainly (subst (λ (w : List Text). AsksByName w (name_of t)) (sym are) (by_name n.called (name_of t) n.mark n.end))
 
 asks_with : (words : List Text) (t : Asked) (options : Options) → is_plain t ≡ true → AsksByNameWith words t options → AsksWith words t options
 asks_with words show options e a = a
@@ -426,10 +383,9 @@ takes_none (replay blocks) e f = absurd (true≢false f)
 takes_none (watch period id) e f = absurd (true≢false f)
 takes_none (losses period) e f = absurd (true≢false f)
 
--- where they are
-pub words_ask_with : (words : List Text) (t : Asked) (options : Options) → faults_by true words ≡ [] → wish_by true words ≡ Some (Ok (t, options)) → is_plain t ≡ true → AsksWith words t options
+pub words_ask_with : (words : List Text) (t : Asked) (options : Options) → fault_of request_line words ≡ [] → request_of_words words ≡ Some (Ok (t, options)) → is_plain t ≡ true → AsksWith words t options
 words_ask_with words t options f e plainly =
-    let n = words_name true words t options f e plainly in
+    let n = words_name words t options f e plainly in
     asks_with words t options plainly (record {
       called = n.called;
       given = words_of n.given;

@@ -1,5 +1,5 @@
 -- What the matches of words without a fault keep of their arguments.
-use Rattle.std.proofs.Common.{◌≡◌, ◌&&◌, ℕ, zero, suc, Bool, true, false, true≢false, List, [], ◌∷◌, ◌++◌, length, drop, map, Option, Some, None, is_some, option_and_then, option_map, refl, sym, ap, subst, ◌∙◌}
+use Rattle.std.proofs.Common.{◌≡◌, ◌&&◌, ℕ, zero, suc, Bool, true, false, true≢false, List, [], ◌∷◌, ◌++◌, length, drop, Option, Some, None, is_some, option_and_then, option_map, refl, sym, ap, subst, ◌∙◌}
 use Rattle.std.specs.Prelude.{encode_utf8, find, fold, slice_get, if◌then◌else◌}
 use Rattle.std.specs.Option.{option_map_or}
 use Rattle.std.specs.Str.{bytes_eq, chars}
@@ -18,8 +18,7 @@ use Rattle.clap.specs.declared.error.kind.ErrorKind.{ErrorKind}
 use Rattle.clap.specs.declared.error.kind.ErrorKind.TheVariants as kind
 use Rattle.clap.specs.declared.parser.matches.ValueSource.{ValueSource}
 use Rattle.clap.specs.declared.parser.matches.ValueSource.TheVariants.{CommandLine}
-use Rattle.words_core.specs.CommandLine.{command_line, import, plain as plain_task}
-use Rattle.words_core.specs.computed.OfferedLine.{losses_before}
+use Rattle.words_core.specs.RequestLine.{request_line}
 
 -- where neither of two steps fails, the second does not
 pub then_none : (a b : Kinds) → or_else a b ≡ [] → b ≡ []
@@ -53,11 +52,7 @@ wanted true below argument e = cc
 
 -- the subcommands as they are built
 abbrev pub leaf : Shape → Shape
-leaf s = built_leaf (inherited (with_leaf_noted (marked_built command_line.top)) s)
-
--- the last of them: `losses` where the options are offered, and `import`
-abbrev pub last_subs : Bool → List Shape
-last_subs offers = map built_leaf (map (inherited (with_leaf_noted (marked_built command_line.top))) (losses_before offers ((plain_task import).shape ∷ [])))
+leaf s = built_leaf (inherited (with_leaf_noted (marked_built request_line.top)) s)
 
 -- ---- a walk keeps what each use of an argument keeps
 

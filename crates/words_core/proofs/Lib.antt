@@ -7,7 +7,6 @@ pub mod LossesRows
 pub mod WordLemmas
 pub mod LoneFlags
 pub mod PlainWords
-pub mod SameWalks
 pub mod AskingWords
 pub mod BlockWords
 pub mod NamedWords
@@ -15,6 +14,4 @@ pub mod ReplayWords
 pub mod WatchWords
 pub mod LossesWords
 pub mod AskedWords
-pub mod NamesAlike
-pub mod AlikeWords
 pub mod StandardFacts

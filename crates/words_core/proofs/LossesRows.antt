@@ -11,9 +11,8 @@ use Rattle.clap.specs.Walk.{nothing_held, reading_by, row_text, rows_after, sett
 use Rattle.clap.specs.declared.builder.value_parser.Reading.{Reading}
 use Rattle.clap.specs.declared.builder.value_parser.ValueParser.TheVariants as parses
 use Rattle.clap.proofs.ValueTestLemmas.{accepts-Accepts}
-use Rattle.words_core.specs.CommandLine.{HasPeriod, losses, number_said}
-use Rattle.words_core.specs.RequestLine.{losses_shape, stream_period_rule, switches}
-use Rattle.words_core.specs.computed.OfferedLine.{offered}
+use Rattle.words_core.specs.CommandLine.{HasPeriod, losses, losses_shape, number_said, stream_period_rule}
+use Rattle.words_core.specs.RequestLine.{offered, switches}
 use Rattle.words_core.proofs.KeptRows.{EachKeeps, FirstPasses, Kept, end_keeps, found_keeps, leaf, no_defaults, single_keeps}
 use Rattle.words_core.proofs.OptionRows.{switch_flag}
 use Rattle.words_core.proofs.WatchRows.{help_option, not_period, says_period, switch_defaults_keep, switches_keep}

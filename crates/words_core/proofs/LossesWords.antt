@@ -1,5 +1,5 @@
 -- Words that ask for losses are taken, and the losses are theirs, with the options that stand there.
-use Rattle.std.proofs.Common.{◌≡◌, ◌∙◌, ◌≤◌, ℕ, true, false, true≢false, List, [], ◌∷◌, ◌++◌, map, Option, Some, None, is_some, option_and_then, inl, inr, refl, sym, ap, subst, arith}
+use Rattle.std.proofs.Common.{◌≡◌, ◌∙◌, ◌≤◌, ℕ, true, false, List, [], ◌∷◌, ◌++◌, map, Option, Some, None, is_some, option_and_then, inl, inr, refl, sym, ap, subst, arith}
 use Rattle.std.specs.Prelude.{Ok, codes, fold, if◌then◌else◌}
 use Rattle.std.specs.Str.{bytes_eq}
 use Rattle.std.proofs.lemmas.List.{append-nil}
@@ -9,9 +9,8 @@ use Rattle.clap.specs.Takes.{level_passes, turn_passes, walk_passes}
 use Rattle.clap.specs.Walk.{Waiting, has_row, idle, nothing_held, option, positional, reading_by, row_text, rows_after, used, walked, with_default}
 use Rattle.clap.specs.declared.parser.matches.ValueSource.TheVariants.{CommandLine}
 use Rattle.words_core.specs.declared.option_words.Options.{Options}
-use Rattle.words_core.specs.CommandLine.{is_flag, losses, number_said}
-use Rattle.words_core.specs.RequestLine.{MaySayPeriod, SaysPeriod, Switch, capture, is_on, is_set, losses_asked, switch_name, switch_word, switches}
-use Rattle.words_core.specs.computed.OfferedLine.{request_by}
+use Rattle.words_core.specs.CommandLine.{is_flag, losses, losses_asked, number_said}
+use Rattle.words_core.specs.RequestLine.{MaySayPeriod, SaysPeriod, Switch, capture, is_on, is_set, request_asked, switch_name, switch_word, switches}
 use Rattle.words_core.proofs.AskingWords.{line, stops}
 use Rattle.words_core.proofs.KeptRows.{no_defaults}
 use Rattle.words_core.proofs.LoneFlags.{help_flag}
@@ -214,12 +213,11 @@ module _ (period : Option ℕ) (said : List Text) (m : Says period said) (before
 -- words that ask for losses are taken, and they are theirs, with the options that stand there
 pub losses_asked_for : (called : Text) (period : Option ℕ) (said : List Text) (options : Options) → MaySayPeriod period said → (before after : List Switch) (mark : List Text) → IsEnd mark
     → ((o : Switch) → in_both before after o ≡ (if is_on options o then 1 else 0))
-    → IsTaken true (called ∷ codes "losses" ∷ ((words_of before ++ (said ++ words_of after)) ++ mark)) (losses period) options
+    → IsTaken (called ∷ codes "losses" ∷ ((words_of before ++ (said ++ words_of after)) ++ mark)) (losses period) options
 losses_asked_for called period said options says before after mark end gives =
     let rest = (words_of before ++ (said ++ words_of after)) ++ mark in
     let asks = asks_all period said (may_say period said says) before after (λ o. at_most (is_on options o) (in_both before after o) (gives o)) mark end in (
-      ap (λ (o : Option (Text × List Text)). option_and_then (request_by true) (entered (line true) o)) (stops true (codes "losses") (codes "losses") rest refl)
-          ∙ wished true options (rows_after losing.rules [] rest) (in_both before after) (losses period) (losses_asked (rows_after losing.rules [] rest)) asks.losses_are asks.sets gives
-          (λ f. absurd (true≢false f)),
-      taken_behind true called (codes "losses") rest refl refl asks.passes,
+      ap (λ (o : Option (Text × List Text)). option_and_then request_asked (entered line o)) (stops (codes "losses") (codes "losses") rest refl)
+          ∙ wished options (rows_after losing.rules [] rest) (in_both before after) (losses period) (losses_asked (rows_after losing.rules [] rest)) asks.losses_are asks.sets gives,
+      taken_behind called (codes "losses") rest refl refl asks.passes,
     )

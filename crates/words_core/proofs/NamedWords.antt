@@ -10,58 +10,57 @@ use Rattle.clap.specs.Takes.{default_passes, entered_passes, is_valid, level_pas
 use Rattle.clap.specs.Walk.{Walk, finished, idle, nothing_held, subcommand_met, walk, walk_from, walked}
 use Rattle.words_core.specs.declared.option_words.Options.{Options}
 use Rattle.words_core.specs.CommandLine.{Asked, Meaning}
-use Rattle.words_core.specs.RequestLine.{Switch, is_on, is_set, no_options, switch_name, with_these}
-use Rattle.words_core.specs.computed.OfferedLine.{line_of, options_by, wish_by}
+use Rattle.words_core.specs.RequestLine.{Switch, is_on, is_set, options_in, request_line, request_of_words, switch_name, with_these}
 use Rattle.words_core.proofs.AskingWords.{line, names, top}
 use Rattle.words_core.proofs.OptionRows.{once_if}
 use Rattle.words_core.proofs.OptionWalks.{both_true}
-use Rattle.words_core.proofs.Switches.{is_off, options_from, same_options}
+use Rattle.words_core.proofs.Switches.{is_off, no_options, options_from, same_options}
 use Rattle.words_core.proofs.WordLemmas.{simple_line}
 
 abbrev stopped_at : Text → List Text → Walk
 stopped_at name words = record (walk_from nothing_held) { stopped = Some (name, words) }
 
-behind_name : (offers : Bool) (name : Text) (before words : List Text) → fold (walked top.rules (names offers)) (stopped_at name before) words ≡ stopped_at name (before ++ words)
+behind_name : (name : Text) (before words : List Text) → fold (walked top.rules names) (stopped_at name before) words ≡ stopped_at name (before ++ words)
 unfolding walked
-behind_name offers name before [] = ap (stopped_at name) (sym (append-nil before))
-behind_name offers name before (word ∷ words) = behind_name offers name (before ++ word ∷ []) words ∙ ap (stopped_at name) (append_assoc before (word ∷ []) words)
+behind_name name before [] = ap (stopped_at name) (sym (append-nil before))
+behind_name name before (word ∷ words) = behind_name name (before ++ word ∷ []) words ∙ ap (stopped_at name) (append_assoc before (word ∷ []) words)
 
-behind_passes : (offers : Bool) (name : Text) (before words : List Text) → walk_passes top (names offers) (stopped_at name before) words ≡ true
+behind_passes : (name : Text) (before words : List Text) → walk_passes top names (stopped_at name before) words ≡ true
 unfolding walk_passes walked
-behind_passes offers name before [] = refl
-behind_passes offers name before (word ∷ words) = behind_passes offers name (before ++ word ∷ []) words
+behind_passes name before [] = refl
+behind_passes name before (word ∷ words) = behind_passes name (before ++ word ∷ []) words
 
 not_help : (b : Bool) → (not b || true) ≡ true
 not_help true = refl
 not_help false = refl
 
-module _ (offers : Bool) (name : Text) (words : List Text) (met : subcommand_met (names offers) idle name ≡ Some name) where
-  named_walk : walk top.rules (names offers) nothing_held (name ∷ words) ≡ stopped_at name words
+module _ (name : Text) (words : List Text) (met : subcommand_met names idle name ≡ Some name) where
+  named_walk : walk top.rules names nothing_held (name ∷ words) ≡ stopped_at name words
   unfolding walked
-  named_walk = rw met (behind_name offers name [] words)
+  named_walk = rw met (behind_name name [] words)
 
-  named_passes : walk_passes top (names offers) (walk_from nothing_held) (name ∷ words) ≡ true
+  named_passes : walk_passes top names (walk_from nothing_held) (name ∷ words) ≡ true
   unfolding walk_passes walked
-  named_passes = rw (met, not_help (bytes_eq name (codes "help"))) (behind_passes offers name [] words)
+  named_passes = rw (met, not_help (bytes_eq name (codes "help"))) (behind_passes name [] words)
 
-  top_passes : level_passes top (names offers) nothing_held (name ∷ words) true ≡ true
+  top_passes : level_passes top names nothing_held (name ∷ words) true ≡ true
   top_passes =
       both_true _ _ named_passes
       (subst (λ (w : Walk). (settle_passes top.rules top.args_override_self w.held && (list_all default_passes top.rules && is_valid top (finished top.rules w.held) true)) ≡ true)
       (sym named_walk) refl)
 
 -- the words are taken where those behind the name are
-pub taken_behind : (offers : Bool) (called name : Text) (words : List Text) → subcommand_met (names offers) idle name ≡ Some name → is_some (entered (line offers) (Some (name, words))) ≡ true
-    → entered_passes (line offers) (Some (name, words)) ≡ true → takes (line_of offers) (called ∷ name ∷ words) ≡ true
-taken_behind offers called name words met there below =
-    both_true (is_simple (line_of offers)) _ (simple_line offers)
-    (subst (λ (w : Walk). (entered_passes (line offers) w.stopped && level_passes top (names offers) nothing_held (name ∷ words) (is_some (entered (line offers) w.stopped))) ≡ true)
-    (sym (named_walk offers name words met))
-    (both_true _ _ below (rw there (top_passes offers name words met))))
+pub taken_behind : (called name : Text) (words : List Text) → subcommand_met names idle name ≡ Some name → is_some (entered line (Some (name, words))) ≡ true
+    → entered_passes line (Some (name, words)) ≡ true → takes request_line (called ∷ name ∷ words) ≡ true
+taken_behind called name words met there below =
+    both_true (is_simple request_line) _ (simple_line)
+    (subst (λ (w : Walk). (entered_passes line w.stopped && level_passes top names nothing_held (name ∷ words) (is_some (entered line w.stopped))) ≡ true)
+    (sym (named_walk name words met))
+    (both_true _ _ below (rw there (top_passes name words met))))
 
 -- words that ask for a task with these options are taken, and it is theirs
-abbrev pub IsTaken : Bool → List Text → Asked → Options → Type 0
-IsTaken offers words t options = (wish_by offers words ≡ Some (Ok (t, options))) × (takes (line_of offers) words ≡ true)
+abbrev pub IsTaken : List Text → Asked → Options → Type 0
+IsTaken words t options = (request_of_words words ≡ Some (Ok (t, options))) × (takes request_line words ≡ true)
 
 pub on_or_off : (a b : Bool) → once_if a ≡ once_if b → a ≡ b
 on_or_off true true e = refl
@@ -73,16 +72,15 @@ on_or_off false false e = refl
 pub all_off : (options : Options) → ((o : Switch) → zero ≡ once_if (is_on options o)) → options ≡ no_options
 all_off options none = same_options options no_options (λ o. on_or_off (is_on options o) (is_on no_options o) (sym (none o) ∙ ap once_if (sym (is_off o))))
 
--- options that are set where they are on are these, and none where none are offered
-set_as_on : (offers : Bool) (options : Options) (rows : List Row) (n : Switch → ℕ) → ((o : Switch) → n o ≡ (if is_set (switch_name o) rows then 1 else 0)) → ((o : Switch) → n o ≡ (if is_on options o then 1 else 0))
-    → (offers ≡ false → (o : Switch) → n o ≡ 0) → options_by offers rows ≡ Some options
-set_as_on true options rows n sets gives none = options_from rows options (λ o. on_or_off (is_set (switch_name o) rows) (is_on options o) (sym (sets o) ∙ gives o))
-set_as_on false options rows n sets gives none = ap (λ (o : Options). Some o) (sym (all_off options (λ o. sym (none refl o) ∙ gives o)))
+-- options that are set where they are on are these
+set_as_on : (options : Options) (rows : List Row) (n : Switch → ℕ) → ((o : Switch) → n o ≡ (if is_set (switch_name o) rows then 1 else 0)) → ((o : Switch) → n o ≡ (if is_on options o then 1 else 0))
+    → options_in rows ≡ Some options
+set_as_on options rows n sets gives = options_from rows options (λ o. on_or_off (is_set (switch_name o) rows) (is_on options o) (sym (sets o) ∙ gives o))
 
-pub wished : (offers : Bool) (options : Options) (rows : List Row) (n : Switch → ℕ) (t : Asked) (m : Option Meaning) → m ≡ Some (Ok t) → ((o : Switch) → n o ≡ (if is_set (switch_name o) rows then 1 else 0))
-    → ((o : Switch) → n o ≡ (if is_on options o then 1 else 0)) → (offers ≡ false → (o : Switch) → n o ≡ 0) → option_and_then (λ o. option_map (with_these o) m) (options_by offers rows) ≡ Some (Ok (t, options))
-wished offers options rows n t m asks sets gives none =
-    ap (option_and_then (λ (o : Options). option_map (with_these o) m)) (set_as_on offers options rows n sets gives none) ∙ ap (option_map (with_these options)) asks
+pub wished : (options : Options) (rows : List Row) (n : Switch → ℕ) (t : Asked) (m : Option Meaning) → m ≡ Some (Ok t) → ((o : Switch) → n o ≡ (if is_set (switch_name o) rows then 1 else 0))
+    → ((o : Switch) → n o ≡ (if is_on options o then 1 else 0)) → option_and_then (λ o. option_map (with_these o) m) (options_in rows) ≡ Some (Ok (t, options))
+wished options rows n t m asks sets gives =
+    ap (option_and_then (λ (o : Options). option_map (with_these o) m)) (set_as_on options rows n sets gives) ∙ ap (option_map (with_these options)) asks
 
 pub at_most : (b : Bool) (n : ℕ) → n ≡ (if b then 1 else 0) → n ≤ 1
 at_most true n e = omega (arith, e)

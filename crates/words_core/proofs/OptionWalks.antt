@@ -8,8 +8,7 @@ use Rattle.clap.specs.Takes.{default_passes, is_valid, level_passes, settle_pass
 use Rattle.clap.specs.Walk.{Held, Waiting, Walk, finished, has_row, idle, nothing_held, option, positional, rows_after, settled_rows, walk, walk_from, walked, with_default}
 use Rattle.clap.proofs.WalkLemmas.{both}
 use Rattle.words_core.specs.CommandLine.{Asked, plain}
-use Rattle.words_core.specs.RequestLine.{Switch, capture, switch_name, switch_word}
-use Rattle.words_core.specs.computed.OfferedLine.{offered}
+use Rattle.words_core.specs.RequestLine.{Switch, capture, offered, switch_name, switch_word}
 use Rattle.words_core.proofs.KeptRows.{leaf}
 use Rattle.words_core.proofs.OptionRows.{AtMostOnce, Counted, counted_more, first_new, none_given, one_more, rest_new, use_all, use_switch, words_of}
 

@@ -11,10 +11,9 @@ use Rattle.clap.specs.Faults.{turn_fault, walk_fault}
 use Rattle.clap.specs.Walk.{Walk, arg_by_index, has_row, has_short, idle, rows_after, walked, with_default}
 use Rattle.clap.specs.declared.error.kind.ErrorKind.TheVariants as kind
 use Rattle.words_core.specs.CommandLine.{Asked, plain}
-use Rattle.words_core.specs.RequestLine.{Switch, capture, is_set, switch_name, switch_word, switches}
-use Rattle.words_core.specs.computed.OfferedLine.{offered}
+use Rattle.words_core.specs.RequestLine.{Switch, capture, is_set, offered, switch_name, switch_word, switches}
 use Rattle.words_core.proofs.KeptRows.{leaf, no_default}
-use Rattle.words_core.proofs.OptionRows.{AtMostOnce, also_new, once_if, Counted, counted_all, counted_more, default_set, not_given, one_more, set_where_given, switch_flag, times_of, use_all, use_switch, with_times, words_of}
+use Rattle.words_core.proofs.OptionRows.{AtMostOnce, Counted, also_new, counted_all, counted_more, default_set, not_given, once_if, one_more, set_where_given, switch_flag, times_of, use_all, use_switch, with_times, words_of}
 use Rattle.words_core.proofs.OptionWalks.{Ends, between, dashes, ends, ends_by_mark, options_lead, plain_takes, rows_end}
 use Rattle.words_core.proofs.LoneFlags.{AreFlags, help_flag, is_long_of, names_one, nothing_behind, turn_fails, turn_none}
 use Rattle.words_core.proofs.Switches.{both_false, holds_of}
@@ -72,7 +71,7 @@ flag_rules true = map switch_flag switches
 flag_rules false = []
 
 abbrev pub plain_leaf : Bool → Asked → Shape
-plain_leaf offers t = leaf (offered offers (plain t).shape)
+plain_leaf takes t = leaf (offered takes (plain t).shape)
 
 help_behind : (others : List Rule) → AreFlags (others ++ help_flag ∷ []) others
 help_behind [] P none help version test other = go (test help_flag)
@@ -83,11 +82,11 @@ help_behind [] P none help version test other = go (test help_flag)
 help_behind (a ∷ others) P none help version test other =
     let parts = both_false (test a) (list_any test others) other in rw parts.0 (help_behind others P none help version test parts.1)
 
-leaf_flags : (offers : Bool) (t : Asked) → AreFlags (plain_leaf offers t).rules (flag_rules offers)
+leaf_flags : (takes : Bool) (t : Asked) → AreFlags (plain_leaf takes t).rules (flag_rules takes)
 leaf_flags false t = help_behind []
 leaf_flags true t = help_behind (map switch_flag switches)
 
-leaf_no_short : (offers : Bool) (x : ℕ) → list_any (λ a. not (is_some a.index) && has_short a x) (flag_rules offers) ≡ false
+leaf_no_short : (takes : Bool) (x : ℕ) → list_any (λ a. not (is_some a.index) && has_short a x) (flag_rules takes) ≡ false
 leaf_no_short true x = refl
 leaf_no_short false x = refl
 
@@ -139,27 +138,27 @@ no_value : (t : Asked) (o : Switch) (value word : Text) (rows : List Row) → lo
 no_value t capture value word rows l d e = let bad : kind.TooManyValues ∷ [] ≡ [] = rw (d, l) at e in cc
 no_value t _ value word rows l d e = let bad : kind.TooManyValues ∷ [] ≡ [] = rw (d, l) at e in cc
 
-leaf_no_index : (offers : Bool) (t : Asked) → arg_by_index (plain_leaf offers t).rules 1 ≡ None
+leaf_no_index : (takes : Bool) (t : Asked) → arg_by_index (plain_leaf takes t).rules 1 ≡ None
 leaf_no_index true t = refl
 leaf_no_index false t = refl
 
 -- words of such a subcommand have no fault
 abbrev NoFault : Bool → Asked → List Row → List Text → Type 0
-NoFault offers t rows words = walk_fault (plain_leaf offers t) [] (between rows None) words ≡ []
+NoFault takes t rows words = walk_fault (plain_leaf takes t) [] (between rows None) words ≡ []
 
 -- the mark stands last
-mark_last : (offers : Bool) (t : Asked) (rows : List Row) (word : Text) (words : List Text) → bytes_eq word dashes ≡ true → NoFault offers t rows (word ∷ words) → word ∷ words ≡ dashes ∷ []
+mark_last : (takes : Bool) (t : Asked) (rows : List Row) (word : Text) (words : List Text) → bytes_eq word dashes ≡ true → NoFault takes t rows (word ∷ words) → word ∷ words ≡ dashes ∷ []
 unfolding walked
-mark_last offers t rows word words d e =
-    let behind = (turn_none (plain_leaf offers t) [] (between rows None) word words e).1 in
-    let last = nothing_behind (plain_leaf offers t) [] (flag_rules offers) (leaf_flags offers t) (leaf_no_short offers) (leaf_no_index offers t) rows words (rw d at behind) in
+mark_last takes t rows word words d e =
+    let behind = (turn_none (plain_leaf takes t) [] (between rows None) word words e).1 in
+    let last = nothing_behind (plain_leaf takes t) [] (flag_rules takes) (leaf_flags takes t) (leaf_no_short takes) (leaf_no_index takes t) rows words (rw d at behind) in
     rw ((bytes_eq-Decides word dashes).0 d, last) refl
 
-other_fails : (offers : Bool) (t : Asked) (rows : List Row) (word : Text) (words : List Text) → bytes_eq word dashes ≡ false → names_one (flag_rules offers) (long_of word) ≡ false
-    → NoFault offers t rows (word ∷ words) → ⊥
-other_fails offers t rows word words d other e =
-    turn_fails (plain_leaf offers t) [] (flag_rules offers) (leaf_flags offers t) (leaf_no_short offers) (leaf_no_index offers t) rows word refl d other
-    (turn_none (plain_leaf offers t) [] (between rows None) word words e).0
+other_fails : (takes : Bool) (t : Asked) (rows : List Row) (word : Text) (words : List Text) → bytes_eq word dashes ≡ false → names_one (flag_rules takes) (long_of word) ≡ false
+    → NoFault takes t rows (word ∷ words) → ⊥
+other_fails takes t rows word words d other e =
+    turn_fails (plain_leaf takes t) [] (flag_rules takes) (leaf_flags takes t) (leaf_no_short takes) (leaf_no_index takes t) rows word refl d other
+    (turn_none (plain_leaf takes t) [] (between rows None) word words e).0
 
 -- where no options are offered
 pub none_given_at : (t : Asked) (words : List Text) → NoFault false t [] words → IsEnd words

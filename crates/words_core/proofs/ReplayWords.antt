@@ -16,11 +16,10 @@ use Rattle.clap.specs.Takes.{default_passes, is_given, is_valid, level_passes, s
 use Rattle.clap.specs.Walk.{Waiting, Walk, finished, has_row, idle, nothing_held, option, positional, rows_after, used, walked, with_default}
 use Rattle.block_core.specs.declared.block.Block.{Block}
 use Rattle.words_core.specs.declared.option_words.Options.{Options}
-use Rattle.words_core.specs.CommandLine.{AsksReplay, Meaning, block_rule, is_flag, replay, replay_of, replay_shape}
-use Rattle.words_core.specs.RequestLine.{Switch, capture, is_on, is_option, is_set, switch_name, switch_word, switches, times}
-use Rattle.words_core.specs.computed.OfferedLine.{asked_for, offered, request_by}
-use Rattle.words_core.proofs.KeptRows.{leaf, no_default, no_defaults}
-use Rattle.words_core.proofs.AskingWords.{asked_other, line, stops}
+use Rattle.words_core.specs.CommandLine.{AsksReplay, Meaning, block_rule, is_flag, replay, replay_of, replay_shape, task_asked}
+use Rattle.words_core.specs.RequestLine.{Switch, capture, is_on, is_option, is_set, offered, request_asked, switch_name, switch_word, switches, times}
+use Rattle.words_core.proofs.KeptRows.{leaf, no_default}
+use Rattle.words_core.proofs.AskingWords.{line, stops}
 use Rattle.words_core.proofs.NamedWords.{IsTaken, at_most, taken_behind, wished}
 use Rattle.words_core.proofs.BlockWords.{all_said}
 use Rattle.words_core.proofs.LoneFlags.{help_flag}
@@ -30,18 +29,18 @@ use Rattle.words_core.proofs.PlainWords.{none_yet, options_leave}
 use Rattle.words_core.proofs.Switches.{an_option, both_false, fails_at, holds_of}
 
 -- the subcommand `replay` as it is built
-abbrev pub replays : Bool → Shape
-replays offers = leaf (offered offers replay_shape)
+abbrev pub replays : Shape
+replays = leaf (offered true replay_shape)
 
 abbrev pub block_argument : Rule
 block_argument = with_index 1 (filled block_rule)
 
-replay_takes : TakesOptions (replays true)
+replay_takes : TakesOptions replays
 unfolding walked
 replay_takes = record { walks = walks; passes = passes }
   where
     walks : (o : Switch) (waiting : Waiting) (rows : List Row) (pending : Pending)
-        → walked (replays true).rules [] (state waiting rows pending) (switch_word o) ≡ between (use_switch o (settled_to (replays true) rows pending)) None
+        → walked replays.rules [] (state waiting rows pending) (switch_word o) ≡ between (use_switch o (settled_to replays rows pending)) None
     walks capture idle rows pending = refl
     walks capture (option id) rows pending = refl
     walks capture positional rows pending = refl
@@ -49,8 +48,8 @@ replay_takes = record { walks = walks; passes = passes }
     walks _ (option id) rows pending = refl
     walks _ positional rows pending = refl
 
-    passes : (o : Switch) (waiting : Waiting) (rows : List Row) (pending : Pending) → settles (replays true) rows pending ≡ true → has_row (switch_name o) (settled_to (replays true) rows pending) ≡ false
-        → turn_passes (replays true) [] (state waiting rows pending) (switch_word o) ≡ true
+    passes : (o : Switch) (waiting : Waiting) (rows : List Row) (pending : Pending) → settles replays rows pending ≡ true → has_row (switch_name o) (settled_to replays rows pending) ≡ false
+        → turn_passes replays [] (state waiting rows pending) (switch_word o) ≡ true
     passes capture idle rows pending s u = rw (s, u) refl
     passes capture (option id) rows pending s u = rw (s, u) refl
     passes capture positional rows pending s u = rw (s, u) refl
@@ -90,22 +89,22 @@ abbrev with_waiting : List Row → Texts → List Row
 with_waiting rows none = rows
 with_waiting rows (some text texts) = used block_argument (text ∷ texts) rows
 
-settled_among : (offers : Bool) (rows : List Row) (texts : Texts) → settled_to (replays offers) rows (pending_of texts) ≡ with_waiting rows texts
-settled_among offers rows none = refl
-settled_among offers rows (some text texts) = refl
+settled_among : (rows : List Row) (texts : Texts) → settled_to replays rows (pending_of texts) ≡ with_waiting rows texts
+settled_among rows none = refl
+settled_among rows (some text texts) = refl
 
-next_text : (offers : Bool) (rows : List Row) (texts : Texts) (text : Text) → is_flag text ≡ false → walked (replays offers).rules [] (among rows texts) text ≡ among rows (with_text texts text)
+next_text : (rows : List Row) (texts : Texts) (text : Text) → is_flag text ≡ false → walked replays.rules [] (among rows texts) text ≡ among rows (with_text texts text)
 unfolding walked
-next_text offers rows none [] e = refl
-next_text offers rows none (c ∷ cs) e = rw e (rw e refl)
-next_text offers rows (some first texts) [] e = refl
-next_text offers rows (some first texts) (c ∷ cs) e = rw e (rw e refl)
+next_text rows none [] e = refl
+next_text rows none (c ∷ cs) e = rw e (rw e refl)
+next_text rows (some first texts) [] e = refl
+next_text rows (some first texts) (c ∷ cs) e = rw e (rw e refl)
 
-text_passes : (offers : Bool) (rows : List Row) (texts : Texts) (text : Text) → is_flag text ≡ false → turn_passes (replays offers) [] (among rows texts) text ≡ true
-text_passes offers rows none [] e = refl
-text_passes offers rows none (c ∷ cs) e = rw e (rw e refl)
-text_passes offers rows (some first texts) [] e = refl
-text_passes offers rows (some first texts) (c ∷ cs) e = rw e (rw e refl)
+text_passes : (rows : List Row) (texts : Texts) (text : Text) → is_flag text ≡ false → turn_passes replays [] (among rows texts) text ≡ true
+text_passes rows none [] e = refl
+text_passes rows none (c ∷ cs) e = rw e (rw e refl)
+text_passes rows (some first texts) [] e = refl
+text_passes rows (some first texts) (c ∷ cs) e = rw e (rw e refl)
 
 each_passes : (texts : List Text) → list_all (λ (text : Text). true) texts ≡ true
 each_passes [] = refl
@@ -115,9 +114,9 @@ each_passes (text ∷ texts) = each_passes texts
 abbrev Fits : Texts → ℕ → Type 0
 Fits texts more = length (texts_of texts) + more ≤ usize_max
 
-waiting_passes : (offers : Bool) (rows : List Row) (texts : Texts) (more : ℕ) → Fits texts more → settles (replays offers) rows (pending_of texts) ≡ true
-waiting_passes offers rows none more fits = refl
-waiting_passes offers rows (some text texts) more fits =
+waiting_passes : (rows : List Row) (texts : Texts) (more : ℕ) → Fits texts more → settles replays rows (pending_of texts) ≡ true
+waiting_passes rows none more fits = refl
+waiting_passes rows (some text texts) more fits =
     let one : 1 ≤ length (text ∷ texts) = omega arith in
     let most : length (text ∷ texts) ≤ usize_max = omega (arith, fits) in
     rw (le-leb 1 (length (text ∷ texts)) one, le-leb (length (text ∷ texts)) usize_max most) (each_passes texts)
@@ -174,11 +173,11 @@ abbrev with_words : (Switch → ℕ) → List Text → Switch → ℕ
 with_words n arguments o = n o + times (switch_word o) arguments
 
 -- the arguments lead to rows that have the texts, and each option where it stands
-record Replays (offers : Bool) (rows : List Row) (texts : Texts) (n : Switch → ℕ) (arguments : List Text) : Type 0 where
+record Replays (rows : List Row) (texts : Texts) (n : Switch → ℕ) (arguments : List Text) : Type 0 where
   to_rows : List Row
   to_texts : Texts
-  walks : fold (walked (replays offers).rules []) (among rows texts) arguments ≡ among to_rows to_texts
-  passes : walk_passes (replays offers) [] (among rows texts) arguments ≡ true
+  walks : fold (walked replays.rules []) (among rows texts) arguments ≡ among to_rows to_texts
+  passes : walk_passes replays [] (among rows texts) arguments ≡ true
   fits : Fits to_texts 0
   texts_are : block_texts (with_waiting to_rows to_texts) ≡ (block_texts rows ++ texts_of texts) ++ texts_in arguments
   counted : Counted to_rows (with_words n arguments)
@@ -208,20 +207,20 @@ record Before (rows : List Row) (texts : Texts) (n : Switch → ℕ) (arguments 
   most : (o : Switch) → with_words n arguments o ≤ 1
   explicit : Explicit rows
 
-abbrev Later : Bool → List Text → Type 0
-Later offers arguments = (rows : List Row) (texts : Texts) (n : Switch → ℕ) → (offers ≡ false → list_any is_option arguments ≡ false) → Before rows texts n arguments → Replays offers rows texts n arguments
+abbrev Later : List Text → Type 0
+Later arguments = (rows : List Row) (texts : Texts) (n : Switch → ℕ) → Before rows texts n arguments → Replays rows texts n arguments
 
 -- a text more
 words_past : (word : Text) (arguments : List Text) (n : Switch → ℕ) (o : Switch) → is_option word ≡ false → with_words n (word ∷ arguments) o ≡ with_words n arguments o
 words_past word arguments n o e = let other = no_option word e o in rw other refl
 
-at_text : (offers : Bool) (rows : List Row) (texts : Texts) (n : Switch → ℕ) (word : Text) (arguments : List Text) → Later offers arguments → (offers ≡ false → list_any is_option (word ∷ arguments) ≡ false)
-    → is_option word ≡ false → Before rows texts n (word ∷ arguments) → Replays offers rows texts n (word ∷ arguments)
+at_text : (rows : List Row) (texts : Texts) (n : Switch → ℕ) (word : Text) (arguments : List Text) → Later arguments
+    → is_option word ≡ false → Before rows texts n (word ∷ arguments) → Replays rows texts n (word ∷ arguments)
 unfolding walk_passes
-at_text offers rows texts n word arguments later offered_so other b =
+at_text rows texts n word arguments later other b =
     let plain = both_false (is_flag word) (list_any is_flag (texts_in arguments)) (rw other at b.plain) in
     let longer : length (texts_of (with_text texts word)) ≡ length (texts_of texts) + 1 = ap length (texts_with texts word) ∙ length-append (texts_of texts) (word ∷ []) in
-    let rest = later rows (with_text texts word) n (λ f. (both_false (is_option word) (list_any is_option arguments) (offered_so f)).1) (record {
+    let rest = later rows (with_text texts word) n (record {
       plain = plain.1;
       fits = let f = b.fits in omega (arith, f, longer);
       counted = b.counted;
@@ -231,8 +230,8 @@ at_text offers rows texts n word arguments later offered_so other b =
     record {
       to_rows = rest.to_rows;
       to_texts = rest.to_texts;
-      walks = ap (λ (w : Walk). fold (walked (replays offers).rules []) w arguments) (next_text offers rows texts word plain.0) ∙ rest.walks;
-      passes = both_true _ _ (text_passes offers rows texts word plain.0) (subst (λ (w : Walk). walk_passes (replays offers) [] w arguments ≡ true) (sym (next_text offers rows texts word plain.0)) rest.passes);
+      walks = ap (λ (w : Walk). fold (walked replays.rules []) w arguments) (next_text rows texts word plain.0) ∙ rest.walks;
+      passes = both_true _ _ (text_passes rows texts word plain.0) (subst (λ (w : Walk). walk_passes replays [] w arguments ≡ true) (sym (next_text rows texts word plain.0)) rest.passes);
       fits = rest.fits;
       texts_are = rest.texts_are ∙ ap (λ (l : List Text). (block_texts rows ++ l) ++ texts_in arguments) (texts_with texts word) ∙ regroup (block_texts rows) (texts_of texts) word (texts_in arguments)
           ∙ sym (ap (λ (l : List Text). (block_texts rows ++ texts_of texts) ++ l) (kept word arguments other));
@@ -255,8 +254,8 @@ words_shift o p n arguments = go (bytes_eq (switch_name o) (switch_name p)) (tim
     go true more = omega (arith, more)
     go false more = omega (arith, more)
 
-at_option : (rows : List Row) (texts : Texts) (n : Switch → ℕ) (o : Switch) (arguments : List Text) → Later true arguments → Before rows texts n (switch_word o ∷ arguments)
-    → Replays true rows texts n (switch_word o ∷ arguments)
+at_option : (rows : List Row) (texts : Texts) (n : Switch → ℕ) (o : Switch) (arguments : List Text) → Later arguments → Before rows texts n (switch_word o ∷ arguments)
+    → Replays rows texts n (switch_word o ∷ arguments)
 unfolding walk_passes
 at_option rows texts n o arguments later b =
     let waiting = with_waiting rows texts in
@@ -265,9 +264,9 @@ at_option rows texts n o arguments later b =
     let own : with_words n (switch_word o ∷ arguments) o ≤ 1 = b.most o in
     let more = times_own o arguments in
     let zero : n o ≡ 0 = omega (arith, own, more) in
-    let step : walked (replays true).rules [] (among rows texts) (switch_word o) ≡ among (use_switch o waiting) none =
-    replay_takes.walks o (waiting_of texts) rows (pending_of texts) ∙ ap (λ (l : List Row). between (use_switch o l) None) (settled_among true rows texts) in
-    let rest = later (use_switch o waiting) none (one_more o n) (λ f. absurd (true≢false f)) (record {
+    let step : walked replays.rules [] (among rows texts) (switch_word o) ≡ among (use_switch o waiting) none =
+    replay_takes.walks o (waiting_of texts) rows (pending_of texts) ∙ ap (λ (l : List Row). between (use_switch o l) None) (settled_among rows texts) in
+    let rest = later (use_switch o waiting) none (one_more o n) (record {
       plain = rw option at b.plain;
       fits = let f = b.fits in omega (arith, f);
       counted = counted_more o waiting n counted zero;
@@ -278,11 +277,11 @@ at_option rows texts n o arguments later b =
     record {
       to_rows = rest.to_rows;
       to_texts = rest.to_texts;
-      walks = ap (λ (w : Walk). fold (walked (replays true).rules []) w arguments) step ∙ rest.walks;
+      walks = ap (λ (w : Walk). fold (walked replays.rules []) w arguments) step ∙ rest.walks;
       passes = both_true _ _
-          (replay_takes.passes o (waiting_of texts) rows (pending_of texts) (waiting_passes true rows texts (length (switch_word o ∷ arguments)) b.fits)
-          (subst (λ (l : List Row). has_row (switch_name o) l ≡ false) (sym (settled_among true rows texts)) (none_given waiting n o counted zero)))
-          (subst (λ (w : Walk). walk_passes (replays true) [] w arguments ≡ true) (sym step) rest.passes);
+          (replay_takes.passes o (waiting_of texts) rows (pending_of texts) (waiting_passes rows texts (length (switch_word o ∷ arguments)) b.fits)
+          (subst (λ (l : List Row). has_row (switch_name o) l ≡ false) (sym (settled_among rows texts)) (none_given waiting n o counted zero)))
+          (subst (λ (w : Walk). walk_passes replays [] w arguments ≡ true) (sym step) rest.passes);
       fits = rest.fits;
       texts_are = rest.texts_are ∙ ap (λ (l : List Text). l ++ texts_in arguments) before ∙ sym (ap (λ (l : List Text). (block_texts rows ++ texts_of texts) ++ l) (left_out o arguments));
       counted = recounted rest.to_rows (with_words (one_more o n) arguments) (with_words n (switch_word o ∷ arguments)) (λ p. words_shift o p n arguments) rest.counted;
@@ -293,9 +292,9 @@ at_option rows texts n o arguments later b =
     left_out capture c = refl
     left_out _ c = refl
 
-all_arguments : (offers : Bool) (arguments : List Text) → Later offers arguments
+all_arguments : (arguments : List Text) → Later arguments
 unfolding walk_passes
-all_arguments offers [] rows texts n offered_so b = record {
+all_arguments [] rows texts n b = record {
   to_rows = rows;
   to_texts = texts;
   walks = refl;
@@ -305,42 +304,38 @@ all_arguments offers [] rows texts n offered_so b = record {
   counted = recounted rows n (with_words n []) (λ o. omega arith) b.counted;
   explicit = waiting_explicit rows texts b.explicit;
 }
-all_arguments offers (word ∷ arguments) rows texts n offered_so b = go offers (is_option word) refl (all_arguments offers arguments) offered_so
+all_arguments (word ∷ arguments) rows texts n b = go (is_option word) refl (all_arguments arguments)
   where
-    go : (f k : Bool) → is_option word ≡ k → Later f arguments → (f ≡ false → list_any is_option (word ∷ arguments) ≡ false) → Replays f rows texts n (word ∷ arguments)
-    go f false e later so = at_text f rows texts n word arguments later so e b
-    go false true e later so = absurd (true≢false (sym e ∙ (both_false (is_option word) (list_any is_option arguments) (so refl)).0))
-    go true true e later so =
+    go : (k : Bool) → is_option word ≡ k → Later arguments → Replays rows texts n (word ∷ arguments)
+    go false e later = at_text rows texts n word arguments later e b
+    go true e later =
         let o = some_option word e in
-        subst (λ (w : Text). Replays true rows texts n (w ∷ arguments)) (sym o.1) (at_option rows texts n o.0 arguments later (subst (λ (w : Text). Before rows texts n (w ∷ arguments)) o.1 b))
+        subst (λ (w : Text). Replays rows texts n (w ∷ arguments)) (sym o.1) (at_option rows texts n o.0 arguments later (subst (λ (w : Text). Before rows texts n (w ∷ arguments)) o.1 b))
 
 -- ---- such words are taken
 
 -- the defaults at the end leave the texts, and whether an option is set
 replay_leaves : {X : Type 0} (of : List Row → X) → ((o : Switch) (rows : List Row) → of (with_default rows (switch_flag o)) ≡ of rows)
-    → (offers : Bool) (rows : List Row) → of (fold with_default rows (replays offers).rules) ≡ of rows
-replay_leaves of past false rows = ap of (no_defaults (replays false).rules rows (refl, (refl, tt)))
-replay_leaves of past true rows =
+    → (rows : List Row) → of (fold with_default rows replays.rules) ≡ of rows
+replay_leaves of past rows =
     ap (λ (l : List Row). of (fold with_default l (map switch_flag switches ++ help_flag ∷ []))) (no_default block_argument rows refl)
     ∙ options_leave of past switches rows
 
-pub block_default : (offers : Bool) (rows : List Row) → row_at (codes "BLOCK") (fold with_default rows (replays offers).rules) ≡ row_at (codes "BLOCK") rows
-block_default offers = replay_leaves (row_at (codes "BLOCK")) (λ o. default_other o (codes "BLOCK") (apart o)) offers
+pub block_default : (rows : List Row) → row_at (codes "BLOCK") (fold with_default rows replays.rules) ≡ row_at (codes "BLOCK") rows
+block_default = replay_leaves (row_at (codes "BLOCK")) (λ o. default_other o (codes "BLOCK") (apart o))
   where
     apart : (o : Switch) → bytes_eq (switch_name o) (codes "BLOCK") ≡ false
     apart capture = refl
     apart _ = refl
 
-pub replay_set : (offers : Bool) (o : Switch) (rows : List Row) → is_set (switch_name o) (fold with_default rows (replays offers).rules) ≡ is_set (switch_name o) rows
-replay_set offers o = replay_leaves (is_set (switch_name o)) (default_set o) offers
+pub replay_set : (o : Switch) (rows : List Row) → is_set (switch_name o) (fold with_default rows replays.rules) ≡ is_set (switch_name o) rows
+replay_set o = replay_leaves (is_set (switch_name o)) (default_set o)
 
-replay_defaults_pass : (offers : Bool) → list_all default_passes (replays offers).rules ≡ true
-replay_defaults_pass true = refl
-replay_defaults_pass false = refl
+replay_defaults_pass : list_all default_passes replays.rules ≡ true
+replay_defaults_pass = refl
 
-replay_valid : (offers : Bool) (rows : List Row) → is_given (codes "BLOCK") rows ≡ true → is_valid (replays offers) rows false ≡ true
-replay_valid true rows given = rw given refl
-replay_valid false rows given = rw given refl
+replay_valid : (rows : List Row) → is_given (codes "BLOCK") rows ≡ true → is_valid replays rows false ≡ true
+replay_valid rows given = rw given refl
 
 -- texts that are there stand in a row
 texts_there : (o : Option (List Text)) (text : Text) (texts : List Text) → unwrap_or o [] ≡ text ∷ texts → o ≡ Some (text ∷ texts)
@@ -352,15 +347,15 @@ row_there None texts e = cc
 row_there (Some r) texts e = refl
 
 -- words that ask for a replay are taken, and it is theirs, with the options that stand among them
-pub replay_asked_for : (offers : Bool) (called : Text) (arguments : List Text) (blocks : List (Block Global)) (options : Options) → length arguments ≤ usize_max
-    → (offers ≡ false → list_any is_option arguments ≡ false) → AsksReplay (called ∷ codes "replay" ∷ texts_in arguments) blocks
-    → ((o : Switch) → times (switch_word o) arguments ≡ (if is_on options o then 1 else 0)) → IsTaken offers (called ∷ codes "replay" ∷ arguments) (replay blocks) options
-replay_asked_for offers called arguments blocks options fits so asks gives = go (texts_in arguments) refl asks
+pub replay_asked_for : (called : Text) (arguments : List Text) (blocks : List (Block Global)) (options : Options) → length arguments ≤ usize_max
+    → AsksReplay (called ∷ codes "replay" ∷ texts_in arguments) blocks
+    → ((o : Switch) → times (switch_word o) arguments ≡ (if is_on options o then 1 else 0)) → IsTaken (called ∷ codes "replay" ∷ arguments) (replay blocks) options
+replay_asked_for called arguments blocks options fits asks gives = go (texts_in arguments) refl asks
   where
-    go : (l : List Text) → texts_in arguments ≡ l → AsksReplay (called ∷ codes "replay" ∷ l) blocks → IsTaken offers (called ∷ codes "replay" ∷ arguments) (replay blocks) options
+    go : (l : List Text) → texts_in arguments ≡ l → AsksReplay (called ∷ codes "replay" ∷ l) blocks → IsTaken (called ∷ codes "replay" ∷ arguments) (replay blocks) options
     go [] is a = absurd a
     go (text ∷ texts) is a =
-        let r = all_arguments offers arguments [] none (λ o. 0) so (record {
+        let r = all_arguments arguments [] none (λ o. 0) (record {
           plain = subst (λ (l : List Text). list_any is_flag l ≡ false) (sym is) a.1;
           fits = omega (arith, fits);
           counted = none_yet;
@@ -368,42 +363,24 @@ replay_asked_for offers called arguments blocks options fits so asks gives = go 
           explicit = λ there. absurd (true≢false (sym there));
         }) in
         let end = with_waiting r.to_rows r.to_texts in
-        let last = fold with_default end (replays offers).rules in
-        let rows_are : rows_after (replays offers).rules [] arguments ≡ last =
-        ap (λ (w : Walk). finished (replays offers).rules w.held) r.walks ∙ ap (λ (l : List Row). fold with_default l (replays offers).rules) (settled_among offers r.to_rows r.to_texts) in
+        let last = fold with_default end replays.rules in
+        let rows_are : rows_after replays.rules [] arguments ≡ last =
+        ap (λ (w : Walk). finished replays.rules w.held) r.walks ∙ ap (λ (l : List Row). fold with_default l replays.rules) (settled_among r.to_rows r.to_texts) in
         let given : all_of (codes "BLOCK") end ≡ Some (text ∷ texts) = texts_there (all_of (codes "BLOCK") end) text texts (r.texts_are ∙ is) in
-        let all : all_of (codes "BLOCK") last ≡ Some (text ∷ texts) = ap (option_map (λ x. x.values)) (block_default offers end) ∙ given in
+        let all : all_of (codes "BLOCK") last ≡ Some (text ∷ texts) = ap (option_map (λ x. x.values)) (block_default end) ∙ given in
         let explicit : is_given (codes "BLOCK") last ≡ true =
-        ap (λ (x : Option Row). option_map_or (λ y. explicit_source y.source) x false) (block_default offers end) ∙ r.explicit (row_there (row_at (codes "BLOCK") end) (text ∷ texts) given) in
-        let sets : (o : Switch) → with_words (λ p. 0) arguments o ≡ (if is_set (switch_name o) (rows_after (replays offers).rules [] arguments) then 1 else 0) = λ o. set_where_given end (with_words (λ p. 0) arguments) o (waiting_counted r.to_rows r.to_texts (with_words (λ p. 0) arguments) r.counted)
-        ∙ sym (ap once_if (ap (is_set (switch_name o)) rows_are ∙ replay_set offers o end)) in
-        let passes : level_passes (replays offers) [] nothing_held arguments false ≡ true =
+        ap (λ (x : Option Row). option_map_or (λ y. explicit_source y.source) x false) (block_default end) ∙ r.explicit (row_there (row_at (codes "BLOCK") end) (text ∷ texts) given) in
+        let sets : (o : Switch) → with_words (λ p. 0) arguments o ≡ (if is_set (switch_name o) (rows_after replays.rules [] arguments) then 1 else 0) = λ o. set_where_given end (with_words (λ p. 0) arguments) o (waiting_counted r.to_rows r.to_texts (with_words (λ p. 0) arguments) r.counted)
+        ∙ sym (ap once_if (ap (is_set (switch_name o)) rows_are ∙ replay_set o end)) in
+        let passes : level_passes replays [] nothing_held arguments false ≡ true =
         both_true _ _ r.passes
-        (both_true _ _ (subst (λ (w : Walk). settle_passes (replays offers).rules false w.held ≡ true) (sym r.walks) (waiting_passes offers r.to_rows r.to_texts 0 r.fits))
-        (both_true _ _ (replay_defaults_pass offers) (subst (λ (l : List Row). is_valid (replays offers) l false ≡ true) (sym rows_are) (replay_valid offers last explicit)))) in
-        let asks_so : option_map replay_of (all_of (codes "BLOCK") (rows_after (replays offers).rules [] arguments)) ≡ Some (Ok (replay blocks)) =
+        (both_true _ _ (subst (λ (w : Walk). settle_passes replays.rules false w.held ≡ true) (sym r.walks) (waiting_passes r.to_rows r.to_texts 0 r.fits))
+        (both_true _ _ (replay_defaults_pass) (subst (λ (l : List Row). is_valid replays l false ≡ true) (sym rows_are) (replay_valid last explicit)))) in
+        let asks_so : option_map replay_of (all_of (codes "BLOCK") (rows_after replays.rules [] arguments)) ≡ Some (Ok (replay blocks)) =
         ap (λ (l : List Row). option_map replay_of (all_of (codes "BLOCK") l)) rows_are ∙ ap (option_map replay_of) all ∙ ap (λ (m : Meaning). Some m) (all_said blocks (text ∷ texts) (sym a.2)) in (
-          ap (λ (o : Option (Text × List Text)). option_and_then (request_by offers) (entered (line offers) o)) (stops offers (codes "replay") (codes "replay") arguments refl)
-              ∙ wished offers options (rows_after (replays offers).rules [] arguments) (with_words (λ p. 0) arguments) (replay blocks) (asked_for offers (codes "replay", rows_after (replays offers).rules [] arguments))
-              (asked_other offers (codes "replay", rows_after (replays offers).rules [] arguments) refl ∙ asks_so) sets
-              (λ o. let g = gives o in omega (arith, g)) (λ f o. let none = no_times arguments (so f) o in omega (arith, none)),
-          taken_behind offers called (codes "replay") arguments refl refl passes,
+          ap (λ (o : Option (Text × List Text)). option_and_then request_asked (entered line o)) (stops (codes "replay") (codes "replay") arguments refl)
+              ∙ wished options (rows_after replays.rules [] arguments) (with_words (λ p. 0) arguments) (replay blocks) (task_asked (codes "replay", rows_after replays.rules [] arguments))
+              asks_so sets
+              (λ o. let g = gives o in omega (arith, g)),
+          taken_behind called (codes "replay") arguments refl refl passes,
         )
-
--- a text is no option
-text_no_option : (text : Text) → is_flag text ≡ false → is_option text ≡ false
-text_no_option [] e = refl
-text_no_option (c ∷ cs) e = rw e refl
-
-pub texts_no_options : (texts : List Text) → list_any is_flag texts ≡ false → list_any is_option texts ≡ false
-texts_no_options [] e = refl
-texts_no_options (text ∷ texts) e =
-    let parts = both_false (is_flag text) (list_any is_flag texts) e in
-    let first = text_no_option text parts.0 in
-    rw first (texts_no_options texts parts.1)
-
-pub all_texts : (arguments : List Text) → list_any is_option arguments ≡ false → texts_in arguments ≡ arguments
-all_texts [] e = refl
-all_texts (word ∷ arguments) e =
-    let parts = both_false (is_option word) (list_any is_option arguments) e in
-    rw parts.0 (ap (λ (l : List Text). word ∷ l) (all_texts arguments parts.1))

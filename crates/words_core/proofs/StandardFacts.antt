@@ -6,8 +6,8 @@ use Rattle.clap.specs.declared.error.kind.ErrorKind.TheVariants as kind
 use Rattle.clap.proofs.OnLiterals.{clap_on_literals}
 use Rattle.words_core.specs.declared.option_words.Writing.{Writing}
 use Rattle.words_core.specs.declared.option_words.Writing.TheVariants.{Lines, Dated, Objects}
-use Rattle.words_core.specs.RequestLine.{Wish, request_faults, request_line, request_of_words}
-use Rattle.words_core.specs.CommandLine.{Asked, block_at, check, command_line, import, list_blocks, losses, publish, replay_of, rewrite, show, task_of_words, watch}
+use Rattle.words_core.specs.RequestLine.{Wish, request_faults, request_line, request_of_words, task_of_words}
+use Rattle.words_core.specs.CommandLine.{Asked, block_at, check, import, list_blocks, losses, publish, replay_of, rewrite, show, watch}
 
 -- each command without arguments asks for its task
 pub record AreNames : Type 0 where
@@ -24,8 +24,8 @@ names = record { shows = refl; checks = refl; rewrites = refl; lists_blocks = re
 
 -- a word that differs by one letter asks for none, and neither does the program's name alone
 pub record AreOthers : Type 0 where
-  pub other : takes command_line (codes "goose" ∷ codes "shows" ∷ []) ≡ false
-  pub nothing : takes command_line (codes "goose" ∷ []) ≡ false
+  pub other : takes request_line (codes "goose" ∷ codes "shows" ∷ []) ≡ false
+  pub nothing : takes request_line (codes "goose" ∷ []) ≡ false
 
 pub others : AreOthers
 unfolding clap_on_literals
@@ -37,10 +37,10 @@ watch_by period = codes "goose" ∷ codes "watch" ∷ codes "--period" ∷ perio
 
 -- the whole line is taken with a period at either end, and refused just outside
 pub record AreLines : Type 0 where
-  pub one : takes command_line (watch_by (codes "1")) ≡ false
-  pub two : takes command_line (watch_by (codes "2")) ≡ true
-  pub most : takes command_line (watch_by (codes "65536")) ≡ true
-  pub more : takes command_line (watch_by (codes "65537")) ≡ false
+  pub one : takes request_line (watch_by (codes "1")) ≡ false
+  pub two : takes request_line (watch_by (codes "2")) ≡ true
+  pub most : takes request_line (watch_by (codes "65536")) ≡ true
+  pub more : takes request_line (watch_by (codes "65537")) ≡ false
 
 pub lines : AreLines
 unfolding clap_on_literals
@@ -99,7 +99,7 @@ requests = record {
   no_dates = refl;
 }
 
--- what is missing is asked for with a period in range, or with none, and beside the options alone
+-- what is missing is asked for with a period in range, or with none, with the other options or without
 pub record AreLosses : Type 0 where
   pub none : request_of_words (codes "goose" ∷ codes "losses" ∷ []) ≡ wishes (losses None) false false Lines
   pub two : request_of_words (codes "goose" ∷ codes "losses" ∷ codes "--capture" ∷ codes "--period" ∷ codes "2" ∷ []) ≡ wishes (losses (Some 2)) true false Lines
@@ -108,7 +108,7 @@ pub record AreLosses : Type 0 where
   pub more : takes request_line (codes "goose" ∷ codes "losses" ∷ codes "--period=65537" ∷ []) ≡ false
   pub no_block : takes request_line (codes "goose" ∷ codes "losses" ∷ codes "0001,G,D,,1,1" ∷ []) ≡ false
   pub conflict : request_faults (codes "goose" ∷ codes "losses" ∷ codes "--json" ∷ codes "--time" ∷ []) ≡ kind.ArgumentConflict ∷ []
-  pub alone : takes command_line (codes "goose" ∷ codes "losses" ∷ []) ≡ false
+  pub alone : takes request_line (codes "goose" ∷ codes "losses" ∷ []) ≡ true
 
 pub missing : AreLosses
 unfolding clap_on_literals

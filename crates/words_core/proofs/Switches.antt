@@ -5,7 +5,7 @@ use Rattle.words_core.specs.declared.option_words.Options.{Options}
 use Rattle.words_core.specs.declared.option_words.Writing.{Writing}
 use Rattle.words_core.specs.declared.option_words.Writing.TheVariants.{Lines, Dated, Objects}
 use Rattle.clap.specs.Words.{Row}
-use Rattle.words_core.specs.RequestLine.{Switch, capture, is_dated, is_object, is_on, is_option, is_set, json, no_options, options_in, skip_other, switch_name, switch_word, switches, time, writing_by}
+use Rattle.words_core.specs.RequestLine.{Switch, capture, is_dated, is_object, is_on, is_option, is_set, json, options_in, skip_other, switch_name, switch_word, switches, time, writing_by}
 
 pub both_false : (a b : Bool) → (a || b) ≡ false → (a ≡ false) × (b ≡ false)
 both_false false b e = (refl, e)
@@ -74,6 +74,10 @@ is_on_in rows options e = go (writing_by (is_set (switch_name time) rows) (is_se
         → (o : Switch) → is_set (switch_name o) rows ≡ is_on options o
     go None f h o = cc
     go (Some w) f h o = on w f o ∙ ap (λ (x : Option Options). is_on (unwrap_or x options) o) h
+
+-- no option is given
+abbrev pub no_options : Options
+no_options = record { is_capture = false; skips_other = false; writes = Lines }
 
 pub is_off : (o : Switch) → is_on no_options o ≡ false
 is_off capture = refl

@@ -21,8 +21,7 @@ use Rattle.clap.proofs.WalkLemmas.{one_text-rows}
 use Rattle.clap.proofs.CallerReads.{signed_reads}
 use Rattle.clap.proofs.ValueTestLemmas.{Accepts-accepts, accepts-Accepts}
 use Rattle.block_core.specs.Period.{IsPeriod}
-use Rattle.words_core.specs.RequestLine.{Switch, capture, switch_name, switches}
-use Rattle.words_core.specs.computed.OfferedLine.{offered}
+use Rattle.words_core.specs.RequestLine.{Switch, capture, offered, switch_name, switches}
 use Rattle.words_core.specs.CommandLine.{Meaning, id_rule, number_said, period_rule, watch, watch_asked, watch_shape}
 use Rattle.words_core.proofs.KeptRows.{EachKeeps, Keeps, Kept, end_keeps, found_keeps, given_value, leaf, level_checked, more_keeps, no_default, no_defaults, set_keeps, single_keeps, then_none, wanted}
 use Rattle.words_core.proofs.OptionRows.{self_eq, switch_flag}
@@ -87,8 +86,8 @@ period_parsed = period_read ParseIntError IsParsed (λ u x g. g.0)
 
 -- ---- the options as they are built
 
-abbrev pub watches : Bool → Shape
-watches offers = leaf (offered offers watch_shape)
+abbrev pub watches : Shape
+watches = leaf (offered true watch_shape)
 
 abbrev pub period_option : Rule
 period_option = with_index 1 (filled period_rule)
@@ -126,32 +125,24 @@ pub switches_keep : (a : Rule) → ((o : Switch) → switch_name o ≡ a.id → 
 switches_keep a other [] = (help_keeps (Kept a), tt)
 switches_keep a other (o ∷ os) = (switch_keeps a o (other o), switches_keep a other os)
 
-period_kept : (offers : Bool) → EachKeeps false (Kept period_option) (watches offers).rules
-period_kept false = (
-  single_keeps false period_option period_option (refl, refl) (λ e. refl),
-  (single_keeps false period_option id_option (refl, refl) (λ e. absurd (two_names e)), (help_keeps (Kept period_option), tt)),
-)
-period_kept true = (
+period_kept : EachKeeps false (Kept period_option) watches.rules
+period_kept = (
   single_keeps false period_option period_option (refl, refl) (λ e. refl),
   (single_keeps false period_option id_option (refl, refl) (λ e. absurd (two_names e)), switches_keep period_option not_period switches),
 )
 
-id_kept : (offers : Bool) → EachKeeps false (Kept id_option) (watches offers).rules
-id_kept false = (
-  single_keeps false id_option period_option (refl, refl) (λ e. absurd (two_names (sym e))),
-  (single_keeps false id_option id_option (refl, refl) (λ e. refl), (help_keeps (Kept id_option), tt)),
-)
-id_kept true = (
+id_kept : EachKeeps false (Kept id_option) watches.rules
+id_kept = (
   single_keeps false id_option period_option (refl, refl) (λ e. absurd (two_names (sym e))),
   (single_keeps false id_option id_option (refl, refl) (λ e. refl), switches_keep id_option not_id switches),
 )
 
 -- words of `watch` without a fault
-abbrev IsFaultless : Bool → List Text → Type 0
-IsFaultless offers words = level_fault (watches offers) [] nothing_held words false [] ≡ []
+abbrev IsFaultless : List Text → Type 0
+IsFaultless words = level_fault watches [] nothing_held words false [] ≡ []
 
-abbrev rows : Bool → List Text → List Row
-rows offers words = rows_after (watches offers).rules [] words
+abbrev rows : List Text → List Row
+rows words = rows_after watches.rules [] words
 
 -- the defaults of the options do too
 switch_default_keeps : (a : Rule) (o : Switch) → (switch_name o ≡ a.id → ⊥) → (given : List Row) → Kept a given → Kept a (with_default given (switch_flag o))
@@ -165,34 +156,29 @@ pub switch_defaults_keep : (a : Rule) → ((o : Switch) → switch_name o ≡ a.
 switch_defaults_keep a other [] given h = subst (Kept a) (sym (no_default help_option given refl)) h
 switch_defaults_keep a other (o ∷ os) given h = switch_defaults_keep a other os (with_default given (switch_flag o)) (switch_default_keeps a o (other o) given h)
 
-defaults_keep : (offers : Bool) (a : Rule) → ((o : Switch) → switch_name o ≡ a.id → ⊥) → (given : List Row) → Kept a given → Kept a (fold with_default given (watches offers).rules)
-defaults_keep false a other given h = subst (Kept a) (sym (no_defaults (watches false).rules given (refl, (refl, (refl, tt))))) h
-defaults_keep true a other given h =
+defaults_keep : (a : Rule) → ((o : Switch) → switch_name o ≡ a.id → ⊥) → (given : List Row) → Kept a given → Kept a (fold with_default given watches.rules)
+defaults_keep a other given h =
     let own = no_defaults (period_option ∷ id_option ∷ []) given (refl, (refl, tt)) in
     subst (λ (l : List Row). Kept a (fold with_default l (map switch_flag switches ++ help_option ∷ []))) (sym own) (switch_defaults_keep a other switches given h)
 
-kept_rows : (offers : Bool) (a : Rule) → ((o : Switch) → switch_name o ≡ a.id → ⊥) → EachKeeps false (Kept a) (watches offers).rules → (words : List Text) → IsFaultless offers words → Kept a (rows offers words)
-kept_rows offers a other all words f =
-    let end = settled (watches offers).rules (walk (watches offers).rules [] nothing_held words).held in
-    defaults_keep offers a other end.rows (end_keeps (watches offers) [] (Kept a) (found_keeps false (Kept a) (watches offers).rules all) words false [] tt f)
+kept_rows : (a : Rule) → ((o : Switch) → switch_name o ≡ a.id → ⊥) → EachKeeps false (Kept a) watches.rules → (words : List Text) → IsFaultless words → Kept a (rows words)
+kept_rows a other all words f =
+    let end = settled watches.rules (walk watches.rules [] nothing_held words).held in
+    defaults_keep a other end.rows (end_keeps watches [] (Kept a) (found_keeps false (Kept a) watches.rules all) words false [] tt f)
 
-given : (offers : Bool) (words : List Text) → IsFaultless offers words → (is_given (codes "period") (rows offers words) ≡ true) × (is_given (codes "id") (rows offers words) ≡ true)
-given offers words f = go offers f
+given : (words : List Text) → IsFaultless words → (is_given (codes "period") (rows words) ≡ true) × (is_given (codes "id") (rows words) ≡ true)
+given words f = both (is_given (codes "period") (rows words)) (is_given (codes "id") (rows words)) (wanted false false _ (level_checked watches [] nothing_held words false [] f))
   where
     both : (a b : Bool) → (not a || (not b || false)) ≡ false → (a ≡ true) × (b ≡ true)
     both true true e = (refl, refl)
     both true false e = absurd (true≢false e)
     both false b e = absurd (true≢false e)
 
-    go : (o : Bool) → IsFaultless o words → (is_given (codes "period") (rows o words) ≡ true) × (is_given (codes "id") (rows o words) ≡ true)
-    go false g = both (is_given (codes "period") (rows false words)) (is_given (codes "id") (rows false words)) (wanted false false _ (level_checked (watches false) [] nothing_held words false [] g))
-    go true g = both (is_given (codes "period") (rows true words)) (is_given (codes "id") (rows true words)) (wanted false false _ (level_checked (watches true) [] nothing_held words false [] g))
-
 -- they ask for a watch, and its period is in range
-pub watch_says : (offers : Bool) (words : List Text) → IsFaultless offers words → (n : ℕ) × (t : Text) × (watch_asked (rows offers words) ≡ Some (Ok (watch n t))) × IsPeriod n
-watch_says offers words f =
-    let both = given offers words f in
-    let period = given_value period_option (rows offers words) (kept_rows offers period_option not_period (period_kept offers) words f) both.0 in
-    let id = given_value id_option (rows offers words) (kept_rows offers id_option not_id (id_kept offers) words f) both.1 in
+pub watch_says : (words : List Text) → IsFaultless words → (n : ℕ) × (t : Text) × (watch_asked (rows words) ≡ Some (Ok (watch n t))) × IsPeriod n
+watch_says words f =
+    let both = given words f in
+    let period = given_value period_option (rows words) (kept_rows period_option not_period period_kept words f) both.0 in
+    let id = given_value id_option (rows words) (kept_rows id_option not_id id_kept words f) both.1 in
     let n = says_period period.0 (accepts-Accepts false (parses.Signed (pos 2) (pos 65536)) period.0 period.3) in
     (n.0, id.0, rw (period.2, id.1) (ap (option_map {T = ℕ} {U = Meaning} (λ (k : ℕ). Ok (watch k id.0))) n.1), n.2)

@@ -19,10 +19,9 @@ use Rattle.clap.specs.declared.parser.matches.ValueSource.TheVariants.{CommandLi
 use Rattle.clap.proofs.ValueTestLemmas.{Accepts-accepts}
 use Rattle.block_core.specs.Period.{IsPeriod}
 use Rattle.words_core.specs.declared.option_words.Options.{Options}
-use Rattle.words_core.specs.CommandLine.{AsksWatch, SayBoth, SaysOption, is_flag, number_said, watch, watch_asked}
-use Rattle.words_core.specs.RequestLine.{Switch, capture, is_on, is_set, switch_name, switch_word, switches}
-use Rattle.words_core.specs.computed.OfferedLine.{asked_for, request_by}
-use Rattle.words_core.proofs.AskingWords.{asked_other, line, stops}
+use Rattle.words_core.specs.CommandLine.{AsksWatch, SayBoth, SaysOption, is_flag, number_said, task_asked, watch, watch_asked}
+use Rattle.words_core.specs.RequestLine.{Switch, capture, is_on, is_set, request_asked, switch_name, switch_word, switches}
+use Rattle.words_core.proofs.AskingWords.{line, stops}
 use Rattle.words_core.proofs.KeptRows.{no_defaults}
 use Rattle.words_core.proofs.LoneFlags.{help_flag}
 use Rattle.words_core.proofs.NamedWords.{IsTaken, at_most, taken_behind, wished}
@@ -45,9 +44,9 @@ pub record Walks (s : Shape) (a : Rule) (name : Text) : Type 0 where
       → walk_passes s [] (between rows pending) (name ∷ v ∷ []) ≡ true
   pub settle_passes : (rows : List Row) (v : Text) → use_passes false a (v ∷ []) rows ≡ true → settles s rows (Some (a.id, v ∷ [])) ≡ true
 
-period_walks : (offers : Bool) → Walks (watches offers) period_option (codes "--period")
+period_walks : Walks watches period_option (codes "--period")
 unfolding walked walk_passes
-period_walks offers = record {
+period_walks = record {
   joined = λ rows pending v. refl;
   named = named;
   settled = λ rows v. refl;
@@ -57,17 +56,17 @@ period_walks offers = record {
 }
   where
     named : (rows : List Row) (pending : Pending) (v : Text) → is_flag v ≡ false
-        → walked (watches offers).rules [] (walked (watches offers).rules [] (between rows pending) (codes "--period")) v ≡ between (settled_to (watches offers) rows pending) (Some (codes "period", v ∷ []))
+        → walked watches.rules [] (walked watches.rules [] (between rows pending) (codes "--period")) v ≡ between (settled_to watches rows pending) (Some (codes "period", v ∷ []))
     named rows pending [] e = refl
     named rows pending (c ∷ cs) e = rw e (rw e refl)
 
-    passes : (rows : List Row) (pending : Pending) (v : Text) → is_flag v ≡ false → settles (watches offers) rows pending ≡ true → walk_passes (watches offers) [] (between rows pending) (codes "--period" ∷ v ∷ []) ≡ true
+    passes : (rows : List Row) (pending : Pending) (v : Text) → is_flag v ≡ false → settles watches rows pending ≡ true → walk_passes watches [] (between rows pending) (codes "--period" ∷ v ∷ []) ≡ true
     passes rows pending [] e s = rw s refl
     passes rows pending (c ∷ cs) e s = rw (s, e) (rw e refl)
 
-id_walks : (offers : Bool) → Walks (watches offers) id_option (codes "--id")
+id_walks : Walks watches id_option (codes "--id")
 unfolding walked walk_passes
-id_walks offers = record {
+id_walks = record {
   joined = λ rows pending v. refl;
   named = named;
   settled = λ rows v. refl;
@@ -77,11 +76,11 @@ id_walks offers = record {
 }
   where
     named : (rows : List Row) (pending : Pending) (v : Text) → is_flag v ≡ false
-        → walked (watches offers).rules [] (walked (watches offers).rules [] (between rows pending) (codes "--id")) v ≡ between (settled_to (watches offers) rows pending) (Some (codes "id", v ∷ []))
+        → walked watches.rules [] (walked watches.rules [] (between rows pending) (codes "--id")) v ≡ between (settled_to watches rows pending) (Some (codes "id", v ∷ []))
     named rows pending [] e = refl
     named rows pending (c ∷ cs) e = rw e (rw e refl)
 
-    passes : (rows : List Row) (pending : Pending) (v : Text) → is_flag v ≡ false → settles (watches offers) rows pending ≡ true → walk_passes (watches offers) [] (between rows pending) (codes "--id" ∷ v ∷ []) ≡ true
+    passes : (rows : List Row) (pending : Pending) (v : Text) → is_flag v ≡ false → settles watches rows pending ≡ true → walk_passes watches [] (between rows pending) (codes "--id" ∷ v ∷ []) ≡ true
     passes rows pending [] e s = rw s refl
     passes rows pending (c ∷ cs) e s = rw (s, e) (rw e refl)
 
@@ -120,8 +119,8 @@ pub record Argument (s : Shape) (a : Rule) (name : Text) : Type 0 where
   pub before_option : (o : Switch) → bytes_eq (switch_name o) a.id ≡ false
   pub after_option : (o : Switch) → bytes_eq a.id (switch_name o) ≡ false
 
-period_argument : (offers : Bool) → Argument (watches offers) period_option (codes "--period")
-period_argument offers = record { walks = period_walks offers; passes = λ v rows p h. rw (h, p) refl; uses = λ v rows. refl; before_option = before; after_option = after }
+period_argument : Argument watches period_option (codes "--period")
+period_argument = record { walks = period_walks; passes = λ v rows p h. rw (h, p) refl; uses = λ v rows. refl; before_option = before; after_option = after }
   where
     before : (o : Switch) → bytes_eq (switch_name o) (codes "period") ≡ false
     before capture = refl
@@ -131,8 +130,8 @@ period_argument offers = record { walks = period_walks offers; passes = λ v row
     after capture = refl
     after _ = refl
 
-id_argument : (offers : Bool) → Argument (watches offers) id_option (codes "--id")
-id_argument offers = record { walks = id_walks offers; passes = λ v rows p h. rw (h, p) refl; uses = λ v rows. refl; before_option = before; after_option = after }
+id_argument : Argument watches id_option (codes "--id")
+id_argument = record { walks = id_walks; passes = λ v rows p h. rw (h, p) refl; uses = λ v rows. refl; before_option = before; after_option = after }
   where
     before : (o : Switch) → bytes_eq (switch_name o) (codes "id") ≡ false
     before capture = refl
@@ -146,12 +145,12 @@ id_argument offers = record { walks = id_walks offers; passes = λ v rows p h. r
 abbrev pub row_of_use : Rule → Text → Row
 row_of_use a v = record { id = a.id; values = v ∷ []; count = None; source = Some CommandLine; reading = reading_by a }
 
-watch_takes : TakesOptions (watches true)
+watch_takes : TakesOptions watches
 unfolding walked
 watch_takes = record { walks = walks; passes = passes }
   where
     walks : (o : Switch) (waiting : Waiting) (rows : List Row) (pending : Pending)
-        → walked (watches true).rules [] (state waiting rows pending) (switch_word o) ≡ between (use_switch o (settled_to (watches true) rows pending)) None
+        → walked watches.rules [] (state waiting rows pending) (switch_word o) ≡ between (use_switch o (settled_to watches rows pending)) None
     walks capture idle rows pending = refl
     walks capture (option id) rows pending = refl
     walks capture positional rows pending = refl
@@ -159,8 +158,8 @@ watch_takes = record { walks = walks; passes = passes }
     walks _ (option id) rows pending = refl
     walks _ positional rows pending = refl
 
-    passes : (o : Switch) (waiting : Waiting) (rows : List Row) (pending : Pending) → settles (watches true) rows pending ≡ true → has_row (switch_name o) (settled_to (watches true) rows pending) ≡ false
-        → turn_passes (watches true) [] (state waiting rows pending) (switch_word o) ≡ true
+    passes : (o : Switch) (waiting : Waiting) (rows : List Row) (pending : Pending) → settles watches rows pending ≡ true → has_row (switch_name o) (settled_to watches rows pending) ≡ false
+        → turn_passes watches [] (state waiting rows pending) (switch_word o) ≡ true
     passes capture idle rows pending s u = rw (s, u) refl
     passes capture (option id) rows pending s u = rw (s, u) refl
     passes capture positional rows pending s u = rw (s, u) refl
@@ -168,22 +167,19 @@ watch_takes = record { walks = walks; passes = passes }
     passes _ (option id) rows pending s u = rw (s, u) refl
     passes _ positional rows pending s u = rw (s, u) refl
 
--- options where they are offered, else none
-watch_options : (offers : Bool) (os : List Switch) → (offers ≡ false → os ≡ []) → (n : Switch → ℕ) (rows : List Row) (pending : Pending) → settles (watches offers) rows pending ≡ true
-    → Counted (settled_to (watches offers) rows pending) n → AtMostOnce n os → Leads (watches offers) (use_all os) (words_of os) rows pending
+-- options among the two
+watch_options : (os : List Switch) (n : Switch → ℕ) (rows : List Row) (pending : Pending) → settles watches rows pending ≡ true
+    → Counted (settled_to watches rows pending) n → AtMostOnce n os → Leads watches (use_all os) (words_of os) rows pending
 unfolding walk_passes
-watch_options true os none n rows pending settling c new = options_lead (watches true) watch_takes os n rows pending settling c new
-watch_options false os none n rows pending settling c new =
-    subst (λ (l : List Switch). Leads (watches false) (use_all l) (words_of l) rows pending) (sym (none refl))
-    (record { to_rows = rows; to_pending = pending; walks = refl; settled = refl; passes = refl; settling = settling })
+watch_options os n rows pending settling c new = options_lead watches watch_takes os n rows pending settling c new
 
 -- how often an option stands before, between and behind
 abbrev pub in_all : List Switch → List Switch → List Switch → Switch → ℕ
 in_all before middle after = with_times (with_times (with_times (λ o. 0) before) middle) after
 
-module _ (offers : Bool) (a b : Rule) (name other : Text) (v u : Text) (x : Argument (watches offers) a name) (y : Argument (watches offers) b other) (apart : bytes_eq a.id b.id ≡ false) (also : bytes_eq b.id a.id ≡ false)
+module _ (a b : Rule) (name other : Text) (v u : Text) (x : Argument watches a name) (y : Argument watches b other) (apart : bytes_eq a.id b.id ≡ false) (also : bytes_eq b.id a.id ≡ false)
     (pass : value_passes a v ≡ true) (also_pass : value_passes b u ≡ true) (first second : List Text) (says : SaysOption name v first) (also_says : SaysOption other u second)
-    (before middle after : List Switch) (no_before : offers ≡ false → before ≡ []) (no_middle : offers ≡ false → middle ≡ []) (no_after : offers ≡ false → after ≡ [])
+    (before middle after : List Switch)
     (most : (o : Switch) → in_all before middle after o ≤ 1) where
   -- the rows behind each part
   abbrev pub rows_1 : List Row
@@ -236,59 +232,58 @@ module _ (offers : Bool) (a b : Rule) (name other : Text) (v u : Text) (x : Argu
   has_none : (id : Text) (rows : List Row) → row_at id rows ≡ None → has_row id rows ≡ false
   has_none id rows e = has_at id rows ∙ ap is_some e
 
-  lead_1 : Leads (watches offers) (use_all before) (words_of before) [] None
-  lead_1 = watch_options offers before no_before (λ o. 0) [] None refl none_yet (λ o. let m = most o in omega (arith, m))
+  lead_1 : Leads watches (use_all before) (words_of before) [] None
+  lead_1 = watch_options before (λ o. 0) [] None refl none_yet (λ o. let m = most o in omega (arith, m))
 
-  lead_2 : Leads (watches offers) (used a (v ∷ [])) first lead_1.to_rows lead_1.to_pending
+  lead_2 : Leads watches (used a (v ∷ [])) first lead_1.to_rows lead_1.to_pending
   lead_2 =
-      leads (watches offers) a name v x.walks first says lead_1.to_rows lead_1.to_pending lead_1.settling
+      leads watches a name v x.walks first says lead_1.to_rows lead_1.to_pending lead_1.settling
       (subst (λ (rows : List Row). use_passes false a (v ∷ []) rows ≡ true) (sym lead_1.settled) (x.passes v rows_1 pass (has_none a.id rows_1 (none_at_1 a.id x.before_option))))
 
-  settled_2 : settled_to (watches offers) lead_2.to_rows lead_2.to_pending ≡ rows_2
+  settled_2 : settled_to watches lead_2.to_rows lead_2.to_pending ≡ rows_2
   settled_2 = lead_2.settled ∙ ap (λ (rows : List Row). used a (v ∷ []) rows) lead_1.settled
 
-  lead_3 : Leads (watches offers) (use_all middle) (words_of middle) lead_2.to_rows lead_2.to_pending
+  lead_3 : Leads watches (use_all middle) (words_of middle) lead_2.to_rows lead_2.to_pending
   lead_3 =
-      watch_options offers middle no_middle (with_times (λ o. 0) before) lead_2.to_rows lead_2.to_pending lead_2.settling
+      watch_options middle (with_times (λ o. 0) before) lead_2.to_rows lead_2.to_pending lead_2.settling
       (subst (λ (rows : List Row). Counted rows (with_times (λ o. 0) before)) (sym settled_2) counted_2) (λ o. let m = most o in omega (arith, m))
 
-  settled_3 : settled_to (watches offers) lead_3.to_rows lead_3.to_pending ≡ rows_3
+  settled_3 : settled_to watches lead_3.to_rows lead_3.to_pending ≡ rows_3
   settled_3 = lead_3.settled ∙ ap (use_all middle) settled_2
 
-  lead_4 : Leads (watches offers) (used b (u ∷ [])) second lead_3.to_rows lead_3.to_pending
+  lead_4 : Leads watches (used b (u ∷ [])) second lead_3.to_rows lead_3.to_pending
   lead_4 =
-      leads (watches offers) b other u y.walks second also_says lead_3.to_rows lead_3.to_pending lead_3.settling
+      leads watches b other u y.walks second also_says lead_3.to_rows lead_3.to_pending lead_3.settling
       (subst (λ (rows : List Row). use_passes false b (u ∷ []) rows ≡ true) (sym settled_3) (y.passes u rows_3 also_pass (has_none b.id rows_3 none_at_3)))
 
-  settled_4 : settled_to (watches offers) lead_4.to_rows lead_4.to_pending ≡ rows_4
+  settled_4 : settled_to watches lead_4.to_rows lead_4.to_pending ≡ rows_4
   settled_4 = lead_4.settled ∙ ap (λ (rows : List Row). used b (u ∷ []) rows) settled_3
 
-  lead_5 : Leads (watches offers) (use_all after) (words_of after) lead_4.to_rows lead_4.to_pending
+  lead_5 : Leads watches (use_all after) (words_of after) lead_4.to_rows lead_4.to_pending
   lead_5 =
-      watch_options offers after no_after (with_times (with_times (λ o. 0) before) middle) lead_4.to_rows lead_4.to_pending lead_4.settling
+      watch_options after (with_times (with_times (λ o. 0) before) middle) lead_4.to_rows lead_4.to_pending lead_4.settling
       (subst (λ (rows : List Row). Counted rows (with_times (with_times (λ o. 0) before) middle)) (sym settled_4) counted_4) most
 
-  pub both_end : Ends (watches offers) (λ rows. use_all after (used b (u ∷ []) (use_all middle (used a (v ∷ []) (use_all before rows))))) (words_of before ++ (first ++ (words_of middle ++ (second ++ words_of after))))
+  pub both_end : Ends watches (λ rows. use_all after (used b (u ∷ []) (use_all middle (used a (v ∷ []) (use_all before rows))))) (words_of before ++ (first ++ (words_of middle ++ (second ++ words_of after))))
   both_end =
-      ends (watches offers) (λ rows. use_all after (used b (u ∷ []) (use_all middle (used a (v ∷ []) (use_all before rows))))) (words_of before ++ (first ++ (words_of middle ++ (second ++ words_of after))))
-      (chain (watches offers) (use_all before) (λ rows. use_all after (used b (u ∷ []) (use_all middle (used a (v ∷ []) rows)))) (words_of before) _ [] None lead_1
-      (chain (watches offers) (λ rows. used a (v ∷ []) rows) (λ rows. use_all after (used b (u ∷ []) (use_all middle rows))) first _ lead_1.to_rows lead_1.to_pending lead_2
-      (chain (watches offers) (use_all middle) (λ rows. use_all after (used b (u ∷ []) rows)) (words_of middle) _ lead_2.to_rows lead_2.to_pending lead_3
-      (chain (watches offers) (λ rows. used b (u ∷ []) rows) (use_all after) second (words_of after) lead_3.to_rows lead_3.to_pending lead_4 lead_5))))
+      ends watches (λ rows. use_all after (used b (u ∷ []) (use_all middle (used a (v ∷ []) (use_all before rows))))) (words_of before ++ (first ++ (words_of middle ++ (second ++ words_of after))))
+      (chain watches (use_all before) (λ rows. use_all after (used b (u ∷ []) (use_all middle (used a (v ∷ []) rows)))) (words_of before) _ [] None lead_1
+      (chain watches (λ rows. used a (v ∷ []) rows) (λ rows. use_all after (used b (u ∷ []) (use_all middle rows))) first _ lead_1.to_rows lead_1.to_pending lead_2
+      (chain watches (use_all middle) (λ rows. use_all after (used b (u ∷ []) rows)) (words_of middle) _ lead_2.to_rows lead_2.to_pending lead_3
+      (chain watches (λ rows. used b (u ∷ []) rows) (use_all after) second (words_of after) lead_3.to_rows lead_3.to_pending lead_4 lead_5))))
 
 -- the defaults at the end leave the rows of the two, and whether an option is set
 watch_leaves : {X : Type 0} (of : List Row → X) → ((o : Switch) (rows : List Row) → of (with_default rows (switch_flag o)) ≡ of rows)
-    → (offers : Bool) (rows : List Row) → of (fold with_default rows (watches offers).rules) ≡ of rows
-watch_leaves of past false rows = ap of (no_defaults (watches false).rules rows (refl, (refl, (refl, tt))))
-watch_leaves of past true rows =
+    → (rows : List Row) → of (fold with_default rows watches.rules) ≡ of rows
+watch_leaves of past rows =
     ap (λ (l : List Row). of (fold with_default l (map switch_flag switches ++ help_flag ∷ []))) (no_defaults (period_option ∷ id_option ∷ []) rows (refl, (refl, tt)))
     ∙ options_leave of past switches rows
 
-pub watch_default : (offers : Bool) (id : Text) → ((o : Switch) → bytes_eq (switch_name o) id ≡ false) → (rows : List Row) → row_at id (fold with_default rows (watches offers).rules) ≡ row_at id rows
-watch_default offers id apart = watch_leaves (row_at id) (λ o. default_other o id (apart o)) offers
+pub watch_default : (id : Text) → ((o : Switch) → bytes_eq (switch_name o) id ≡ false) → (rows : List Row) → row_at id (fold with_default rows watches.rules) ≡ row_at id rows
+watch_default id apart = watch_leaves (row_at id) (λ o. default_other o id (apart o))
 
-pub watch_set : (offers : Bool) (o : Switch) (rows : List Row) → is_set (switch_name o) (fold with_default rows (watches offers).rules) ≡ is_set (switch_name o) rows
-watch_set offers o = watch_leaves (is_set (switch_name o)) (default_set o) offers
+pub watch_set : (o : Switch) (rows : List Row) → is_set (switch_name o) (fold with_default rows watches.rules) ≡ is_set (switch_name o) rows
+watch_set o = watch_leaves (is_set (switch_name o)) (default_set o)
 
 -- ---- the period
 
@@ -323,63 +318,60 @@ module _ (digits : Text) (are : IsNumeral 10 digits) where
 -- ---- the words that ask for a watch
 
 -- what stands behind the subcommand's name asks for this watch and sets the options so, and passes
-record AsksFor (offers : Bool) (period : ℕ) (id : Text) (n : Switch → ℕ) (words : List Text) : Type 0 where
-  watch_is : watch_asked (rows_after (watches offers).rules [] words) ≡ Some (Ok (watch period id))
-  sets : (o : Switch) → n o ≡ (if is_set (switch_name o) (rows_after (watches offers).rules [] words) then 1 else 0)
-  passes : level_passes (watches offers) [] nothing_held words false ≡ true
+record AsksFor (period : ℕ) (id : Text) (n : Switch → ℕ) (words : List Text) : Type 0 where
+  watch_is : watch_asked (rows_after watches.rules [] words) ≡ Some (Ok (watch period id))
+  sets : (o : Switch) → n o ≡ (if is_set (switch_name o) (rows_after watches.rules [] words) then 1 else 0)
+  passes : level_passes watches [] nothing_held words false ≡ true
 
-watch_defaults_pass : (offers : Bool) → list_all default_passes (watches offers).rules ≡ true
-watch_defaults_pass true = refl
-watch_defaults_pass false = refl
+watch_defaults_pass : list_all default_passes watches.rules ≡ true
+watch_defaults_pass = refl
 
-watch_valid : (offers : Bool) (rows : List Row) (digits id : Text) → row_at (codes "period") rows ≡ Some (row_of_use period_option digits) → row_at (codes "id") rows ≡ Some (row_of_use id_option id)
-    → is_valid (watches offers) rows false ≡ true
-watch_valid true rows digits id p i = rw (p, i) refl
-watch_valid false rows digits id p i = rw (p, i) refl
+watch_valid : (rows : List Row) (digits id : Text) → row_at (codes "period") rows ≡ Some (row_of_use period_option digits) → row_at (codes "id") rows ≡ Some (row_of_use id_option id)
+    → is_valid watches rows false ≡ true
+watch_valid rows digits id p i = rw (p, i) refl
 
-asks_by_rows : (offers : Bool) (f : List Row → List Row) (words : List Text) (digits id : Text) (period : ℕ) (n : Switch → ℕ) → Ends (watches offers) f words
+asks_by_rows : (f : List Row → List Row) (words : List Text) (digits id : Text) (period : ℕ) (n : Switch → ℕ) → Ends watches f words
     → row_at (codes "period") (f []) ≡ Some (row_of_use period_option digits) → row_at (codes "id") (f []) ≡ Some (row_of_use id_option id) → Counted (f []) n
-    → number_said (without_minus digits) ≡ Some period → AsksFor offers period id n words
-asks_by_rows offers f words digits id period n e p i c say =
-    let last = fold with_default (f []) (watches offers).rules in
-    let at_period : row_at (codes "period") last ≡ Some (row_of_use period_option digits) = watch_default offers (codes "period") (period_argument offers).before_option (f []) ∙ p in
-    let at_id : row_at (codes "id") last ≡ Some (row_of_use id_option id) = watch_default offers (codes "id") (id_argument offers).before_option (f []) ∙ i in
-    let are = rows_end (watches offers) f words e in
+    → number_said (without_minus digits) ≡ Some period → AsksFor period id n words
+asks_by_rows f words digits id period n e p i c say =
+    let last = fold with_default (f []) watches.rules in
+    let at_period : row_at (codes "period") last ≡ Some (row_of_use period_option digits) = watch_default (codes "period") (period_argument).before_option (f []) ∙ p in
+    let at_id : row_at (codes "id") last ≡ Some (row_of_use id_option id) = watch_default (codes "id") (id_argument).before_option (f []) ∙ i in
+    let are = rows_end watches f words e in
     record {
       watch_is = ap watch_asked are ∙ rw (at_period, at_id) (rw say refl);
-      sets = λ o. set_where_given (f []) n o c ∙ sym (ap once_if (ap (is_set (switch_name o)) are ∙ watch_set offers o (f [])));
-      passes = level_ends (watches offers) f words e refl (watch_defaults_pass offers) (watch_valid offers last digits id at_period at_id);
+      sets = λ o. set_where_given (f []) n o c ∙ sym (ap once_if (ap (is_set (switch_name o)) are ∙ watch_set o (f [])));
+      passes = level_ends watches f words e refl (watch_defaults_pass) (watch_valid last digits id at_period at_id);
     }
 
-watch_asks : (offers : Bool) (digits id : Text) (period : ℕ) → accepts false (parses.Signed (pos 2) (pos 65536)) digits ≡ true → number_said (without_minus digits) ≡ Some period
-    → (first second : List Text) → SayBoth (codes "--period") digits (codes "--id") id first second → (before middle after : List Switch) → (offers ≡ false → before ≡ []) → (offers ≡ false → middle ≡ [])
-    → (offers ≡ false → after ≡ []) → ((o : Switch) → in_all before middle after o ≤ 1)
-    → AsksFor offers period id (in_all before middle after) (words_of before ++ (first ++ (words_of middle ++ (second ++ words_of after))))
-watch_asks offers digits id period pass say first second (inl h) before middle after no_before no_middle no_after most =
-    let end = both_end offers period_option id_option (codes "--period") (codes "--id") digits id (period_argument offers) (id_argument offers) refl refl pass refl first second h.0 h.1 before middle after no_before no_middle no_after most in
-    let p = first_row offers period_option id_option (codes "--period") (codes "--id") digits id (period_argument offers) (id_argument offers) refl refl pass refl first second h.0 h.1 before middle after no_before no_middle no_after most in
-    let i = second_row offers period_option id_option (codes "--period") (codes "--id") digits id (period_argument offers) (id_argument offers) refl refl pass refl first second h.0 h.1 before middle after no_before no_middle no_after most in
-    let c = counted_5 offers period_option id_option (codes "--period") (codes "--id") digits id (period_argument offers) (id_argument offers) refl refl pass refl first second h.0 h.1 before middle after no_before no_middle no_after most in
-    asks_by_rows offers _ _ digits id period _ end p i c say
-watch_asks offers digits id period pass say first second (inr h) before middle after no_before no_middle no_after most =
-    let end = both_end offers id_option period_option (codes "--id") (codes "--period") id digits (id_argument offers) (period_argument offers) refl refl refl pass first second h.0 h.1 before middle after no_before no_middle no_after most in
-    let i = first_row offers id_option period_option (codes "--id") (codes "--period") id digits (id_argument offers) (period_argument offers) refl refl refl pass first second h.0 h.1 before middle after no_before no_middle no_after most in
-    let p = second_row offers id_option period_option (codes "--id") (codes "--period") id digits (id_argument offers) (period_argument offers) refl refl refl pass first second h.0 h.1 before middle after no_before no_middle no_after most in
-    let c = counted_5 offers id_option period_option (codes "--id") (codes "--period") id digits (id_argument offers) (period_argument offers) refl refl refl pass first second h.0 h.1 before middle after no_before no_middle no_after most in
-    asks_by_rows offers _ _ digits id period _ end p i c say
+watch_asks : (digits id : Text) (period : ℕ) → accepts false (parses.Signed (pos 2) (pos 65536)) digits ≡ true → number_said (without_minus digits) ≡ Some period
+    → (first second : List Text) → SayBoth (codes "--period") digits (codes "--id") id first second → (before middle after : List Switch)
+    → ((o : Switch) → in_all before middle after o ≤ 1)
+    → AsksFor period id (in_all before middle after) (words_of before ++ (first ++ (words_of middle ++ (second ++ words_of after))))
+watch_asks digits id period pass say first second (inl h) before middle after most =
+    let end = both_end period_option id_option (codes "--period") (codes "--id") digits id period_argument id_argument refl refl pass refl first second h.0 h.1 before middle after most in
+    let p = first_row period_option id_option (codes "--period") (codes "--id") digits id period_argument id_argument refl refl pass refl first second h.0 h.1 before middle after most in
+    let i = second_row period_option id_option (codes "--period") (codes "--id") digits id period_argument id_argument refl refl pass refl first second h.0 h.1 before middle after most in
+    let c = counted_5 period_option id_option (codes "--period") (codes "--id") digits id period_argument id_argument refl refl pass refl first second h.0 h.1 before middle after most in
+    asks_by_rows _ _ digits id period _ end p i c say
+watch_asks digits id period pass say first second (inr h) before middle after most =
+    let end = both_end id_option period_option (codes "--id") (codes "--period") id digits id_argument period_argument refl refl refl pass first second h.0 h.1 before middle after most in
+    let i = first_row id_option period_option (codes "--id") (codes "--period") id digits id_argument period_argument refl refl refl pass first second h.0 h.1 before middle after most in
+    let p = second_row id_option period_option (codes "--id") (codes "--period") id digits id_argument period_argument refl refl refl pass first second h.0 h.1 before middle after most in
+    let c = counted_5 id_option period_option (codes "--id") (codes "--period") id digits id_argument period_argument refl refl refl pass first second h.0 h.1 before middle after most in
+    asks_by_rows _ _ digits id period _ end p i c say
 
 -- words that ask for a watch are taken, and it is theirs, with the options that stand there
-pub watch_asked_for : (offers : Bool) (words : List Text) (period : ℕ) (id : Text) (options : Options) (a : AsksWatch words period id) (before middle after : List Switch) → (offers ≡ false → before ≡ [])
-    → (offers ≡ false → middle ≡ []) → (offers ≡ false → after ≡ []) → ((o : Switch) → in_all before middle after o ≡ (if is_on options o then 1 else 0))
-    → IsTaken offers (a.called ∷ codes "watch" ∷ (words_of before ++ (a.first ++ (words_of middle ++ (a.second ++ words_of after))))) (watch period id) options
-watch_asked_for offers words period id options a before middle after no_before no_middle no_after gives =
+pub watch_asked_for : (words : List Text) (period : ℕ) (id : Text) (options : Options) (a : AsksWatch words period id) (before middle after : List Switch)
+    → ((o : Switch) → in_all before middle after o ≡ (if is_on options o then 1 else 0))
+    → IsTaken (a.called ∷ codes "watch" ∷ (words_of before ++ (a.first ++ (words_of middle ++ (a.second ++ words_of after))))) (watch period id) options
+watch_asked_for words period id options a before middle after gives =
     let pass = digits_pass a.digits a.are_digits period a.number a.range in
     let say = digits_say a.digits a.are_digits period a.number a.range in
-    let asks = watch_asks offers a.digits id period pass say a.first a.second a.options before middle after no_before no_middle no_after (λ o. at_most (is_on options o) (in_all before middle after o) (gives o)) in
+    let asks = watch_asks a.digits id period pass say a.first a.second a.options before middle after (λ o. at_most (is_on options o) (in_all before middle after o) (gives o)) in
     let rest = words_of before ++ (a.first ++ (words_of middle ++ (a.second ++ words_of after))) in (
-      ap (λ (o : Option (Text × List Text)). option_and_then (request_by offers) (entered (line offers) o)) (stops offers (codes "watch") (codes "watch") rest refl)
-          ∙ wished offers options (rows_after (watches offers).rules [] rest) (in_all before middle after) (watch period id) (asked_for offers (codes "watch", rows_after (watches offers).rules [] rest))
-          (asked_other offers (codes "watch", rows_after (watches offers).rules [] rest) refl ∙ asks.watch_is) asks.sets gives
-          (λ f o. rw (no_before f, no_middle f, no_after f) refl),
-      taken_behind offers a.called (codes "watch") rest refl refl asks.passes,
+      ap (λ (o : Option (Text × List Text)). option_and_then request_asked (entered line o)) (stops (codes "watch") (codes "watch") rest refl)
+          ∙ wished options (rows_after watches.rules [] rest) (in_all before middle after) (watch period id) (task_asked (codes "watch", rows_after watches.rules [] rest))
+          asks.watch_is asks.sets gives,
+      taken_behind a.called (codes "watch") rest refl refl asks.passes,
     )

@@ -1,6 +1,6 @@
 -- Words that have no fault name a task, and words that ask for a task are taken.
 use Rattle.std.proofs.Common.{◌≡◌, ◌≢◌, ◌&&◌, ◌||◌, ◌⊎◌, ◌∙◌, ℕ, Bool, true, false, not, true≢false, List, [], ◌∷◌, Option, Some, None, Result, Ok, Err, is_some, option_map, option_and_then, unwrap_or, inl, inr, refl, sym, ap, ap₂, subst}
-use Rattle.std.specs.Prelude.{Box, IfOk, IfErr, codes, find, if◌then◌else◌}
+use Rattle.std.specs.Prelude.{Box, IfOk, IfErr, codes, find}
 use Rattle.std.specs.Option.{option_map_or}
 use Rattle.std.specs.Str.{bytes_eq}
 use Rattle.std.specs.Box.{box_value}
@@ -16,20 +16,19 @@ use Rattle.clap.specs.declared.parser.matches.SubCommand.{SubCommand}
 use Rattle.clap.specs.declared.error.Error.{Error}
 use Rattle.clap.specs.declared.error.kind.ErrorKind.{ErrorKind}
 use Rattle.clap.specs.declared.error.kind.ErrorKind.TheVariants as kind
-use Rattle.clap.proofs.OnLiterals.{clap_on_literals}
 use Rattle.words_core.specs.declared.option_words.Options.{Options}
 use Rattle.words_core.specs.declared.words.Request.{Request}
 use Rattle.words_core.specs.declared.words.Task.{Task}
 use Rattle.words_core.specs.declared.words.WordsError.{WordsError}
 use Rattle.words_core.specs.declared.words.WordsError.TheVariants as refused
-use Rattle.words_core.proofs.AskingWords.{asked_or, asked_other}
-use Rattle.words_core.proofs.KeptRows.{first_none, last_subs, leaf, level_checked, then_none, wanted}
+use Rattle.words_core.proofs.AskingWords.{asked_or}
+use Rattle.words_core.proofs.KeptRows.{first_none, leaf, level_checked, then_none, wanted}
 use Rattle.words_core.proofs.WatchRows.{watch_says}
 use Rattle.words_core.proofs.LossesRows.{losses_say}
-use Rattle.words_core.specs.CommandLine.{AnswersBadBlock, AnswersTask, Asked, AsksByName, HasPeriod, IsBlockError, IsNoMistake, MayRefuse, Meaning, blocks_in, check, command_line, first_bad_block, import, is_plain, list_blocks, losses, name_of, plain, publish, replay, replay_of, replay_shape, rewrite, asked_by, show, task_asked, task_of_words, watch, watch_shape}
-use Rattle.words_core.specs.RequestLine.{AnswersRequest, AsksWith, MayRefuseRequest, RefusesBlock, Wish, losses_shape, no_options, with_these}
+use Rattle.words_core.specs.CommandLine.{AnswersBadBlock, AnswersTask, Asked, HasPeriod, IsBlockError, IsNoMistake, Meaning, asked_by, blocks_in, check, first_bad_block, import, is_plain, list_blocks, losses, losses_shape, plain, publish, replay, replay_of, replay_shape, rewrite, show, task_asked, watch, watch_shape}
+use Rattle.words_core.specs.RequestLine.{AnswersRequest, AsksWith, MayRefuseRequest, RefusesBlock, Wish, offered, options_in, request_asked, request_faults, request_line, request_of_words, task_of_words, with_these}
 use Rattle.words_core.specs.computed.PrivateCalls.{MayAnswer}
-use Rattle.words_core.specs.computed.OfferedLine.{IsExclusion, MayGrant, MayRefuseBy, agrees_by, asked_for, faults_by, line_of, mistakes_by, offered, options_by, request_by, task_by, wish_by}
+use Rattle.words_core.specs.computed.OfferedLine.{IsExclusion, MayGrant}
 
 -- where a subcommand is required and the last checks pass, there is one
 checked : (has help required argument : Bool) → required ≡ true → check_kinds (not has && help) (not has && required) argument ≡ [] → has ≡ true
@@ -78,31 +77,31 @@ IsAsked (Some (Ok t)) = HasPeriod t
 IsAsked (Some (Err i)) = Unit {0}
 
 -- the matches of a subcommand whose words have no fault ask for something
-abbrev AsksForSomething : Bool → Shape → Type 0
-AsksForSomething offers s = (words : List Text) → level_fault s [] nothing_held words false [] ≡ [] → IsAsked (asked_for offers (rows_at s words))
+abbrev AsksForSomething : Shape → Type 0
+AsksForSomething s = (words : List Text) → level_fault s [] nothing_held words false [] ≡ [] → IsAsked (task_asked (rows_at s words))
 
-abbrev EachAsks : Bool → List Shape → Type 0
-EachAsks offers [] = Unit {0}
-EachAsks offers (s ∷ rest) = AsksForSomething offers s × EachAsks offers rest
+abbrev EachAsks : List Shape → Type 0
+EachAsks [] = Unit {0}
+EachAsks (s ∷ rest) = AsksForSomething s × EachAsks rest
 
-found_asks : (offers : Bool) (p : Shape → Bool) (words : List Text) (xs : List Shape) → EachAsks offers xs
+found_asks : (p : Shape → Bool) (words : List Text) (xs : List Shape) → EachAsks xs
     → is_some (option_map (λ s. rows_at s words) (find p xs)) ≡ true
     → option_map_or (λ s. level_fault s [] nothing_held words false []) (find p xs) [] ≡ []
-    → IsAsked (option_and_then (asked_for offers) (option_map (λ s. rows_at s words) (find p xs)))
-found_asks offers p words [] all e f = cc
-found_asks offers p words (x ∷ xs) all e f = go (p x) refl (found_asks offers p words xs all.1)
+    → IsAsked (option_and_then task_asked (option_map (λ s. rows_at s words) (find p xs)))
+found_asks p words [] all e f = cc
+found_asks p words (x ∷ xs) all e f = go (p x) refl (found_asks p words xs all.1)
   where
     go : (b : Bool) → p x ≡ b
         → (is_some (option_map (λ s. rows_at s words) (find p xs)) ≡ true → option_map_or (λ s. level_fault s [] nothing_held words false []) (find p xs) [] ≡ []
-        → IsAsked (option_and_then (asked_for offers) (option_map (λ s. rows_at s words) (find p xs))))
-        → IsAsked (option_and_then (asked_for offers) (option_map (λ s. rows_at s words) (find p (x ∷ xs))))
+        → IsAsked (option_and_then task_asked (option_map (λ s. rows_at s words) (find p xs))))
+        → IsAsked (option_and_then task_asked (option_map (λ s. rows_at s words) (find p (x ∷ xs))))
     go true t rest = rw t (all.0 words (rw t at f))
     go false t rest = rw t (rest (rw t at e) (rw t at f))
 
-entered_gives : (offers : Bool) (a : App) (stop : Option (Text × List Text)) → EachAsks offers a.subs → is_some (entered a stop) ≡ true → entered_fault a stop ≡ []
-    → IsAsked (option_and_then (asked_for offers) (entered a stop))
-entered_gives offers a None all e f = cc
-entered_gives offers a (Some p) all e f = found_asks offers _ p.1 a.subs all e f
+entered_gives : (a : App) (stop : Option (Text × List Text)) → EachAsks a.subs → is_some (entered a stop) ≡ true → entered_fault a stop ≡ []
+    → IsAsked (option_and_then task_asked (entered a stop))
+entered_gives a None all e f = cc
+entered_gives a (Some p) all e f = found_asks _ p.1 a.subs all e f
 
 -- the name and the rows of the subcommand that was met
 met_rows : {Z : Type 0} (o : Option (Box SubCommand Z)) (name : Text) (rows : List Row) → option_map (λ b. (out-SubCommand (box_value b)).name.now) o ≡ Some name
@@ -131,94 +130,47 @@ replay_asked (Some texts) e = go (first_bad_block texts)
     go None = tt
     go (Some i) = tt
 
--- the subcommand of another name than `losses`
-asks_other : (offers : Bool) (s : Shape) → bytes_eq (codes "losses") s.name ≡ false → ((words : List Text) → level_fault s [] nothing_held words false [] ≡ [] → IsAsked (task_asked (rows_at s words)))
-    → AsksForSomething offers s
-asks_other offers s other asks words f = subst IsAsked (sym (asked_other offers (rows_at s words) other)) (asks words f)
+plain_gives : (takes : Bool) (t : Asked) → is_plain t ≡ true → AsksForSomething (leaf (offered takes (plain t).shape))
+plain_gives takes show e words f = tt
+plain_gives takes check e words f = tt
+plain_gives takes rewrite e words f = tt
+plain_gives takes list_blocks e words f = tt
+plain_gives takes publish e words f = tt
+plain_gives takes import e words f = tt
+plain_gives takes (replay blocks) e words f = absurd (true≢false (sym e))
+plain_gives takes (watch period id) e words f = absurd (true≢false (sym e))
+plain_gives takes (losses period) e words f = absurd (true≢false (sym e))
 
-plain_gives : (offers offered_so : Bool) (t : Asked) → is_plain t ≡ true → AsksForSomething offers (leaf (offered offered_so (plain t).shape))
-plain_gives offers so show e = asks_other offers (leaf (offered so (plain show).shape)) refl (λ words f. tt)
-plain_gives offers so check e = asks_other offers (leaf (offered so (plain check).shape)) refl (λ words f. tt)
-plain_gives offers so rewrite e = asks_other offers (leaf (offered so (plain rewrite).shape)) refl (λ words f. tt)
-plain_gives offers so list_blocks e = asks_other offers (leaf (offered so (plain list_blocks).shape)) refl (λ words f. tt)
-plain_gives offers so publish e = asks_other offers (leaf (offered so (plain publish).shape)) refl (λ words f. tt)
-plain_gives offers so import e = asks_other offers (leaf (offered so (plain import).shape)) refl (λ words f. tt)
-plain_gives offers so (replay blocks) e = absurd (true≢false (sym e))
-plain_gives offers so (watch period id) e = absurd (true≢false (sym e))
-plain_gives offers so (losses period) e = absurd (true≢false (sym e))
-
-replay_gives : (offers : Bool) → AsksForSomething offers (leaf (offered offers replay_shape))
-replay_gives false words f =
-    let rows = rows_after (leaf (offered false replay_shape)).rules [] words in
-    replay_asked (all_of (codes "BLOCK") rows) (a_row (codes "BLOCK") rows (wanted false false _ (level_checked (leaf (offered false replay_shape)) [] nothing_held words false [] f)))
-replay_gives true words f =
+replay_gives : AsksForSomething (leaf (offered true replay_shape))
+replay_gives words f =
     let rows = rows_after (leaf (offered true replay_shape)).rules [] words in
     replay_asked (all_of (codes "BLOCK") rows) (a_row (codes "BLOCK") rows (wanted false false _ (level_checked (leaf (offered true replay_shape)) [] nothing_held words false [] f)))
 
-watch_gives : (offers : Bool) → AsksForSomething offers (leaf (offered offers watch_shape))
-watch_gives offers = asks_other offers (leaf (offered offers watch_shape)) refl (λ words f. let says = watch_says offers words f in rw says.2 says.3)
+watch_gives : AsksForSomething (leaf (offered true watch_shape))
+watch_gives words f = let says = watch_says words f in rw says.2 says.3
 
-losses_gives : AsksForSomething true (leaf (offered true losses_shape))
+losses_gives : AsksForSomething (leaf (offered true losses_shape))
 losses_gives words f = losses_say words f
 
-last_give : (offers : Bool) → EachAsks offers (last_subs offers)
-last_give true = (losses_gives, (plain_gives true false import refl, tt))
-last_give false = (plain_gives false false import refl, tt)
-
-all_give : (offers : Bool) → EachAsks offers (built (line_of offers)).subs
-all_give offers = (
-  plain_gives offers offers show refl,
+all_give : EachAsks (built request_line).subs
+all_give = (
+  plain_gives true show refl,
   (
-    plain_gives offers offers check refl,
-    (plain_gives offers false rewrite refl, (plain_gives offers offers list_blocks refl, (replay_gives offers, (plain_gives offers false publish refl, (watch_gives offers, last_give offers))))),
+    plain_gives true check refl,
+    (
+      plain_gives false rewrite refl,
+      (plain_gives true list_blocks refl, (replay_gives, (plain_gives false publish refl, (watch_gives, (losses_gives, (plain_gives false import refl, tt)))))),
+    ),
   ),
 )
 
 -- words without a fault ask for something
-pub faultless_asks : (offers : Bool) (words : List Text) → faults_by offers words ≡ [] → IsAsked (task_by offers words)
-faultless_asks offers words e =
-    let line = line_of offers in
+pub faultless_asks : (words : List Text) → fault_of request_line words ≡ [] → IsAsked (task_of_words words)
+faultless_asks words e =
+    let line = request_line in
     let stop = stop_after (built line).top.rules (names_of (built line)) (argument_words line words) in
     let below = then_none (walk_fault (built line).top (names_of (built line)) (walk_from nothing_held) (argument_words line words)) _ e in
-    entered_gives offers (built line) stop (all_give offers) (subcommand_given line words refl e) (first_none (entered_fault (built line) stop) _ below)
-
--- a task's name asks for that task and is taken, also before the mark behind which no flag follows
-abbrev IsTaken : List Text → Asked → Type 0
-IsTaken words t = (task_of_words words ≡ Some (Ok t)) × (takes command_line words ≡ true)
-
-name_asks : (program : Text) (t : Asked) → is_plain t ≡ true → IsTaken (program ∷ name_of t ∷ []) t
-unfolding clap_on_literals
-name_asks program show e = (refl, refl)
-name_asks program check e = (refl, refl)
-name_asks program rewrite e = (refl, refl)
-name_asks program list_blocks e = (refl, refl)
-name_asks program publish e = (refl, refl)
-name_asks program import e = (refl, refl)
-name_asks program (replay blocks) e = absurd (true≢false (sym e))
-name_asks program (watch period id) e = absurd (true≢false (sym e))
-name_asks program (losses period) e = absurd (true≢false (sym e))
-
-name_and_mark_ask : (program : Text) (t : Asked) → is_plain t ≡ true → IsTaken (program ∷ name_of t ∷ codes "--" ∷ []) t
-unfolding clap_on_literals
-name_and_mark_ask program show e = (refl, refl)
-name_and_mark_ask program check e = (refl, refl)
-name_and_mark_ask program rewrite e = (refl, refl)
-name_and_mark_ask program list_blocks e = (refl, refl)
-name_and_mark_ask program publish e = (refl, refl)
-name_and_mark_ask program import e = (refl, refl)
-name_and_mark_ask program (replay blocks) e = absurd (true≢false (sym e))
-name_and_mark_ask program (watch period id) e = absurd (true≢false (sym e))
-name_and_mark_ask program (losses period) e = absurd (true≢false (sym e))
-
--- words that ask for a task by its name are taken, and that task is theirs
-pub asked_by_name : (words : List Text) (t : Asked) → is_plain t ≡ true → AsksByName words (name_of t) → IsTaken words t
-asked_by_name [] t e a = absurd a
-asked_by_name (program ∷ []) t e a = absurd a
-asked_by_name (program ∷ name ∷ []) t e a = subst (λ (n : Text). IsTaken (program ∷ n ∷ []) t) (sym a) (name_asks program t e)
-asked_by_name (program ∷ name ∷ mark ∷ []) t e a =
-    subst (λ (m : Text). IsTaken (program ∷ name ∷ m ∷ []) t) (sym a.1)
-    (subst (λ (n : Text). IsTaken (program ∷ n ∷ codes "--" ∷ []) t) (sym a.0) (name_and_mark_ask program t e))
-asked_by_name (program ∷ name ∷ mark ∷ x ∷ xs) t e a = absurd a
+    entered_gives (built line) stop (all_give) (subcommand_given line words refl e) (first_none (entered_fault (built line) stop) _ below)
 
 -- memory ran out, or it did not
 memory_or_not : (k : ErrorKind) → (k ≡ kind.OutOfMemory) ⊎ (k ≢ kind.OutOfMemory)
@@ -246,40 +198,17 @@ among_first k [] second among = absurd among
 among_first k (x ∷ xs) second among = among
 
 -- words without a fault that wish for something have no mistake
-wish_no_mistake : (offers : Bool) (words : List Text) (w : Wish) → faults_by offers words ≡ [] → wish_by offers words ≡ Some w → mistakes_by offers words ≡ []
-wish_no_mistake offers words w none e = rw (none, e) refl
-
--- where no options are offered, none exclude each other
-pub wish_alone : (words : List Text) → wish_by false words ≡ option_map (with_these no_options) (task_by false words)
-wish_alone words = go (subcommand_of (line_of false) words)
-  where
-    go : (met : Option (Text × List Row)) → option_and_then (request_by false) met ≡ option_map (with_these no_options) (option_and_then task_asked met)
-    go None = refl
-    go (Some met) = refl
-
--- words have the mistakes of `clap` alone where they wish for something if they have none
-pub alike_mistakes : (first second : Kinds) (w : Option Wish) (t : Option Meaning) → first ≡ second → w ≡ option_map (with_these no_options) t → (second ≡ [] → IsAsked t)
-    → or_else first (if is_some w then [] else kind.ArgumentConflict ∷ []) ≡ second
-alike_mistakes first second w t same is asks =
-    ap₂ (λ (f : Kinds) (x : Option Wish). or_else f (if is_some x then [] else kind.ArgumentConflict ∷ [])) same is ∙ go second t asks
-  where
-    go : (k : Kinds) (m : Option Meaning) → (k ≡ [] → IsAsked m) → or_else k (if is_some (option_map (with_these no_options) m) then [] else kind.ArgumentConflict ∷ []) ≡ k
-    go (x ∷ xs) m h = refl
-    go [] None h = absurd (h refl)
-    go [] (Some (Ok u)) h = refl
-    go [] (Some (Err i)) h = refl
-
-pub mistakes_alone : (words : List Text) → mistakes_by false words ≡ faults_by false words
-mistakes_alone words = alike_mistakes (faults_by false words) (faults_by false words) (wish_by false words) (task_by false words) refl (wish_alone words) (faultless_asks false words)
+wish_no_mistake : (words : List Text) (w : Wish) → fault_of request_line words ≡ [] → request_of_words words ≡ Some w → request_faults words ≡ []
+wish_no_mistake words w none e = rw (none, e) refl
 
 -- an error of the words, told apart from want of memory, is one of their faults
-pub may_refuse : (offers : Bool) (words : List Text) (e : Error) (r : WordsError) → HasKind (faults_by offers words) e → (kind_of e ≡ kind.OutOfMemory → r ≡ refused.Memory)
-    → ((kind_of e ≢ kind.OutOfMemory) → r ≡ refused.Words e) → MayRefuseBy offers words r
-may_refuse offers words e r has memory other = elim (memory_or_not (kind_of e)) [
-  | inl k ↦ subst (MayRefuseBy offers words) (sym (memory k)) tt
-  | inr k ↦ subst (MayRefuseBy offers words) (sym (other k)) (elim has [
+pub may_refuse : (words : List Text) (e : Error) (r : WordsError) → HasKind (fault_of request_line words) e → (kind_of e ≡ kind.OutOfMemory → r ≡ refused.Memory)
+    → ((kind_of e ≢ kind.OutOfMemory) → r ≡ refused.Words e) → MayRefuseRequest words r
+may_refuse words e r has memory other = elim (memory_or_not (kind_of e)) [
+  | inl k ↦ subst (MayRefuseRequest words) (sym (memory k)) tt
+  | inr k ↦ subst (MayRefuseRequest words) (sym (other k)) (elim has [
     | inl out ↦ absurd (k out)
-    | inr among ↦ among_first (kind_of e) (faults_by offers words) _ among
+    | inr among ↦ among_first (kind_of e) (fault_of request_line words) _ among
   ])
 ]
 
@@ -288,33 +217,33 @@ may_refuse offers words e r has memory other = elim (memory_or_not (kind_of e)) 
 abbrev Answer : Type 0
 Answer = Result Request WordsError
 
-abbrev Granted : Bool → List Text → Request → Type 0
-Granted offers words r = wish_by offers words ≡ Some (Ok (asked_by r.task, r.options))
+abbrev Granted : List Text → Request → Type 0
+Granted words r = request_of_words words ≡ Some (Ok (asked_by r.task, r.options))
 
-pub answers_found : (offers : Bool) (words : List Text) (answer : Answer) → MayGrant (wish_by offers words) (Some answer) → IfOk answer (Granted offers words)
-answers_found offers words answer may = go (wish_by offers words) refl answer may
+pub answers_found : (words : List Text) (answer : Answer) → MayGrant (request_of_words words) (Some answer) → IfOk answer (Granted words)
+answers_found words answer may = go (request_of_words words) refl answer may
   where
-    go : (o : Option Wish) → wish_by offers words ≡ o → (a : Answer) → MayGrant o (Some a) → IfOk a (Granted offers words)
+    go : (o : Option Wish) → request_of_words words ≡ o → (a : Answer) → MayGrant o (Some a) → IfOk a (Granted words)
     go None e a m = absurd m
     go (Some (Ok t)) e (Ok r) m = e ∙ ap₂ (λ (u : Asked) (o : Options). Some (Ok (u, o))) (sym m.0) (sym m.1)
     go (Some (Ok t)) e (Err u) m = tt
     go (Some (Err i)) e (Ok r) m = absurd m
     go (Some (Err i)) e (Err u) m = tt
 
-pub granted_faultless : (offers : Bool) (words : List Text) (r : Request) → faults_by offers words ≡ [] → Granted offers words r → mistakes_by offers words ≡ []
-granted_faultless offers words r none granted = wish_no_mistake offers words (Ok (asked_by r.task, r.options)) none granted
+pub granted_faultless : (words : List Text) (r : Request) → fault_of request_line words ≡ [] → Granted words r → request_faults words ≡ []
+granted_faultless words r none granted = wish_no_mistake words (Ok (asked_by r.task, r.options)) none granted
 
-pub answers_refused : (offers : Bool) (words : List Text) (answer : Answer) → faults_by offers words ≡ [] → MayGrant (wish_by offers words) (Some answer)
-    → IfErr answer (λ e. MayRefuseBy offers words e × IsNoMistake e)
-answers_refused offers words answer none may = go (wish_by offers words) refl answer may
+pub answers_refused : (words : List Text) (answer : Answer) → fault_of request_line words ≡ [] → MayGrant (request_of_words words) (Some answer)
+    → IfErr answer (λ e. MayRefuseRequest words e × IsNoMistake e)
+answers_refused words answer none may = go (request_of_words words) refl answer may
   where
-    go : (o : Option Wish) → wish_by offers words ≡ o → (a : Answer) → MayGrant o (Some a) → IfErr a (λ e. MayRefuseBy offers words e × IsNoMistake e)
+    go : (o : Option Wish) → request_of_words words ≡ o → (a : Answer) → MayGrant o (Some a) → IfErr a (λ e. MayRefuseRequest words e × IsNoMistake e)
     go None e a m = absurd m
     go (Some (Ok t)) e (Ok r) m = tt
-    go (Some (Ok t)) e (Err u) m = subst (λ (w : WordsError). MayRefuseBy offers words w × IsNoMistake w) (sym m) (tt, tt)
+    go (Some (Ok t)) e (Err u) m = subst (λ (w : WordsError). MayRefuseRequest words w × IsNoMistake w) (sym m) (tt, tt)
     go (Some (Err i)) e (Ok r) m = absurd m
     go (Some (Err i)) e (Err (refused.Words error)) m = absurd m
-    go (Some (Err i)) e (Err (refused.Block j)) m = ((wish_no_mistake offers words (Err i) none e, e ∙ ap (λ (k : ℕ). Some (Err k)) (sym m)), tt)
+    go (Some (Err i)) e (Err (refused.Block j)) m = ((wish_no_mistake words (Err i) none e, e ∙ ap (λ (k : ℕ). Some (Err k)) (sym m)), tt)
     go (Some (Err i)) e (Err refused.Memory) m = (tt, tt)
 
 -- where nothing is answered, nothing is wished for
@@ -323,28 +252,20 @@ no_wish None may = refl
 no_wish (Some wish) may = absurd may
 
 -- words without a fault that wish for nothing have options that exclude each other
-pub excluded : (offers : Bool) (words : List Text) (e : WordsError) → faults_by offers words ≡ [] → wish_by offers words ≡ None → IsExclusion e → MayRefuseBy offers words e
-excluded offers words (refused.Words error) none nothing is = rw (none, nothing) (inl is)
-excluded offers words (refused.Block i) none nothing is = absurd is
-excluded offers words refused.Memory none nothing is = tt
-
-nothing_asked : (words : List Text) → wish_by false words ≡ None → IsAsked (task_by false words) → ⊥
-nothing_asked words nothing asks = go (task_by false words) (sym (wish_alone words) ∙ nothing) asks
-  where
-    go : (m : Option Meaning) → option_map (with_these no_options) m ≡ None → IsAsked m → ⊥
-    go None e a = a
-    go (Some m) e a = cc
+pub excluded : (words : List Text) (e : WordsError) → fault_of request_line words ≡ [] → request_of_words words ≡ None → IsExclusion e → MayRefuseRequest words e
+excluded words (refused.Words error) none nothing is = rw (none, nothing) (inl is)
+excluded words (refused.Block i) none nothing is = absurd is
+excluded words refused.Memory none nothing is = tt
 
 -- and there are none such where they agree
-pub agreed : (offers : Bool) (words : List Text) → faults_by offers words ≡ [] → wish_by offers words ≡ None → agrees_by offers words ≡ true → ⊥
-agreed true words none nothing agrees = true≢false (sym agrees ∙ ap is_some nothing)
-agreed false words none nothing agrees = nothing_asked words nothing (faultless_asks false words none)
+pub agreed : (words : List Text) → fault_of request_line words ≡ [] → request_of_words words ≡ None → is_some (request_of_words words) ≡ true → ⊥
+agreed words none nothing agrees = true≢false (sym agrees ∙ ap is_some nothing)
 
 -- ---- what was answered, told of the task and of the words
 
 -- a wish without its options
-pub task_wished : (offers : Bool) (words : List Text) (t : Asked) (options : Options) → wish_by offers words ≡ Some (Ok (t, options)) → task_by offers words ≡ Some (Ok t)
-task_wished offers words t options e = go (subcommand_of (line_of offers) words) e
+pub task_wished : (words : List Text) (t : Asked) (options : Options) → request_of_words words ≡ Some (Ok (t, options)) → task_of_words words ≡ Some (Ok t)
+task_wished words t options e = go (subcommand_of request_line words) e
   where
     wished : (m : Option Meaning) (o : Options) → option_map (with_these o) m ≡ Some (Ok (t, options)) → m ≡ Some (Ok t)
     wished None o f = cc
@@ -355,12 +276,12 @@ task_wished offers words t options e = go (subcommand_of (line_of offers) words)
     by m None f = cc
     by m (Some o) f = wished m o f
 
-    go : (met : Option (Text × List Row)) → option_and_then (request_by offers) met ≡ Some (Ok (t, options)) → option_and_then (asked_for offers) met ≡ Some (Ok t)
+    go : (met : Option (Text × List Row)) → option_and_then request_asked met ≡ Some (Ok (t, options)) → option_and_then task_asked met ≡ Some (Ok t)
     go None f = cc
-    go (Some met) f = by (asked_for offers met) (options_by offers met.1) f
+    go (Some met) f = by (task_asked met) (options_in met.1) f
 
-pub block_wished : (offers : Bool) (words : List Text) (i : ℕ) → wish_by offers words ≡ Some (Err i) → task_by offers words ≡ Some (Err i)
-block_wished offers words i e = go (subcommand_of (line_of offers) words) e
+pub block_wished : (words : List Text) (i : ℕ) → request_of_words words ≡ Some (Err i) → task_of_words words ≡ Some (Err i)
+block_wished words i e = go (subcommand_of request_line words) e
   where
     wished : (m : Option Meaning) (o : Options) → option_map (with_these o) m ≡ Some (Err i) → m ≡ Some (Err i)
     wished None o f = cc
@@ -371,25 +292,25 @@ block_wished offers words i e = go (subcommand_of (line_of offers) words) e
     by m None f = cc
     by m (Some o) f = wished m o f
 
-    go : (met : Option (Text × List Row)) → option_and_then (request_by offers) met ≡ Some (Err i) → option_and_then (asked_for offers) met ≡ Some (Err i)
+    go : (met : Option (Text × List Row)) → option_and_then request_asked met ≡ Some (Err i) → option_and_then task_asked met ≡ Some (Err i)
     go None f = cc
-    go (Some met) f = by (asked_for offers met) (options_by offers met.1) f
+    go (Some met) f = by (task_asked met) (options_in met.1) f
 
-pub asked_period : (offers : Bool) (words : List Text) (t : Asked) → faults_by offers words ≡ [] → task_by offers words ≡ Some (Ok t) → HasPeriod t
-asked_period offers words t none e = subst IsAsked e (faultless_asks offers words none)
+pub asked_period : (words : List Text) (t : Asked) → fault_of request_line words ≡ [] → task_of_words words ≡ Some (Ok t) → HasPeriod t
+asked_period words t none e = subst IsAsked e (faultless_asks words none)
 
 -- words that are taken are refused for want of memory alone, where what they ask for is a task
-pub memory_alone : (offers : Bool) (words : List Text) (t : Asked) (e : WordsError) → task_by offers words ≡ Some (Ok t) → MayRefuseBy offers words e → IsNoMistake e → e ≡ refused.Memory
-memory_alone offers words t (refused.Words error) asks may sure = absurd sure
-memory_alone offers words t (refused.Block i) asks may sure = let bad : Some (Ok t) ≡ Some (Err i) = sym asks ∙ block_wished offers words i may.1 in cc
-memory_alone offers words t refused.Memory asks may sure = refl
+pub memory_alone : (words : List Text) (t : Asked) (e : WordsError) → task_of_words words ≡ Some (Ok t) → MayRefuseRequest words e → IsNoMistake e → e ≡ refused.Memory
+memory_alone words t (refused.Words error) asks may sure = absurd sure
+memory_alone words t (refused.Block i) asks may sure = let bad : Some (Ok t) ≡ Some (Err i) = sym asks ∙ block_wished words i may.1 in cc
+memory_alone words t refused.Memory asks may sure = refl
 
 -- words without a fault, of which a text says no block, are refused by that text
-pub block_alone : (offers : Bool) (words : List Text) (i : ℕ) (e : WordsError) → mistakes_by offers words ≡ [] → task_by offers words ≡ Some (Err i) → MayRefuseBy offers words e → IsBlockError i e
-block_alone offers words i (refused.Words error) none bad may = subst (λ (k : Kinds). IsAmong (kind_of error) k) none may
-block_alone offers words i (refused.Block j) none bad may =
-    let same : no_meaning j ≡ Some (Err i) = sym (block_wished offers words j may.1) ∙ bad in ap (λ (m : Option Meaning). block_or j m) same
-block_alone offers words i refused.Memory none bad may = tt
+pub block_alone : (words : List Text) (i : ℕ) (e : WordsError) → request_faults words ≡ [] → task_of_words words ≡ Some (Err i) → MayRefuseRequest words e → IsBlockError i e
+block_alone words i (refused.Words error) none bad may = subst (λ (k : Kinds). IsAmong (kind_of error) k) none may
+block_alone words i (refused.Block j) none bad may =
+    let same : no_meaning j ≡ Some (Err i) = sym (block_wished words j may.1) ∙ bad in ap (λ (m : Option Meaning). block_or j m) same
+block_alone words i refused.Memory none bad may = tt
 
 pub one_task : (t u : Asked) → a_meaning t ≡ Some (Ok u) → t ≡ u
 one_task t u e = ap (λ (m : Option Meaning). asked_or t m) e
@@ -397,51 +318,37 @@ one_task t u e = ap (λ (m : Option Meaning). asked_or t m) e
 pub one_block : (t : Asked) (i : ℕ) → a_meaning t ≡ Some (Err i) → ⊥
 one_block t i e = cc
 
--- what `read_words` says of its refusals
-pub refused_words : (words : List Text) (e : WordsError) → MayRefuseBy false words e → MayRefuse words e
-refused_words words (refused.Words error) may = subst (IsAmong (kind_of error)) (mistakes_alone words) may
-refused_words words (refused.Block i) may = (sym (mistakes_alone words) ∙ may.0, block_wished false words i may.1)
-refused_words words refused.Memory may = tt
-
 -- what `read_request` says of its answers
-pub request_refused : (words : List Text) (answer : Answer) → IfErr answer (MayRefuseBy true words) → IfErr answer (MayRefuseRequest words)
-request_refused words (Ok r) may = tt
-request_refused words (Err (refused.Words error)) may = may
-request_refused words (Err (refused.Block i)) may = may
-request_refused words (Err refused.Memory) may = tt
-
-pub answered_plainly : (words : List Text) (answer : Answer) → IfOk answer (λ r. mistakes_by true words ≡ []) → IfOk answer (Granted true words)
-    → ((t : Asked) (options : Options) → faults_by true words ≡ [] → wish_by true words ≡ Some (Ok (t, options)) → is_plain t ≡ true → AsksWith words t options)
+pub answered_plainly : (words : List Text) (answer : Answer) → IfOk answer (λ r. request_faults words ≡ []) → IfOk answer (Granted words)
+    → ((t : Asked) (options : Options) → fault_of request_line words ≡ [] → request_of_words words ≡ Some (Ok (t, options)) → is_plain t ≡ true → AsksWith words t options)
     → IfOk answer (λ r. is_plain (asked_by r.task) ≡ true → AsksWith words (asked_by r.task) r.options)
-answered_plainly words (Ok r) none granted asks = asks (asked_by r.task) r.options (first_none (faults_by true words) _ none) granted
+answered_plainly words (Ok r) none granted asks = asks (asked_by r.task) r.options (first_none (fault_of request_line words) _ none) granted
 answered_plainly words (Err e) none granted asks = tt
 
-pub answered_period : (offers : Bool) (words : List Text) (answer : Answer) → IfOk answer (λ r. mistakes_by offers words ≡ []) → IfOk answer (Granted offers words) → IfOk answer (λ r. HasPeriod (asked_by r.task))
-answered_period offers words (Ok r) none granted = asked_period offers words (asked_by r.task) (first_none (faults_by offers words) _ none) (task_wished offers words (asked_by r.task) r.options granted)
-answered_period offers words (Err e) none granted = tt
+pub answered_period : (words : List Text) (answer : Answer) → IfOk answer (λ r. request_faults words ≡ []) → IfOk answer (Granted words) → IfOk answer (λ r. HasPeriod (asked_by r.task))
+answered_period words (Ok r) none granted = asked_period words (asked_by r.task) (first_none (fault_of request_line words) _ none) (task_wished words (asked_by r.task) r.options granted)
+answered_period words (Err e) none granted = tt
 
 one_wish : (t u : Asked) (o p : Options) → a_wish t o ≡ Some (Ok (u, p)) → (t ≡ u) × (o ≡ p)
 one_wish t u o p e = (ap (λ (w : Option Wish). task_or t w) e, ap (λ (w : Option Wish). options_or o w) e)
 
-pub request_granted : (offers : Bool) (words : List Text) (t : Asked) (options : Options) (answer : Answer) → IfOk answer (Granted offers words) → IfErr answer (MayRefuseBy offers words)
-    → IfErr answer IsNoMistake → wish_by offers words ≡ Some (Ok (t, options)) → AnswersRequest t options answer
-request_granted offers words t options (Ok r) granted may sure wish = one_wish (asked_by r.task) t r.options options (sym granted ∙ wish)
-request_granted offers words t options (Err e) granted may sure wish = memory_alone offers words t e (task_wished offers words t options wish) may sure
+pub request_granted : (words : List Text) (t : Asked) (options : Options) (answer : Answer) → IfOk answer (Granted words) → IfErr answer (MayRefuseRequest words)
+    → IfErr answer IsNoMistake → request_of_words words ≡ Some (Ok (t, options)) → AnswersRequest t options answer
+request_granted words t options (Ok r) granted may sure wish = one_wish (asked_by r.task) t r.options options (sym granted ∙ wish)
+request_granted words t options (Err e) granted may sure wish = memory_alone words t e (task_wished words t options wish) may sure
 
-pub block_refused : (offers : Bool) (words : List Text) (i : ℕ) (answer : Answer) → IfOk answer (Granted offers words) → IfErr answer (MayRefuseBy offers words) → mistakes_by offers words ≡ []
-    → wish_by offers words ≡ Some (Err i) → RefusesBlock i answer
-block_refused offers words i (Ok r) granted may none bad = let other : Some (Ok (asked_by r.task, r.options)) ≡ Some (Err i) = sym granted ∙ bad in cc
-block_refused offers words i (Err e) granted may none bad = block_alone offers words i e none (block_wished offers words i bad) may
+pub block_refused : (words : List Text) (i : ℕ) (answer : Answer) → IfOk answer (Granted words) → IfErr answer (MayRefuseRequest words) → request_faults words ≡ []
+    → request_of_words words ≡ Some (Err i) → RefusesBlock i answer
+block_refused words i (Ok r) granted may none bad = let other : Some (Ok (asked_by r.task, r.options)) ≡ Some (Err i) = sym granted ∙ bad in cc
+block_refused words i (Err e) granted may none bad = block_alone words i e none (block_wished words i bad) may
 
--- ---- both command lines are such that `clap` says what it does
+-- ---- the command line is such that `clap` says what it does
 
-pub simple_line : (offers : Bool) → is_simple (line_of offers) ≡ true
-simple_line true = refl
-simple_line false = refl
+pub simple_line : is_simple request_line ≡ true
+simple_line = refl
 
-pub free_line : (offers : Bool) → is_simple_and_free (line_of offers) ≡ true
-free_line true = refl
-free_line false = refl
+pub free_line : is_simple_and_free request_line ≡ true
+free_line = refl
 
 -- ---- a task becomes a request
 

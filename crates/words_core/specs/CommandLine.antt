@@ -1,12 +1,12 @@
 -- The command line of the program: the task of each subcommand, and why words may be refused.
-use Rattle.std.specs.Prelude.{◌≡◌, ◌==◌, ◌⊎◌, ℕ, pos, true, false, not, Bool, List, [], ◌∷◌, ◌++◌, map, fold, filter_map, find, position, Option, Some, None, Result, Ok, Err, MatchResult, is_some, option_and_then, option_map, codes, if◌then◌else◌}
+use Rattle.std.specs.Prelude.{◌≡◌, ◌==◌, ◌⊎◌, ℕ, pos, true, false, not, Bool, List, [], ◌∷◌, ◌++◌, map, filter_map, find, position, Option, Some, None, Result, Ok, Err, MatchResult, is_some, option_and_then, option_map, codes, if◌then◌else◌}
 use Rattle.std.specs.Global.{Global}
 use Rattle.std.specs.List.{list_any}
 use Rattle.std.specs.Option.{option_map_or}
 use Rattle.std.specs.Str.{bytes_eq}
 use Rattle.std.specs.Str.Parse.{IsNumeral, digits_value, without_leading_plus}
 use Rattle.clap.specs.Lexer.{usize_max}
-use Rattle.clap.specs.Words.{App, IsAmong, Kinds, Row, Rule, Shape, Text, all_of, fault_of, first_of, kind_of, new_app, new_rule, one_of, subcommand_of, with_rule, with_subcommand}
+use Rattle.clap.specs.Words.{App, Row, Rule, Shape, Text, all_of, first_of, new_app, new_rule, one_of, with_rule}
 use Rattle.clap.specs.ValueTests.{is_unsigned_in}
 use Rattle.clap.specs.declared.builder.value_parser.ValueParser.TheVariants as parses
 use Rattle.block_core.specs.declared.block.Block.{Block}
@@ -61,6 +61,13 @@ is_plain (watch period id) = false
 is_plain (losses period) = false
 is_plain _ = true
 
+-- the task's subcommand reads events, and takes the options on them
+abbrev pub takes_options : Asked → Bool
+takes_options rewrite = false
+takes_options publish = false
+takes_options import = false
+takes_options _ = true
+
 -- the period of a watch is one that a watch may have, and so is one that is given for losses
 abbrev pub HasPeriod : Asked → Type 0
 HasPeriod (watch period id) = IsPeriod period
@@ -72,14 +79,16 @@ HasPeriod _ = Unit {0}
 abbrev pub Meaning : Type 0
 Meaning = Result Asked ℕ
 
--- a subcommand: the words that it takes, and what its matches ask for
+-- a subcommand: the words of its own that it takes, whether it takes the options on events beside them, and what its
+-- matches ask for
 pub record Subcommand : Type 0 where
   pub shape : Shape
+  pub has_options : Bool
   pub task : List Row → Option Meaning
 
--- the subcommand without arguments that asks for this task
+-- the subcommand without words of its own that asks for this task
 abbrev pub plain : Asked → Subcommand
-plain t = record { shape = (new_app (name_of t)).top; task = λ rows. Some (Ok t) }
+plain t = record { shape = (new_app (name_of t)).top; has_options = takes_options t; task = λ rows. Some (Ok t) }
 
 -- the control block that a text says
 abbrev pub block_at : Text → Option (Block Global)
@@ -107,7 +116,7 @@ replay_shape = (with_rule (new_app (codes "replay")) block_rule).top
 
 -- the subcommand of a replay
 abbrev pub replaying : Subcommand
-replaying = record { shape = replay_shape; task = λ rows. option_map replay_of (all_of (codes "BLOCK") rows) }
+replaying = record { shape = replay_shape; has_options = true; task = λ rows. option_map replay_of (all_of (codes "BLOCK") rows) }
 
 -- the option --period: a number of counts that a watch may have
 abbrev pub period_rule : Rule
@@ -137,7 +146,23 @@ watch_asked rows = option_and_then (λ period. option_map (λ id. Ok (watch peri
 
 -- the subcommand of a watch
 abbrev pub watching : Subcommand
-watching = record { shape = watch_shape; task = watch_asked }
+watching = record { shape = watch_shape; has_options = true; task = watch_asked }
+
+-- the option --period of `losses`: as that of a watch, but it may be left out
+abbrev pub stream_period_rule : Rule
+stream_period_rule = record period_rule { required = false }
+
+-- the words of `losses`: its name, and its option
+abbrev pub losses_shape : Shape
+losses_shape = (with_rule (new_app (codes "losses")) stream_period_rule).top
+
+-- the losses that the option says
+abbrev pub losses_asked : List Row → Option Meaning
+losses_asked rows = Some (Ok (losses (option_and_then number_said (one_of (codes "period") rows))))
+
+-- the subcommand of what is missing
+abbrev pub losing : Subcommand
+losing = record { shape = losses_shape; has_options = true; task = losses_asked }
 
 -- the subcommands that read a list and take no words of their own
 abbrev pub readers : List Subcommand
@@ -145,7 +170,7 @@ readers = plain show ∷ plain check ∷ plain rewrite ∷ plain list_blocks ∷
 
 -- the subcommands, in the order of the help; a further one is one more line
 abbrev pub subcommands : List Subcommand
-subcommands = readers ++ (replaying ∷ plain publish ∷ watching ∷ plain import ∷ [])
+subcommands = readers ++ (replaying ∷ plain publish ∷ watching ∷ losing ∷ plain import ∷ [])
 
 -- the program with a version, of which a subcommand must be named
 abbrev pub bare_program : App
@@ -154,23 +179,9 @@ bare_program = record {
   subs = (new_app (codes "goose")).subs;
 }
 
--- the program with its subcommands
-abbrev pub command_line : App
-command_line = fold with_subcommand bare_program (map (λ s. s.shape) subcommands)
-
 -- what the subcommand that was met asks for, from its name and its matches
 abbrev pub task_asked : Text × List Row → Option Meaning
 task_asked met = option_and_then (λ s. s.task met.1) (find (λ s. bytes_eq s.shape.name met.0) subcommands)
-
--- what the subcommand that the words name asks for; the first word is the program's name
-abbrev pub task_of_words : List Text → Option Meaning
-task_of_words words = option_and_then task_asked (subcommand_of command_line words)
-
--- the program's name, this name, and then nothing, or the mark behind which no flag follows
-abbrev pub AsksByName : List Text → Text → Type 0
-AsksByName (called ∷ word ∷ []) name = word ≡ name
-AsksByName (called ∷ word ∷ mark ∷ []) name = (word ≡ name) × (mark ≡ codes "--")
-AsksByName _ name = ⊥
 
 -- a word that begins with a hyphen (45), which may be a flag
 abbrev pub is_flag : Text → Bool
@@ -209,26 +220,6 @@ pub record AsksWatch (words : List Text) (period : ℕ) (id : Text) : Type 0 whe
   pub are_digits : IsNumeral 10 digits
   pub number : digits_value 10 digits ≡ period
   pub range : IsPeriod period
-
--- the words ask for this task: a task without words of its own by its name, a replay by the texts of
--- its control blocks, a watch by its two options; what is missing is asked for beside the other options alone
-abbrev pub Asks : List Text → Asked → Type 0
-Asks words (replay blocks) = AsksReplay words blocks
-Asks words (watch period id) = AsksWatch words period id
-Asks words (losses period) = ⊥
-Asks words t = AsksByName words (name_of t)
-
--- what may be wrong with the words, or asked for in place of a task: the kinds of error of the
--- first step that fails; empty where no step fails
-abbrev pub faults : List Text → Kinds
-faults = fault_of command_line
-
--- the words may be refused so: by one of their faults, by the first text that says no control block
--- where they have no fault, or because memory was refused
-abbrev pub MayRefuse : List Text → WordsError → Type 0
-MayRefuse words (refused.Words error) = IsAmong (kind_of error) (faults words)
-MayRefuse words (refused.Block i) = (faults words ≡ []) × (task_of_words words ≡ Some (Err i))
-MayRefuse words refused.Memory = Unit {0}
 
 -- the words themselves are not what is wrong
 abbrev pub IsNoMistake : WordsError → Type 0

@@ -1,12 +1,11 @@
--- The command line with options: the task and the options of its words, and why words may be refused.
-use Rattle.std.specs.Prelude.{◌≡◌, ◌&&◌, ◌⊎◌, ℕ, true, false, not, Bool, List, [], ◌∷◌, ◌++◌, map, fold, filter, length, drop, Option, Some, None, Result, Ok, Err, MatchResult, is_some, option_and_then, option_map, codes, if◌then◌else◌}
+-- The command line whole: the task and the options that its words ask for, and why words may be refused.
+use Rattle.std.specs.Prelude.{◌≡◌, ◌&&◌, ◌⊎◌, ℕ, true, false, not, Bool, List, [], ◌∷◌, ◌++◌, map, fold, filter, length, Option, Some, None, Result, Ok, Err, MatchResult, is_some, option_and_then, option_map, codes, if◌then◌else◌}
 use Rattle.std.specs.Global.{Global}
 use Rattle.std.specs.List.{list_all, list_any}
 use Rattle.std.specs.Option.{option_map_or}
 use Rattle.std.specs.Str.{bytes_eq}
 use Rattle.std.specs.Str.Parse.{IsNumeral, digits_value}
-use Rattle.clap.specs.Lexer.{long_of}
-use Rattle.clap.specs.Words.{App, IsAmong, Kinds, Row, Rule, Shape, Text, fault_of, kind_of, new_app, new_rule, one_of, subcommand_of, takes, with_rule, with_subcommand}
+use Rattle.clap.specs.Words.{App, IsAmong, Kinds, Row, Rule, Shape, Text, fault_of, kind_of, new_rule, one_of, subcommand_of, takes, with_subcommand}
 use Rattle.clap.specs.Kinds.{or_else}
 use Rattle.clap.specs.declared.builder.action.ArgAction.TheVariants.{SetTrue}
 use Rattle.clap.specs.declared.error.kind.ErrorKind.TheVariants as kind
@@ -17,7 +16,7 @@ use Rattle.words_core.specs.declared.option_words.Writing.TheVariants.{Lines, Da
 use Rattle.words_core.specs.declared.words.Request.{Request}
 use Rattle.words_core.specs.declared.words.WordsError.{WordsError}
 use Rattle.words_core.specs.declared.words.WordsError.TheVariants as refused
-use Rattle.words_core.specs.CommandLine.{Asked, AsksReplay, AsksWatch, IsBlockError, Meaning, SaysOption, asked_by, bare_program, check, faults, import, list_blocks, losses, name_of, number_said, period_rule, plain, publish, replay, replay_shape, rewrite, show, task_asked, task_of_words, watch, watch_shape}
+use Rattle.words_core.specs.CommandLine.{Asked, AsksReplay, AsksWatch, IsBlockError, Meaning, SaysOption, asked_by, bare_program, losses, name_of, replay, subcommands, takes_options, task_asked, watch}
 use Rattle.block_core.specs.Period.{IsPeriod}
 
 -- the options, which are given or not; a further one is one more constructor, name and line below
@@ -62,34 +61,18 @@ switch_word s = codes "--" ++ switch_name s
 abbrev pub option_named : Text → Rule
 option_named name = record (new_rule name) { long = Some name; action = Some SetTrue }
 
--- a subcommand that takes the options beside words of its own
-abbrev pub with_switches : Shape → Shape
-with_switches s = record s { rules = s.rules ++ map (λ o. option_named (switch_name o)) switches }
+-- the options, where a subcommand takes them
+abbrev pub option_rules : Bool → List Rule
+option_rules true = map (λ o. option_named (switch_name o)) switches
+option_rules false = []
 
--- the option --period of `losses`: as that of a watch, but it may be left out
-abbrev pub stream_period_rule : Rule
-stream_period_rule = record period_rule { required = false }
+-- a subcommand's words, and behind them the options where it takes them
+abbrev pub offered : Bool → Shape → Shape
+offered takes s = record s { rules = s.rules ++ option_rules takes }
 
--- the words of `losses`: its name, and its option
-abbrev pub losses_shape : Shape
-losses_shape = (with_rule (new_app (codes "losses")) stream_period_rule).top
-
--- the losses that the option says
-abbrev pub losses_asked : List Row → Option Meaning
-losses_asked rows = Some (Ok (losses (option_and_then number_said (one_of (codes "period") rows))))
-
--- the subcommand of this task takes the options
-abbrev pub takes_options : Asked → Bool
-takes_options rewrite = false
-takes_options publish = false
-takes_options import = false
-takes_options _ = true
-
--- the program with its subcommands, of which those that read events take the options, and `losses`
+-- the program with its subcommands, each with the options where it takes them
 abbrev pub request_line : App
-request_line = fold with_subcommand bare_program (
-    with_switches (plain show).shape ∷ with_switches (plain check).shape ∷ (plain rewrite).shape ∷ with_switches (plain list_blocks).shape
-    ∷ with_switches replay_shape ∷ (plain publish).shape ∷ with_switches watch_shape ∷ with_switches losses_shape ∷ (plain import).shape ∷ [])
+request_line = fold with_subcommand bare_program (map (λ s. offered s.has_options s.shape) subcommands)
 
 -- an option of this name is given by the matches of a subcommand
 abbrev pub is_set : Text → List Row → Bool
@@ -107,10 +90,6 @@ abbrev pub options_in : List Row → Option Options
 options_in rows = option_map (λ writes. record { is_capture = is_set (switch_name capture) rows; skips_other = is_set (switch_name skip_other) rows; writes = writes })
     (writing_by (is_set (switch_name time) rows) (is_set (switch_name json) rows))
 
--- what the subcommand that was met asks for, `losses` among them
-abbrev pub asked_beside : Text × List Row → Option Meaning
-asked_beside met = if bytes_eq (codes "losses") met.0 then losses_asked met.1 else task_asked met
-
 -- what the matches of a subcommand ask for: a task with options, or none because of the text at this position
 abbrev pub Wish : Type 0
 Wish = Result (Asked × Options) ℕ
@@ -121,11 +100,15 @@ with_these options (Err i) = Err i
 
 -- what the subcommand that was met asks for, from its name and its matches; nothing where options exclude each other
 abbrev pub request_asked : Text × List Row → Option Wish
-request_asked met = option_and_then (λ options. option_map (with_these options) (asked_beside met)) (options_in met.1)
+request_asked met = option_and_then (λ options. option_map (with_these options) (task_asked met)) (options_in met.1)
 
 -- what the subcommand that the words name asks for; the first word is the program's name
 abbrev pub request_of_words : List Text → Option Wish
 request_of_words words = option_and_then request_asked (subcommand_of request_line words)
+
+-- what of it is a task, whatever options stand there
+abbrev pub task_of_words : List Text → Option Meaning
+task_of_words words = option_and_then task_asked (subcommand_of request_line words)
 
 -- what may be wrong with the words, or asked for in place of a task: the kinds of error of the
 -- first step that fails, or that of options which exclude each other, where no step fails
@@ -139,14 +122,6 @@ takes_request words = takes request_line words && is_some (request_of_words word
 -- the word gives an option
 abbrev pub is_option : Text → Bool
 is_option word = list_any (λ o. bytes_eq word (switch_word o)) switches
-
--- no option is given
-abbrev pub no_options : Options
-no_options = record { is_capture = false; skips_other = false; writes = Lines }
-
--- the word names an option, alone or with a value behind `=`
-abbrev pub names_option : Text → Bool
-names_option word = option_map_or (λ p. list_any (λ o. bytes_eq (switch_name o) p.0) switches) (long_of word) false
 
 -- how often a word stands among words
 abbrev pub times : Text → List Text → ℕ
@@ -221,15 +196,9 @@ AsksWith words (watch period id) options = AsksWatchWith words period id options
 AsksWith words (losses period) options = AsksLossesWith words period options
 AsksWith words t options = AsksByNameWith words t options
 
--- the subcommand that the words name is `losses`, which stands beside the options alone
-abbrev pub names_losses : List Text → Bool
-names_losses words = option_map_or (λ met. bytes_eq (codes "losses") met.0) (subcommand_of request_line words) false
-
--- words none of which names an option, the program's name aside, and which do not name `losses`, are the same with the options
--- offered as without: they have the same faults, and ask for the same with no options
-abbrev pub AnsweredAlike : List Text → Type 0
-AnsweredAlike words = list_any names_option (drop 1 words) ≡ false → names_losses words ≡ false
-    → (request_faults words ≡ faults words) × (request_of_words words ≡ option_map (with_these no_options) (task_of_words words))
+-- the words ask for this task, with whichever options
+abbrev pub Asks : List Text → Asked → Type 0
+Asks words t = (options : Options) × AsksWith words t options
 
 -- the words may be refused so: by one of their faults, by the first text that says no control block
 -- where they have no fault, or because memory was refused

@@ -1,8 +1,8 @@
 //! The options of the commands that read events, beside words of their own: on the input, and on what is written.
 ghost use Rattle.std.specs.Prelude.{◌≡◌, fold, true, false};
 ghost use Rattle.clap.specs.Words.{App, Rule, found_of, rows_of, rule_of, with_rule, with_subcommand};
-ghost use Rattle.words_core.specs.RequestLine.{is_set, options_in, option_named, writing_by};
-ghost use Rattle.words_core.specs.computed.OfferedLine.{IsApp, IsLocal, offered_rules, offering, options_by};
+ghost use Rattle.words_core.specs.RequestLine.{is_set, option_named, option_rules, options_in, writing_by};
+ghost use Rattle.words_core.specs.computed.OfferedLine.{IsApp, IsLocal, offering};
 
 use clap::{Arg, ArgAction, ArgMatches, Command};
 use std::alloc::{AllocError, Global};
@@ -70,7 +70,7 @@ pub fn with_arg<'a>(command: Made<'a>, arg: Arg<'a>) -> Made<'a>
 
 // The command with the options.
 fn with_each<'a>(alloc: Global, command: Made<'a>) -> Made<'a>
-    ensures app { (a : App) → IsApp a command.entry → IsApp (fold with_rule a (offered_rules true)) result }
+    ensures app { (a : App) → IsApp a command.entry → IsApp (fold with_rule a (option_rules true)) result }
     ensures local { IsLocal command.entry → IsLocal result }
 {
     let command = with_arg(command, flag_option(alloc, "capture", CAPTURE_HELP));
@@ -79,12 +79,12 @@ fn with_each<'a>(alloc: Global, command: Made<'a>) -> Made<'a>
     with_arg(command, flag_option(alloc, "json", JSON_HELP))
 }
 
-// The command with the options, where they are offered.
-fn with_options<'a>(alloc: Global, command: Made<'a>, offers: bool) -> Made<'a>
-    ensures app { (a : App) → IsApp a command.entry → IsApp (offering offers a) result }
+// The command with the options, where it takes them.
+fn with_options<'a>(alloc: Global, command: Made<'a>, takes_options: bool) -> Made<'a>
+    ensures app { (a : App) → IsApp a command.entry → IsApp (offering takes_options a) result }
     ensures local { IsLocal command.entry → IsLocal result }
 {
-    if offers {
+    if takes_options {
         with_each(alloc, command)
     } else {
         command
@@ -102,17 +102,17 @@ fn with_command<'a>(program: Made<'a>, command: Made<'a>) -> Made<'a>
     }
 }
 
-/// The program with one more subcommand, which takes the options where they are offered, where memory for both is granted.
+/// The program with one more subcommand, which takes the options or not, where memory for both is granted.
 pub fn with_offering<'a>(
     alloc: Global,
     program: Made<'a>,
     command: Made<'a>,
-    offers: bool,
+    takes_options: bool,
 ) -> Made<'a>
     requires { IsLocal command }
-    ensures { (a b : App) → IsApp a program.entry → IsApp b command.entry → IsApp (with_subcommand a (offering offers b).top) result }
+    ensures { (a b : App) → IsApp a program.entry → IsApp b command.entry → IsApp (with_subcommand a (offering takes_options b).top) result }
 {
-    with_command(program, with_options(alloc, command, offers))
+    with_command(program, with_options(alloc, command, takes_options))
 }
 
 // Whether an option without a value is given.
@@ -134,8 +134,8 @@ fn writing_by(has_dates: bool, has_objects: bool) -> Option<Writing>
     }
 }
 
-// The options of the matches of a subcommand, or none where two exclude each other.
-fn options_met(matches: &ArgMatches<'_>) -> Option<Options>
+/// The options of the matches of a subcommand, or none where two exclude each other.
+pub fn options_met(matches: &ArgMatches<'_>) -> Option<Options>
     ensures { result ≡ options_in (rows_of (found_of matches.now)) }
 {
     let is_capture = is_set(matches, "capture");
@@ -147,20 +147,5 @@ fn options_met(matches: &ArgMatches<'_>) -> Option<Options>
             writes,
         }),
         None => None,
-    }
-}
-
-/// The options of the matches of a subcommand, where they are offered; none where two exclude each other.
-pub fn options_by(matches: &ArgMatches<'_>, offers: bool) -> Option<Options>
-    ensures { result ≡ options_by offers (rows_of (found_of matches.now)) }
-{
-    if offers {
-        options_met(matches)
-    } else {
-        Some(Options {
-            is_capture: false,
-            skips_other: false,
-            writes: Writing::Lines,
-        })
     }
 }

@@ -1,14 +1,14 @@
 //! The command line of the program `goose`. The parser of words, `clap`, is called here alone.
-ghost use Rattle.std.specs.Prelude.{◌≡◌, ◌≢◌, ℕ, true, false, codes, fold, map, option_map, Some, [], IfOk, IfErr, Err, Ok, option_and_then};
+ghost use Rattle.std.specs.Prelude.{◌≡◌, ◌≢◌, ℕ, true, false, codes, fold, is_some, map, option_map, Some, [], IfOk, IfErr, Err, Ok, option_and_then};
 ghost use Rattle.clap.specs.Words.{App, all_of, app_of, found_of, kind_of, new_app, rows_of, rule_of, subcommand_rows_of, takes, with_subcommand};
 ghost use Rattle.clap.specs.Walk.{texts};
 ghost use Rattle.clap.specs.declared.error.kind.ErrorKind.TheVariants.{OutOfMemory};
-ghost use Rattle.words_core.specs.CommandLine.{AnswersBadBlock, AnswersTask, Asked, Asks, HasPeriod, IsNoMistake, MayRefuse, bare_program, block_rule, command_line, faults, id_rule, is_plain, name_of, period_rule, readers, replay_of, replay_shape, asked_by, task_asked, task_of_words, watch, watch_asked, watch_shape};
+ghost use Rattle.words_core.specs.CommandLine.{AnswersBadBlock, AnswersTask, Asked, HasPeriod, IsNoMistake, asked_by, bare_program, block_rule, id_rule, is_plain, losing, losses_asked, name_of, period_rule, readers, replay_of, replaying, stream_period_rule, task_asked, watch, watch_asked, watching};
 ghost use Rattle.words_core.specs.computed.PrivateCalls.{AnswersWords, MayAnswer};
-ghost use Rattle.words_core.specs.RequestLine.{AnsweredAlike, AnswersRequest, AsksWith, MayRefuseRequest, RefusesBlock, losses_asked, request_faults, request_of_words, stream_period_rule, takes_request};
-ghost use Rattle.words_core.specs.computed.OfferedLine.{IsApp, IsExclusion, IsLocal, MayGrant, MayRefuseBy, agrees_by, asked_for, line_of, mistakes_by, offered, reader_shapes, request_by, wish_by, with_losses};
+ghost use Rattle.words_core.specs.RequestLine.{AnswersRequest, Asks, AsksWith, MayRefuseRequest, RefusesBlock, offered, request_asked, request_faults, request_line, request_of_words, takes_request, task_of_words};
+ghost use Rattle.words_core.specs.computed.OfferedLine.{IsApp, IsExclusion, IsLocal, MayGrant};
 
-use crate::option_words::{Made, Options, options_by, with_arg, with_offering};
+use crate::option_words::{Made, Options, options_met, with_arg, with_offering};
 use block_core::{Block, BlockError, read_block};
 use clap::error::ErrorKind;
 use clap::{Arg, ArgMatches, Command, value_parser};
@@ -65,7 +65,7 @@ impl Task {
     }
 }
 
-/// What a command line asks for where commands take options.
+/// What a command line asks for: a task, and its options.
 #[derive(Drop)]
 pub struct Request {
     /// What to do.
@@ -162,20 +162,20 @@ fn named<'a>(
     )
 }
 
-// The program with one more subcommand, which takes no words of its own, but the options where they are offered.
+// The program with one more subcommand, which takes no words of its own, and takes the options or not.
 fn with_plain<'a>(
     alloc: Global,
     program: Made<'a>,
-    offers: bool,
+    takes_options: bool,
     name: &'a str,
     about: &'a str,
     example: &'a str,
     more: &'a str,
 ) -> Made<'a>
-    ensures { (a : App) → IsApp a program.entry → IsApp (with_subcommand a (offered offers (new_app name.now).top)) result }
+    ensures { (a : App) → IsApp a program.entry → IsApp (with_subcommand a (offered takes_options (new_app name.now).top)) result }
 {
     let plain = named(alloc, name, about, example, more);
-    with_offering(alloc, program, plain, offers)
+    with_offering(alloc, program, plain, takes_options)
 }
 
 // The words of `replay`: the texts of its control blocks, one or more.
@@ -189,8 +189,8 @@ fn block_words<'a>(alloc: Global) -> Arg<'a>
 }
 
 // The program with the subcommand `replay`.
-fn with_replay<'a>(alloc: Global, program: Made<'a>, offers: bool) -> Made<'a>
-    ensures { (a : App) → IsApp a program.entry → IsApp (with_subcommand a (offered offers replay_shape)) result }
+fn with_replay<'a>(alloc: Global, program: Made<'a>) -> Made<'a>
+    ensures { (a : App) → IsApp a program.entry → IsApp (with_subcommand a (offered true replaying.shape)) result }
 {
     let replay = named(
         alloc,
@@ -199,7 +199,7 @@ fn with_replay<'a>(alloc: Global, program: Made<'a>, offers: bool) -> Made<'a>
         "Example: goose replay --capture '3001,BAY1PROT/LLN0$GO$gcbTrip,BAY1PROT/LLN0$dsTrip,BAY1_Trip,1,2' < examples/two_bays.pcapng",
         REPLAY_MORE,
     );
-    with_offering(alloc, program, with_arg(replay, block_words(alloc)), offers)
+    with_offering(alloc, program, with_arg(replay, block_words(alloc)), true)
 }
 
 // What the help of `watch` says of `--period`.
@@ -243,8 +243,8 @@ fn id_option<'a>(alloc: Global) -> Arg<'a>
 }
 
 // The program with the subcommand `watch`.
-fn with_watch<'a>(alloc: Global, program: Made<'a>, offers: bool) -> Made<'a>
-    ensures { (a : App) → IsApp a program.entry → IsApp (with_subcommand a (offered offers watch_shape)) result }
+fn with_watch<'a>(alloc: Global, program: Made<'a>) -> Made<'a>
+    ensures { (a : App) → IsApp a program.entry → IsApp (with_subcommand a (offered true watching.shape)) result }
 {
     let watch = named(
         alloc,
@@ -254,36 +254,32 @@ fn with_watch<'a>(alloc: Global, program: Made<'a>, offers: bool) -> Made<'a>
         WATCH_MORE,
     );
     let watch = with_arg(watch, period_option(alloc));
-    with_offering(alloc, program, with_arg(watch, id_option(alloc)), offers)
+    with_offering(alloc, program, with_arg(watch, id_option(alloc)), true)
 }
 
-// The program with the subcommand `losses`, where options are offered.
-fn with_losses<'a>(alloc: Global, program: Made<'a>, offers: bool) -> Made<'a>
-    ensures { (a : App) → IsApp a program.entry → IsApp (with_losses offers a) result }
+// The program with the subcommand `losses`.
+fn with_losses<'a>(alloc: Global, program: Made<'a>) -> Made<'a>
+    ensures { (a : App) → IsApp a program.entry → IsApp (with_subcommand a (offered true losing.shape)) result }
 {
-    if offers {
-        let losses = named(
-            alloc,
-            "losses",
-            "Shows what is missing of each control block and stream, and when",
-            "Example: goose losses --capture < examples/two_bays.pcapng",
-            LOSSES_MORE,
-        );
-        let losses = with_arg(losses, stream_period_option(alloc, STREAM_PERIOD_HELP));
-        with_offering(alloc, program, losses, true)
-    } else {
-        program
-    }
+    let losses = named(
+        alloc,
+        "losses",
+        "Shows what is missing of each control block and stream, and when",
+        "Example: goose losses --capture < examples/two_bays.pcapng",
+        LOSSES_MORE,
+    );
+    let losses = with_arg(losses, stream_period_option(alloc, STREAM_PERIOD_HELP));
+    with_offering(alloc, program, losses, true)
 }
 
 // The program with the subcommands that read a list and take no words of their own.
-fn with_readers<'a>(alloc: Global, program: Made<'a>, offers: bool) -> Made<'a>
-    ensures { (a : App) → IsApp a program.entry → IsApp (fold with_subcommand a (reader_shapes offers)) result }
+fn with_readers<'a>(alloc: Global, program: Made<'a>) -> Made<'a>
+    ensures { (a : App) → IsApp a program.entry → IsApp (fold with_subcommand a (map (λ s. offered s.has_options s.shape) readers)) result }
 {
     let program = with_plain(
         alloc,
         program,
-        offers,
+        true,
         "show",
         "Shows each event on one line: every field of a frame, or its first error",
         "Example: goose show --capture --time < examples/two_bays.pcapng",
@@ -292,7 +288,7 @@ fn with_readers<'a>(alloc: Global, program: Made<'a>, offers: bool) -> Made<'a>
     let program = with_plain(
         alloc,
         program,
-        offers,
+        true,
         "check",
         "Writes a line for each error of a frame, and for each note on a valid one",
         "Example: goose check --capture < examples/two_bays.pcapng",
@@ -310,7 +306,7 @@ fn with_readers<'a>(alloc: Global, program: Made<'a>, offers: bool) -> Made<'a>
     with_plain(
         alloc,
         program,
-        offers,
+        true,
         "blocks",
         "Lists control blocks and streams, and each whose datSet, goID, confRev or size changes",
         "Example: goose blocks --capture < examples/two_bays.pcapng",
@@ -318,13 +314,13 @@ fn with_readers<'a>(alloc: Global, program: Made<'a>, offers: bool) -> Made<'a>
     )
 }
 
-// The whole command line, with the options where they are offered.
-fn command<'a>(alloc: Global, offers: bool) -> Made<'a>
-    ensures { IsApp (line_of offers) result }
+// The whole command line.
+fn command<'a>(alloc: Global) -> Made<'a>
+    ensures { IsApp request_line result }
 {
     let program = Ok(program(alloc));
-    let program = with_readers(alloc, program, offers);
-    let program = with_replay(alloc, program, offers);
+    let program = with_readers(alloc, program);
+    let program = with_replay(alloc, program);
     let program = with_plain(
         alloc,
         program,
@@ -334,8 +330,8 @@ fn command<'a>(alloc: Global, offers: bool) -> Made<'a>
         "Example: goose publish < examples/publisher.script",
         PUBLISH_MORE,
     );
-    let program = with_watch(alloc, program, offers);
-    let program = with_losses(alloc, program, offers);
+    let program = with_watch(alloc, program);
+    let program = with_losses(alloc, program);
     with_plain(
         alloc,
         program,
@@ -396,6 +392,15 @@ fn watch_met(alloc: Global, matches: &ArgMatches<'_>) -> Option<Result<Task, Wor
     Some(watch_task(alloc, period, id))
 }
 
+// The task of the matches of `losses`.
+fn losses_met(matches: &ArgMatches<'_>) -> Task
+    ensures { Some (Ok (asked_by result)) ≡ losses_asked (rows_of (found_of matches.now)) }
+{
+    Task::Losses {
+        period: matches.get_one::<u32>("period"),
+    }
+}
+
 // The task of a subcommand's name and its matches.
 fn task_of(alloc: Global, name: &str, matches: &ArgMatches<'_>) -> Option<Result<Task, WordsError>>
     ensures { MayAnswer (task_asked (name.now, rows_of (found_of matches.now))) result }
@@ -408,33 +413,9 @@ fn task_of(alloc: Global, name: &str, matches: &ArgMatches<'_>) -> Option<Result
         "replay" => replay_met(alloc, matches),
         "publish" => Some(Ok(Task::Publish)),
         "watch" => watch_met(alloc, matches),
+        "losses" => Some(Ok(losses_met(matches))),
         "import" => Some(Ok(Task::Import)),
         _ => None,
-    }
-}
-
-// The task of the matches of `losses`.
-fn losses_met(matches: &ArgMatches<'_>) -> Task
-    ensures { Some (Ok (asked_by result)) ≡ losses_asked (rows_of (found_of matches.now)) }
-{
-    Task::Losses {
-        period: matches.get_one::<u32>("period"),
-    }
-}
-
-// The task of a subcommand's name and its matches, with `losses` where options are offered.
-fn asked_of(
-    alloc: Global,
-    name: &str,
-    matches: &ArgMatches<'_>,
-    offers: bool,
-) -> Option<Result<Task, WordsError>>
-    ensures { MayAnswer (asked_for offers (name.now, rows_of (found_of matches.now))) result }
-{
-    if offers && name == "losses" {
-        Some(Ok(losses_met(matches)))
-    } else {
-        task_of(alloc, name, matches)
     }
 }
 
@@ -454,27 +435,22 @@ fn request_of(
     alloc: Global,
     name: &str,
     matches: &ArgMatches<'_>,
-    offers: bool,
 ) -> Option<Result<Request, WordsError>>
-    ensures { MayGrant (request_by offers (name.now, rows_of (found_of matches.now))) result }
+    ensures { MayGrant (request_asked (name.now, rows_of (found_of matches.now))) result }
 {
-    let options = options_by(matches, offers)?;
-    match asked_of(alloc, name, matches, offers) {
+    let options = options_met(matches)?;
+    match task_of(alloc, name, matches) {
         Some(answer) => Some(with_these(answer, options)),
         None => None,
     }
 }
 
 // The request of the subcommand that the words named; none where options exclude each other.
-fn request_met(
-    alloc: Global,
-    matches: &ArgMatches<'_>,
-    offers: bool,
-) -> Option<Result<Request, WordsError>>
-    ensures { MayGrant (option_and_then (request_by offers) (subcommand_rows_of matches.now)) result }
+fn request_met(alloc: Global, matches: &ArgMatches<'_>) -> Option<Result<Request, WordsError>>
+    ensures { MayGrant (option_and_then request_asked (subcommand_rows_of matches.now)) result }
 {
     match matches.subcommand() {
-        Some((name, inner)) => request_of(alloc, name, inner, offers),
+        Some((name, inner)) => request_of(alloc, name, inner),
         None => None,
     }
 }
@@ -501,18 +477,18 @@ fn exclusion(alloc: Global) -> WordsError
     }
 }
 
-// The request that the words make where the options are offered or not.
-fn read_by<'a>(alloc: Global, words: &'a [&'a str], offers: bool) -> Result<Request, WordsError>
-    ensures wish { IfOk result (λ r. wish_by offers (texts words.now) ≡ Some (Ok (asked_by r.task, r.options))) }
-    ensures faultless { IfOk result (λ r. mistakes_by offers (texts words.now) ≡ []) }
-    ensures taken { takes (line_of offers) (texts words.now) ≡ true → agrees_by offers (texts words.now) ≡ true → IfErr result IsNoMistake }
-    ensures refused { IfErr result (MayRefuseBy offers (texts words.now)) }
+// The request that the words make.
+fn read_line<'a>(alloc: Global, words: &'a [&'a str]) -> Result<Request, WordsError>
+    ensures wish { IfOk result (λ r. request_of_words (texts words.now) ≡ Some (Ok (asked_by r.task, r.options))) }
+    ensures faultless { IfOk result (λ r. request_faults (texts words.now) ≡ []) }
+    ensures taken { takes request_line (texts words.now) ≡ true → is_some (request_of_words (texts words.now)) ≡ true → IfErr result IsNoMistake }
+    ensures refused { IfErr result (MayRefuseRequest (texts words.now)) }
 {
-    let Ok(command) = command(alloc, offers) else {
+    let Ok(command) = command(alloc) else {
         return Err(WordsError::Memory);
     };
     match command.try_get_matches_from(words) {
-        Ok(matches) => match request_met(alloc, &matches, offers) {
+        Ok(matches) => match request_met(alloc, &matches) {
             Some(answer) => answer,
             // A subcommand is required, and each has its task.
             None => Err(exclusion(alloc)),
@@ -521,36 +497,14 @@ fn read_by<'a>(alloc: Global, words: &'a [&'a str], offers: bool) -> Result<Requ
     }
 }
 
-/// The task that the words ask for. The first word is the program's name. The command `losses` stands beside the options,
-/// and [`read_request`] reads it.
-///
-/// # Errors
-///
-/// `Words` where the words have a mistake or ask for help or the version; `Block` where they ask for a
-/// replay and some text says no control block; `Memory` where memory is refused.
-pub fn read_words<'a>(alloc: Global, words: &'a [&'a str]) -> Result<Task, WordsError>
-    ensures found { IfOk result (λ t. is_plain (asked_by t) ≡ true → Asks (texts words.now) (asked_by t)) }
-    ensures only { (asked : Asked) → Asks (texts words.now) asked → AnswersTask asked result }
-    ensures period { IfOk result (λ t. HasPeriod (asked_by t)) }
-    ensures task { IfOk result (λ t. task_of_words (texts words.now) ≡ Some (Ok (asked_by t))) }
-    ensures faultless { IfOk result (λ t. faults (texts words.now) ≡ []) }
-    ensures taken { takes command_line (texts words.now) ≡ true → IfErr result IsNoMistake }
-    ensures refused { IfErr result (MayRefuse (texts words.now)) }
-    ensures bad_block { (i : ℕ) → faults (texts words.now) ≡ [] → task_of_words (texts words.now) ≡ Some (Err i) → AnswersBadBlock i result }
-{
-    match read_by(alloc, words, false) {
-        Ok(request) => Ok(request.task),
-        Err(error) => Err(error),
-    }
-}
-
-/// The task that the words ask for and its options, `--capture`, `--skip-other`, `--time` and `--json`,
+/// The task that the words ask for, and its options: `--capture`, `--skip-other`, `--time` and `--json`,
 /// which the commands `show`, `check`, `blocks`, `replay`, `watch` and `losses` take. The first word is the program's name.
 ///
 /// # Errors
 ///
-/// As of [`read_words`]. An option that is given twice is a mistake, and so is one of another command, or `--time`
-/// beside `--json`.
+/// `Words` where the words have a mistake or ask for help or the version; `Block` where they ask for a
+/// replay and some text says no control block; `Memory` where memory is refused. An option that is given twice is a
+/// mistake, and so is one of another command, or `--time` beside `--json`.
 pub fn read_request<'a>(alloc: Global, words: &'a [&'a str]) -> Result<Request, WordsError>
     ensures found { IfOk result (λ r. is_plain (asked_by r.task) ≡ true → AsksWith (texts words.now) (asked_by r.task) r.options) }
     ensures only { (asked : Asked) (options : Options) → AsksWith (texts words.now) asked options → AnswersRequest asked options result }
@@ -559,8 +513,28 @@ pub fn read_request<'a>(alloc: Global, words: &'a [&'a str]) -> Result<Request, 
     ensures faultless { IfOk result (λ r. request_faults (texts words.now) ≡ []) }
     ensures taken { takes_request (texts words.now) ≡ true → IfErr result IsNoMistake }
     ensures refused { IfErr result (MayRefuseRequest (texts words.now)) }
-    ensures alike { AnsweredAlike (texts words.now) }
     ensures bad_block { (i : ℕ) → request_faults (texts words.now) ≡ [] → request_of_words (texts words.now) ≡ Some (Err i) → RefusesBlock i result }
 {
-    read_by(alloc, words, true)
+    read_line(alloc, words)
+}
+
+/// The task that the words ask for, whatever options stand beside it: the task of [`read_request`].
+///
+/// # Errors
+///
+/// As of [`read_request`].
+pub fn read_words<'a>(alloc: Global, words: &'a [&'a str]) -> Result<Task, WordsError>
+    ensures found { IfOk result (λ t. is_plain (asked_by t) ≡ true → Asks (texts words.now) (asked_by t)) }
+    ensures only { (asked : Asked) → Asks (texts words.now) asked → AnswersTask asked result }
+    ensures period { IfOk result (λ t. HasPeriod (asked_by t)) }
+    ensures task { IfOk result (λ t. task_of_words (texts words.now) ≡ Some (Ok (asked_by t))) }
+    ensures faultless { IfOk result (λ t. request_faults (texts words.now) ≡ []) }
+    ensures taken { takes_request (texts words.now) ≡ true → IfErr result IsNoMistake }
+    ensures refused { IfErr result (MayRefuseRequest (texts words.now)) }
+    ensures bad_block { (i : ℕ) → request_faults (texts words.now) ≡ [] → request_of_words (texts words.now) ≡ Some (Err i) → AnswersBadBlock i result }
+{
+    match read_request(alloc, words) {
+        Ok(request) => Ok(request.task),
+        Err(error) => Err(error),
+    }
 }

@@ -2,7 +2,7 @@
 use Rattle.std.specs.Prelude.{Option, Some, None, Result, Ok, Err}
 use Rattle.words_core.specs.declared.words.Task.{Task}
 use Rattle.words_core.specs.declared.words.WordsError.{WordsError}
-use Rattle.words_core.specs.CommandLine.{Meaning, AnswersTask, AnswersBadBlock}
+use Rattle.words_core.specs.CommandLine.{AnswersBadBlock, AnswersTask, Meaning}
 
 -- what is asked for is answered, refused memory aside
 abbrev pub AnswersWords : Meaning → Result Task WordsError → Type 0

@@ -3,8 +3,9 @@ use Rattle.std.specs.Prelude.{fold}
 use Rattle.std.proofs.lemmas.List.{append-nil}
 use Rattle.std.proofs.lemmas.Result.{IfOk-weaker}
 use Rattle.clap.specs.Words.{App, Rule, with_rule}
-use Rattle.words_core.specs.computed.OfferedLine.{offered_rules, offering}
+use Rattle.words_core.specs.computed.OfferedLine.{offering}
 use Rattle.words_core.proofs.option_words.with_options.Goals as goal
+use Rattle.words_core.specs.RequestLine.{option_rules}
 
 -- the command with these rules
 abbrev with_rules : App → List Rule → App
@@ -14,9 +15,9 @@ each_added : (rules : List Rule) (a : App) → fold with_rule a rules ≡ with_r
 each_added [] a = ap (with_rules a) (sym (append-nil a.top.rules))
 each_added (r ∷ rules) a = each_added rules (with_rule a r) ∙ ap (with_rules a) (append_assoc a.top.rules (r ∷ []) rules)
 
-pub returns-then-offers-clause-app : goal.returns-then-offers-clause-app
-returns-then-offers-clause-app c a h =
-    IfOk-weaker c.with_each.result _ _ (λ r e. e ∙ each_added (offered_rules true) a ∙ ap (λ (b : Bool). offering b a) (sym c.if-offers.true)) (c.with_each.ensures.app a h)
+pub returns-then-takes_options-clause-app : goal.returns-then-takes_options-clause-app
+returns-then-takes_options-clause-app c a h =
+    IfOk-weaker c.with_each.result _ _ (λ r e. e ∙ each_added (option_rules true) a ∙ ap (λ (b : Bool). offering b a) (sym c.if-takes_options.true)) (c.with_each.ensures.app a h)
 
-pub returns-else-offers-clause-app : goal.returns-else-offers-clause-app
-returns-else-offers-clause-app c a h = IfOk-weaker c.args.command _ _ (λ r e. e ∙ each_added [] a ∙ ap (λ (b : Bool). offering b a) (sym c.if-offers.false)) h
+pub returns-else-takes_options-clause-app : goal.returns-else-takes_options-clause-app
+returns-else-takes_options-clause-app c a h = IfOk-weaker c.args.command _ _ (λ r e. e ∙ each_added [] a ∙ ap (λ (b : Bool). offering b a) (sym c.if-takes_options.false)) h

@@ -1,4 +1,4 @@
-use Rattle.std.proofs.Common.{◌≤◌, true, is_some, ap, rules, length, arith}
+use Rattle.std.proofs.Common.{◌≤◌, is_some, ap, rules, length, arith}
 use Rattle.std.specs.Borrow.{Bor}
 use Rattle.std.proofs.lemmas.List.{length-map}
 use Rattle.clap.specs.Lexer.{usize_max}
@@ -6,14 +6,13 @@ use Rattle.clap.specs.Words.{Text, takes}
 use Rattle.clap.specs.Walk.{texts}
 use Rattle.clap.proofs.WalkLemmas.{both}
 use Rattle.words_core.specs.RequestLine.{request_line, request_of_words}
-use Rattle.words_core.proofs.WordLemmas.{answered_period, answered_plainly, request_granted, request_refused, block_refused}
+use Rattle.words_core.proofs.WordLemmas.{answered_period, answered_plainly, block_refused, request_granted}
 use Rattle.words_core.proofs.AskingWords.{words_ask_with}
-use Rattle.words_core.proofs.AlikeWords.{answered_alike}
 use Rattle.words_core.proofs.AskedWords.{asked_with}
 use Rattle.words_core.proofs.words.read_request.Goals as goal
 
 pub returns-clause-found : goal.returns-clause-found
-returns-clause-found c = answered_plainly (texts c.args.words.now) c.read_by.result c.read_by.ensures.faultless c.read_by.ensures.wish (words_ask_with (texts c.args.words.now))
+returns-clause-found c = answered_plainly (texts c.args.words.now) c.read_line.result c.read_line.ensures.faultless c.read_line.ensures.wish (words_ask_with (texts c.args.words.now))
 
 pub returns-clause-only : goal.returns-clause-only
 returns-clause-only c = λ wish options asks.
@@ -21,21 +20,15 @@ returns-clause-only c = λ wish options asks.
     let count : length c.args.words.now ≤ usize_max = search rules in
     let fits : length words ≤ usize_max = omega (arith, count, length-map c.args.words.now (λ (w : Bor Text). w.now)) in
     let taken = asked_with words wish options fits asks in
-    request_granted true words wish options c.read_by.result c.read_by.ensures.wish c.read_by.ensures.refused (c.read_by.ensures.taken taken.1 (ap is_some taken.0)) taken.0
+    request_granted words wish options c.read_line.result c.read_line.ensures.wish c.read_line.ensures.refused (c.read_line.ensures.taken taken.1 (ap is_some taken.0)) taken.0
 
 pub returns-clause-taken : goal.returns-clause-taken
 returns-clause-taken c = λ taken.
     let parts = both (takes request_line (texts c.args.words.now)) (is_some (request_of_words (texts c.args.words.now))) taken in
-    c.read_by.ensures.taken parts.0 parts.1
+    c.read_line.ensures.taken parts.0 parts.1
 
 pub returns-clause-period : goal.returns-clause-period
-returns-clause-period c = answered_period true (texts c.args.words.now) c.read_by.result c.read_by.ensures.faultless c.read_by.ensures.wish
-
-pub returns-clause-refused : goal.returns-clause-refused
-returns-clause-refused c = request_refused (texts c.args.words.now) c.read_by.result c.read_by.ensures.refused
+returns-clause-period c = answered_period (texts c.args.words.now) c.read_line.result c.read_line.ensures.faultless c.read_line.ensures.wish
 
 pub returns-clause-bad_block : goal.returns-clause-bad_block
-returns-clause-bad_block c = λ i faultless bad. block_refused true (texts c.args.words.now) i c.read_by.result c.read_by.ensures.wish c.read_by.ensures.refused faultless bad
-
-pub returns-clause-alike : goal.returns-clause-alike
-returns-clause-alike c = answered_alike (texts c.args.words.now)
+returns-clause-bad_block c = λ i faultless bad. block_refused (texts c.args.words.now) i c.read_line.result c.read_line.ensures.wish c.read_line.ensures.refused faultless bad

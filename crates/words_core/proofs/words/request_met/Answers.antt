@@ -1,12 +1,13 @@
 use Rattle.std.proofs.Common.{◌≡◌, List, Option, Some, option_and_then, option_map, sym, subst}
 use Rattle.clap.specs.Words.{Row, Text, found_of, rows_of, subcommand_name_of, subcommand_rows_of}
-use Rattle.words_core.specs.computed.OfferedLine.{MayGrant, request_by}
+use Rattle.words_core.specs.computed.OfferedLine.{MayGrant}
 use Rattle.words_core.proofs.WordLemmas.{met}
 use Rattle.words_core.proofs.words.request_met.Goals as goal
+use Rattle.words_core.specs.RequestLine.{request_asked}
 
 pub returns-in-Some : goal.returns-in-Some
 returns-in-Some c =
     let rows = rows_of (found_of c.in-Some.inner.now) in
     let named : subcommand_name_of c.args.matches.now ≡ Some c.in-Some.name.now = sym (rw c.in-Some.is at c.subcommand.ensures.name) in
     let there : option_map (λ (p : Text × List Row). p.1) (subcommand_rows_of c.args.matches.now) ≡ Some rows = sym (rw c.in-Some.is at c.subcommand.ensures.rows) in
-    subst (λ (o : Option (Text × List Row)). MayGrant (option_and_then (request_by c.args.offers) o) c.request_of.result) (sym (met c.args.matches.now c.in-Some.name.now rows named there)) c.request_of.ensures
+    subst (λ (o : Option (Text × List Row)). MayGrant (option_and_then request_asked o) c.request_of.result) (sym (met c.args.matches.now c.in-Some.name.now rows named there)) c.request_of.ensures

@@ -23,5 +23,6 @@ returns-in_default c =
       differs (codes "replay") word c.in_default.not-replay,
       differs (codes "publish") word c.in_default.not-publish,
       differs (codes "watch") word c.in_default.not-watch,
+      differs (codes "losses") word c.in_default.not-losses,
       differs (codes "import") word c.in_default.not-import,
     ) tt
