@@ -1,6 +1,5 @@
-"""What --skip-other makes of events, written from docs/FORMATS.md alone: a frame whose first error is EtherType tells only that time
+"""What --skip-other makes of events, written from docs/FORMATS.md alone: a frame of another EtherType, however long, tells only that time
 has passed, and is counted by its EtherType."""
-from oracles import reference
 
 MOST_KINDS = 16
 # What the usual names of some EtherTypes have.
@@ -14,13 +13,10 @@ def usual_name(kind):
 
 
 def other_type(octets):
-    """The EtherType of a frame whose first error that is, or None."""
-    try:
-        reference.frame(octets)
-    except reference.Fault as fault:
-        if fault.cause == "EtherType":
-            return int.from_bytes(octets[fault.place:fault.place + 2], "big")
-    return None
+    """The EtherType of a frame that has one and announces neither GOOSE nor Sampled Values, or None. It stands behind a tag, if there is one."""
+    place = 16 if octets[12:14] == b"\x81\x00" else 12
+    kind = int.from_bytes(octets[place:place + 2], "big")
+    return None if len(octets) < place + 2 or kind in (0x88B8, 0x88BA) else kind
 
 
 class Skipping:

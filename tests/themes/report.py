@@ -760,6 +760,8 @@ def cases():
     yield Told("packets that are no Ethernet frames", linked, status=6, said="1 GOOSE frame; 1 of another protocol; 1 no Ethernet frame")
     yield Told("no packet", section() + interface(), status=0, said="There is nothing to draw in no packets.")
     yield Told("other protocols alone", section() + interface() + packet(9, put(WORKED, at13=0)), status=0)
+    segments = section() + interface() + packet(3, WORKED) + packet(4, put(WORKED, at12=8, at13=0) + bytes(3000))
+    yield Told("segments of another protocol that a network card put together", segments, status=0, said="1 GOOSE frame; 1 of another protocol")
     yield Broken("a capture that is cut", bays[:5000], status=3, said="CaptureShort")
     wrong = section() + interface() + packet(5, WORKED) + block(6, bytes(20), after=0)
     yield Broken("a capture with an error", wrong, status=3, said="BlockLength")

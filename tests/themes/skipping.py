@@ -1,6 +1,7 @@
 """Frames of other protocols, passed over by --skip-other, in lists and captures: each tells only that time has passed, and standard error
 says how many there were of each EtherType, from which number on."""
 import random
+from itertools import product
 
 from helpers.capture_parts import header, interface, packet, record, section
 from helpers.captured import ASKED, EachOf, Read, asking, why_wrong_of
@@ -19,6 +20,11 @@ TAG = b"\x81\x00\x80\x05"
 def other(kind, rest=bytes(46), tag=b""):
     """A frame of this EtherType."""
     return ADDRESSES + tag + kind.to_bytes(2, "big") + rest
+
+
+def long(frame, size):
+    """A frame with zeros behind it, of so many octets."""
+    return frame + bytes(size - len(frame))
 
 
 ARP, PTP, TWICE = other(0x0806), other(0x88F7, tag=TAG), other(0x88A8, b"\0\5" + WORKED[12:])
@@ -42,6 +48,11 @@ def worked():
     yield from both_inputs("frames of each sort", ((700 * at, frame) for at, frame in enumerate(frames)))
     yield from both_inputs("a lifetime that ends at a frame of another protocol", [(0, WORKED), (1999999, ARP), (2000000, ARP), (2000001, state(1, 2))])
     yield from both_inputs("a time that goes back in a frame of another protocol", [(5000000, WORKED), (1, ARP), (6999999, ARP), (0, ARP), (7000000, PTP)])
+    sizes = 1599, 1600, 1601, 2000
+    yield from both_inputs("long frames of other protocols and of GOOSE and Sampled Values",
+                           ((at, long(frame, size)) for at, (frame, size) in enumerate(product((ARP, PTP, WORKED, WORKED[:12] + TAG + WORKED[12:], SAMPLED), sizes))))
+    yield from both_inputs("a lifetime that ends at a long frame of another protocol", [(0, WORKED), (2000000, long(other(0x0800), 2000)), (2000001, state(1, 2))])
+    yield from long_frames()
     yield from both_inputs("nothing to pass over", [(0, WORKED), (5, SAMPLED)])
     yield from both_inputs("frames of other protocols alone", [(at, ARP) for at in range(30)])
     for count in (15, 16, 17, 18, 40):
@@ -64,6 +75,19 @@ def worked():
     for words in (["check", "--skip-other", "--capture"], ["check", "--capture", "--skip-other"]):
         yield Case(f"both options, {words}", words, header() + record(1, 2, WORKED) + record(1, 2, ARP), b"", 0,
                    [b"passed over: 1 of EtherType 0806 (ARP), from 2 on"])
+
+
+def long_frames():
+    """Frames that a network card put together: those of other protocols are passed over, and those of GOOSE are too long."""
+    over = [b"passed over: 1 of EtherType 0800 (IPv4), from 1 on"]
+    for size in (1600, 1601, 3000, 65549, 262144):
+        goose = (b"", 0) if size == 1600 else (b"1 fault 1600 FrameTooLong\n", 1)
+        frames = {"MMS": (other(0x0800), b"", 0, over), "MMS behind a tag": (other(0x0800, tag=TAG), b"", 0, over), "GOOSE": (WORKED, *goose)}
+        for name, (frame, *wanted) in frames.items():
+            yield Case(f"{name}, {size} octets, captured", ["check", "--capture", "--skip-other"], header() + record(1, 2, long(frame, size)), *wanted)
+            if size < 2000:
+                yield Case(f"{name}, {size} octets, in a list", ["check", "--skip-other"], listed(long(frame, size)), *wanted)
+    yield Case("without the option MMS is too long", ["check"], listed(long(other(0x0800), 1601)), b"1 fault 1600 FrameTooLong\n", 1)
 
 
 def tagged_and_cut():

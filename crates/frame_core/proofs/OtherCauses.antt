@@ -1,6 +1,7 @@
 -- The cause of a fault behind the EtherType of a frame is another one: a frame whose first fault has that cause is one of another
 -- protocol.
-use Rattle.std.proofs.Common.{◌≡◌, ℕ, ◌+◌, List, [], ◌∷◌, length, refl, sym, ap, ◌∙◌, ℤ}
+use Rattle.std.proofs.Common.{◌≡◌, ◌⊎◌, inl, inr, ℕ, ◌+◌, ◌≤◌, Bool, true, false, leb, List, [], ◌∷◌, length, refl, subst, sym, ap, ◌∙◌, ℤ, arith}
+use Rattle.std.proofs.lemmas.Bool.Decides.{nat_tests}
 use Rattle.ber_core.specs.Contents.{IntegerFault, no_octet, over_nine, outside}
 use Rattle.ber_core.specs.Faults.{LengthFault, fault_of, absent as no_length, cut, indefinite, form, past_end}
 use Rattle.ber_core.specs.Fields.{Field, FieldsFault, Grammar}
@@ -20,10 +21,11 @@ use Rattle.pdu_core.specs.Contents as contents
 use Rattle.pdu_core.specs.Goose.{GooseFault, in_fields, in_entry_count, apdu_grammar}
 use Rattle.pdu_core.specs.Sampled.{SvContentsFault, SvFault, SvKind, asdu_grammar, in_asdu_count, in_sv_fields, sv_apdu_grammar, sv_fields, sv_grammar}
 use Rattle.pdu_core.specs.Sampled as sampled
-use Rattle.frame_core.specs.Apdu.{ApduFault, in_goose, in_sampled}
+use Rattle.frame_core.specs.Apdu.{ApduFault, IsApduType, in_goose, in_sampled}
 use Rattle.frame_core.specs.Envelope.{ether_place, word_at}
-use Rattle.frame_core.specs.FrameFault.{FrameFault, in_apdu, no_apdu, no_ether_type, no_head, not_announced, out_of_range, too_long}
-use Rattle.frame_core.specs.OtherType.{IsOther}
+use Rattle.frame_core.specs.FrameFault.{FrameFault, HasEtherType, in_apdu, no_apdu, no_ether_type, no_head, not_announced, out_of_range, too_long}
+use Rattle.frame_core.specs.OtherType.{IsOther, OtherIsNoFrame}
+use Rattle.frame_core.proofs.FrameLaws.{frame_or_fault}
 
 -- the cause of a fault is another one
 abbrev HasAnother : Fault → Type 0
@@ -125,8 +127,27 @@ in_apdu_of (in_sampled is h) = in_sampled_apdu h
 pub is_of_another : (o : List ℕ) (f : Fault) → FrameFault f o → f.cause ≡ causes.EtherType → IsOther (word_at o (ether_place o)) o
 is_of_another o f (too_long long is) same = absurd (another causes.FrameTooLong (λ e. cc) is same)
 is_of_another o f (no_ether_type short few is) same = absurd (another causes.Truncated (λ e. cc) is same)
-is_of_another o f (not_announced there other is) same = record { there = there; ether_type = refl; other = other }
+is_of_another o f (not_announced there other is) same = record { addresses = there.addresses; there = there.there; ether_type = refl; other = other }
 is_of_another o f (no_head there announced few is) same = absurd (another causes.Truncated (λ e. cc) is same)
 is_of_another o f (out_of_range head range is) same = absurd (another causes.LengthField (λ e. cc) is same)
 is_of_another o f (no_apdu head low high few is) same = absurd (another causes.Truncated (λ e. cc) is same)
 is_of_another o f (in_apdu has fault) same = absurd (in_apdu_of fault same)
+
+-- the first fault of octets of another protocol: the EtherType, or that they are too many
+abbrev pub HasOtherFault : List ℕ → Type 0
+HasOtherFault o = FrameFault (fault_of (ether_place o) causes.EtherType) o ⊎ FrameFault (fault_of 1600 causes.FrameTooLong) o
+
+fault_by_length : (o : List ℕ) (t : ℕ) → IsOther t o → (b : Bool) → leb (length o) 1600 ≡ b → HasOtherFault o
+fault_by_length o t is true e =
+    let there : HasEtherType o = record { short = grind (arith, nat_tests, e); addresses = is.addresses; there = is.there } in
+    inl (not_announced there (λ (a : IsApduType (word_at o (ether_place o))). is.other (subst IsApduType is.ether_type a)) refl)
+fault_by_length o t is false e = inr (too_long (grind (arith, nat_tests, e)) refl)
+
+pub other_fault : (o : List ℕ) (t : ℕ) → IsOther t o → HasOtherFault o
+other_fault o t is = fault_by_length o t is (leb (length o) 1600) refl
+
+pub other_is_no_frame : {A : Type 0} → OtherIsNoFrame A
+other_is_no_frame o t f is spelled = elim (other_fault o t is) [
+  | inl fault ↦ frame_or_fault o f _ spelled fault
+  | inr fault ↦ frame_or_fault o f _ spelled fault
+]

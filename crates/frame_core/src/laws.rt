@@ -1,6 +1,7 @@
 //! Laws about the definitions that the contracts of this crate cite. The functions compute nothing.
 
 ghost use Rattle.frame_core.specs.Laws.{FaultIsOne, FitsIsKnown, FrameIsOne, FrameOrFault, PartsMakeTheControl, ReadingIsTrue, ReadingTells, SpelledIsSpellable, WrittenIsSpelled};
+ghost use Rattle.frame_core.specs.OtherType.{OtherIsNoFrame};
 ghost use Rattle.frame_core.specs.PassedOver.{EachIsCounted};
 ghost use Rattle.frame_core.specs.SkipOther.{LeavesWhatCame};
 
@@ -43,6 +44,11 @@ pub fn spelled_is_spellable<A: Allocator>()
 /// first, and the number of the virtual network.
 pub fn parts_make_the_control()
     ensures { PartsMakeTheControl }
+{}
+
+/// A frame of another protocol, as is passed over, is none of GOOSE or Sampled Values.
+pub fn what_is_passed_over_is_no_frame<A: Allocator>()
+    ensures { OtherIsNoFrame A }
 {}
 
 /// Of frames that are passed over, each is counted: for each of at most sixteen EtherTypes there stand how many frames had it and

@@ -8,8 +8,8 @@ use crate::passed_over::PassedOver;
 use list_core::{Event, EventKind, ReadError, ReadItems};
 use std::alloc::Allocator;
 
-/// Reads the events of another reader. Of a frame whose first fault is its EtherType it answers nothing but the moment, as a
-/// clock event, and keeps how many there were.
+/// Reads the events of another reader. Of a frame of another protocol, which its EtherType says, it answers nothing but the
+/// moment, as a clock event, and keeps how many there were.
 #[derive(Drop)]
 pub struct SkipOther<I, A: Allocator> {
     items: I,

@@ -33,9 +33,9 @@ const TYPES: [(&[u8], Option<u16>); 10] = [
         &[0, 0, 0, 0, 0, 0, 0, 0, 0, 0, 0, 0, 0x81, 0, 0, 0, 8],
         None,
     ),
-    // An EtherType of 0 is one, and a frame that is too long has another fault.
+    // An EtherType of 0 is one, and a frame of another protocol is never too long.
     (&[0; 1600], Some(0)),
-    (&[0; 1601], None),
+    (&[0; 1601], Some(0)),
 ];
 
 #[test]
@@ -45,4 +45,14 @@ fn the_type_of_another_protocol(rt: HostRuntime) {
         assert!(rt; other_ether_type(octets) == wanted, "case {case}");
         case = case.saturating_add(1);
     }
+}
+
+#[test]
+fn a_long_frame_of_goose_is_of_no_other_protocol(rt: HostRuntime) {
+    let mut octets = [0u8; 1601];
+    octets[12] = 0x88;
+    octets[13] = 0xb8;
+    assert!(rt; other_ether_type(&octets) == None);
+    octets[13] = 0xb9;
+    assert!(rt; other_ether_type(&octets) == Some(0x88b9));
 }
