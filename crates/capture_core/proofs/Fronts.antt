@@ -11,7 +11,7 @@ use Rattle.list_core.proofs.Readers.{OnlyOpen-append, OnlyOpen-none}
 use Rattle.capture_core.specs.Capture.{cut}
 use Rattle.capture_core.specs.Asked.{OnlyWhile}
 use Rattle.capture_core.specs.computed.Filling.{IsShort, IsWanted}
-use Rattle.capture_core.specs.computed.OneRead.{Front, GivesFront, IsKept, KeepsFront, ReadsFront, ReadsToKeep, StandsSo, Told}
+use Rattle.capture_core.specs.computed.OneRead.{Front, GivesFront, HasBegun, IsKept, IsKeptWhole, KeepsFront, ReadsFront, ReadsToKeep, StandsSo, Told}
 use Rattle.capture_core.specs.declared.capture_fault.CaptureFault.{CaptureFault}
 use Rattle.capture_core.proofs.Records.{gave_nothing, nothing_follows}
 
@@ -140,9 +140,10 @@ module _ {X : Type 0} (F : InputEnd → List ℕ → Front X) where
   }
 
   -- memory was wanted within a part
-  pub front_wanted : (K : X → Type 0) (Wants : List ℕ → Type 0) (held : List ℕ) (old new : Option (List ℕ)) (z w : InputEnd) (size : ℕ) → IsWanted Wants size old z new w →
-      ((front : List ℕ) → length front < size → F Open (held ++ front) ≡ Err unfinished) → ((given more : List ℕ) (y : InputEnd) → Wants given → IsKept K (F y ((held ++ given) ++ more))) → ReadsToKeep K F held old z (Err None) new w
-  front_wanted K Wants held old new z w size (given, few, took, o, same, is) f k = record {
+  pub front_wanted : (K : X → Type 0) (Wants : List ℕ → Type 0) (held : List ℕ) (old new : Option (List ℕ)) (z w : InputEnd) (size : ℕ) → IsWanted Wants size old z new w → 0 < length held →
+      ((front : List ℕ) → length front < size → F Open (held ++ front) ≡ Err unfinished) → ((given more : List ℕ) (y : InputEnd) → Wants given → IsKept K (F y ((held ++ given) ++ more))) →
+      ((given : List ℕ) → Wants given → (more : List ℕ) × IsKeptWhole K (F Open ((held ++ given) ++ more))) → ReadsToKeep K F held old z (Err None) new w
+  front_wanted K Wants held old new z w size (given, few, took, o, same, is) some f k t = record {
     read = record {
       given = given;
       took = took;
@@ -150,7 +151,13 @@ module _ {X : Type 0} (F : InputEnd → List ℕ → Front X) where
       asked = asked_whole _ given z w same (λ front h. f front (omega (arith, h, few)));
       stands = tt;
     };
-    keeps = λ more y c. k given more y is;
+    keeps = record {
+      some = simp length-append (omega (arith, some));
+      stays = same;
+      whatever = λ more y c. k given more y is;
+      more = (t given is).0;
+      whole = (t given is).1;
+    };
   }
 
   stands_behind : (told : Told X) (held part given : List ℕ) (w : InputEnd) → StandsSo F ((held ++ part) ++ given) w told → StandsSo F (held ++ (part ++ given)) w told
@@ -177,18 +184,25 @@ module _ {X : Type 0} (K : X → Type 0) (F : InputEnd → List ℕ → Front X)
   pub front_stops : (held : List ℕ) (old new : Option (List ℕ)) (z w : InputEnd) (stop : Stop CaptureFault) → ReadsFront F held old z (Err (Some stop)) new w → ReadsToKeep K F held old z (Err (Some stop)) new w
   front_stops held old new z w stop r = record { read = r; keeps = tt }
 
-kept_same : {X : Type 0} (K : X → Type 0) (F G : InputEnd → List ℕ → Front X) (told : Told X) (held given : List ℕ) (w : InputEnd) → ((y : InputEnd) (rest : List ℕ) → G y (held ++ rest) ≡ F y (held ++ rest)) →
-    KeepsFront K F (held ++ given) w told → KeepsFront K G (held ++ given) w told
-kept_same K F G (Ok x) held given w f k = tt
-kept_same K F G (Err (Some stop)) held given w f k = tt
-kept_same K F G (Err None) held given w f k = λ more y c.
-    subst (IsKept K) (sym (ap (G y) (append_assoc held given more) ∙ f y (given ++ more) ∙ ap (F y) (sym (append_assoc held given more)))) (k more y c)
+kept_same : {X : Type 0} (K : X → Type 0) (F G : InputEnd → List ℕ → Front X) (told : Told X) (held given : List ℕ) (z w : InputEnd) → ((y : InputEnd) (rest : List ℕ) → G y (held ++ rest) ≡ F y (held ++ rest)) →
+    KeepsFront K F (held ++ given) z told w → KeepsFront K G (held ++ given) z told w
+kept_same K F G (Ok x) held given z w f k = tt
+kept_same K F G (Err (Some stop)) held given z w f k = tt
+kept_same K F G (Err None) held given z w f k =
+    let same = λ (y : InputEnd) (more : List ℕ). ap (G y) (append_assoc held given more) ∙ f y (given ++ more) ∙ ap (F y) (sym (append_assoc held given more)) in
+    record {
+      some = k.some;
+      stays = k.stays;
+      whatever = λ more y c. subst (IsKept K) (sym (same y more)) (k.whatever more y c);
+      more = k.more;
+      whole = subst (IsKeptWhole K) (sym (same Open k.more)) k.whole;
+    }
 
 -- the same stands at the front, behind what is held
 pub keep_same : {X : Type 0} (K : X → Type 0) (F G : InputEnd → List ℕ → Front X) (told : Told X) (held : List ℕ) (old new : Option (List ℕ)) (z w : InputEnd) → ((y : InputEnd) (rest : List ℕ) → G y (held ++ rest) ≡ F y (held ++ rest)) →
     ReadsToKeep K F held old z told new w → ReadsToKeep K G held old z told new w
 unfolding front_same
-keep_same K F G told held old new z w f r = record { read = front_same F G told held old new z w f r.read; keeps = kept_same K F G told held r.read.given w f r.keeps }
+keep_same K F G told held old new z w f r = record { read = front_same F G told held old new z w f r.read; keeps = kept_same K F G told held r.read.given z w f r.keeps }
 
 -- a part was read, and then the rest
 pub keep_behind : {X : Type 0} (K : X → Type 0) (F : InputEnd → List ℕ → Front X) (told : Told X) (held part : List ℕ) (old mid new : Option (List ℕ)) (z m w : InputEnd) → Consumes old mid part → OnlyOpen z part m → m ≡ z →
@@ -196,5 +210,5 @@ pub keep_behind : {X : Type 0} (K : X → Type 0) (F : InputEnd → List ℕ →
 unfolding front_behind
 keep_behind K F told held part old mid new z m w took o same f r = record {
   read = front_behind F told held part old mid new z m w took o same f r.read;
-  keeps = subst (λ l. KeepsFront K F l w told) (append_assoc held part r.read.given) r.keeps;
+  keeps = subst (λ (e : InputEnd). KeepsFront K F (held ++ (part ++ r.read.given)) e told w) same (subst (λ l. KeepsFront K F l m told w) (append_assoc held part r.read.given) r.keeps);
 }

@@ -5,7 +5,7 @@ use Rattle.list_core.specs.Lines.{finished, unfinished, faulty}
 use Rattle.capture_core.specs.Capture.{records_of}
 use Rattle.capture_core.specs.Packets.{Numbered, Packet, event_of, events_of, packets_of_records, put_numbered}
 use Rattle.capture_core.specs.Blocks.{Block, Settled, begins, captures, count_after, describes, next_block, packets_of_blocks, passes, put_block, settled_after}
-use Rattle.capture_core.specs.PacketReader.{AnswersPacket, IsFrame, NextIsFrame, PacketState, Stage, at_start, in_blocks, in_records, over, packets_from}
+use Rattle.capture_core.specs.PacketReader.{AnswersPacket, IsFrame, PacketState, TellsFrameNext, Stage, at_start, in_blocks, in_records, over, packets_from}
 use Rattle.capture_core.specs.computed.OneRead.{IsFrameBlock, IsFramePacket, ReadsFront, ReadsToKeep, Told, capture_front, next_record}
 use Rattle.capture_core.specs.computed.Steps.{PassesOver}
 use Rattle.capture_core.specs.declared.form.CaptureForm.{CaptureForm}
@@ -56,7 +56,7 @@ module _ (old new : PacketState) (form : CaptureForm) (m : ℕ) (at : old.stage 
   pub records_fail : {A : Type 0} (f : CaptureFault) → ReadsFront (λ y o. next_record form y (old.answered + 1) o) [] old.left old.ending (Err (Some (faulty f))) new.left new.ending → new.stage ≡ over (faulty f) → AnswersPacket {A = A} old (Err (Some f)) new
   records_fail f r a = step_fails (λ y o. next_record form y (old.answered + 1) o) others_of old records_spread new f r a
 
-  record_frames : (A : Type 0) (p : Packet) → IsFramePacket p → (y : InputEnd) (o : List ℕ) → NextIsFrame (events_of {A = A} (others_of p y o))
+  record_frames : (A : Type 0) (p : Packet) → IsFramePacket p → (y : InputEnd) (o : List ℕ) → TellsFrameNext (events_of {A = A} (others_of p y o))
   unfolding others_of
   record_frames A p f y o = subst IsFrame (frame_is p.link_type p.octets f.0 f.1) tt
 
@@ -98,7 +98,7 @@ module _ (old new : PacketState) (s : Settled) (m : ℕ) (at : old.stage ≡ in_
   pub blocks_fail : {A : Type 0} (f : CaptureFault) → ReadsFront (λ y o. next_block y (old.answered + 1) s o) [] old.left old.ending (Err (Some (faulty f))) new.left new.ending → new.stage ≡ over (faulty f) → AnswersPacket {A = A} old (Err (Some f)) new
   blocks_fail f r a = step_fails (λ y o. next_block y (old.answered + 1) s o) behind_of old blocks_spread new f r a
 
-  block_frames : (A : Type 0) (b : Block) → IsFrameBlock b → (y : InputEnd) (o : List ℕ) → NextIsFrame (events_of {A = A} (behind_of b y o))
+  block_frames : (A : Type 0) (b : Block) → IsFrameBlock b → (y : InputEnd) (o : List ℕ) → TellsFrameNext (events_of {A = A} (behind_of b y o))
   unfolding behind_of
   block_frames A (begins order) f y o = absurd f
   block_frames A (describes i) f y o = absurd f

@@ -1,15 +1,16 @@
 -- What one thing that was read says of a capture.
-use Rattle.std.proofs.Common.{◌≡◌, ℕ, List, [], ◌++◌, length, drop, Option, Some, None, Ok, Err, inl, ap, subst, sym, ◌∙◌, refl}
+use Rattle.std.proofs.Common.{◌≡◌, ℕ, ◌<◌, List, [], ◌∷◌, ◌++◌, length, drop, Option, Some, None, Ok, Err, inl, inr, ap, subst, sym, ◌∙◌, refl, arith}
 use Rattle.std.proofs.Math.Seq.{drop-append_seam}
 use Rattle.list_core.specs.declared.device.InputEnd.{InputEnd}
 use Rattle.list_core.specs.declared.device.InputEnd.TheVariants.{Open}
-use Rattle.list_core.specs.Device.{GivesOctets}
-use Rattle.list_core.specs.Lines.{Stop, finished, unfinished, faulty}
+use Rattle.list_core.specs.Device.{GivesOctets, OnlyOpen}
+use Rattle.list_core.specs.declared.event.Event.{Event}
+use Rattle.list_core.specs.Lines.{CanFollow, Stop, finished, unfinished, faulty}
 use Rattle.list_core.proofs.Devices.{Gives-from_Consumes}
 use Rattle.capture_core.specs.Packets.{Numbered, Packet, event_of, events_of, put_numbered, stopped}
 use Rattle.capture_core.specs.Asked.{OnlyWhile}
-use Rattle.capture_core.specs.PacketReader.{AnswersPacket, KeepsPacket, NextIsFrame, PacketState, over, events_behind, packets_behind, packets_from}
-use Rattle.capture_core.specs.computed.OneRead.{Front, GivesFront, IsKept, KeepsFront, ReadsFront, ReadsToKeep, Told}
+use Rattle.capture_core.specs.PacketReader.{AnswersPacket, BeginsWithFrame, FirstIsFrame, KeepsPacket, NextIsFrame, PacketState, TellsFrameNext, over, events_behind, packets_behind, packets_from}
+use Rattle.capture_core.specs.computed.OneRead.{Front, GivesFront, IsKept, IsKeptWhole, KeepsFront, ReadsFront, ReadsToKeep, Told}
 use Rattle.capture_core.specs.computed.Steps.{PassesOver}
 use Rattle.capture_core.specs.declared.capture_fault.CaptureFault.{CaptureFault}
 
@@ -21,6 +22,17 @@ spread (Ok x) others = others x.0 x.1
 gave : {X : Type 0} (told : Told X) (a b : Option (List ℕ)) (xs : List ℕ) → GivesFront told a b xs → GivesOctets a b xs
 gave (Ok x) a b xs p = Gives-from_Consumes a b xs p
 gave (Err why) a b xs p = p
+
+-- events of which the first is a frame begin with one
+first_begins : {A : Type 0} (es : List (ℕ × Event A)) (stop : Stop CaptureFault) → FirstIsFrame es → BeginsWithFrame es stop
+first_begins [] stop f = absurd f
+first_begins (e ∷ es) stop f = f
+
+-- a source that gave octets was open
+opened : (z w : InputEnd) (given : List ℕ) → OnlyOpen z given w → 0 < length given → z ≡ Open
+opened z w given (inl o) some = o
+opened z w [] (inr o) some = absurd (omega (arith, some))
+opened z w (x ∷ given) (inr o) some = absurd (cc)
 
 module _ {X : Type 0} (F : InputEnd → List ℕ → Front X) (others : X → InputEnd → List ℕ → Numbered Packet) (old : PacketState)
     (is : (y : InputEnd) (octets : List ℕ) → packets_from old.stage old.answered old.most y octets ≡ spread (F y octets) (λ x size. others x y (drop size octets))) where
@@ -45,16 +57,22 @@ module _ {X : Type 0} (F : InputEnd → List ℕ → Front X) (others : X → In
       ∙ ap (others x y) (drop-append_seam given more)
 
   -- what is to be kept
-  spread_kept : (A : Type 0) (K : X → Type 0) → ((x : X) → K x → (y : InputEnd) (o : List ℕ) → NextIsFrame (events_of {A = A} (others x y o))) → (f : Front X) (y : InputEnd) (o : List ℕ) → IsKept K f →
-      NextIsFrame (events_of {A = A} (spread f (λ x size. others x y (drop size o))))
-  unfolding spread
-  spread_kept A K frames (Ok x) y o k = frames x.0 k y (drop x.1 o)
-  spread_kept A K frames (Err stop) y o k = k
+  module _ (A : Type 0) (K : X → Type 0) (frames : (x : X) → K x → (y : InputEnd) (o : List ℕ) → TellsFrameNext (events_of {A = A} (others x y o))) where
+    spread_kept : (f : Front X) (y : InputEnd) (o : List ℕ) → IsKept K f → NextIsFrame (events_of {A = A} (spread f (λ x size. others x y (drop size o))))
+    unfolding spread
+    spread_kept (Ok x) y o k = first_begins _ _ (frames x.0 k y (drop x.1 o))
+    spread_kept (Err stop) y o k = k
 
-  kept_told : (A : Type 0) (K : X → Type 0) → ((x : X) → K x → (y : InputEnd) (o : List ℕ) → NextIsFrame (events_of {A = A} (others x y o))) → (given more : List ℕ) (y : InputEnd) → IsKept K (F y (given ++ more)) →
-      NextIsFrame (events_behind {A = A} old y (given ++ more))
-  kept_told A K frames given more y k =
-      subst (λ (l : Numbered Packet). NextIsFrame (events_of {A = A} l)) (sym (is y (given ++ more))) (spread_kept A K frames (F y (given ++ more)) y (given ++ more) k)
+    kept_told : (given more : List ℕ) (y : InputEnd) → IsKept K (F y (given ++ more)) → NextIsFrame (events_behind {A = A} old y (given ++ more))
+    kept_told given more y k = subst (λ (l : Numbered Packet). NextIsFrame (events_of {A = A} l)) (sym (is y (given ++ more))) (spread_kept (F y (given ++ more)) y (given ++ more) k)
+
+    spread_whole : (f : Front X) (y : InputEnd) (o : List ℕ) → IsKeptWhole K f → TellsFrameNext (events_of {A = A} (spread f (λ x size. others x y (drop size o))))
+    unfolding spread
+    spread_whole (Ok x) y o k = frames x.0 k y (drop x.1 o)
+    spread_whole (Err stop) y o k = absurd k
+
+    whole_told : (given more : List ℕ) (y : InputEnd) → IsKeptWhole K (F y (given ++ more)) → TellsFrameNext (events_behind {A = A} old y (given ++ more))
+    whole_told given more y k = subst (λ (l : Numbered Packet). TellsFrameNext (events_of {A = A} l)) (sym (is y (given ++ more))) (spread_whole (F y (given ++ more)) y (given ++ more) k)
 
   module _ (new : PacketState) where
     -- the capture has ended
@@ -91,11 +109,13 @@ module _ {X : Type 0} (F : InputEnd → List ℕ → Front X) (others : X → In
     }
 
     -- it was wanted to keep what stands at the front
-    pub step_keeps : {A : Type 0} (K : X → Type 0) → ((x : X) → K x → (y : InputEnd) (o : List ℕ) → NextIsFrame (events_of {A = A} (others x y o))) → (told : Told X) → told ≡ Err None →
+    pub step_keeps : {A : Type 0} (K : X → Type 0) → ((x : X) → K x → (y : InputEnd) (o : List ℕ) → TellsFrameNext (events_of {A = A} (others x y o))) → (told : Told X) → told ≡ Err None →
         ReadsToKeep K F [] old.left old.ending told new.left new.ending → new.stage ≡ over unfinished → AnswersPacket {A = A} old (Err None) new
     step_keeps {A = A} K frames told none r s =
-        let keeps = subst (KeepsFront K F r.read.given new.ending) none r.keeps in
-        step_wants told r.read (inl (λ more y c. kept_told A K frames r.read.given more y (keeps more y c))) s
+        let begun = subst (λ (t : Told X). KeepsFront K F r.read.given old.ending t new.ending) none r.keeps in
+        let still : new.ending ≡ Open = begun.stays ∙ opened old.ending new.ending r.read.given r.read.only_open begun.some in
+        let follows = subst (λ (e : InputEnd). CanFollow e begun.more Open) (sym still) tt in
+        step_wants told r.read (inl (λ more y c. kept_told A K frames r.read.given more y (begun.whatever more y c), (begun.more, Open, follows, whole_told A K frames r.read.given begun.more Open begun.whole))) s
 
     -- a packet was read
     pub step_gives : {A : Type 0} (x : X) (n : ℕ) (p : Packet) → ReadsFront F [] old.left old.ending (Ok x) new.left new.ending →

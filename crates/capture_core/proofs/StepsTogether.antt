@@ -11,7 +11,7 @@ use Rattle.list_core.proofs.Devices.{Consumes-append, Consumes-none, Gives-appen
 use Rattle.list_core.proofs.Readers.{CanFollow-given, OnlyOpen-append, OnlyOpen-none}
 use Rattle.capture_core.specs.Packets.{Numbered, events_of, Packet}
 use Rattle.capture_core.specs.Asked.{OnlyWhile}
-use Rattle.capture_core.specs.PacketReader.{AnswersPacket, GivesPacket, PacketAnswer, PacketState, TellsPacket, packets_behind, KeepsPacket, NextIsFrame}
+use Rattle.capture_core.specs.PacketReader.{AnswersPacket, GivesPacket, PacketAnswer, PacketState, TellsPacket, packets_behind, KeepsPacket, NextIsFrame, TellsFrameNext}
 use Rattle.capture_core.specs.computed.Steps.{PassesOver}
 use Rattle.capture_core.proofs.Fronts.{asked_none, front_cases}
 
@@ -96,7 +96,12 @@ kept_behind a b c (Err (Some f)) p given open_only k = tt
 kept_behind {A} a b c (Err None) p given open_only k =
     let on = λ (more : List ℕ) (y : InputEnd) (f : CanFollow c.ending more y). ap (packets_behind a y) (append_assoc p.given given more) ∙ p.reads (given ++ more) y (CanFollow-given b.ending c.ending given more y open_only f) in
     elim k [
-      | inl frame ↦ inl (λ more y f. subst (λ (l : Numbered Packet). NextIsFrame (events_of {A = A} l)) (sym (on more y f)) (frame more y f))
+      | inl frame ↦
+          let some = frame.1 in
+          inl (
+            λ more y f. subst (λ (l : Numbered Packet). NextIsFrame (events_of {A = A} l)) (sym (on more y f)) (frame.0 more y f),
+            (some.0, some.1, some.2, subst (λ (l : Numbered Packet). TellsFrameNext (events_of {A = A} l)) (sym (on some.0 some.1 some.2)) some.3),
+          )
       | inr (inl i) ↦ inr (inl (record {
         front = p.given ++ i.front;
         block = i.block;

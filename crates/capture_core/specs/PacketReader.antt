@@ -7,9 +7,9 @@ use Rattle.list_core.specs.declared.event.Event.{Event}
 use Rattle.list_core.specs.declared.event.EventKind.{EventKind}
 use Rattle.list_core.specs.declared.event.EventKind.TheVariants as kinds
 use Rattle.list_core.specs.Device.{GivesOctets, OnlyOpen}
-use Rattle.list_core.specs.Lines.{Stop, WhateverComes, unfinished, finished, faulty}
+use Rattle.list_core.specs.Lines.{CanFollow, Stop, WhateverComes, unfinished, finished, faulty}
 use Rattle.capture_core.specs.Capture.{records_of}
-use Rattle.capture_core.specs.Packets.{Packet, Numbered, stopped, put_numbered, events_of, packets_of_records, stop_of}
+use Rattle.capture_core.specs.Packets.{Packet, Numbered, StopsInside, stopped, put_numbered, events_of, packets_of_records, stop_of}
 use Rattle.capture_core.specs.Blocks.{Settled, describes, next_block, packets_of_blocks}
 use Rattle.capture_core.specs.Asked.{OnlyWhile}
 use Rattle.capture_core.specs.Captured.{captured_packets}
@@ -129,14 +129,31 @@ IsFrame (kinds.Frame octets) = Unit {0}
 IsFrame kinds.Clock = ⊥
 IsFrame (kinds.Mode on) = ⊥
 
--- the first of these events is a frame; or there is none, and they do not stop at an end
+-- the first of these events is a frame; or there is none, and they stop as they can inside one
 abbrev pub BeginsWithFrame : {A : Type 0} → List (ℕ × Event A) → Stop CaptureFault → Type 0
-BeginsWithFrame [] stop = stop ≡ finished → ⊥
+BeginsWithFrame [] stop = StopsInside stop
 BeginsWithFrame (e ∷ es) stop = IsFrame e.1.kind
 
--- what a capture tells next is a frame, or a stop that is not its end
+-- what a capture tells next is a frame, or that it stops inside one
 abbrev pub NextIsFrame : {A : Type 0} → Numbered (Event A) → Type 0
 NextIsFrame l = BeginsWithFrame l.items l.stop
+
+-- the first of these events is a frame
+abbrev pub FirstIsFrame : {A : Type 0} → List (ℕ × Event A) → Type 0
+FirstIsFrame [] = ⊥
+FirstIsFrame (e ∷ es) = IsFrame e.1.kind
+
+-- what a capture tells next is a frame
+abbrev pub TellsFrameNext : {A : Type 0} → Numbered (Event A) → Type 0
+TellsFrameNext l = FirstIsFrame l.items
+
+-- this is so of something that can still come after a source told this ending
+abbrev pub SomethingComes : InputEnd → (InputEnd → List ℕ → Type 0) → Type 0
+SomethingComes ending Is = (more : List ℕ) × (z : InputEnd) × CanFollow ending more z × Is z more
+
+-- these octets have begun a frame: whatever comes, it is told next, or that the capture stops inside it; and with some octets it is told
+abbrev pub HaveBegunFrame : {A : Type 0} → InputEnd → (InputEnd → List ℕ → Numbered (Event A)) → Type 0
+HaveBegunFrame w next = WhateverComes w (λ z more. NextIsFrame (next z more)) × SomethingComes w (λ z more. TellsFrameNext (next z more))
 
 -- Of these octets the last are a block that describes an interface: whatever comes, the packets behind those before it are those of the blocks from it on.
 pub record DescribesInterface (old : PacketState) (given : List ℕ) (w : InputEnd) : Type 0 where
@@ -151,12 +168,12 @@ pub record DescribesInterface (old : PacketState) (given : List ℕ) (w : InputE
   pub interface : Interface
   pub is_interface : WhateverComes w (λ z more. next_block z (packets + 1) settled (block ++ more) ≡ Ok (describes interface, length block))
 
--- memory is wanted only to keep a frame, which these octets begin, or an interface; or it was wanted before, and nothing is told any more
+-- memory is wanted only to keep a frame, which these octets have begun, or an interface; or it was wanted before, and nothing is told any more
 abbrev pub KeepsPacket : {A : Type 0} → PacketAnswer A → PacketState → List ℕ → InputEnd → Type 0
 KeepsPacket (Ok o) old given w = Unit {0}
 KeepsPacket (Err (Some f)) old given w = Unit {0}
 KeepsPacket {A} (Err None) old given w =
-    WhateverComes w (λ z more. NextIsFrame (events_behind {A = A} old z (given ++ more))) ⊎ DescribesInterface old given w
+    HaveBegunFrame w (λ z more. events_behind {A = A} old z (given ++ more)) ⊎ DescribesInterface old given w
     ⊎ WhateverComes w (λ z more. packets_behind old z (given ++ more) ≡ stopped unfinished)
 
 -- An answer takes its packet off the front of the capture. The end and a fault stay; want of memory ends it. Octets are asked for only while those before them tell neither a packet nor how the capture stops.

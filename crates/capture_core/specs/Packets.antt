@@ -1,7 +1,7 @@
 -- A capture as packets, each with its number, and how they stop.
-use Rattle.std.specs.Prelude.{ℕ, Bool, true, false, ◌==◌, List, [], ◌∷◌, map, Option, Some, None, if◌then◌else◌}
+use Rattle.std.specs.Prelude.{◌≡◌, ◌⊎◌, ℕ, Bool, true, false, ◌==◌, List, [], ◌∷◌, map, Option, Some, None, if◌then◌else◌}
 use Rattle.list_core.specs.Items as listed
-use Rattle.list_core.specs.Lines.{Stop, finished, faulty}
+use Rattle.list_core.specs.Lines.{Stop, finished, unfinished, faulty}
 use Rattle.list_core.specs.declared.event.Event.{Event}
 use Rattle.list_core.specs.declared.event.EventKind.{EventKind}
 use Rattle.list_core.specs.declared.event.EventKind.TheVariants.{Frame, Clock}
@@ -44,6 +44,12 @@ is_by_source cause.PacketTime = false
 -- whether a capture gives no further packet since its source failed
 abbrev pub is_failed_read : CaptureFault → Bool
 is_failed_read f = is_by_source f.cause
+
+-- a capture can stop so inside a frame whose head is good: the octets end, for now or for good, or the total length behind them is another
+abbrev pub StopsInside : Stop CaptureFault → Type 0
+StopsInside finished = ⊥
+StopsInside unfinished = Unit {0}
+StopsInside (faulty f) = (f.cause ≡ cause.CaptureShort) ⊎ (f.cause ≡ cause.ReadFailed) ⊎ (f.cause ≡ cause.BlockLength)
 
 -- one thing with its number before the others
 abbrev pub put_numbered : {X : Type 0} → ℕ × X → Numbered X → Numbered X

@@ -1,6 +1,6 @@
 -- What a run over a reader of packets leaves of the capture that it reads, where something is made of each event.
-use Rattle.std.proofs.Common.{Option, Some, None, Ok, Err, ◌≡◌, ℕ, List, [], ◌∷◌, ◌++◌, inl, inr, ap, ap₂, sym, ◌∙◌, refl, subst, map}
-use Rattle.std.proofs.lemmas.List.{append-nil, append_assoc}
+use Rattle.std.proofs.Common.{Option, Some, None, Ok, Err, ◌≡◌, ◌≢◌, ◌≤◌, ◌+◌, ℕ, List, [], ◌∷◌, ◌++◌, length, inl, inr, ap, ap₂, sym, ◌∙◌, refl, subst, map, arith}
+use Rattle.std.proofs.lemmas.List.{append-nil, append_assoc, length-append, length-map}
 use Rattle.list_core.specs.declared.device.InputEnd.TheVariants.{End, Failed, Open}
 use Rattle.list_core.specs.declared.event.Event.{Event}
 use Rattle.list_core.specs.Device.{GivesOctets}
@@ -67,7 +67,14 @@ module _ {I A : Type 0} (make : Event A → Event A) (state : I → PacketState)
     -- what the reader has to keep, the capture has
     capture_keeps : a ≡ Err None → KeepsOfCapture make (state end).ending (p.given ++ q.given) items
     capture_keeps none = elim (subst (λ (o : PacketAnswer A). KeepsPacket o (state before) q.given (state end).ending) none q.kept) [
-      | inl frame ↦ inl (record { told = raw; are_made = each; next = λ more y f. (events_behind (state before) y (q.given ++ more), capture_before more y f, frame more y f) })
+      | inl frame ↦
+          let some = frame.1 in
+          inl (record {
+            told = raw;
+            are_made = each;
+            next = λ more y f. (events_behind (state before) y (q.given ++ more), capture_before more y f, frame.0 more y f);
+            can_come = (some.0, some.1, some.2, (events_behind (state before) some.1 (q.given ++ some.0), capture_before some.0 some.1 some.2, some.3));
+          })
       | inr (inl i) ↦ inr (record {
         told = raw;
         are_made = each;
@@ -84,24 +91,38 @@ module _ {I A : Type 0} (make : Event A → Event A) (state : I → PacketState)
       | inr (inr gone) ↦ absurd (not_given_up (state end).ending (λ more y f. capture_before more y f ∙ ap (λ (l : Numbered Packet CaptureFault). put_items raw (events_of l)) (gone more y f)))
     ]
 
-  -- what it gave and then answered
-  pub capture_read : (start before end : I) (items : List (ℕ × Event A)) (answer : AnswerOf (Event A) CaptureFault) → (state start).stage ≡ at_start → Gave answers start items before → answers before answer end →
-      ReadOf (λ given. with_each make (captured_events (state end).ending given)) (λ given. KeepsOfCapture make (state end).ending given) items answer (state start).left (state end).left
+  -- what it gave and then answered; it had given each event that the octets say before their last one
+  pub capture_read_far : (start before end : I) (items : List (ℕ × Event A)) (answer : AnswerOf (Event A) CaptureFault) → (state start).stage ≡ at_start → Gave answers start items before → answers before answer end →
+      (r : ReadOf (λ given. with_each make (captured_events (state end).ending given)) (λ given. KeepsOfCapture make (state end).ending given) items answer (state start).left (state end).left)
+      × ((front rest : List ℕ) → r.given ≡ front ++ rest → rest ≢ [] → length (captured_events {A = A} Open front).items ≤ length items)
   unfolding taken_then
-  capture_read start before end items answer fresh gave answered =
+  capture_read_far start before end items answer fresh gave answered =
       let p = gave_made start items before gave in
       let q = through before end answer answered in
       let ran = taken_then (state start) (state before) (state end) p.0 q.0 p.2 q.1 in
       let reads = ran.reads [] (state end).ending (CanFollow-none (state end).ending) in
-      let whole : captured_events {A = A} (state end).ending ran.given ≡ put_items p.0 reads.0 = sym (behind_start (state start) (state end).ending ran.given fresh) ∙ ap (events_behind (state start) (state end).ending) (sym (append-nil ran.given)) ∙ reads.1 in
-      record {
-        given = ran.given;
-        gives = gives_packet q.0 _ _ ran.given ran.took;
-        onward = with_each make reads.0;
-        says = ap (with_each make) whole ∙ each_put make p.0 reads.0 ∙ ap (λ es. put_items es (with_each make reads.0)) (sym p.1);
-        tells = subst (λ o. TellsOnward o (with_each make reads.0)) (sym q.2) (made_tells make q.0 reads.0 (first_told q.0 reads.0 _ reads.2));
-        keeps = λ none. capture_keeps start before end answer fresh items p.0 p.1 p.2 q.0 q.1 (made_none make q.0 (sym none ∙ q.2));
-      }
+      let whole : captured_events {A = A} (state end).ending ran.given ≡ put_items p.0 reads.0 = sym (behind_start (state start) (state end).ending ran.given fresh) ∙ ap (events_behind (state start) (state end).ending) (sym (append-nil ran.given)) ∙ reads.1 in (
+        record {
+          given = ran.given;
+          gives = gives_packet q.0 _ _ ran.given ran.took;
+          onward = with_each make reads.0;
+          says = ap (with_each make) whole ∙ each_put make p.0 reads.0 ∙ ap (λ es. put_items es (with_each make reads.0)) (sym p.1);
+          tells = subst (λ o. TellsOnward o (with_each make reads.0)) (sym q.2) (made_tells make q.0 reads.0 (first_told q.0 reads.0 _ reads.2));
+          keeps = λ none. capture_keeps start before end answer fresh items p.0 p.1 p.2 q.0 q.1 (made_none make q.0 (sym none ∙ q.2));
+        },
+        λ front rest parts some.
+            let told = ran.asked front rest parts (inl some) in
+            let is : (captured_events {A = A} Open front).items ≡ told.0 = ap (λ (l : Numbered (Event A) CaptureFault). l.items) (sym (behind_start (state start) Open front fresh) ∙ told.3) in
+            let all : length p.0 ≡ length told.0 + length told.1 = ap length told.2 ∙ length-append told.0 told.1 in
+            let same : length items ≡ length p.0 = ap length p.1 ∙ length-map p.0 (λ (e : ℕ × Event A). (e.0, make e.1)) in
+            let size : length (captured_events {A = A} Open front).items ≡ length told.0 = ap length is in
+            omega (arith, all, same, size),
+      )
+
+  -- what it gave and then answered
+  pub capture_read : (start before end : I) (items : List (ℕ × Event A)) (answer : AnswerOf (Event A) CaptureFault) → (state start).stage ≡ at_start → Gave answers start items before → answers before answer end →
+      ReadOf (λ given. with_each make (captured_events (state end).ending given)) (λ given. KeepsOfCapture make (state end).ending given) items answer (state start).left (state end).left
+  capture_read start before end items answer fresh gave answered = (capture_read_far start before end items answer fresh gave answered).0
 
   -- a run over it
   pub capture_run : (t : CaptureText A) (start end : I) (ending : Ending) (fault : Option CaptureFault) (old new : Option (List ℕ)) →

@@ -14,6 +14,7 @@ use Rattle.list_core.proofs.ItemReaders.{gives_both, list_whole}
 use Rattle.engine_core.specs.declared.ending.Ending.{Ending}
 use Rattle.engine_core.specs.EngineText.{Allowed}
 use Rattle.engine_core.specs.MadeRun.{KeepsLine, MadeWrites, with_each}
+use Rattle.engine_core.specs.Run.{AtLine}
 use Rattle.engine_core.specs.RunOver.{RunsOver}
 use Rattle.engine_core.proofs.InputRuns.{ReadOf, TellsOnward, input_run}
 use Rattle.engine_core.proofs.ListRuns.{Took, answered_line, line_keeps, took_none, took_push}
@@ -43,10 +44,11 @@ module _ {I S X C : Type 0} (r : Rules S X C) (make : X → X) (state : I → Re
       let v = gave_on a next y (es ++ s.0 ∷ []) fs (took_push r a (state x) (state next) es s.0 p (subst (λ o. AnswersItem r (state x) o (state next)) s.1 u.1)) g in
       (s.0 ∷ v.0, ap₂ (λ i is. i ∷ is) s.2 v.1, subst (λ l. Took r a (state y) l) (append_assoc es (s.0 ∷ []) v.0) v.2)
 
-  -- what it gave and then answered
-  pub made_read : (start before end : I) (items : List (ℕ × X)) (answer : AnswerOf X (ItemFault C)) → (state start).ending ≡ Open → (state start).taken ≡ 0 → (state start).held ≡ [] → Gave answers start items before → answers before answer end →
-      ReadOf (λ given. with_each make (listing r (state start).settled (state end).ending 0 given)) (λ given. KeepsLine r (state start).settled make (state end).ending given) items answer (state start).left (state end).left
-  made_read start before end items answer is no_line no_octet gave answered =
+  -- what it gave and then answered, and the line behind the items of which those are made
+  pub made_read_line : (start before end : I) (items : List (ℕ × X)) (answer : AnswerOf X (ItemFault C)) → (state start).ending ≡ Open → (state start).taken ≡ 0 → (state start).held ≡ [] → Gave answers start items before → answers before answer end →
+      (o : ReadOf (λ given. with_each make (listing r (state start).settled (state end).ending 0 given)) (λ given. KeepsLine r (state start).settled make (state end).ending given) items answer (state start).left (state end).left)
+      × (raw : List (ℕ × X)) × (items ≡ each raw) × AtLine r (state start).settled (state end).ending o.given raw
+  made_read_line start before end items answer is no_line no_octet gave answered =
       let p = gave_on (state start) start before [] items (took_none r (state start) is) gave in
       let q = through before end answer answered in
       let octets : List ℕ = p.2.took.given ++ q.1.given in
@@ -56,20 +58,29 @@ module _ {I S X C : Type 0} (r : Rules S X C) (make : X → X) (state : I → Re
       let says : listing r (state start).settled (state end).ending 0 octets ≡ put_items p.0 onward =
       ap₂ (λ n h. listing r (state start).settled (state end).ending n (h ++ octets)) (sym no_line) (sym no_octet) ∙ list_whole r (state start) (state before) (state end) p.0 p.2.took q.1.given q.1.source.only_open onward same in
       let tells : Tells q.0 onward (listing r (state end).settled (state end).ending (state end).taken ((state end).held ++ [])) =
-      subst (λ l. Tells q.0 l (listing r (state end).settled (state end).ending (state end).taken ((state end).held ++ []))) same (q.1.reads [] (state end).ending (CanFollow-none (state end).ending)) in
-      record {
-        given = octets;
-        gives = gives_both r (state start) (state before) (state end) p.0 q.0 p.2.took q.1;
-        onward = with_each make onward;
-        says = ap (with_each make) says ∙ each_put make p.0 onward ∙ ap (λ es. put_items es (with_each make onward)) (sym p.1);
-        tells = subst (λ o. TellsOnward o (with_each make onward)) (sym q.2) (made_tells make q.0 onward (first_told q.0 onward _ tells));
-        keeps = λ none. record {
-          said = p.0;
-          are_made = p.1;
-          line = answered_line r (state start) (state before) (state end) p.0 no_line no_octet p.2 q.0 q.1;
-          keeps = line_keeps r (state start) (state before) (state end) p.0 no_line no_octet p.2 q.0 q.1 (made_none make q.0 (sym none ∙ q.2));
-        };
-      }
+      subst (λ l. Tells q.0 l (listing r (state end).settled (state end).ending (state end).taken ((state end).held ++ []))) same (q.1.reads [] (state end).ending (CanFollow-none (state end).ending)) in (
+        record {
+          given = octets;
+          gives = gives_both r (state start) (state before) (state end) p.0 q.0 p.2.took q.1;
+          onward = with_each make onward;
+          says = ap (with_each make) says ∙ each_put make p.0 onward ∙ ap (λ es. put_items es (with_each make onward)) (sym p.1);
+          tells = subst (λ o. TellsOnward o (with_each make onward)) (sym q.2) (made_tells make q.0 onward (first_told q.0 onward _ tells));
+          keeps = λ none. record {
+            said = p.0;
+            are_made = p.1;
+            line = answered_line r (state start) (state before) (state end) p.0 no_line no_octet p.2 q.0 q.1;
+            keeps = line_keeps r (state start) (state before) (state end) p.0 no_line no_octet p.2 q.0 q.1 (made_none make q.0 (sym none ∙ q.2));
+          };
+        },
+        p.0,
+        p.1,
+        answered_line r (state start) (state before) (state end) p.0 no_line no_octet p.2 q.0 q.1,
+      )
+
+  -- what it gave and then answered
+  pub made_read : (start before end : I) (items : List (ℕ × X)) (answer : AnswerOf X (ItemFault C)) → (state start).ending ≡ Open → (state start).taken ≡ 0 → (state start).held ≡ [] → Gave answers start items before → answers before answer end →
+      ReadOf (λ given. with_each make (listing r (state start).settled (state end).ending 0 given)) (λ given. KeepsLine r (state start).settled make (state end).ending given) items answer (state start).left (state end).left
+  made_read start before end items answer is no_line no_octet gave answered = (made_read_line start before end items answer is no_line no_octet gave answered).0
 
   -- a run over it
   pub made_run : (t : Allowed X C (ItemFault C)) (start end : I) (ending : Ending) (by : Option (ItemFault C)) (old new : Option (List ℕ)) →

@@ -8,7 +8,7 @@ use Rattle.list_core.specs.Items.{put_items}
 use Rattle.list_core.specs.Lines.{WhateverComes}
 use Rattle.capture_core.specs.Blocks.{Settled, describes, next_block, packets_of_blocks}
 use Rattle.capture_core.specs.Captured.{captured_events}
-use Rattle.capture_core.specs.PacketReader.{NextIsFrame}
+use Rattle.capture_core.specs.PacketReader.{NextIsFrame, SomethingComes, TellsFrameNext}
 use Rattle.capture_core.specs.Packets.{Numbered, events_of, is_failed_read}
 use Rattle.capture_core.specs.declared.interface.Interface.{Interface}
 use Rattle.engine_core.specs.declared.ending.Ending.{Ending}
@@ -24,11 +24,12 @@ CaptureText A = Allowed (Event A) CaptureCause CaptureFault
 abbrev pub fault_of : ℕ → CaptureCause → CaptureFault
 fault_of number cause = record { number = number; cause = cause }
 
--- Behind these events, of each of which this is made, a frame is to be kept: whatever comes behind the octets read, the capture tells the events and then a frame, or a stop that is not its end.
+-- Behind these events, of each of which this is made, a frame is to be kept, which the octets read have begun: whatever comes behind them, the capture tells the events and then the frame, or that it stops inside it; and with some octets it tells the frame.
 pub record KeepsFrame {A : Type 0} (make : Event A → Event A) (z : InputEnd) (read : List ℕ) (events : List (ℕ × Event A)) : Type 0 where
   pub told : List (ℕ × Event A)
   pub are_made : events ≡ map (λ e. (e.0, make e.1)) told
   pub next : WhateverComes z (λ y more. (rest : Numbered (Event A)) × (captured_events y (read ++ more) ≡ put_items told rest) × NextIsFrame rest)
+  pub can_come : SomethingComes z (λ y more. (rest : Numbered (Event A)) × (captured_events y (read ++ more) ≡ put_items told rest) × TellsFrameNext rest)
 
 -- Behind these events an interface is to be kept: the last octets read are a block that describes it.
 pub record KeepsInterface {A : Type 0} (make : Event A → Event A) (z : InputEnd) (read : List ℕ) (events : List (ℕ × Event A)) : Type 0 where

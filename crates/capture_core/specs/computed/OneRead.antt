@@ -9,7 +9,7 @@ use Rattle.list_core.specs.Lines.{Stop, WhateverComes, unfinished, finished, fau
 use Rattle.capture_core.specs.Numbers.{number_at}
 use Rattle.capture_core.specs.Header.{form_of, header_of}
 use Rattle.capture_core.specs.Capture.{captured_size, cut, ended, fault_in, moment_in_head}
-use Rattle.capture_core.specs.Packets.{Packet, event_of}
+use Rattle.capture_core.specs.Packets.{Packet, StopsInside, event_of}
 use Rattle.capture_core.specs.Blocks.{Block, begins, captures, describes, passes, section_header}
 use Rattle.capture_core.specs.Asked.{OnlyWhile}
 use Rattle.capture_core.specs.computed.Sections.{IsSaidAs}
@@ -54,21 +54,34 @@ pub record ReadsFront {X : Type 0} (front : InputEnd → List ℕ → Front X) (
   pub asked : OnlyWhile (λ octets. front Open (held ++ octets) ≡ Err unfinished) given z w
   pub stands : StandsSo front (held ++ given) w told
 
--- what stands at the front is to be kept, or the capture stops there, but not at its end
+-- what stands at the front is to be kept, or the capture stops inside it
 abbrev pub IsKept : {X : Type 0} → (X → Type 0) → Front X → Type 0
 IsKept Keeps (Ok x) = Keeps x.0
-IsKept Keeps (Err stop) = stop ≡ finished → ⊥
+IsKept Keeps (Err stop) = StopsInside stop
 
--- where memory is wanted, whatever comes behind these octets, such a thing stands at the front
-abbrev pub KeepsFront : {X : Type 0} → (X → Type 0) → (InputEnd → List ℕ → Front X) → List ℕ → InputEnd → Told X → Type 0
-KeepsFront Keeps front octets w (Ok x) = Unit {0}
-KeepsFront Keeps front octets w (Err (Some stop)) = Unit {0}
-KeepsFront Keeps front octets w (Err None) = WhateverComes w (λ y more. IsKept Keeps (front y (octets ++ more)))
+-- what stands at the front is whole, and is to be kept
+abbrev pub IsKeptWhole : {X : Type 0} → (X → Type 0) → Front X → Type 0
+IsKeptWhole Keeps (Ok x) = Keeps x.0
+IsKeptWhole Keeps (Err stop) = ⊥
+
+-- These octets, of which there are some, have begun a thing that is to be kept, and the source is as open as before: whatever comes, it stands at the front, or the capture stops inside it; and with some octets it is whole.
+pub record HasBegun {X : Type 0} (Keeps : X → Type 0) (front : InputEnd → List ℕ → Front X) (octets : List ℕ) (z w : InputEnd) : Type 0 where
+  pub some : 0 < length octets
+  pub stays : w ≡ z
+  pub whatever : WhateverComes w (λ y more. IsKept Keeps (front y (octets ++ more)))
+  pub more : List ℕ
+  pub whole : IsKeptWhole Keeps (front Open (octets ++ more))
+
+-- where memory is wanted, these octets have begun such a thing
+abbrev pub KeepsFront : {X : Type 0} → (X → Type 0) → (InputEnd → List ℕ → Front X) → List ℕ → InputEnd → Told X → InputEnd → Type 0
+KeepsFront Keeps front octets z (Ok x) w = Unit {0}
+KeepsFront Keeps front octets z (Err (Some stop)) w = Unit {0}
+KeepsFront Keeps front octets z (Err None) w = HasBegun Keeps front octets z w
 
 -- What stands at the front was read, and memory was wanted only to keep it.
 pub record ReadsToKeep {X : Type 0} (Keeps : X → Type 0) (front : InputEnd → List ℕ → Front X) (held : List ℕ) (old : Option (List ℕ)) (z : InputEnd) (told : Told X) (new : Option (List ℕ)) (w : InputEnd) : Type 0 where
   pub read : ReadsFront front held old z told new w
-  pub keeps : KeepsFront Keeps front (held ++ read.given) w told
+  pub keeps : KeepsFront Keeps front (held ++ read.given) z told w
 
 -- the packet is a frame
 abbrev pub IsFramePacket : Packet → Type 0

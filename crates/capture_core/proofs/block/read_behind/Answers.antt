@@ -5,10 +5,10 @@ use Rattle.list_core.specs.declared.device.InputEnd.{InputEnd}
 use Rattle.capture_core.specs.Numbers.{number_at}
 use Rattle.capture_core.specs.Capture.{cut}
 use Rattle.capture_core.specs.Blocks.{begins, block_with, body_said, first_block, is_bad_length}
-use Rattle.capture_core.specs.computed.OneRead.{IsFrameBlock, IsKept}
+use Rattle.capture_core.specs.computed.OneRead.{IsFrameBlock, IsKept, IsKeptWhole}
 use Rattle.capture_core.specs.computed.Sections.{TellsFrameOf, block_rest, settled}
 use Rattle.capture_core.proofs.BlocksRead.{at_least, block_bad, block_cut, block_of_section, block_of_type, block_whole, said_block}
-use Rattle.capture_core.proofs.FramesKept.{block_keeps}
+use Rattle.capture_core.proofs.FramesKept.{block_can_come, block_keeps}
 use Rattle.capture_core.proofs.Fronts.{front_none, front_read, front_same, front_short, front_stops, front_wanted, front_whole}
 use Rattle.capture_core.proofs.block.read_behind.Goals as goal
 
@@ -92,11 +92,13 @@ returns-in-Err-Memory g c =
     let good : is_bad_length 12 (number_at s.order 4 head 4) ≡ false = ap (is_bad_length 12) (sym total) ∙ sym c.is_bad_length.ensures ∙ c.if-is_bad_length.false in
     let room : 12 ≤ number_at s.order 4 head 4 = at_least 12 (number_at s.order 4 head 4) good in
     let by = λ (y : InputEnd) (rest : List ℕ). block_of_type c.args.number s head c.requires y rest (λ e. c.if-kind-eq-SECTION_HEADER.false (c.long_at-kind.ensures ∙ e)) in
-    let wants = rw c.in-Err-Memory.field-0-is at c.in-Err-Memory.ensures in (
+    let wants = rw c.in-Err-Memory.field-0-is at c.in-Err-Memory.ensures in
+    let tells = λ (given : List ℕ) (is : TellsFrameOf s c.long_at-kind.result (c.long_at-total.result - 12) given).
+    subst (λ (k : ℕ). TellsFrameOf s k (number_at s.order 4 head 4 - 12) given) c.long_at-kind.ensures (subst (λ (k : ℕ). TellsFrameOf s c.long_at-kind.result (k - 12) given) total is) in
+    let at = λ (given more : List ℕ) (y : InputEnd). ap (first_block y c.args.number s) (append_assoc head given more) ∙ by y (given ++ more) in (
       Err None,
       refl,
-      front_wanted _ _ _ head _ _ _ _ _ wants (λ front few. by Open front ∙ block_cut c.args.number s.order 12 head said c.requires Open front good (omega (arith, few, total, room)))
-          (λ given more y is. subst (IsKept IsFrameBlock) (sym (ap (first_block y c.args.number s) (append_assoc head given more) ∙ by y (given ++ more)))
-          (block_keeps c.args.number s head c.requires y given more good room
-          (subst (λ (k : ℕ). TellsFrameOf s k (number_at s.order 4 head 4 - 12) given) c.long_at-kind.ensures (subst (λ (k : ℕ). TellsFrameOf s c.long_at-kind.result (k - 12) given) total is)))),
+      front_wanted _ _ _ head _ _ _ _ _ wants (omega (arith, c.requires)) (λ front few. by Open front ∙ block_cut c.args.number s.order 12 head said c.requires Open front good (omega (arith, few, total, room)))
+          (λ given more y is. subst (IsKept IsFrameBlock) (sym (at given more y)) (block_keeps c.args.number s head c.requires y given more good room (tells given is)))
+          (λ given is. let some = block_can_come c.args.number s head c.requires given good room (tells given is) in (some.0, subst (IsKeptWhole IsFrameBlock) (sym (at given some.0 Open)) some.1)),
     )

@@ -3,7 +3,7 @@ use Rattle.list_core.specs.declared.device.InputEnd.TheVariants.{Open}
 use Rattle.list_core.specs.declared.device.InputEnd.{InputEnd}
 use Rattle.capture_core.specs.Capture.{captured_size, cut, moment_in_head}
 use Rattle.capture_core.specs.Packets.{Packet, event_of}
-use Rattle.capture_core.proofs.FramesKept.{record_keeps}
+use Rattle.capture_core.proofs.FramesKept.{record_can_come, record_keeps}
 use Rattle.capture_core.proofs.PacketsRead.{record_cut, record_long, record_whole}
 use Rattle.capture_core.proofs.Fronts.{front_none, front_read, front_short, front_stops, front_wanted, front_whole}
 use Rattle.capture_core.proofs.packet_record.read_captured.Goals as goal
@@ -47,6 +47,7 @@ returns-in-Err-Memory g c =
     let v = rw c.in-Err-Memory.field-0-is at c.in-Err-Memory.ensures in (
       _,
       refl,
-      front_wanted _ _ _ head _ _ _ _ _ v (λ front few. record_cut c.args.form c.args.number head c.requires Open front short (omega (arith, few, size)))
-          (λ given more y is. record_keeps c.args.form c.args.number head c.requires y given more short is.0 (omega (arith, size, is.1.1))),
+      front_wanted _ _ _ head _ _ _ _ _ v (omega (arith, c.requires)) (λ front few. record_cut c.args.form c.args.number head c.requires Open front short (omega (arith, few, size)))
+          (λ given more y is. record_keeps c.args.form c.args.number head c.requires y given more short is.0 (omega (arith, size, is.1.1)))
+          (λ given is. record_can_come c.args.form c.args.number head c.requires given short is.0 (omega (arith, size, is.1.1))),
     )
