@@ -1,6 +1,9 @@
 """Input that fails, never ends or comes slowly, and output that takes nothing."""
 import os
+import resource
+import signal
 import subprocess
+import tempfile
 import tty
 
 from helpers.capture_parts import header, record
@@ -54,6 +57,32 @@ class Full(Case):
     def run(self, program):
         with descriptor("/dev/full", os.O_WRONLY) as stdout:
             return run(program, self.words, self.stdin, stdout=stdout)
+
+
+class PastTheLimit(Case):
+    """Standard output is a file that would grow past what `ulimit -f` lets it. Where the parent ignores SIGXFSZ the write fails, else
+    the system ends the program and nothing is said. Either way all stands in the file that fits."""
+
+    LIMIT = 10240
+
+    def __init__(self, asked, octets, is_ignored):
+        super().__init__(f"{asked[0]} to a file that is limited, with SIGXFSZ {'ignored' if is_ignored else 'as usual'}", asked, octets)
+        self.is_ignored = is_ignored
+
+    def limit(self):
+        """What the program starts with."""
+        signal.signal(signal.SIGXFSZ, signal.SIG_IGN if self.is_ignored else signal.SIG_DFL)
+        resource.setrlimit(resource.RLIMIT_FSIZE, (self.LIMIT, self.LIMIT))
+
+    def why_wrong(self, program):
+        whole = run(program, self.words, self.stdin)[0]
+        with tempfile.TemporaryFile() as stdout:
+            _, said, status = run(program, self.words, self.stdin, stdout=stdout, preexec_fn=self.limit)
+            stdout.seek(0)
+            wrote = stdout.read()
+        ends = {4: b"read or write fault: cannot write: File too large\n"} if self.is_ignored else {-signal.SIGXFSZ: b"", 128 + signal.SIGXFSZ: b""}
+        why = [] if len(whole) > self.LIMIT and wrote == whole[:self.LIMIT] else [f"{len(wrote)} octets of {len(whole)} were written"]
+        return why + ([] if ends.get(status) == said else [f"ended with status {status}, and said {said!r}"])
 
 
 def writes_so_far():
@@ -232,5 +261,12 @@ def importing():
     yield Case("an empty capture", ["import"], b"", short, 3)
 
 
+def limited():
+    """Files that would grow too long, under a command that writes by and by and one that writes at once."""
+    for is_ignored in (False, True):
+        yield PastTheLimit(["show"], listed(WORKED) * 500, is_ignored)
+        yield PastTheLimit(["publish"], SCRIPT + CHANGE * 200, is_ignored)
+
+
 def cases():
-    return [*reading(), *writing()]
+    return [*reading(), *writing(), *limited()]
