@@ -3,21 +3,25 @@
 //! 1 something was found; 2 wrong arguments; 3 an error in the input; 4 a read or write fault; 5 out of memory.
 #![tactic(auto)]
 
+mod console;
 mod input;
 mod messages;
 mod output;
+mod patient;
 
 ghost use Rattle.std.specs.Prelude.{◌≡◌, IfErr, IfOk, Ok, Some};
 ghost use Rattle.clap.specs.Walk.{texts};
 ghost use Rattle.words_core.specs.CommandLine.{HasPeriod, asked_by};
 ghost use Rattle.words_core.specs.RequestLine.{MayRefuseRequest, request_of_words};
 
+use crate::console::Console;
 use crate::input::{BLOCK, Input, Seen};
 use crate::messages::block_fields::block_fault;
 use crate::messages::failure::Failure;
 use crate::messages::passed::passed_frames;
 use crate::messages::unheard::Unheard;
 use crate::output::Output;
+use crate::patient::Patient;
 use clap::error::ErrorKind as WordsErrorKind;
 use engine_core::{Ending, status};
 use frame_core::PassedOver;
@@ -55,8 +59,8 @@ fn advice_on(kind: WordsErrorKind) -> Option<&'static str> {
 #[inline(never)]
 fn answer_failure(rt: &HostRuntime, failure: Option<Failure>) -> u8 {
     let _ = match failure {
-        Some(failure) => eprintln!(rt; "read or write fault: {failure}"),
-        None => rt.eprintln("read or write fault"),
+        Some(failure) => eprintln!(Console::of(rt); "read or write fault: {failure}"),
+        None => Console::of(rt).eprintln("read or write fault"),
     };
     status(&Ending::WriteFault)
 }
@@ -66,7 +70,7 @@ fn answer_failure(rt: &HostRuntime, failure: Option<Failure>) -> u8 {
 #[inline(never)]
 fn answer_words(rt: &HostRuntime, error: &clap::Error) -> u8 {
     let code = error.exit_code() as u8;
-    if let Err(failure) = error.print(rt) {
+    if let Err(failure) = error.print(&Console::of(rt)) {
         return if code == 0 {
             answer_failure(rt, Some(Failure::Write(failure)))
         } else {
@@ -74,7 +78,7 @@ fn answer_words(rt: &HostRuntime, error: &clap::Error) -> u8 {
         };
     }
     if let Some(text) = advice_on(error.kind()) {
-        let _ = rt.eprintln(text);
+        let _ = Console::of(rt).eprintln(text);
     }
     code
 }
@@ -133,7 +137,7 @@ fn say_awaited(rt: &HostRuntime, command: &str, intake: Intake) {
             Intake::Records | Intake::Packets => "capture",
             Intake::List | Intake::ListOrCapture => "list",
         };
-        let _ = eprintln!(rt;
+        let _ = eprintln!(Console::of(rt);
             "goose {command}: waiting for a {awaited} on standard input (did you forget `< FILE`?)"
         );
     }
@@ -143,9 +147,9 @@ fn say_awaited(rt: &HostRuntime, command: &str, intake: Intake) {
 #[inline(never)]
 fn say_stop(rt: &HostRuntime, command: &str, told: Told, intake: Intake, head: &[u8]) {
     let Told { stop, advice } = told;
-    let _ = eprintln!(rt; "goose {command}: {stop}");
+    let _ = eprintln!(Console::of(rt); "goose {command}: {stop}");
     if let Some(advice) = advice_by_head(intake, head).or(advice) {
-        let _ = eprintln!(rt; "{advice}");
+        let _ = eprintln!(Console::of(rt); "{advice}");
     }
 }
 
@@ -198,12 +202,12 @@ fn say_unheard(rt: &HostRuntime, words: &[&str], heard: &[bool]) {
         }
         if count < MOST_UNHEARD {
             let text = block_text(words, position).unwrap_or("");
-            let _ = eprintln!(rt; "goose replay: {}", Unheard { position, text });
+            let _ = eprintln!(Console::of(rt); "goose replay: {}", Unheard { position, text });
         }
         count = count.saturating_add(1);
     }
     if count > MOST_UNHEARD {
-        let _ = eprintln!(rt;
+        let _ = eprintln!(Console::of(rt);
             "goose replay: {} more were never seen",
             count - MOST_UNHEARD
         );
@@ -214,7 +218,7 @@ fn say_unheard(rt: &HostRuntime, words: &[&str], heard: &[bool]) {
 #[inline(never)]
 fn say_passed(rt: &HostRuntime, command: &str, passed: &PassedOver) {
     if let Some(passed) = passed_frames(passed) {
-        let _ = eprintln!(rt; "goose {command}: {passed}");
+        let _ = eprintln!(Console::of(rt); "goose {command}: {passed}");
     }
 }
 
@@ -223,13 +227,13 @@ fn run(rt: &HostRuntime, request: Request, words: &[&str]) -> u8
     requires { HasPeriod (asked_by request.task) }
 {
     let Request { task, options } = request;
-    let Ok(output) = Output::new(rt.alloc(), io::writer(rt)) else {
+    let Ok(output) = Output::new(rt.alloc(), Patient::new(rt, io::writer(rt))) else {
         return status(&Ending::Memory);
     };
     let seen = Seen::new();
     // The reader has much room of its own; it stays here, and is not handed on with each result.
     let mut standard = rt.reader();
-    let input = Input::new(&mut standard, &output, &seen);
+    let input = Input::new(Patient::new(rt, &mut standard), &output, &seen);
     let Ok(input) = BufReader::with_capacity(rt.alloc(), BLOCK, input) else {
         return status(&Ending::Memory);
     };
@@ -271,15 +275,15 @@ fn run(rt: &HostRuntime, request: Request, words: &[&str]) -> u8
 // Says which text is no control block, and why, and answers the exit status.
 #[inline(never)]
 fn answer_block(rt: &HostRuntime, words: &[&str], position: usize) -> u8 {
-    let _ = eprintln!(rt; "block {position} BlockForm");
+    let _ = eprintln!(Console::of(rt); "block {position} BlockForm");
     let fault = match block_text(words, position) {
         Some(text) => block_fault(text),
         None => None,
     };
     if let Some(fault) = fault {
-        let _ = eprintln!(rt; "{fault}");
+        let _ = eprintln!(Console::of(rt); "{fault}");
     }
-    let _ = rt.eprintln(BLOCK_FORM);
+    let _ = Console::of(rt).eprintln(BLOCK_FORM);
     2
 }
 
@@ -299,7 +303,7 @@ fn answer(rt: &HostRuntime, texts: &[String]) -> u8 {
 // Says on standard error what status 5 means; what the others do is said by then.
 fn say(rt: &HostRuntime, code: u8) {
     if code == status(&Ending::Memory) {
-        let _ = rt.eprintln("out of memory");
+        let _ = Console::of(rt).eprintln("out of memory");
     }
 }
 
@@ -307,7 +311,9 @@ fn main(rt: HostRuntime) -> ExitCode {
     let code = match texts_of(&rt) {
         Ok(texts) => answer(&rt, texts.as_slice()),
         Err(2) => {
-            let _ = rt.eprintln("error: each argument must be text in UTF-8, and one is not");
+            let _ = Console::of(&rt).eprintln(
+                "error: each argument must be text in UTF-8, and one is not",
+            );
             2
         }
         Err(status) => status,
