@@ -10,7 +10,7 @@ import subprocess
 import tty
 
 from helpers.capture_parts import custom, header, interface, packet, record, section
-from helpers.captured import ASKED, capturing
+from helpers.captured import ASKED, asking, capturing
 from helpers.frames import WORKED, put
 from helpers.harness import SECONDS, Case, Pieces, clipped, cut, descriptor, listed, run
 from themes.devices import CHANGE, SCRIPT, WORDS, words
@@ -81,13 +81,13 @@ class Says(Case):
     """Input that ends the run with status 3: the last line of the text tells the place and the name, and standard error has
     the sentence of that name, and behind it what to do, in these lines and no others."""
 
-    def __init__(self, name, asked, stdin, last, sentence, advice=None):
+    def __init__(self, name, asked, stdin, last, sentence, advice=None, first=""):
         super().__init__(name, asked, stdin)
-        self.last, self.sentence, self.advice = last, sentence, advice
+        self.last, self.sentence, self.advice, self.first = last, sentence, advice, first
 
     def why_wrong(self, program):
         wrote, complained, status = self.run(program)
-        wanted = f"goose {self.words[0]}: {self.sentence}\n" + (f"{ADVICE[self.advice]}\n" if self.advice else "")
+        wanted = f"{self.first}goose {self.words[0]}: {self.sentence}\n" + (f"{ADVICE[self.advice]}\n" if self.advice else "")
         why = [] if status == 3 else [f"ended with status {status}"]
         why += [] if wrote.endswith(f"{self.last}\n".encode()) else [f"wrote at last {wrote[-80:]!r}"]
         return why + ([] if complained == wanted.encode() else [f"said {clipped(complained)!r}, and not {wanted!r}"])
@@ -257,6 +257,38 @@ def places():
             yield At(line, 130, b"\n" + FRAME, pieces=pieces)
     for pieces in (HELD, 10000, BLOCK):
         yield At(b"C\t0", 2 * BLOCK - 2, b"\n" + FRAME, pieces=pieces)
+
+
+class InParts:
+    """A case whose input comes through a pipe: its first octets alone, and the others when the program has taken these."""
+
+    def __init__(self, case, size):
+        self.case, self.size, self.name = case, size, f"{case.name}, of which {size} octets come first"
+
+    def why_wrong(self, program):
+        octets = self.case.stdin
+        self.case.run = Fed(self.name, self.case.words, [octets[:self.size], octets[self.size:]], b"", waits=True).run
+        return self.case.why_wrong(program)
+
+
+def in_parts():
+    """What the first octets tell is told also where two reads give them."""
+    for case in (*shown_by_octets(), *compressed()):
+        yield InParts(case, 2)
+    for size in (2, 22):
+        yield InParts(OfLink(113, "LINUX_SLL", capturing("blocks")), size)
+
+
+def passed_before():
+    """Frames that were passed over are told of before the error that ended the input."""
+    arp = WORKED[:12] + b"\x08\x06" + bytes(46)
+    cut_off = header() + record(1, 2, arp) + record(1, 2, WORKED)[:-1]
+    for command in ASKED:
+        passed = f"goose {command}: passed over: 1 of EtherType 0806 (ARP), from 1 on\n"
+        yield Says(f"{command}: an unrecognised line behind frames passed over", asking(command, "--skip-other"), listed(arp, WORKED) + b"X\n",
+                   "3 list LineForm", f"line 3: LineForm: {SAYS['LineForm']}", FORM, passed)
+        yield Says(f"{command}: a capture that is cut off behind frames passed over", asking(command, "--capture", "--skip-other"), cut_off,
+                   "2 capture CaptureShort", f"packet 2: CaptureShort: {SAYS['CaptureShort']}", None, passed)
 
 
 def failing():
@@ -447,13 +479,16 @@ def blocks():
         yield WrongField(block, said)
     for before in ((), ("--",), ("--", "0001,G,D,,1,1"), ("0001,G,D,,1,1", "--"), ("0001,G,D,,1,1", "0002,G,D,,1,1", "--")):
         yield WrongField("1,G,D,,1,1", f'APPID is "1", and must be {digits}', before)
+        if "--" in before:
+            yield WrongField("--1,G,D,,1,1", f'APPID is "--1", and must be {digits}', before)
+            yield WrongField("--json", "It has 1 field, and must have 6, divided by commas", before)
 
 
 def cases():
     yield Tabled()
     for file, (enum, sort) in ERRORS.items():
         yield Displayed(file, enum, sort)
-    yield from (*lists(), *shown_by_octets(), *compressed(), *places(), *failing(), *scripts(), *captures(), *blocks(), *unseen())
+    yield from (*lists(), *shown_by_octets(), *compressed(), *in_parts(), *places(), *passed_before(), *failing(), *scripts(), *captures(), *blocks(), *unseen())
     frames = listed(WORKED, put(WORKED, at66=1))
     for command in ("show", "check", "rewrite", "blocks", *WORDS):
         yield Quiet(f"{command} that ends well says nothing", words(command), frames)
