@@ -1,5 +1,6 @@
 """A list is answered while it is read: text comes before the input ends, and memory does not grow with the list. Where the
 system refuses memory, that is said."""
+import pathlib
 import resource
 import subprocess
 import tempfile
@@ -7,7 +8,7 @@ import threading
 
 from helpers.capture_parts import header, record
 from helpers.frames import SAMPLED, WORKED, WORKED_LINE, put
-from helpers.harness import SECONDS, first_difference, listed, peak_memory, run, text
+from helpers.harness import SECONDS, Skipped, first_difference, listed, peak_memory, run, text
 from themes.devices import CHANGE, SCRIPT
 
 FRAMES = 4000
@@ -114,6 +115,37 @@ class WantsMemory:
         return why[:3] or ([] if refused else ["no limit of memory gives status 5"])
 
 
+class AsksForLittle:
+    """For a small packet a command asks the system for hardly more memory than `import`, which keeps no record: a packet may have
+    262,144 octets, and room for so many is not asked for before they come."""
+
+    MORE = 160  # kilobytes
+
+    def __init__(self, asked):
+        self.name, self.asked = f"memory for a small packet under {asked[0]}", asked
+
+    def asked_for(self, program, asked, lines):
+        """The most memory that was asked for when so many lines stand written, in kilobytes."""
+        pipes = {"stdin": subprocess.PIPE, "stdout": subprocess.PIPE, "stderr": subprocess.DEVNULL}
+        started = subprocess.Popen([*program, *asked], bufsize=0, **pipes)
+        with started.stdout, started.stdin:
+            started.stdin.write(header() + record(1, 2, WORKED) * 4)
+            for octet in iter(lambda: started.stdout.read(1), b""):
+                lines -= octet == b"\n"
+                if not lines:
+                    break
+            told = pathlib.Path(f"/proc/{started.pid}/status").read_text(encoding="ascii", errors="replace")
+        started.wait(timeout=SECONDS)
+        return next((int(line.split()[1]) for line in told.splitlines() if line.startswith("VmPeak")), None)
+
+    def why_wrong(self, program):
+        least = self.asked_for(program, ["import"], 5)
+        if least is None:
+            raise Skipped("the system does not tell how much memory was asked for")
+        most = self.asked_for(program, self.asked, 4)
+        return [] if most <= least + self.MORE else [f"{most} kilobytes, and under import {least}"]
+
+
 def cases():
     replay, watch = ["replay", "0001,G,D,,1,1"], ["watch", "--period", "4000", "--id", "S"]
     frames = listed(b"\1", WORKED) + b"X"
@@ -129,4 +161,6 @@ def cases():
     yield WantsMemory(["publish"], SCRIPT + CHANGE * 3 + b"X")
     yield DoesNotGrow("a capture", ["import"], record(1, 2, WORKED), header())
     yield DoesNotGrow("a capture of records that are left out", ["import"], record(1, 2, bytes(2001)), header())
+    for words in (["show", "--capture"], ["replay", "--capture", *replay[1:]]):
+        yield AsksForLittle(words)
     yield WantsMemory(["import"], header() + record(1, 2, WORKED) + b"X")

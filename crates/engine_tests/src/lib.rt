@@ -15,6 +15,8 @@ mod engines;
 #[cfg(test)]
 mod exchange;
 #[cfg(test)]
+mod growths;
+#[cfg(test)]
 mod laws;
 #[cfg(test)]
 mod limits;
