@@ -4,6 +4,7 @@ import itertools
 import os
 import pathlib
 import random
+import resource
 import shlex
 import subprocess
 import tempfile
@@ -172,6 +173,13 @@ OTHER = [{"dat_set": element(0x82, b"E")}, {"go_id": b""}, {"go_id": element(0x8
          {"gocb_ref": element(0x80, b"")}, {"gocb_ref": element(0x80, b"GG")}]
 
 
+def own_frame(at, st, sq, live=2000, simulation=False):
+    """A good frame of one of the blocks, but perhaps for its simulation."""
+    app_id, own = OWN[at]
+    frame = state(st, sq, live, simulation, **own)
+    return frame[:14] + app_id + frame[16:]
+
+
 def some_frame(chance):
     """A frame of few numbers, so that repeated, lost and late ones are common. Now and then several reasons hold of one."""
     if chance.randrange(16) == 0:
@@ -201,6 +209,62 @@ def some_list(chance, count):
     return b"".join(lines + chance.choice([[], [], [], [b"X\n"]]))
 
 
+def some_modes(chance, count):
+    """A list in which the mode is set often, and blocks go over to simulated frames in any order."""
+    moment, lines = 0, []
+    for _ in range(count):
+        moment += chance.choice([0, 1, 1, 2])
+        sort = chance.randrange(8)
+        if sort < 2:
+            lines.append(b"M %d %s\n" % (moment, chance.choice([b"on", b"on", b"off"])))
+        else:
+            lines.append(line(moment, own_frame(chance.randrange(len(OWN)), chance.choice([1, 1, 2]), chance.choice([0, 1]),
+                                                chance.choice([1, 2, 9]), sort < 6)))
+    return b"".join(lines)
+
+
+class ModesOfMany:
+    """The mode set off takes little more than a clock line, however many blocks there are, where none of them takes simulated
+    frames and where the last one goes over to them before each: no more of a processor than this, beside the same list with
+    clock lines in place of the modes, the least of up to three runs each."""
+
+    BLOCKS, EVENTS, TIMES, SECONDS = 20_000, 20_000, 2, 0.5
+
+    def __init__(self, name, turn, turns, wanted):
+        self.name, self.octets, self.clocks = name, turn * turns, turn.replace(b"M 0 on", b"C 0").replace(b"M 0 off", b"C 0") * turns
+        self.wanted = wanted
+
+    def why_wrong(self, program):
+        words = [f"{1 + at % 65535:04x},G,D,,1,1" for at in range(1, self.BLOCKS)] + [BLOCK]
+        seconds, wrote = self.least(program, words, self.octets)
+        without, _ = self.least(program, words, self.clocks)
+        why = [] if wrote == self.wanted else [first_difference(self.wanted, wrote)]
+        most = self.TIMES * without + self.SECONDS
+        return why + ([f"{seconds:.2f} seconds of a processor, and {without:.2f} with clock lines"] if seconds > most else [])
+
+    @staticmethod
+    def least(program, words, octets):
+        """The least processor time of up to three runs, and what they wrote."""
+        least, wrote = float("inf"), b""
+        for _ in range(3):
+            before = resource.getrusage(resource.RUSAGE_CHILDREN)
+            wrote, _, _ = run(program, ["replay", *words], octets)
+            after = resource.getrusage(resource.RUSAGE_CHILDREN)
+            least = min(least, after.ru_utime - before.ru_utime + after.ru_stime - before.ru_stime)
+            if least < ModesOfMany.SECONDS:
+                break
+        return least, wrote
+
+
+def modes_of_many():
+    count, last = ModesOfMany.EVENTS, ModesOfMany.BLOCKS - 1
+    yield ModesOfMany("the mode set off where no block takes simulated frames", b"M 0 off\n", count, b"")
+    turn = b"M 0 on\n" + line(0, state(1, 0, simulation=True)) + b"M 0 off\n"
+    yield ModesOfMany("the mode set off where one block takes simulated frames", turn, count, b"".join(
+        b"%d switched %d\n%d act %d st=1 sq=0 t=0000000000000000 {true}\n%d switched %d\n" % (at, last, at, last, at + 1, last)
+        for at in range(2, 3 * count, 3)))
+
+
 def worked():
     first = "st=1 sq=0 t=0000000000000000 {true}\n"
     yield Case("each growth of the numbers", ["replay", BLOCK], b"".join(
@@ -217,6 +281,16 @@ def worked():
                + line(4, state(6, 0)) + b"M 5 off\n" + line(6, state(5, 0)),
                (f"1 act 0 {first.replace('st=1', 'st=5')}2 refused 0 Simulated\n4 switched 0\n4 act 0 {first}"
                 f"5 refused 0 Simulated\n6 switched 0\n7 act 0 {first.replace('st=1', 'st=5')}").encode())
+    zero = "st=1 sq=0 t=0000000000000000"
+    yield Case("back to real frames in the order of the blocks", ["replay", *BLOCKS],
+               b"M 0 on\n" + b"".join(line(0, own_frame(at, 1, 0, simulation=True)) for at in (2, 0, 1)) + b"M 1 off\nM 1 off\nM 1 on\n"
+               + line(2, own_frame(1, 1, 0, simulation=True)) + b"M 3 off\n" + line(4, own_frame(2, 1, 0)),
+               (f"2 switched 2\n2 act 2 {zero} {{true true}}\n3 switched 0\n3 act 0 {zero} {{true}}\n4 switched 1\n4 act 1 {zero} {{true}}\n"
+                f"5 switched 0\n5 switched 1\n5 switched 2\n8 switched 1\n8 act 1 {zero} {{true}}\n9 switched 1\n"
+                f"10 act 2 {zero} {{true true}}\n").encode())
+    yield Case("a block that is over and switched back at once", ["replay", BLOCK],
+               b"M 0 on\n" + line(0, state(1, 0, live=5, simulation=True)) + b"M 5 off\nM 9 off\n",
+               f"2 switched 0\n2 act 0 {zero} {{true}}\n3 expired 0\n3 switched 0\n".encode())
     yield Case("an empty list", ["replay", BLOCK])
     yield Case("behind the mark of words", ["replay", "--", BLOCK], line(0, state(1, 0)), f"1 act 0 {first}".encode())
     yield Case("one block twice", ["replay", BLOCK, BLOCKS[1], "0001,G,E,I,2,3"], b"X\n", b"blocks SameBlockTwice 2\n", 3)
@@ -228,7 +302,10 @@ def cases():
     for at in range(60):
         yield Replays(f"a list by chance, {at}", some_list(chance, 60), BLOCKS[:1 + at % 3])
     yield Replays("a long list by chance", some_list(chance, 5000), BLOCKS)
+    for at in range(20):
+        yield Replays(f"modes by chance, {at}", some_modes(chance, 60), BLOCKS)
     yield ManyLists()
+    yield from modes_of_many()
     yield ByDefinition("each list of four real and simulated frames, clocks and modes", each_four)
     yield ByDefinition("each list of four frames of few numbers and clocks", each_four_of_numbers)
     yield ByDefinition("three hundred short lists by chance", short_lists)

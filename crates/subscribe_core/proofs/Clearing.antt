@@ -9,6 +9,7 @@ use Rattle.subscribe_core.specs.declared.names.Name.{Name}
 use Rattle.subscribe_core.specs.declared.registers.LiveState.{LiveState}
 use Rattle.subscribe_core.specs.declared.registers.Register.{Register}
 use Rattle.subscribe_core.specs.computed.Deadlines.{KeepsDeadlinesOf, due_count, helds}
+use Rattle.subscribe_core.specs.computed.Flagged.{AreFlagged}
 use Rattle.subscribe_core.specs.computed.Indexed.{IsIndexed, registers_after_clock, register_after_clock}
 use Rattle.subscribe_core.specs.State.{idle}
 use Rattle.subscribe_core.specs.computed.Steps.{is_dead, after_clock}
@@ -76,9 +77,9 @@ cleared_none (r ∷ rs) now none =
 
 -- what is so at each turn: of what was held at first the last ones are left to let go
 pub record IsClearing {A : Type 0} (now : ℕ) (first_blocks : List (Block A)) (first : List Register) (looks : ℕ)
-    (blocks : List (Block A)) (registers : List Register) (names : List (Name A)) (deadlines : Deadlines A) (count : ℕ)
+    (blocks : List (Block A)) (registers : List Register) (names : List (Name A)) (deadlines : Deadlines A) (positions : List ℕ) (count : ℕ)
     (first_mode mode : Bool) (first_moment moment : ℕ) : Type 0 where
-  pub indexed : IsIndexed blocks registers names deadlines
+  pub indexed : IsIndexed blocks registers names deadlines positions
   pub same : registers_after_clock now registers ≡ registers_after_clock now first
   pub counted : count + due_count now (helds registers) ≤ looks + due_count now (helds first)
   pub blocks_stay : blocks ≡ first_blocks
@@ -86,20 +87,22 @@ pub record IsClearing {A : Type 0} (now : ℕ) (first_blocks : List (Block A)) (
   pub moment_stays : moment ≡ first_moment
 
 -- after a write of one register
-pub indexed_write : {A : Type 0} → (blocks blocks' : List (Block A)) (registers registers' : List Register) (names : List (Name A)) (at : ℕ) (r : Register) (deadlines deadlines' : Deadlines A)
+pub indexed_write : {A : Type 0} → (blocks blocks' : List (Block A)) (registers registers' : List Register) (names : List (Name A)) (at : ℕ) (r : Register) (deadlines deadlines' : Deadlines A) (positions positions' : List ℕ)
     → blocks' ≡ blocks → registers' ≡ set registers at r
-    → IsIndexed blocks registers names deadlines
+    → IsIndexed blocks registers names deadlines positions
     → KeepsDeadlinesOf deadlines' (set (helds registers) at r.held)
-    → IsIndexed blocks' registers' names deadlines'
-indexed_write {A} blocks blocks' registers registers' names at r deadlines deadlines' b h i t =
-    subst (λ (bs : List (Block A)). IsIndexed bs registers' names deadlines') (sym b)
-    (subst (λ (rs : List Register). IsIndexed blocks rs names deadlines') (sym h)
+    → AreFlagged positions' (set registers at r)
+    → IsIndexed blocks' registers' names deadlines' positions'
+indexed_write {A} blocks blocks' registers registers' names at r deadlines deadlines' positions positions' b h i t f =
+    subst (λ (bs : List (Block A)). IsIndexed bs registers' names deadlines' positions') (sym b)
+    (subst (λ (rs : List Register). IsIndexed blocks rs names deadlines' positions') (sym h)
     (record {
       sizes = length-set registers at r ∙ i.sizes;
       apart = i.apart;
       sorted = i.sorted;
       named = i.named;
       timed = subst (λ (hs : List (Option LiveState)). KeepsDeadlinesOf deadlines' hs) (sym (helds_set registers at r)) t;
+      flagged = f;
     }))
 
 pub due_within : (rs : List Register) (at now : ℕ) → is_dead (get_or (helds rs) at None) now ≡ true → at < length rs

@@ -1,5 +1,5 @@
 -- Blocks that are given twice, and a subscriber to which nothing has happened.
-use Rattle.std.proofs.Common.{◌≡◌, ℕ, zero, suc, ◌<◌, Option, None, List, length, get_or, replicate, sym, ap, ◌∙◌, refl, inl, inr}
+use Rattle.std.proofs.Common.{◌≡◌, ℕ, zero, suc, ◌<◌, Bool, false, if◌then◌else◌, Option, None, List, [], length, get_or, replicate, sym, ap, ◌∙◌, refl, inl, inr}
 use Rattle.std.proofs.lemmas.Bool.{cases_order}
 use Rattle.std.proofs.lemmas.Option.{slice_get_within}
 use Rattle.std.proofs.lemmas.List.{length-map, length-replicate}
@@ -9,6 +9,7 @@ use Rattle.subscribe_core.specs.declared.names.Name.{Name}
 use Rattle.subscribe_core.specs.declared.registers.LiveState.{LiveState}
 use Rattle.subscribe_core.specs.declared.registers.Register.{Register}
 use Rattle.subscribe_core.specs.computed.Deadlines.{KeepsDeadlinesOf, helds}
+use Rattle.subscribe_core.specs.computed.Flagged.{flag_at}
 use Rattle.subscribe_core.specs.computed.Indexed.{IsIndexed}
 use Rattle.subscribe_core.specs.computed.Names.{AreSorted, AreNamesOf}
 use Rattle.subscribe_core.specs.Apart.{AreApart, IsTwice}
@@ -27,13 +28,18 @@ idle_holds zero p = refl
 idle_holds (suc n) zero = refl
 idle_holds (suc n) (suc p) = idle_holds n p
 
--- nothing is held and no deadline is kept
-pub fresh_indexed : {A : Type 0} → (blocks : List (Block A)) (registers : List Register) (names : List (Name A)) (deadlines : Deadlines A)
+idle_takes : (n p : ℕ) → flag_at (replicate n idle) p ≡ false
+idle_takes zero p = refl
+idle_takes (suc n) zero = refl
+idle_takes (suc n) (suc p) = idle_takes n p
+
+-- nothing is held, no deadline is kept, and no block takes simulated frames
+pub fresh_indexed : {A : Type 0} → (blocks : List (Block A)) (registers : List Register) (names : List (Name A)) (deadlines : Deadlines A) (positions : List ℕ)
     → registers ≡ replicate (length blocks) idle
     → ((held : List (Option LiveState)) → length held ≡ length blocks → ((p : ℕ) → get_or held p None ≡ None) → KeepsDeadlinesOf deadlines held)
-    → AreApart blocks → AreSorted names → AreNamesOf names blocks
-    → IsIndexed blocks registers names deadlines
-fresh_indexed blocks registers names deadlines is kept apart sorted named =
+    → AreApart blocks → AreSorted names → AreNamesOf names blocks → positions ≡ []
+    → IsIndexed blocks registers names deadlines positions
+fresh_indexed blocks registers names deadlines positions is kept apart sorted named empty =
     let size : length registers ≡ length blocks = ap length is ∙ length-replicate (length blocks) idle in
     record {
       sizes = size;
@@ -41,4 +47,5 @@ fresh_indexed blocks registers names deadlines is kept apart sorted named =
       sorted = sorted;
       named = named;
       timed = kept (helds registers) (length-map registers (λ (r : Register). r.held) ∙ size) (λ p. rw is (idle_holds (length blocks) p));
+      flagged = rw (is, empty) (λ p. ap (λ (b : Bool). if b then 1 else 0) (sym (idle_takes (length blocks) p)));
     }

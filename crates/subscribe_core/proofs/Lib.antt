@@ -19,6 +19,7 @@ pub mod Clearing
 pub mod Fresh
 pub mod Again
 pub mod Frames
+pub mod Flagging
 pub mod Switching
 pub mod Quiet
 pub mod Counts

@@ -4,6 +4,7 @@ pub mod Steps
 pub mod Content
 pub mod Names
 pub mod Deadlines
+pub mod Flagged
 pub mod Indexed
 pub mod Received
 pub mod WatchAnswers

@@ -2,7 +2,7 @@
 
 ghost use Rattle.std.specs.Prelude.{◌≡◌, ◌++◌, Some, None, IfOk, OnOk};
 ghost use Rattle.subscribe_core.specs.FrameEntry.{entry_of};
-ghost use Rattle.subscribe_core.specs.computed.Indexed.{good_entries, good_renewal};
+ghost use Rattle.subscribe_core.specs.computed.Indexed.{good_entries, good_renewal, switches};
 ghost use Rattle.subscribe_core.specs.computed.Received.{received_frame};
 ghost use Rattle.subscribe_core.specs.computed.Steps.{held_after_frame};
 
@@ -62,6 +62,13 @@ fn renewal(verdict: Verdict, now: u64, facts: &Facts) -> Option<LiveState>
     }
 }
 
+// Whether a good frame of the block with this register has it go over to simulated frames.
+pub(crate) fn is_switching(old: &Register, frame: &Received<'_>) -> bool
+    ensures { result ≡ switches old.now (received_frame frame.now) }
+{
+    frame.goose.simulation && !old.takes_simulated
+}
+
 // Appends the entries of a good frame of the block at a position, whose register is given, and says what it gives the block
 // to hold.
 pub(crate) fn push_good<A: Allocator + Copy>(
@@ -76,7 +83,7 @@ pub(crate) fn push_good<A: Allocator + Copy>(
     ensures held { IfOk result (λ held. held ≡ good_renewal now old.now (received_frame frame.now)) }
 {
     let mut held = held_at(&old.held, now);
-    if frame.goose.simulation && !old.takes_simulated {
+    if is_switching(old, frame) {
         entries.push(Entry::Switched { block })?;
         held = None;
     }

@@ -1,13 +1,14 @@
 //! What a subscriber keeps, and one event at it: blocks are found by name and by deadline, and each reach is counted.
 
-ghost use Rattle.std.specs.Prelude.{◌≡◌, ◌<◌, ◌≤◌, ◌+◌, ◌-◌, ◌++◌, [], ℕ, false, ◌⊎◌, None, Some, IfOk, OnOk, OnErr, IfErr, IsOk, length, max, position, replicate, slice_get, slice_set};
+ghost use Rattle.std.specs.Prelude.{◌≡◌, ◌<◌, ◌≤◌, ◌+◌, ◌-◌, ◌++◌, [], ℕ, true, false, ◌⊎◌, None, Some, IfOk, OnOk, OnErr, IfErr, IsOk, length, max, position, replicate, slice_get, slice_set};
 ghost use Rattle.subscribe_core.specs.computed.Content.{content_by, content_of, reading_of};
 ghost use Rattle.subscribe_core.specs.computed.Deadlines.{due_count, helds};
-ghost use Rattle.subscribe_core.specs.Looks.{expired_count};
+ghost use Rattle.subscribe_core.specs.Looks.{expired_count, other_reaches, switched_count};
+ghost use Rattle.subscribe_core.specs.computed.Flagged.{flagged_count};
 ghost use Rattle.subscribe_core.specs.Faults.{IsFaultOf};
 ghost use Rattle.subscribe_core.specs.computed.Indexed.{registers_after_clock, flagged_entries, switched_off};
 ghost use Rattle.subscribe_core.specs.Matching.{is_of};
-ghost use Rattle.subscribe_core.specs.EventsRead.{IsMode, OfGoose, OfMode};
+ghost use Rattle.subscribe_core.specs.EventsRead.{OfGoose, OfMode};
 ghost use Rattle.subscribe_core.specs.computed.PrivateCalls.{IsFrame};
 ghost use Rattle.subscribe_core.specs.computed.Received.{received_frame};
 ghost use Rattle.subscribe_core.specs.Simulation.{mode_by};
@@ -17,10 +18,11 @@ ghost use Rattle.subscribe_core.specs.computed.Steps.{expired_entries, said_of, 
 ghost use Rattle.frame_core.specs.computed.FrameReading.{frame_at};
 ghost use Rattle.subscribe_core.specs.declared.registers.Register.{Register as SpecRegister};
 
-use crate::answering::push_good;
+use crate::answering::{is_switching, push_good};
 use crate::deadlines::Deadlines;
 use crate::entry::Entry;
 use crate::fault::SubscribeFault;
+use crate::flagged::Flagged;
 use crate::matching::{Received, first_reason, is_other_kind};
 use crate::names::{self, Name};
 use crate::registers::{LiveState, Register};
@@ -38,6 +40,7 @@ pub struct Keeper<A: Allocator> {
     rows: Rows<A>,
     names: Vec<Name<A>, A>,
     deadlines: Deadlines<A>,
+    flagged: Flagged<A>,
     mode: bool,
     moment: u64,
     looks: u64,
@@ -51,7 +54,7 @@ impl<A: Allocator> Model for Keeper<A> {
 
     ghost view = { λ s. record { state = record { blocks = s.rows.blocks.items; registers = s.rows.registers.items; mode = s.mode; moment = s.moment }; looks = s.looks; reaches = s.rows.reaches } };
 
-    ghost invariant = { λ s. IsIndexed s.rows.blocks.items s.rows.registers.items s.names.items s.deadlines };
+    ghost invariant = { λ s. IsIndexed s.rows.blocks.items s.rows.registers.items s.names.items s.deadlines s.flagged.positions.items };
 }
 
 // Registers that hold nothing.
@@ -68,27 +71,6 @@ fn idle_registers<A: Allocator>(alloc: A, count: usize) -> Result<Vec<Register, 
         },
     )?;
     Ok(registers)
-}
-
-// Appends an entry for each block that takes simulated frames.
-fn list_flagged<A: Allocator>(
-    rows: &mut Rows<A>,
-    entries: &mut Vec<Entry<A>, A>,
-) -> Result<(), AllocError>
-    requires { length rows.old.registers.items ≡ length rows.old.blocks.items }
-    ensures entries { OnOk result (entries.new.items ≡ entries.old.items ++ flagged_entries 0 rows.old.registers.items) }
-    ensures quiet { flagged_entries {A = A} 0 rows.old.registers.items ≡ [] → IsOk result }
-    ensures blocks { rows.new.blocks ≡ rows.old.blocks }
-    ensures registers { rows.new.registers ≡ rows.old.registers }
-{
-    for at in 0..rows.count() {
-        let reach = rows.reach(at);
-        let (_, register) = rows.look(reach);
-        if register.takes_simulated {
-            entries.push(Entry::Switched { block: at })?;
-        }
-    }
-    Ok(())
 }
 
 impl<A: Allocator + Copy> Keeper<A> {
@@ -126,6 +108,7 @@ impl<A: Allocator + Copy> Keeper<A> {
             rows: Rows::new(blocks, registers),
             names,
             deadlines,
+            flagged: Flagged::new(alloc),
             mode: false,
             moment: 0,
             looks: 0,
@@ -202,24 +185,41 @@ impl<A: Allocator + Copy> Keeper<A> {
         }
     }
 
-    // Has a block hold something in place of what it held, and take simulated frames or real ones.
-    fn hold(&mut self, at: usize, held: LiveState, takes_simulated: bool)
+    // Has a block hold something in place of what it held.
+    fn hold(&mut self, at: usize, held: LiveState)
         requires within { at < length self.old.state.registers }
         requires live { 0 < held.deadline }
-        ensures registers { self.new.state.registers ≡ slice_set self.old.state.registers at (record { held = Some held; takes_simulated = takes_simulated }) }
+        ensures registers { (r : SpecRegister) → slice_get self.old.state.registers at ≡ Some r → self.new.state.registers ≡ slice_set self.old.state.registers at (record { held = Some held; takes_simulated = r.takes_simulated }) }
         ensures blocks { self.new.state.blocks ≡ self.old.state.blocks }
         ensures mode { self.new.state.mode ≡ self.old.state.mode }
         ensures moment { self.new.state.moment ≡ self.old.state.moment }
         ensures count { self.new.reaches ≤ self.old.reaches + 1 }
     {
         self.deadlines.renew(at, held.deadline);
+        self.rows.hold(at, held);
+    }
+
+    // Has a block that takes real frames take simulated ones, and hold something in place of what it held.
+    fn switch_on(&mut self, at: usize, held: LiveState) -> Result<(), AllocError>
+        requires real { (r : SpecRegister) × (slice_get self.old.state.registers at ≡ Some r) × (r.takes_simulated ≡ false) }
+        requires live { 0 < held.deadline }
+        ensures registers { OnOk result (self.new.state.registers ≡ slice_set self.old.state.registers at (record { held = Some held; takes_simulated = true })) }
+        ensures blocks { self.new.state.blocks ≡ self.old.state.blocks }
+        ensures mode { self.new.state.mode ≡ self.old.state.mode }
+        ensures moment { self.new.state.moment ≡ self.old.state.moment }
+        ensures count { OnOk result (self.new.reaches ≤ self.old.reaches + 1) }
+        ensures err { OnErr result (self.new ≡ self.old) }
+    {
+        self.flagged.add(at)?;
+        self.deadlines.renew(at, held.deadline);
         self.rows.write(
             at,
             Register {
                 held: Some(held),
-                takes_simulated,
+                takes_simulated: true,
             },
         );
+        Ok(())
     }
 
     // The allocator of the subscriber.
@@ -268,8 +268,11 @@ impl<A: Allocator + Copy> Keeper<A> {
         match push_good(alloc, at, now, &old, frame, entries)? {
             None => Ok(()),
             Some(held) => {
-                let takes_simulated = old.takes_simulated || frame.goose.simulation;
-                self.hold(at, held, takes_simulated);
+                if is_switching(&old, frame) {
+                    self.switch_on(at, held)?;
+                    return Ok(());
+                }
+                self.hold(at, held);
                 Ok(())
             }
         }
@@ -318,30 +321,26 @@ impl<A: Allocator + Copy> Keeper<A> {
         ensures entries { OnOk result (entries.new.items ≡ entries.old.items ++ flagged_entries 0 self.old.state.registers) }
         ensures quiet { flagged_entries {A = A} 0 self.old.state.registers ≡ [] → IsOk result }
         ensures sizes { length self.old.state.registers ≡ length self.old.state.blocks }
-        ensures state { self.new.state ≡ self.old.state }
-        ensures looks { self.new.looks ≡ self.old.looks }
+        ensures unchanged { self.new ≡ self.old }
     {
-        list_flagged(&mut self.rows, entries)
+        self.flagged.list(entries)
     }
 
-    // Has no block take simulated frames. Those that did let go of what they hold.
+    // Has no block take simulated frames. Those that did let go of what they hold; no other is reached.
     fn switch_off(&mut self)
         ensures registers { self.new.state.registers ≡ switched_off self.old.state.registers }
         ensures blocks { self.new.state.blocks ≡ self.old.state.blocks }
         ensures mode { self.new.state.mode ≡ self.old.state.mode }
         ensures moment { self.new.state.moment ≡ self.old.state.moment }
+        ensures count { self.new.reaches ≤ self.old.reaches + flagged_count self.old.state.registers }
     {
-        for at in 0..self.rows.count() {
-            let reach = self.rows.reach(at);
-            let (_, old) = self.rows.look(reach);
-            if old.takes_simulated {
-                self.deadlines.let_go(at);
-                let idle = Register {
-                    held: None,
-                    takes_simulated: false,
-                };
-                self.rows.write(at, idle);
-            }
+        while let Some(at) = self.flagged.take_one() {
+            self.deadlines.let_go(at);
+            let idle = Register {
+                held: None,
+                takes_simulated: false,
+            };
+            self.rows.write(at, idle);
         }
     }
 
@@ -352,6 +351,7 @@ impl<A: Allocator + Copy> Keeper<A> {
         ensures mode { self.new.state.mode ≡ on }
         ensures moment { self.new.state.moment ≡ self.old.state.moment }
         ensures sizes { length self.new.state.registers ≡ length self.new.state.blocks }
+        ensures reaches { self.new.reaches ≡ self.old.reaches }
     {
         self.mode = on;
     }
@@ -363,6 +363,7 @@ impl<A: Allocator + Copy> Keeper<A> {
         ensures blocks { OnOk result (self.new.state.blocks ≡ self.old.state.blocks) }
         ensures mode { OnOk result (self.new.state.mode ≡ on) }
         ensures moment { OnOk result (self.new.state.moment ≡ self.old.state.moment) }
+        ensures count { OnOk result ((now : ℕ) → self.new.reaches + due_count now (helds self.new.state.registers) ≤ self.old.reaches + due_count now (helds self.old.state.registers) + switched_count (switched_entries {A = A} self.old.state.mode (OfMode on) 0 self.old.state.blocks self.old.state.registers)) }
         ensures quiet { switched_entries self.old.state.mode (OfMode on) 0 self.old.state.blocks self.old.state.registers ≡ [] → IsOk result }
         ensures err { OnErr result (self.new.state ≡ self.old.state) }
         ensures err_looks { OnErr result (self.new.looks ≡ self.old.looks) }
@@ -389,7 +390,7 @@ impl<A: Allocator + Copy> Keeper<A> {
         ensures blocks { OnOk result (self.new.state.blocks ≡ self.old.state.blocks) }
         ensures mode { OnOk result (self.new.state.mode ≡ mode_by (content_of kind.now) self.old.state.mode) }
         ensures moment { OnOk result (self.new.state.moment ≡ self.old.state.moment) }
-        ensures count { IsMode kind.now ⊎ OnOk result (self.new.reaches + due_count now (helds self.new.state.registers) ≤ self.old.reaches + due_count now (helds self.old.state.registers) + 2) }
+        ensures count { OnOk result (self.new.reaches + due_count now (helds self.new.state.registers) ≤ self.old.reaches + due_count now (helds self.old.state.registers) + other_reaches kind.now (switched_entries self.old.state.mode (content_of kind.now) 0 self.old.state.blocks self.old.state.registers)) }
         ensures quiet { IsFrame kind.now ⊎ (switched_entries self.old.state.mode (content_of kind.now) 0 self.old.state.blocks self.old.state.registers ≡ [] → IsOk result) }
         ensures err { OnErr result (self.new.state ≡ self.old.state) }
         ensures err_looks { OnErr result (self.new.looks ≡ self.old.looks) }
@@ -413,7 +414,7 @@ impl<A: Allocator + Copy> Keeper<A> {
         ensures err { OnErr result (self.new.state ≡ self.old.state) }
         ensures err_looks { OnErr result (self.new.looks ≡ self.old.looks) }
         ensures quiet { IsFrame event.now.kind ⊎ (step_entries self.old.state (reading_of event.now) ≡ [] → IsOk result) }
-        ensures count { IsMode event.now.kind ⊎ OnOk result (self.new.reaches ≤ self.old.reaches + (expired_count (step_entries self.old.state (reading_of event.now)) + 2)) }
+        ensures count { OnOk result (self.new.reaches ≤ self.old.reaches + (expired_count (step_entries self.old.state (reading_of event.now)) + other_reaches event.now.kind (step_entries self.old.state (reading_of event.now)))) }
         ensures apart { AreApart self.old.state.blocks }
     {
         let now = self.moment.max(event.moment);
@@ -438,7 +439,7 @@ impl<A: Allocator + Copy> Keeper<A> {
         ensures err_looks { OnErr result (self.new.looks ≡ self.old.looks) }
         ensures quiet { IsFrame event.now.kind ⊎ (step_entries self.old.state (reading_of event.now) ≡ [] → IsOk result) }
         ensures counted { OnOk result (self.new.looks ≡ self.new.reaches - self.old.reaches) }
-        ensures looks { IsMode event.now.kind ⊎ OnOk result (self.new.looks ≤ expired_count entries.new.items + 2) }
+        ensures looks { OnOk result (self.new.looks ≤ expired_count entries.new.items + other_reaches event.now.kind entries.new.items) }
         ensures apart { AreApart self.old.state.blocks }
     {
         let before = self.rows.reaches();

@@ -5,6 +5,7 @@ mod answering;
 mod deadlines;
 mod entry;
 mod fault;
+mod flagged;
 mod keeping;
 pub mod laws;
 mod matching;

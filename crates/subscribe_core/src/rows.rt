@@ -3,7 +3,7 @@
 ghost use Rattle.std.specs.Prelude.{◌≡◌, ◌<◌, ◌+◌, ◌-◌, ◌^◌, length, min, None, Some, slice_get, slice_set};
 ghost use Rattle.subscribe_core.specs.declared.registers.Register.{Register as SpecRegister};
 
-use crate::registers::Register;
+use crate::registers::{LiveState, Register};
 use block_core::Block;
 use std::alloc::Allocator;
 
@@ -13,7 +13,7 @@ pub struct Reach {
 }
 
 /// The blocks and what is kept of each. The only ways to a block or to a register for an event are a look, which takes a reach
-/// that was counted, and the two writes, which count one each; all the blocks are for whoever gave them. Nothing lowers the
+/// that was counted, and the three writes, which count one each; all the blocks are for whoever gave them. Nothing lowers the
 /// count: it is of all reaches ever, and stays at its greatest number.
 #[derive(Drop)]
 pub struct Rows<A: Allocator> {
@@ -86,6 +86,17 @@ impl<A: Allocator> Rows<A> {
     {
         self.reaches = self.reaches.saturating_add(1);
         self.registers[at] = register;
+    }
+
+    // Has the block at a position hold something in place of what it held.
+    pub(crate) fn hold(&mut self, at: usize, held: LiveState)
+        requires within { at < length self.old.registers.items }
+        ensures registers { (r : SpecRegister) → slice_get self.old.registers.items at ≡ Some r → self.new.registers.items ≡ slice_set self.old.registers.items at (record { held = Some held; takes_simulated = r.takes_simulated }) }
+        ensures blocks { self.new.blocks ≡ self.old.blocks }
+        ensures count { self.new.reaches ≡ min (self.old.reaches + 1) (2 ^ 64 - 1) }
+    {
+        self.reaches = self.reaches.saturating_add(1);
+        self.registers[at].held = Some(held);
     }
 
     // Has the block at a position hold nothing.

@@ -1,11 +1,10 @@
 //! The subscriber: one event at a time.
 
-ghost use Rattle.std.specs.Prelude.{◌≡◌, ◌≤◌, ◌+◌, ◌∷◌, ◌++◌, [], List, ◌⊎◌, IfOk, OnOk, OnErr, IfErr, IsOk, length};
+ghost use Rattle.std.specs.Prelude.{◌≡◌, ◌≤◌, ◌+◌, ◌∷◌, ◌++◌, [], List, IfOk, OnOk, OnErr, IfErr, IsOk, length};
 ghost use Rattle.subscribe_core.specs.computed.Content.{reading_of};
 ghost use Rattle.subscribe_core.specs.Entries.{AreEntriesAt};
-ghost use Rattle.subscribe_core.specs.Looks.{expired_count};
+ghost use Rattle.subscribe_core.specs.Looks.{expired_count, other_reaches};
 ghost use Rattle.subscribe_core.specs.Faults.{IsFaultOf};
-ghost use Rattle.subscribe_core.specs.EventsRead.{IsMode};
 ghost use Rattle.subscribe_core.specs.Apart.{AreApart};
 ghost use Rattle.subscribe_core.specs.State.{StandsAfter, fresh_state};
 ghost use Rattle.subscribe_core.specs.computed.Steps.{step_entries, step_state};
@@ -116,8 +115,9 @@ impl<A: Allocator + Copy> Subscriber<A> {
         ensures quiet { (events : List (SpecEvent A)) → StandsAfter events self.old.state →
             AreEntriesAt self.old.state.blocks (events ++ event.now ∷ []) (length events) [] → IsOk result }
 
-        // How often a block or its register was reached.
-        ensures looks { IsMode event.now.kind ⊎ IfOk result (λ entries. self.new.looks ≤ expired_count entries.items + 2) }
+        // How often a block or its register was reached: once for each that expires, twice for that of a frame, and once for each
+        // that is switched where the mode is set off.
+        ensures looks { IfOk result (λ entries. self.new.looks ≤ expired_count entries.items + other_reaches event.now.kind entries.items) }
 
         // The blocks stay, and no two have one name.
         ensures blocks { self.new.state.blocks ≡ self.old.state.blocks }
@@ -156,8 +156,9 @@ impl<A: Allocator + Copy> Subscriber<A> {
         ensures quiet { (events : List (SpecEvent A)) → StandsAfter events self.old.state →
             AreEntriesAt self.old.state.blocks (events ++ event.now ∷ []) (length events) [] → IsOk result }
 
-        // How often a block or its register was reached.
-        ensures looks { IsMode event.now.kind ⊎ OnOk result (self.new.looks ≤ expired_count entries.new.items + 2) }
+        // How often a block or its register was reached: once for each that expires, twice for that of a frame, and once for each
+        // that is switched where the mode is set off.
+        ensures looks { OnOk result (self.new.looks ≤ expired_count entries.new.items + other_reaches event.now.kind entries.new.items) }
 
         // The blocks stay, and no two have one name.
         ensures blocks { self.new.state.blocks ≡ self.old.state.blocks }

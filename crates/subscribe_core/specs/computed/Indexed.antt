@@ -1,4 +1,4 @@
--- What a subscriber's fields keep to: the two indexes agree with the blocks and with what they hold.
+-- What a subscriber's fields keep to: the three indexes agree with the blocks and with what they hold.
 use Rattle.std.specs.Prelude.{◌≡◌, ℕ, ◌+◌, Bool, not, ◌&&◌, ◌||◌, List, [], ◌∷◌, ◌++◌, Option, None, length, map, if◌then◌else◌}
 use Rattle.block_core.specs.declared.block.Block.{Block}
 use Rattle.subscribe_core.specs.declared.deadlines.Deadlines.{Deadlines}
@@ -8,6 +8,7 @@ use Rattle.subscribe_core.specs.declared.names.Name.{Name}
 use Rattle.subscribe_core.specs.declared.registers.LiveState.{LiveState}
 use Rattle.subscribe_core.specs.declared.registers.Register.{Register}
 use Rattle.subscribe_core.specs.computed.Deadlines.{KeepsDeadlinesOf, helds}
+use Rattle.subscribe_core.specs.computed.Flagged.{AreFlagged}
 use Rattle.subscribe_core.specs.FrameEntry.{entry_of}
 use Rattle.subscribe_core.specs.Matching.{facts_of_frame}
 use Rattle.subscribe_core.specs.computed.Names.{AreSorted, AreNamesOf}
@@ -17,13 +18,15 @@ use Rattle.subscribe_core.specs.State.{idle}
 use Rattle.subscribe_core.specs.computed.Steps.{after_clock, after_switch, verdict_on, held_after_frame}
 
 -- What the private fields of a subscriber keep to: a register for each block, no two blocks of one name, the names of
--- all blocks in order, and the deadlines of exactly those blocks that hold something
-pub record IsIndexed {A : Type 0} (blocks : List (Block A)) (registers : List Register) (names : List (Name A)) (deadlines : Deadlines A) : Type 0 where
+-- all blocks in order, the deadlines of exactly those blocks that hold something, and the positions of exactly those that
+-- take simulated frames
+pub record IsIndexed {A : Type 0} (blocks : List (Block A)) (registers : List Register) (names : List (Name A)) (deadlines : Deadlines A) (positions : List ℕ) : Type 0 where
   pub sizes : length registers ≡ length blocks
   pub apart : AreApart blocks
   pub sorted : AreSorted names
   pub named : AreNamesOf names blocks
   pub timed : KeepsDeadlinesOf deadlines (helds registers)
+  pub flagged : AreFlagged positions registers
 
 -- a register once what is over at the moment is let go
 abbrev pub register_after_clock : ℕ → Register → Register

@@ -1,9 +1,10 @@
-use Rattle.std.proofs.Common.{List, ap, sym, ◌∙◌, arith}
+use Rattle.std.proofs.Common.{List, ap, sym, ◌∙◌, arith, refl}
 use Rattle.subscribe_core.specs.declared.registers.Register.{Register}
 use Rattle.subscribe_core.specs.computed.Deadlines.{due_count, helds}
 use Rattle.subscribe_core.specs.computed.Indexed.{registers_after_clock}
 use Rattle.subscribe_core.specs.computed.PrivateCalls.{StateAndReaches}
 use Rattle.subscribe_core.proofs.Clearing.{cleared_set, count_set, cleared_none, due_within, helds_set, held_of, indexed_write, let_go, register_of}
+use Rattle.subscribe_core.proofs.Flagging.{flagged_kept}
 use Rattle.subscribe_core.proofs.keeping.Keeper.expire.Goals as goal
 
 pub take_due-requires : goal.take_due-requires
@@ -25,8 +26,8 @@ loop-at-preserved g c =
     let counted = count_set (helds registers) at c.args.now due in
     let after = ap (λ (rs : List Register). due_count c.args.now (helds rs)) is ∙ ap (due_count c.args.now) (helds_set registers at (let_go here.0)) in
     record {
-      indexed = indexed_write _ _ registers _ _ at (let_go here.0) _ _ (ap (λ b. b.items) c.let_go.ensures.blocks) is c.loop-at.invariant.indexed
-          (c.in-Some.ensures.taken (helds registers) c.loop-at.invariant.indexed.timed);
+      indexed = indexed_write _ _ registers _ _ at (let_go here.0) _ _ _ _ (ap (λ b. b.items) c.let_go.ensures.blocks) is c.loop-at.invariant.indexed
+          (c.in-Some.ensures.taken (helds registers) c.loop-at.invariant.indexed.timed) (flagged_kept _ registers at here.0 (let_go here.0) here.1 refl c.loop-at.invariant.indexed.flagged);
       same = ap (registers_after_clock c.args.now) is ∙ (cleared_set registers at c.args.now here.0 here.1 over ∙ c.loop-at.invariant.same);
       counted = omega (arith, c.loop-at.invariant.counted);
       blocks_stay = ap (λ b. b.items) c.let_go.ensures.blocks ∙ c.loop-at.invariant.blocks_stay;

@@ -26,9 +26,9 @@ pub invariant_of-result : goal.invariant_of-result
 invariant_of-result g c =
     let size = c.len.ensures ∙ c.args.blocks.ok.0 in
     rw c.new-2.ensures
-    (fresh_indexed c.args.blocks.items c.in-Ok.registers.items c.in-Ok-sorted.names.items c.in-Ok-new.deadlines
+    (fresh_indexed c.args.blocks.items c.in-Ok.registers.items c.in-Ok-sorted.names.items c.in-Ok-new.deadlines _
     (c.in-Ok.ensures.registers ∙ ap (λ n. replicate n idle) size) (λ held long. c.in-Ok-new.ensures.kept held (long ∙ sym (c.len-2.ensures ∙ c.args.blocks.ok.0)))
-    (c.in_default-first_twice.ensures c.args.blocks.items (rw (c.deref-3.ensures.value, ← c.deref-2.ensures.value) c.in-Ok-sorted.ensures.named)) c.in-Ok-sorted.ensures.order (rw c.deref-2.ensures.value at c.in-Ok-sorted.ensures.named))
+    (c.in_default-first_twice.ensures c.args.blocks.items (rw (c.deref-3.ensures.value, ← c.deref-2.ensures.value) c.in-Ok-sorted.ensures.named)) c.in-Ok-sorted.ensures.order (rw c.deref-2.ensures.value at c.in-Ok-sorted.ensures.named) c.new-3.ensures)
 
 pub returns-clause-apart : goal.returns-clause-apart
 returns-clause-apart g c = c.in_default-first_twice.ensures c.args.blocks.items (rw (c.deref-3.ensures.value, ← c.deref-2.ensures.value) c.in-Ok-sorted.ensures.named)

@@ -2,12 +2,13 @@ use Rattle.std.proofs.Common.{◌≤◌, ◌++◌, ℕ, List, max, inl, inr, ap,
 use Rattle.std.proofs.lemmas.Bool.{false≢true}
 use Rattle.subscribe_core.specs.declared.entry.Entry.{Entry}
 use Rattle.subscribe_core.specs.computed.Deadlines.{due_count, helds}
-use Rattle.subscribe_core.specs.Looks.{expired_count}
+use Rattle.subscribe_core.specs.Looks.{expired_count, other_reaches}
 use Rattle.subscribe_core.specs.Apart.{AreApart}
 use Rattle.subscribe_core.specs.computed.PrivateCalls.{StateAndReaches}
 use Rattle.subscribe_core.specs.computed.Steps.{expired_entries, said_of, switched_entries}
 use Rattle.subscribe_core.specs.computed.Content.{content_of}
 use Rattle.subscribe_core.proofs.Due.{expired_counted}
+use Rattle.subscribe_core.proofs.Flagging.{other_more}
 use Rattle.list_core.proofs.Emptiness.{back_nil, front_nil}
 use Rattle.subscribe_core.proofs.keeping.Keeper.take_counted.Goals as goal
 
@@ -40,12 +41,12 @@ returns-clause-count g c =
     let last = ap (λ (t : StateAndReaches _). t.reaches) c.self-2.view_is in
     let rest : List (Entry g.row.A.Denot) = switched_entries s.mode kind 0 s.blocks s.registers ++ said_of now s.mode s.blocks s.registers kind in
     let said : due_count now (helds s.registers) ≤ expired_count (expired_entries now 0 s.registers ++ rest) = expired_counted now 0 s.registers rest in
+    let others = other_more c.args.event.now.kind (expired_entries now 0 s.registers) (switched_entries s.mode kind 0 s.blocks s.registers) (said_of now s.mode s.blocks s.registers kind) in
     let now_is = c.max-now.ensures ∙ ap (λ (t : StateAndReaches _). max t.state.moment c.args.event.now.moment) c.self.view_is in
-    let told = ap (λ (n : ℕ). expired_count (expired_entries n 0 s.registers ++ (switched_entries s.mode kind 0 s.blocks s.registers ++ said_of n s.mode s.blocks s.registers kind))) now_is in
-    elim c.in_ok-take_kind.ensures.count [
-      | inl m ↦ inl m
-      | inr count ↦ inr (omega (arith, count, spent, said, told, first, last))
-    ]
+    let entries : ℕ → List (Entry g.row.A.Denot) = λ n. expired_entries n 0 s.registers ++ (switched_entries s.mode kind 0 s.blocks s.registers ++ said_of n s.mode s.blocks s.registers kind) in
+    let told = ap (λ (n : ℕ). expired_count (entries n)) now_is in
+    let moved = ap (λ (n : ℕ). other_reaches c.args.event.now.kind (entries n)) now_is in
+    omega (arith, c.in_ok-take_kind.ensures.count, spent, said, others, told, moved, first, last)
 
 pub returns-clause-apart : goal.returns-clause-apart
 returns-clause-apart g c = subst (λ (s : StateAndReaches _). AreApart s.state.blocks) c.self.view_is c.self.invariant.apart

@@ -1,4 +1,4 @@
-use Rattle.std.proofs.Common.{◌≡◌, ℕ, ◌≤◌, ◌||◌, ◌++◌, Bool, Some, None, List, ap, ap₂, sym, ◌∙◌, arith, subst, set, slice_get}
+use Rattle.std.proofs.Common.{◌≡◌, ℕ, ◌≤◌, ◌||◌, ◌++◌, Bool, true, Some, None, List, ap, ap₂, sym, ◌∙◌, arith, subst, set, slice_get}
 use Rattle.subscribe_core.specs.declared.entry.Entry.{Entry}
 use Rattle.subscribe_core.specs.declared.registers.Register.{Register}
 use Rattle.subscribe_core.specs.computed.Deadlines.{due_count, helds}
@@ -6,7 +6,7 @@ use Rattle.subscribe_core.specs.computed.Indexed.{registers_after_clock}
 use Rattle.subscribe_core.specs.computed.Received.{received_frame}
 use Rattle.subscribe_core.specs.State.{State}
 use Rattle.subscribe_core.proofs.Frames.{answer_good, answer_none, answer_refused, new_ahead, new_lives, reason_told, registers_good, registers_kept, registers_refused, written_fewer, written_new, written_none}
-use Rattle.subscribe_core.proofs.keeping.Keeper.take_goose.Goals.{then-old, else-old}
+use Rattle.subscribe_core.proofs.Flagging.{flag_left, flag_set}
 use Rattle.subscribe_core.proofs.keeping.Keeper.take_goose.Goals as goal
 
 pub returns-in_default-clause-entries : goal.returns-in_default-clause-entries
@@ -72,6 +72,77 @@ returns-in-None-clause-registers g c =
     ∙ (written_none c.args.now s.registers c.in-Some.at r f register_is renewal
     ∙ registers_good c.args.now s.mode s.blocks s.registers f c.in-Some.at x r c.position_of.ensures.sizes c.position_of.ensures.apart (sym c.in-Some.ensures.found) block register_is told)
 
+pub switch_on-requires-clause-real : goal.switch_on-requires-clause-real
+switch_on-requires-clause-real g c =
+    let s = c.args.self.now.state in
+    let f = received_frame c.args.frame.now in
+    let x = c.look.result.0.now in
+    let r = c.look.result.1 in
+    let register_is = sym (ap₂ (λ (t : State _) (n : ℕ). slice_get t.registers n) c.reach-reach.ensures.state c.reach-reach.ensures.at) ∙ c.look.ensures.register in
+    let here = ap (λ (t : State _). slice_get t.registers c.in-Some.at) c.reach-reach.ensures.state ∙ register_is in
+    (r, here, (flag_set r f (sym c.is_switching.ensures ∙ c.if-is_switching.true)).0)
+
+pub switch_on-requires-clause-live : goal.switch_on-requires-clause-live
+switch_on-requires-clause-live g c =
+    let s = c.args.self.now.state in
+    let f = received_frame c.args.frame.now in
+    let x = c.look.result.0.now in
+    let r = c.look.result.1 in
+    let told = reason_told x f c.is_other_kind-is_other_kind.result s.mode c.is_simulating-mode.result r.takes_simulated None c.is_other_kind-is_other_kind.ensures c.is_simulating-mode.ensures c.in_default-first_reason.ensures in
+    let renewal = sym c.in_ok-push_good.ensures.held ∙ c.in-Some-2.is in
+    new_ahead c.args.now x r f _ c.in-Some-2.held told renewal
+
+pub returns-then-is_switching-clause-entries : goal.returns-then-is_switching-clause-entries
+returns-then-is_switching-clause-entries g c =
+    let s = c.args.self.now.state in
+    let f = received_frame c.args.frame.now in
+    let x = c.look.result.0.now in
+    let r = c.look.result.1 in
+    let block = sym (ap₂ (λ (t : State _) (n : ℕ). slice_get t.blocks n) c.reach-reach.ensures.state c.reach-reach.ensures.at) ∙ c.look.ensures.block in
+    let register_is = sym (ap₂ (λ (t : State _) (n : ℕ). slice_get t.registers n) c.reach-reach.ensures.state c.reach-reach.ensures.at) ∙ c.look.ensures.register in
+    let told = reason_told x f c.is_other_kind-is_other_kind.result s.mode c.is_simulating-mode.result r.takes_simulated None c.is_other_kind-is_other_kind.ensures c.is_simulating-mode.ensures c.in_default-first_reason.ensures in
+    c.in_ok-push_good.ensures.entries
+    ∙ ap (λ (es : List (Entry _)). c.args.entries.now.items ++ es)
+    (answer_good c.args.now s.mode s.blocks s.registers f c.in-Some.at x r c.position_of.ensures.apart (sym c.in-Some.ensures.found) block register_is told)
+
+pub returns-then-is_switching-clause-registers : goal.returns-then-is_switching-clause-registers
+returns-then-is_switching-clause-registers g c =
+    let s = c.args.self.now.state in
+    let f = received_frame c.args.frame.now in
+    let x = c.look.result.0.now in
+    let r = c.look.result.1 in
+    let block = sym (ap₂ (λ (t : State _) (n : ℕ). slice_get t.blocks n) c.reach-reach.ensures.state c.reach-reach.ensures.at) ∙ c.look.ensures.block in
+    let register_is = sym (ap₂ (λ (t : State _) (n : ℕ). slice_get t.registers n) c.reach-reach.ensures.state c.reach-reach.ensures.at) ∙ c.look.ensures.register in
+    let told = reason_told x f c.is_other_kind-is_other_kind.result s.mode c.is_simulating-mode.result r.takes_simulated None c.is_other_kind-is_other_kind.ensures c.is_simulating-mode.ensures c.in_default-first_reason.ensures in
+    let renewal = sym c.in_ok-push_good.ensures.held ∙ c.in-Some-2.is in
+    let new = c.in-Some-2.held in
+    let flag : true ≡ (r.takes_simulated || f.pdu.simulation) = (flag_set r f (sym c.is_switching.ensures ∙ c.if-is_switching.true)).1 in
+    let fresh = new_lives c.args.now x r f _ new told renewal in
+    let after =
+    ap (λ (b : Bool). registers_after_clock c.args.now (set s.registers c.in-Some.at (record { held = Some new; takes_simulated = b }))) flag
+    ∙ (written_new c.args.now s.registers c.in-Some.at r f new fresh renewal
+    ∙ registers_good c.args.now s.mode s.blocks s.registers f c.in-Some.at x r c.position_of.ensures.sizes c.position_of.ensures.apart (sym c.in-Some.ensures.found) block register_is told) in
+    let moved = ap (λ (t : State _). set t.registers c.in-Some.at (record { held = Some new; takes_simulated = true })) c.reach-reach.ensures.state in
+    ap (registers_after_clock c.args.now) (c.in_ok-switch_on-in-Some-2.ensures.registers ∙ moved) ∙ after
+
+pub returns-then-is_switching-clause-count : goal.returns-then-is_switching-clause-count
+returns-then-is_switching-clause-count g c =
+    let s = c.args.self.now.state in
+    let f = received_frame c.args.frame.now in
+    let x = c.look.result.0.now in
+    let r = c.look.result.1 in
+    let block = sym (ap₂ (λ (t : State _) (n : ℕ). slice_get t.blocks n) c.reach-reach.ensures.state c.reach-reach.ensures.at) ∙ c.look.ensures.block in
+    let register_is = sym (ap₂ (λ (t : State _) (n : ℕ). slice_get t.registers n) c.reach-reach.ensures.state c.reach-reach.ensures.at) ∙ c.look.ensures.register in
+    let told = reason_told x f c.is_other_kind-is_other_kind.result s.mode c.is_simulating-mode.result r.takes_simulated None c.is_other_kind-is_other_kind.ensures c.is_simulating-mode.ensures c.in_default-first_reason.ensures in
+    let renewal = sym c.in_ok-push_good.ensures.held ∙ c.in-Some-2.is in
+    let new = c.in-Some-2.held in
+    let register : Register = record { held = Some new; takes_simulated = true } in
+    let fewer = written_fewer c.args.now s.registers c.in-Some.at register (new_lives c.args.now x r f _ new told renewal) in
+    let moved = ap (λ (t : State _). set t.registers c.in-Some.at register) c.reach-reach.ensures.state in
+    let first = c.reach-reach.ensures.count in
+    let less = subst (λ (rs : List Register). due_count c.args.now (helds rs) ≤ due_count c.args.now (helds s.registers)) (sym (c.in_ok-switch_on-in-Some-2.ensures.registers ∙ moved)) fewer in
+    omega (arith, less, c.in_ok-switch_on-in-Some-2.ensures.count, first)
+
 pub hold-requires-clause-live : goal.hold-requires-clause-live
 hold-requires-clause-live g c =
     let s = c.args.self.now.state in
@@ -82,8 +153,8 @@ hold-requires-clause-live g c =
     let renewal = sym c.in_ok-push_good.ensures.held ∙ c.in-Some-2.is in
     new_ahead c.args.now x r f _ c.in-Some-2.held told renewal
 
-pub returns-after-old-clause-entries : goal.returns-after-old-clause-entries
-returns-after-old-clause-entries g c =
+pub returns-else-is_switching-clause-entries : goal.returns-else-is_switching-clause-entries
+returns-else-is_switching-clause-entries g c =
     let s = c.args.self.now.state in
     let f = received_frame c.args.frame.now in
     let x = c.look.result.0.now in
@@ -91,50 +162,46 @@ returns-after-old-clause-entries g c =
     let block = sym (ap₂ (λ (t : State _) (n : ℕ). slice_get t.blocks n) c.reach-reach.ensures.state c.reach-reach.ensures.at) ∙ c.look.ensures.block in
     let register_is = sym (ap₂ (λ (t : State _) (n : ℕ). slice_get t.registers n) c.reach-reach.ensures.state c.reach-reach.ensures.at) ∙ c.look.ensures.register in
     let told = reason_told x f c.is_other_kind-is_other_kind.result s.mode c.is_simulating-mode.result r.takes_simulated None c.is_other_kind-is_other_kind.ensures c.is_simulating-mode.ensures c.in_default-first_reason.ensures in
-    let entries =
     c.in_ok-push_good.ensures.entries
     ∙ ap (λ (es : List (Entry _)). c.args.entries.now.items ++ es)
-    (answer_good c.args.now s.mode s.blocks s.registers f c.in-Some.at x r c.position_of.ensures.apart (sym c.in-Some.ensures.found) block register_is told) in
-    entries
+    (answer_good c.args.now s.mode s.blocks s.registers f c.in-Some.at x r c.position_of.ensures.apart (sym c.in-Some.ensures.found) block register_is told)
 
-pub returns-after-old-clause-registers : goal.returns-after-old-clause-registers
-returns-after-old-clause-registers g c =
+pub returns-else-is_switching-clause-registers : goal.returns-else-is_switching-clause-registers
+returns-else-is_switching-clause-registers g c =
     let s = c.args.self.now.state in
     let f = received_frame c.args.frame.now in
     let x = c.look.result.0.now in
     let r = c.look.result.1 in
     let block = sym (ap₂ (λ (t : State _) (n : ℕ). slice_get t.blocks n) c.reach-reach.ensures.state c.reach-reach.ensures.at) ∙ c.look.ensures.block in
     let register_is = sym (ap₂ (λ (t : State _) (n : ℕ). slice_get t.registers n) c.reach-reach.ensures.state c.reach-reach.ensures.at) ∙ c.look.ensures.register in
-    let new = c.in-Some-2.held in
     let told = reason_told x f c.is_other_kind-is_other_kind.result s.mode c.is_simulating-mode.result r.takes_simulated None c.is_other_kind-is_other_kind.ensures c.is_simulating-mode.ensures c.in_default-first_reason.ensures in
     let renewal = sym c.in_ok-push_good.ensures.held ∙ c.in-Some-2.is in
-    let flag : c.if-old.takes_simulated ≡ (r.takes_simulated || f.pdu.simulation) =
-    elim c.if-old.branch [
-      | then-old w ↦ w.takes_simulated-is ∙ (w.if-old.true ∙ sym (ap (λ (b : Bool). b || f.pdu.simulation) w.if-old.true))
-      | else-old w ↦ w.takes_simulated-is ∙ sym (ap (λ (b : Bool). b || f.pdu.simulation) w.if-old.false)
-    ] in
+    let here = ap (λ (t : State _). slice_get t.registers c.in-Some.at) c.reach-reach.ensures.state ∙ register_is in
+    let new = c.in-Some-2.held in
+    let flag : r.takes_simulated ≡ (r.takes_simulated || f.pdu.simulation) = flag_left r f (sym c.is_switching.ensures ∙ c.if-is_switching.false) in
     let fresh = new_lives c.args.now x r f _ new told renewal in
     let after =
     ap (λ (b : Bool). registers_after_clock c.args.now (set s.registers c.in-Some.at (record { held = Some new; takes_simulated = b }))) flag
     ∙ (written_new c.args.now s.registers c.in-Some.at r f new fresh renewal
     ∙ registers_good c.args.now s.mode s.blocks s.registers f c.in-Some.at x r c.position_of.ensures.sizes c.position_of.ensures.apart (sym c.in-Some.ensures.found) block register_is told) in
-    let moved = ap (λ (t : State _). set t.registers c.in-Some.at (record { held = Some new; takes_simulated = c.if-old.takes_simulated })) c.reach-reach.ensures.state in
-    ap (registers_after_clock c.args.now) (c.hold.ensures.registers ∙ moved) ∙ after
+    let moved = ap (λ (t : State _). set t.registers c.in-Some.at (record { held = Some new; takes_simulated = r.takes_simulated })) c.reach-reach.ensures.state in
+    ap (registers_after_clock c.args.now) (c.hold.ensures.registers r here ∙ moved) ∙ after
 
-pub returns-after-old-clause-count : goal.returns-after-old-clause-count
-returns-after-old-clause-count g c =
+pub returns-else-is_switching-clause-count : goal.returns-else-is_switching-clause-count
+returns-else-is_switching-clause-count g c =
     let s = c.args.self.now.state in
     let f = received_frame c.args.frame.now in
     let x = c.look.result.0.now in
     let r = c.look.result.1 in
     let block = sym (ap₂ (λ (t : State _) (n : ℕ). slice_get t.blocks n) c.reach-reach.ensures.state c.reach-reach.ensures.at) ∙ c.look.ensures.block in
     let register_is = sym (ap₂ (λ (t : State _) (n : ℕ). slice_get t.registers n) c.reach-reach.ensures.state c.reach-reach.ensures.at) ∙ c.look.ensures.register in
-    let new = c.in-Some-2.held in
     let told = reason_told x f c.is_other_kind-is_other_kind.result s.mode c.is_simulating-mode.result r.takes_simulated None c.is_other_kind-is_other_kind.ensures c.is_simulating-mode.ensures c.in_default-first_reason.ensures in
     let renewal = sym c.in_ok-push_good.ensures.held ∙ c.in-Some-2.is in
-    let register : Register = record { held = Some new; takes_simulated = c.if-old.takes_simulated } in
+    let here = ap (λ (t : State _). slice_get t.registers c.in-Some.at) c.reach-reach.ensures.state ∙ register_is in
+    let new = c.in-Some-2.held in
+    let register : Register = record { held = Some new; takes_simulated = r.takes_simulated } in
     let fewer = written_fewer c.args.now s.registers c.in-Some.at register (new_lives c.args.now x r f _ new told renewal) in
-    let first = c.reach-reach.ensures.count in
     let moved = ap (λ (t : State _). set t.registers c.in-Some.at register) c.reach-reach.ensures.state in
-    let less = subst (λ (rs : List Register). due_count c.args.now (helds rs) ≤ due_count c.args.now (helds s.registers)) (sym (c.hold.ensures.registers ∙ moved)) fewer in
+    let first = c.reach-reach.ensures.count in
+    let less = subst (λ (rs : List Register). due_count c.args.now (helds rs) ≤ due_count c.args.now (helds s.registers)) (sym (c.hold.ensures.registers r here ∙ moved)) fewer in
     omega (arith, less, c.hold.ensures.count, first)

@@ -1,10 +1,15 @@
-use Rattle.std.proofs.Common.{◌++◌, Bool, List, length, ap, sym, ◌∙◌, append-nil}
+use Rattle.std.proofs.Common.{◌++◌, Bool, List, length, ap, sym, ◌∙◌, append-nil, arith}
 use Rattle.std.proofs.lemmas.Bool.{false≢true}
 use Rattle.subscribe_core.specs.declared.entry.Entry.{Entry}
+use Rattle.subscribe_core.specs.declared.registers.Register.{Register}
+use Rattle.subscribe_core.specs.Looks.{switched_count}
+use Rattle.subscribe_core.specs.computed.Deadlines.{due_count, helds}
+use Rattle.subscribe_core.specs.computed.Flagged.{flagged_count}
 use Rattle.subscribe_core.specs.computed.Indexed.{registers_after_clock, switched_off}
+use Rattle.subscribe_core.specs.computed.PrivateCalls.{StateAndReaches}
 use Rattle.subscribe_core.specs.EventsRead.{OfMode}
-use Rattle.subscribe_core.specs.State.{State}
 use Rattle.subscribe_core.specs.computed.Steps.{registers_by, switched_entries}
+use Rattle.subscribe_core.proofs.Flagging.{due_off, flagged_counted}
 use Rattle.subscribe_core.proofs.Switching.{registers_off, registers_on, switched_off_entries, switched_on}
 use Rattle.subscribe_core.proofs.keeping.Keeper.take_mode.Goals as goal
 
@@ -40,6 +45,22 @@ pub returns-clause-registers : goal.returns-clause-registers
 returns-clause-registers g c = λ now.
     let s = c.args.self.now.state in
     ap (registers_after_clock now)
-    (c.set_mode-2.ensures.registers ∙ (c.switch_off.ensures.registers ∙ ap (λ (t : State _). switched_off t.registers) c.list_switched.ensures.state))
+    (c.set_mode-2.ensures.registers ∙ (c.switch_off.ensures.registers ∙ ap (λ (t : StateAndReaches _). switched_off t.state.registers) c.list_switched.ensures.unchanged))
     ∙ sym (ap (λ (on : Bool). registers_by now s.mode (OfMode on) s.blocks s.registers) c.if-on.false
     ∙ registers_off now s.mode s.blocks s.registers c.list_switched.ensures.sizes)
+
+pub returns-then-on-clause-count : goal.returns-then-on-clause-count
+returns-then-on-clause-count g c = λ now.
+    let due = ap (λ (rs : List Register). due_count now (helds rs)) c.set_mode.ensures.registers in
+    omega (arith, due, c.set_mode.ensures.reaches)
+
+pub returns-clause-count : goal.returns-clause-count
+returns-clause-count g c = λ now.
+    let s = c.args.self.now.state in
+    let told = ap (λ (on : Bool). switched_count (switched_entries {A = g.row.A.Denot} s.mode (OfMode on) 0 s.blocks s.registers)) c.if-on.false
+    ∙ (ap switched_count (switched_off_entries s.mode 0 s.blocks s.registers c.list_switched.ensures.sizes) ∙ sym (flagged_counted g.row.A.Denot 0 s.registers)) in
+    let same = ap (λ (t : StateAndReaches _). t.state.registers) c.list_switched.ensures.unchanged in
+    let before = ap (λ (t : StateAndReaches _). t.reaches) c.list_switched.ensures.unchanged in
+    let flags = ap flagged_count same in
+    let after = ap (λ (rs : List Register). due_count now (helds rs)) (c.set_mode-2.ensures.registers ∙ (c.switch_off.ensures.registers ∙ ap switched_off same)) in
+    omega (arith, told, before, flags, after, due_off now s.registers, c.switch_off.ensures.count, c.set_mode-2.ensures.reaches)
