@@ -1,14 +1,11 @@
 -- What switches no block, and the mode set off.
-use Rattle.std.proofs.Common.{◌≡◌, ℕ, zero, suc, ◌+◌, ◌≤◌, Bool, true, false, if◌then◌else◌, Some, None, List, [], ◌∷◌, ◌++◌, length, set, slice_get, drop, sym, ap, ap₂, ◌∙◌, arith, refl}
-use Rattle.std.proofs.lemmas.Option.{none-some, same_Some}
+use Rattle.std.proofs.Common.{◌≡◌, ℕ, ◌+◌, Bool, true, false, if◌then◌else◌, List, [], ◌∷◌, ◌++◌, length, sym, ap, ap₂, ◌∙◌, arith, refl}
 use Rattle.ber_core.specs.declared.fault.Fault.{Fault}
 use Rattle.block_core.specs.declared.block.Block.{Block}
-use Rattle.subscribe_core.specs.declared.deadlines.Deadlines.{Deadlines}
 use Rattle.subscribe_core.specs.declared.entry.Entry.{Entry}
 use Rattle.subscribe_core.specs.declared.entry.Entry.TheVariants as says
-use Rattle.subscribe_core.specs.declared.names.Name.{Name}
 use Rattle.subscribe_core.specs.declared.registers.Register.{Register}
-use Rattle.subscribe_core.specs.computed.Indexed.{IsIndexed, registers_after_clock, register_after_clock, flagged_entries, switched_off, switched_off_one}
+use Rattle.subscribe_core.specs.computed.Indexed.{registers_after_clock, register_after_clock, flagged_entries, switched_off, switched_off_one}
 use Rattle.subscribe_core.specs.EventsRead.{Content, OfClock, OfFault, OfMode, OfSampled}
 use Rattle.subscribe_core.specs.computed.Steps.{register_by, registers_by, said_of, switch_by, switched_entries}
 

@@ -1,4 +1,3 @@
-use Rattle.subscribe_core.specs.computed.Flagged.{AreFlagged}
 use Rattle.subscribe_core.proofs.Flagging.{flagged_added}
 use Rattle.subscribe_core.proofs.flagged.Flagged.add.Goals as goal
 

@@ -1,5 +1,4 @@
-use Rattle.std.proofs.Common.{List, ap, sym, ◌∙◌, arith, refl}
-use Rattle.subscribe_core.specs.declared.registers.Register.{Register}
+use Rattle.std.proofs.Common.{ap, sym, ◌∙◌, arith, refl}
 use Rattle.subscribe_core.specs.State.{idle}
 use Rattle.subscribe_core.specs.computed.Deadlines.{helds}
 use Rattle.subscribe_core.specs.computed.Flagged.{flagged_count}

@@ -1,4 +1,4 @@
-use Rattle.std.proofs.Common.{Some, true, ap, arith, refl, length, set, slice_get, ◌∙◌}
+use Rattle.std.proofs.Common.{Some, true, ap, arith, refl, set, slice_get, ◌∙◌}
 use Rattle.std.proofs.lemmas.List.{length-map}
 use Rattle.std.proofs.lemmas.Option.{slice_get_within}
 use Rattle.subscribe_core.specs.declared.registers.Register.{Register}
