@@ -10,11 +10,12 @@ use Rattle.loss_engine.specs.computed.Tracking.{closings}
 
 -- the line at the end is one of what is kept, whatever was read
 pub closes_alike : {I A F : Type 0} (number : I → ℕ) (at : ℕ) (old between : Losing I A) (answer : AnswerOf ItemText F) (new : Losing I A) →
-    between.style ≡ old.style → kept_of between ≡ kept_of old → ClosesAt number at between answer new → ClosesAt number at old answer new
-closes_alike number at old between answer new style kept (line w is said goes keeps) =
+    between.style ≡ old.style → kept_of between ≡ kept_of old → closing_of between ≡ closing_of old → ClosesAt number at between answer new → ClosesAt number at old answer new
+closes_alike number at old between answer new style kept closing (line w is said goes keeps) =
     line w (ap₂ (λ s k. slice_get (closings s k) at) (sym style) (sym kept) ∙ is) said goes (keeps ∙ kept)
-closes_alike number at old between answer new style kept (wants w is said some) = wants w (ap₂ (λ s k. slice_get (closings s k) at) (sym style) (sym kept) ∙ is) said some
-closes_alike number at old between answer new style kept (last is said) = last (ap₂ (λ s k. slice_get (closings s k) at) (sym style) (sym kept) ∙ is) said
+closes_alike number at old between answer new style kept closing (wants w is said some goes keeps) =
+    wants w (ap₂ (λ s k. slice_get (closings s k) at) (sym style) (sym kept) ∙ is) said some (goes ∙ closing) (keeps ∙ kept)
+closes_alike number at old between answer new style kept closing (last is said) = last (ap₂ (λ s k. slice_get (closings s k) at) (sym style) (sym kept) ∙ is) said
 
 module _ {I A F : Type 0} (answers : I → AnswerOf (Event A) F → I → Type 0) (number : I → ℕ) (old : Losing I A) (answer : AnswerOf ItemText F) (new : Losing I A) where
   -- the events end

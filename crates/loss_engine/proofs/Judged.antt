@@ -89,7 +89,7 @@ module _ {I A F : Type 0} (answers : I → AnswerOf (Event A) F → I → Type 0
 
   closes_one : (s next : Losing I A) (at : ℕ) (p : ℕ × ItemText) → ClosesAt {F = F} number at s (Ok (Some p)) next → Closes s next at p
   closes_one s next at p (line w there is goes keeps) = record { w = w; there = there; is = cc; goes = goes; keeps = keeps }
-  closes_one s next at p (wants w there is some) = cc
+  closes_one s next at p (wants w there is some goes keeps) = cc
   closes_one s next at p (last none is) = cc
 
   closed_more : (s next b : Losing I A) (at : ℕ) (p : ℕ × ItemText) (ps : List (ℕ × ItemText)) → Closes s next at p → events_of next ≡ events_of s → SameSetting s next → Closed next b (at + 1) ps → Closed s b at (p ∷ ps)
@@ -335,12 +335,12 @@ module _ {I A F : Type 0} (answers : I → AnswerOf (Event A) F → I → Type 0
     -- what is answered of lines at the end
     closes_tells : (at : ℕ) (answer : AnswerOf ItemText F) → SameSetting s b → ClosesAt number at b answer after → TellsOnward answer (left_lines (kept_of b) at)
     closes_tells at answer set (line w there is goes keeps) = subst (λ o. TellsOnward o (left_lines (kept_of b) at)) (sym is) (_, line_told (kept_of b) at w (there_in at w set there))
-    closes_tells at answer set (wants w there is some) = subst (λ o. TellsOnward o (left_lines (kept_of b) at)) (sym is) tt
+    closes_tells at answer set (wants w there is some goes keeps) = subst (λ o. TellsOnward o (left_lines (kept_of b) at)) (sym is) tt
     closes_tells at answer set (last none is) = subst (λ o. TellsOnward o (left_lines (kept_of b) at)) (sym is) (ap (λ xs. record { items = xs; stop = finished }) (rest_none (number (events_of after)) s.style (kept_of b) at (none_in at set none)))
 
     closes_wants : (given : List ℕ) (ps : List (ℕ × ItemText)) (at : ℕ) (answer : AnswerOf ItemText F) → SameSetting s b → ClosesAt number at b answer after → all_pieces given ≡ put_items ps (left_lines (kept_of b) at) → answer ≡ Err None → MayWant given ps
     closes_wants given ps at answer set (line w there is goes keeps) says none = cc
-    closes_wants given ps at answer set (wants w there is some) says none =
+    closes_wants given ps at answer set (wants w there is some goes keeps) says none =
         by_text (number (events_of after), w) (left_lines (kept_of b) (at + 1)) (says ∙ ap (put_items ps) (line_told (kept_of b) at w (there_in at w set there))) some
     closes_wants given ps at answer set (last missing is) says none = cc
 

@@ -72,10 +72,10 @@ pub record FailsNext {I A F : Type 0} (answers : I → AnswerOf (Event A) F → 
   pub reads : answers (events_of old) (Err why) (events_of new)
   pub fails : answer ≡ Err why
 
--- the line at the end that stands at this position is answered, or memory was wanted for it; or there is none
+-- the line at the end that stands at this position is answered, or memory was wanted for it, and it comes next still; or there is none
 pub data ClosesAt {I A F : Type 0} (number : I → ℕ) (at : ℕ) (old : Losing I A) (answer : AnswerOf ItemText F) (new : Losing I A) : Type 0 where
   line : (w : ItemText) → slice_get (closings old.style (kept_of old)) at ≡ Some w → answer ≡ Ok (Some (number (events_of new), w)) → closing_of new ≡ Some (at + 1) → kept_of new ≡ kept_of old → ClosesAt number at old answer new
-  wants : (w : ItemText) → slice_get (closings old.style (kept_of old)) at ≡ Some w → answer ≡ Err None → (w.text ≡ [] → ⊥) → ClosesAt number at old answer new
+  wants : (w : ItemText) → slice_get (closings old.style (kept_of old)) at ≡ Some w → answer ≡ Err None → (w.text ≡ [] → ⊥) → closing_of new ≡ closing_of old → kept_of new ≡ kept_of old → ClosesAt number at old answer new
   last : slice_get (closings old.style (kept_of old)) at ≡ None → answer ≡ Ok None → ClosesAt number at old answer new
 
 -- the events have ended, and the first line at the end is due

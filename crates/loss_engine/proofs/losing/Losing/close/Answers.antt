@@ -9,4 +9,4 @@ returns-in-Ok-Some-clause-closes g c =
     line h.0 h.1 (ap (λ w. Ok (Some (g.I.ReadItems.number c.args.self.now.events, w))) same) refl refl
 
 pub returns-in-Err-clause-closes : goal.returns-in-Err-clause-closes
-returns-in-Err-clause-closes g c = let h = c.in-Err.ensures.wants in wants h.0 h.1 refl h.2
+returns-in-Err-clause-closes g c = let h = c.in-Err.ensures.wants in wants h.0 h.1 refl h.2 refl refl
