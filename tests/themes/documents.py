@@ -172,13 +172,13 @@ class Carried:
 
 
 class Judged:
-    """The functions of which docs/PROOFS.md says why no other body meets their contracts are in the sources."""
+    """The functions of which docs/tables/SURVIVORS.md says why no other body meets their contracts are in the sources."""
 
-    name = "the functions that no wrong body can stand for, in docs/PROOFS.md"
+    name = "the functions that no wrong body can stand for, in docs/tables/SURVIVORS.md"
 
     def why_wrong(self, _program):
         code = "\n".join(file.read_text() for crate in tables.crates() for file in (TOP / "crates" / crate / "src").rglob("*.rt"))
-        rows = re.findall(r"(?m)^\| (.*`.*) \| .* \|$", part(PROOFS.read_text(), "Surviving mutants"))
+        rows = re.findall(r"(?m)^\| (.*`.*) \| .* \|$", (TOP / "docs" / "tables" / "SURVIVORS.md").read_text())
         named = re.findall(r"`(?:\w+::)*(\w+)`", " ".join(rows).replace("`laws`", ""))
         return [f"there is no function {it}" for it in named if not re.search(rf"\bfn {it}\b", code)] or ([] if named else ["no row"])
 
