@@ -488,7 +488,8 @@ def cases():
     yield Tabled()
     for file, (enum, sort) in ERRORS.items():
         yield Displayed(file, enum, sort)
-    yield from (*lists(), *shown_by_octets(), *compressed(), *in_parts(), *places(), *passed_before(), *failing(), *scripts(), *captures(), *blocks(), *unseen())
+    yield from (*lists(), *shown_by_octets(), *compressed(), *in_parts(), *places(), *passed_before())
+    yield from (*failing(), *scripts(), *captures(), *blocks(), *unseen())
     frames = listed(WORKED, put(WORKED, at66=1))
     for command in ("show", "check", "rewrite", "blocks", *WORDS):
         yield Quiet(f"{command} that ends well says nothing", words(command), frames)

@@ -18,7 +18,7 @@ from themes.devices import CHANGE, SCRIPT, words
 PAGE, WAITED, LOOK = 4096, 0.03, SECONDS / 4
 FRAMES = listed(WORKED, put(WORKED, at66=1), SAMPLED) * 60
 INPUTS = {
-    "show": (["show"], FRAMES), "check": (["check"], b"F 0 01\n" * 300), "rewrite": (["rewrite"], FRAMES), "replay": (words("replay"), FRAMES),
+    "show": (["show"], FRAMES), "check": (["check"], b"F 0 01\n" * 300), "rewrite": (["rewrite"], FRAMES), "replay": (words("replay"), FRAMES * 4),
     "a list with an error": (["show"], FRAMES + b"X\n"), "publish": (["publish"], SCRIPT + CHANGE * 60),
     "import": (["import"], header() + record(1, 2, WORKED) * 100), "a capture": (capturing("show"), header() + record(1, 2, WORKED) * 60),
 }
