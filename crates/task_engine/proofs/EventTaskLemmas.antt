@@ -42,9 +42,8 @@ use Rattle.exchange_engines.specs.declared.engines.replay.ReplayStop.TheVariants
 use Rattle.exchange_engines.specs.ReplayText.{twice_stop}
 use Rattle.task_engine.specs.declared.stop.Stop.{Stop}
 use Rattle.task_engine.specs.declared.stop.Stop.TheVariants as stop
-use Rattle.words_core.specs.CommandLine.{Asked, show, check, rewrite, list_blocks, publish, import, losses, replay, watch}
+use Rattle.words_core.specs.CommandLine.{Asked, check, import, list_blocks, losses, publish, replay, rewrite, show, takes_options, watch}
 use Rattle.task_engine.specs.EventTasks.{EventsLeave, OverWrites, RunsTask, allowed_by}
-use Rattle.words_core.specs.RequestLine.{takes_options}
 use Rattle.words_core.specs.declared.option_words.Options.{Options}
 use Rattle.loss_engine.specs.computed.LossesOver.{LossesOver}
 use Rattle.task_engine.specs.HandedOut.{EventsTell, InputTells, OfCaptureBy, OfListBy, RequestTells, TaskTells, TellsBy, TextTells, of_list, of_stop, twice_told}

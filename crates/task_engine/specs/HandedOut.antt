@@ -44,8 +44,7 @@ use Rattle.exchange_engines.specs.declared.engines.replay.ReplayStop.{ReplayStop
 use Rattle.exchange_engines.specs.declared.engines.replay.ReplayStop.TheVariants as stops
 use Rattle.task_engine.specs.declared.stop.Stop.{Stop}
 use Rattle.task_engine.specs.declared.stop.Stop.TheVariants as stop
-use Rattle.words_core.specs.CommandLine.{Asked, show, check, rewrite, list_blocks, publish, import, losses, replay, watch}
-use Rattle.words_core.specs.RequestLine.{takes_options}
+use Rattle.words_core.specs.CommandLine.{Asked, check, import, list_blocks, losses, publish, replay, rewrite, show, takes_options, watch}
 use Rattle.words_core.specs.declared.option_words.Options.{Options}
 use Rattle.task_engine.specs.declared.performed.Told.{Told}
 use Rattle.task_engine.specs.EventTasks.{LeavesText, RefusesTwiceIn}

@@ -21,8 +21,7 @@ use Rattle.object_core.specs.EventObject.{capture_fault_object, list_fault_objec
 use Rattle.engine_core.specs.EventsText.{EventAllows, over_in}
 use Rattle.engine_core.specs.CaptureRun.{CaptureWrites}
 use Rattle.engine_core.specs.MadeRun.{MadeWrites}
-use Rattle.words_core.specs.CommandLine.{Asked}
-use Rattle.words_core.specs.RequestLine.{takes_options}
+use Rattle.words_core.specs.CommandLine.{Asked, takes_options}
 use Rattle.words_core.specs.declared.option_words.Writing.{Writing}
 use Rattle.words_core.specs.declared.option_words.Writing.TheVariants as writes
 use Rattle.words_core.specs.declared.option_words.Options.{Options}
