@@ -1,7 +1,7 @@
 -- What a task over events passes over of the frames of other protocols.
-use Rattle.std.proofs.Common.{Option, Some, None, Ok, Err, Result, ◌≡◌, ◌⊎◌, ℕ, Bool, false, List, [], ◌∷◌, ◌++◌, length, take, inl, inr, ap, sym, ◌∙◌, refl, subst, map, arith}
+use Rattle.std.proofs.Common.{Option, Some, None, Ok, Err, Result, ◌≡◌, ◌⊎◌, ◌≤◌, ◌+◌, ◌-◌, ℕ, Bool, false, List, [], ◌∷◌, ◌++◌, length, take, inl, inr, ap, sym, ◌∙◌, refl, subst, map, arith}
 use Rattle.std.specs.Global.{Global}
-use Rattle.std.proofs.lemmas.List.{append_assoc, append-nil}
+use Rattle.std.proofs.lemmas.List.{append_assoc, append-nil, length-append}
 use Rattle.std.proofs.lemmas.Grind.{flat_map-append}
 use Rattle.list_core.specs.declared.device.InputEnd.{InputEnd}
 use Rattle.list_core.specs.declared.device.InputEnd.TheVariants.{Open}
@@ -40,10 +40,11 @@ use Rattle.engine_core.specs.EngineText.{Allowed, exactly}
 use Rattle.engine_core.specs.EventsText.{EventAllows, over_in}
 use Rattle.engine_core.specs.CaptureRun.{fault_of}
 use Rattle.engine_core.specs.MadeRun.{with_each}
+use Rattle.engine_core.specs.Run.{AtLine}
 use Rattle.engine_core.specs.RunOver.{IsDue, RanOver, RunsOver, Stops, WantsFor, ending_by_halt, step_fault}
-use Rattle.engine_core.proofs.CaptureRuns.{capture_read}
+use Rattle.engine_core.proofs.CaptureRuns.{capture_read_far}
 use Rattle.engine_core.proofs.InputRuns.{TellsOnward}
-use Rattle.engine_core.proofs.MadeRuns.{made_read}
+use Rattle.engine_core.proofs.MadeRuns.{made_read_line}
 use Rattle.exchange_engines.specs.declared.engines.replay.ReplayStop.{ReplayStop}
 use Rattle.words_core.specs.CommandLine.{Asked, show, check, rewrite, list_blocks, publish, import, losses, replay, watch}
 use Rattle.loss_engine.specs.LossText.{written_pieces}
@@ -51,7 +52,7 @@ use Rattle.loss_engine.specs.computed.Judging.{Judges, events_of}
 use Rattle.loss_engine.specs.computed.LossesOver.{LossesOver}
 use Rattle.loss_engine.proofs.Judged.{AtStop, judged_beneath}
 use Rattle.task_engine.specs.EventTasks.{OverWrites, allowed_by}
-use Rattle.task_engine.specs.HandedOut.{PassesOver, ReadsAll}
+use Rattle.task_engine.specs.HandedOut.{PassesOver, ReachesInCapture, ReachesInList, ReadsAll}
 use Rattle.task_engine.specs.RequestText.{made_by}
 use Rattle.task_engine.proofs.EventTaskLemmas.{made_none, whole_of}
 
@@ -140,13 +141,13 @@ module _ {I C F : Type 0} (answers : I → AnswerOf (Event Global) F → I → T
 
 -- ---- what is kept
 
+same_items : {A : Type 0} (es : List (ℕ × Event A)) → map (λ e. (e.0, e.1)) es ≡ es
+same_items [] = refl
+same_items {A} (e ∷ es) = ap (λ (rest : List (ℕ × Event A)). e ∷ rest) (same_items es)
+
 -- what is made of nothing
 same_each : {A F : Type 0} (l : Numbered (Event A) F) → with_each (λ e. e) l ≡ l
-same_each {A} {F} l = ap (λ (es : List (ℕ × Event A)). record { items = es; stop = l.stop }) (same l.items)
-  where
-    same : (es : List (ℕ × Event A)) → map (λ e. (e.0, e.1)) es ≡ es
-    same [] = refl
-    same (e ∷ es) = ap (λ (rest : List (ℕ × Event A)). e ∷ rest) (same es)
+same_each {A} {F} l = ap (λ (es : List (ℕ × Event A)). record { items = es; stop = l.stop }) (same_items l.items)
 
 take_front : {X : Type 0} (xs ys : List X) → take (length xs) (xs ++ ys) ≡ xs
 take_front [] ys = refl
@@ -173,35 +174,57 @@ stop_left (Err (Some f)) h = tt
 stop_left (Err None) h = h
 
 -- these are all events
-at_end : {F : Type 0} (l : Numbered (Event Global) F) (es : List (ℕ × Event Global)) (ending : Ending) (tally : Tally) → l.items ≡ es → tally ≡ pass_all (passed_in es) no_tally → PassesOver l ending tally
-at_end l es ending tally same is = record {
+at_end : {F : Type 0} (l : Numbered (Event Global) F) (es : List (ℕ × Event Global)) (ending : Ending) (Far : ℕ → Type 0) (tally : Tally) → l.items ≡ es → Far (length es) → tally ≡ pass_all (passed_in es) no_tally → PassesOver l ending Far tally
+at_end l es ending Far tally same far is = record {
   read = length es;
   all = λ r. let sizes = ap length same in omega (arith, sizes);
+  far = far;
   is_tally = is ∙ ap (λ (xs : List (ℕ × Event Global)). pass_all (passed_in xs) no_tally) (sym (ap (take (length es)) (same ∙ sym (append-nil es)) ∙ take_front es []));
 }
 
 -- behind these events the next answer was this, and so much is kept
-passes_by : {F : Type 0} (l : Numbered (Event Global) F) (es : List (ℕ × Event Global)) (raw : AnswerOf (Event Global) F) (ending : Ending) (tally : Tally) → ReadsFirst l es raw → (ReadsAll ending → AtStop raw) →
-    tally ≡ pass_answer raw (pass_all (passed_in es) no_tally) → PassesOver l ending tally
-passes_by {F} l es (Ok (Some e)) ending tally first all is =
+passes_by : {F : Type 0} (l : Numbered (Event Global) F) (es : List (ℕ × Event Global)) (raw : AnswerOf (Event Global) F) (ending : Ending) (Far : ℕ → Type 0) (tally : Tally) → ReadsFirst l es raw → (ReadsAll ending → AtStop raw) →
+    Far (length es) → Far (length es + 1) → tally ≡ pass_answer raw (pass_all (passed_in es) no_tally) → PassesOver l ending Far tally
+passes_by {F} l es (Ok (Some e)) ending Far tally first all far more is =
     let items : l.items ≡ (es ++ e ∷ []) ++ first.tells.0.items =
     ap (λ (m : Numbered (Event Global) F). m.items) first.says ∙ ap (λ (m : Numbered (Event Global) F). es ++ m.items) first.tells.1 ∙ sym (append_assoc es (e ∷ []) first.tells.0.items) in
     record {
       read = length (es ++ e ∷ []);
       all = λ r. absurd (all r);
+      far = subst Far (sym (length-append es (e ∷ []))) more;
       is_tally = is ∙ passed_push es e no_tally ∙ ap (λ (xs : List (ℕ × Event Global)). pass_all (passed_in xs) no_tally) (sym (ap (take (length (es ++ e ∷ []))) items ∙ take_front (es ++ e ∷ []) first.tells.0.items));
     }
-passes_by {F} l es (Ok None) ending tally first all is = at_end l es ending tally (ap (λ (m : Numbered (Event Global) F). m.items) first.says ∙ ap (λ (m : Numbered (Event Global) F). es ++ m.items) first.tells ∙ append-nil es) is
-passes_by {F} l es (Err (Some f)) ending tally first all is = at_end l es ending tally (ap (λ (m : Numbered (Event Global) F). m.items) first.says ∙ ap (λ (m : Numbered (Event Global) F). es ++ m.items) first.tells ∙ append-nil es) is
-passes_by {F} l es (Err None) ending tally first all is = record {
+passes_by {F} l es (Ok None) ending Far tally first all far more is = at_end l es ending Far tally (ap (λ (m : Numbered (Event Global) F). m.items) first.says ∙ ap (λ (m : Numbered (Event Global) F). es ++ m.items) first.tells ∙ append-nil es) far is
+passes_by {F} l es (Err (Some f)) ending Far tally first all far more is = at_end l es ending Far tally (ap (λ (m : Numbered (Event Global) F). m.items) first.says ∙ ap (λ (m : Numbered (Event Global) F). es ++ m.items) first.tells ∙ append-nil es) far is
+passes_by {F} l es (Err None) ending Far tally first all far more is = record {
   read = length es;
   all = λ r. absurd (all r);
+  far = far;
   is_tally = is ∙ ap (λ (xs : List (ℕ × Event Global)). pass_all (passed_in xs) no_tally) (sym (ap (take (length es)) (ap (λ (m : Numbered (Event Global) F). m.items) first.says) ∙ take_front es first.onward.items));
 }
 
 -- nothing was read
-passes_none : {F : Type 0} (l : Numbered (Event Global) F) (ending : Ending) (tally : Tally) → l.items ≡ [] → tally ≡ no_tally → PassesOver l ending tally
-passes_none l ending tally none is = at_end l [] ending tally none is
+passes_none : {F : Type 0} (l : Numbered (Event Global) F) (ending : Ending) (Far : ℕ → Type 0) (tally : Tally) → l.items ≡ [] → Far 0 → tally ≡ no_tally → PassesOver l ending Far tally
+passes_none l ending Far tally none far is = at_end l [] ending Far tally none far is
+
+-- where nothing was read of a capture, or of a list
+none_in_capture : (n : ℕ) → ReachesInCapture [] n
+none_in_capture n [] rest parts some = absurd (some (sym parts))
+none_in_capture n (x ∷ front) rest parts some = absurd (cc)
+
+none_in_list : ReachesInList Open [] 0
+none_in_list = inl (record { lines_before = 0; settled = First; earlier = []; onward = []; whole = refl; starts_line = inl refl; at_most = omega arith; for_this_line = inl refl; says = refl })
+
+-- the line behind these events of a list, and one more of them
+list_reaches : (z : InputEnd) (octets : List ℕ) (es : List (ℕ × Event Global)) (onward : Listing (Event Global) ListCause) → listing event_rules First z 0 octets ≡ put_items es onward → AtLine event_rules First z octets es →
+    ReachesInList z octets (length es) × ReachesInList z octets (length es + 1)
+list_reaches z octets es onward says line =
+    let items = (listing (event_rules {A = Global}) First z 0 octets).items in
+    let front : take (length es) items ≡ es = ap (λ (l : Listing (Event Global) ListCause). take (length es) l.items) says ∙ take_front es onward.items in
+    let one_less : length es + 1 - 1 ≡ length es = omega arith in (
+      inl (subst (λ (xs : List (ℕ × Event Global)). AtLine event_rules First z octets xs) (sym front) line),
+      inr (subst (λ (xs : List (ℕ × Event Global)). AtLine event_rules First z octets xs) (sym (ap (λ (n : ℕ). take n items) one_less ∙ front)) line),
+    )
 
 no_event : (listing (event_rules {A = Global}) First Open 0 []).items ≡ []
 unfolding items_said reading
@@ -215,17 +238,19 @@ module _ {R : Type 0} (left : R → Option (List ℕ)) (told : R → InputEnd) (
   pub capture_passes : (number : SkipOther (PacketReader R Global) Global → ℕ) (start end : SkipOther (PacketReader R Global) Global) (why : Option (ReplayStop CaptureFault)) → (packet_state left told (beneath start)).stage ≡ at_start → (packet_state left told (beneath start)).ending ≡ Open → passed_over start ≡ no_tally →
       OverWrites style asked (λ before answer after. Skips packets before answer after) number fault_of packet.is_failed_read capture_line capture_fault_object start ending why end old new →
       (given : List ℕ) × GivesOctets (packet_state left told (beneath start)).left (packet_state left told (beneath end)).left given
-      × PassesOver (captured_events {A = Global} (packet_state left told (beneath end)).ending given) ending (passed_over end)
+      × PassesOver (captured_events {A = Global} (packet_state left told (beneath end)).ending given) ending (ReachesInCapture given) (passed_over end)
   capture_passes number start end why fresh is none w = elim (reads (λ before answer after. Skips packets before answer after) number fault_of packet.is_failed_read capture_line capture_fault_object start end ending style old new asked why w) [
-    | inl same ↦ rw same ([], Gives-from_Consumes _ _ [] (Consumes-none _), rw is (passes_none _ ending _ refl none))
+    | inl same ↦ rw same ([], Gives-from_Consumes _ _ [] (Consumes-none _), rw is (passes_none _ ending _ _ refl (none_in_capture 0) none))
     | inr r ↦
         let came = leaves_what_came packets start r.before r.items r.gave in
-        let first = capture_read (made_by false) (λ r. packet_state left told r) packets (λ o n answer h. (answer, h, made_none answer)) (beneath start) (beneath r.before) (beneath end) came.0 r.answered.given fresh came.1 r.answered.read in (
+        let read = capture_read_far (made_by false) (λ r. packet_state left told r) packets (λ o n answer h. (answer, h, made_none answer)) (beneath start) (beneath r.before) (beneath end) came.0 r.answered.given fresh came.1 r.answered.read in
+        let first = read.0 in (
           first.given,
           first.gives,
-          passes_by _ came.0 r.answered.given ending (passed_over end)
+          passes_by _ came.0 r.answered.given ending (ReachesInCapture first.given) (passed_over end)
               (subst (λ (l : Numbered (Event Global) CaptureFault). ReadsFirst l came.0 r.answered.given) (same_each (captured_events (packet_state left told (beneath end)).ending first.given)) (record { onward = first.onward; says = first.says; tells = first.tells }))
               (λ a. stop_left r.answered.given (subst (λ (x : AnswerOf (Event Global) CaptureFault). AtStop x) r.answered.left (r.all a)))
+              (λ front rest parts some. read.1 front rest parts some) (λ front rest parts some. let few = read.1 front rest parts some in omega (arith, few))
               (r.answered.kept ∙ ap (λ (t : Tally). pass_answer r.answered.given t) (came.3 ∙ ap (λ (t : Tally). pass_all (passed_in came.0) t) none)),
         )
   ]
@@ -238,18 +263,26 @@ module _ {R : Type 0} (left : R → Option (List ℕ)) (told : R → InputEnd) (
       (item_state left told (beneath start)).ending ≡ Open → (item_state left told (beneath start)).taken ≡ 0 → (item_state left told (beneath start)).held ≡ [] → (item_state left told (beneath start)).settled ≡ First → passed_over start ≡ no_tally →
       OverWrites style asked (λ before answer after. Skips lines before answer after) number fault.Line is_failed_read (λ f. list_fault_line (list_fault_of f)) (λ f. list_fault_object (list_fault_of f)) start ending why end old new →
       (given : List ℕ) × GivesOctets (item_state left told (beneath start)).left (item_state left told (beneath end)).left given
-      × PassesOver (listing event_rules First (item_state left told (beneath end)).ending 0 given) ending (passed_over end)
+      × PassesOver (listing event_rules First (item_state left told (beneath end)).ending 0 given) ending (ReachesInList (item_state left told (beneath end)).ending given) (passed_over end)
   list_passes number start end why is no_line no_octet settled none w = elim (reads (λ before answer after. Skips lines before answer after) number fault.Line is_failed_read (λ f. list_fault_line (list_fault_of f)) (λ f. list_fault_object (list_fault_of f)) start end ending style old new asked why w) [
-    | inl same ↦ rw same ([], Gives-from_Consumes _ _ [] (Consumes-none _), rw is (passes_none _ ending _ no_event none))
+    | inl same ↦ rw same ([], Gives-from_Consumes _ _ [] (Consumes-none _), rw is (passes_none _ ending _ _ no_event none_in_list none))
     | inr r ↦
         let came = leaves_what_came lines start r.before r.items r.gave in
-        let first = made_read event_rules (made_by false) (λ r. item_state left told r) lines (λ o n answer h. (answer, h, whole_of answer)) (beneath start) (beneath r.before) (beneath end) came.0 r.answered.given is no_line no_octet came.1 r.answered.read in (
+        let read = made_read_line event_rules (made_by false) (λ r. item_state left told r) lines (λ o n answer h. (answer, h, whole_of answer)) (beneath start) (beneath r.before) (beneath end) came.0 r.answered.given is no_line no_octet came.1 r.answered.read in
+        let first = read.0 in
+        let z = (item_state left told (beneath end)).ending in
+        let reads : ReadsFirst (listing event_rules First z 0 first.given) came.0 r.answered.given =
+        subst (λ (s : EventLines). ReadsFirst (listing event_rules s z 0 first.given) came.0 r.answered.given) settled
+        (subst (λ (l : Listing (Event Global) ListCause). ReadsFirst l came.0 r.answered.given) (same_each (listing event_rules (item_state left told (beneath start)).settled z 0 first.given)) (record { onward = first.onward; says = first.says; tells = first.tells })) in
+        let line : AtLine event_rules First z first.given came.0 =
+        subst (λ (s : EventLines). AtLine event_rules s z first.given came.0) settled
+        (subst (λ (xs : List (ℕ × Event Global)). AtLine event_rules (item_state left told (beneath start)).settled z first.given xs) (sym (read.2 ∙ same_items read.1)) read.3) in
+        let far = list_reaches z first.given came.0 reads.onward reads.says line in (
           first.given,
           first.gives,
-          passes_by _ came.0 r.answered.given ending (passed_over end)
-              (subst (λ (s : EventLines). ReadsFirst (listing event_rules s (item_state left told (beneath end)).ending 0 first.given) came.0 r.answered.given) settled
-              (subst (λ (l : Listing (Event Global) ListCause). ReadsFirst l came.0 r.answered.given) (same_each (listing event_rules (item_state left told (beneath start)).settled (item_state left told (beneath end)).ending 0 first.given)) (record { onward = first.onward; says = first.says; tells = first.tells })))
+          passes_by _ came.0 r.answered.given ending (ReachesInList z first.given) (passed_over end) reads
               (λ a. stop_left r.answered.given (subst (λ (x : AnswerOf (Event Global) (ItemFault ListCause)). AtStop x) r.answered.left (r.all a)))
+              far.0 far.1
               (r.answered.kept ∙ ap (λ (t : Tally). pass_answer r.answered.given t) (came.3 ∙ ap (λ (t : Tally). pass_all (passed_in came.0) t) none)),
         )
   ]

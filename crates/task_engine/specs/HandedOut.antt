@@ -1,5 +1,5 @@
 -- What a task hands out beside what it writes: the fault by which it ended, and the frames of other protocols that it passed over.
-use Rattle.std.specs.Prelude.{◌≡◌, ◌⊎◌, ◌≤◌, ◌&&◌, ℕ, Bool, true, false, List, length, take, Option, Some, None, option_map, ⊤}
+use Rattle.std.specs.Prelude.{◌≡◌, ◌≢◌, ◌⊎◌, ◌≤◌, ◌-◌, ◌&&◌, ℕ, Bool, true, false, List, [], ◌++◌, length, take, Option, Some, None, option_map, ⊤}
 use Rattle.std.specs.Global.{Global}
 use Rattle.list_core.specs.declared.device.InputEnd.{InputEnd}
 use Rattle.list_core.specs.declared.device.InputEnd.TheVariants.{Open}
@@ -27,7 +27,7 @@ use Rattle.engine_core.specs.declared.ending.Ending.TheVariants.{Done, Findings,
 use Rattle.engine_core.specs.declared.style.Style.{Style}
 use Rattle.engine_core.specs.declared.style.Style.TheVariants as styles
 use Rattle.engine_core.specs.EventsText.{EventAllows, over_in}
-use Rattle.engine_core.specs.Run.{WritesSomeTo, WritesTo}
+use Rattle.engine_core.specs.Run.{AtLine, WritesSomeTo, WritesTo}
 use Rattle.engine_core.specs.CaptureRun.{CaptureWrites}
 use Rattle.engine_core.specs.MadeRun.{MadeWrites}
 use Rattle.frame_engines.specs.ShowText.{show_text}
@@ -148,16 +148,27 @@ ReadsAll ReadFault = ⊤
 ReadsAll WriteFault = ⊥
 ReadsAll Memory = ⊥
 
--- What is kept of the frames of other protocols among the first events of an input, as many as were read: all, unless writing failed or memory was refused.
-pub record PassesOver {F : Type 0} (l : Numbered (Event Global) F) (ending : Ending) (tally : Tally) : Type 0 where
+-- What is kept of the frames of other protocols among the first events of an input, as many as were read: all, unless writing failed or memory was refused; and never fewer than reach so far.
+pub record PassesOver {F : Type 0} (l : Numbered (Event Global) F) (ending : Ending) (ReachesFar : ℕ → Type 0) (tally : Tally) : Type 0 where
   pub read : ℕ
   pub all : ReadsAll ending → length l.items ≤ read
+  pub far : ReachesFar read
   pub is_tally : tally ≡ pass_all (passed_in (take read l.items)) no_tally
+
+-- so many events are all that the octets read of a capture tell before the last octet
+abbrev pub ReachesInCapture : List ℕ → ℕ → Type 0
+ReachesInCapture octets read = (front rest : List ℕ) → octets ≡ front ++ rest → rest ≢ [] → length (captured_events {A = Global} Open front).items ≤ read
+
+-- the octets read of a list end at the line behind so many events, or at that of the last of them: at most 8,192 octets from its start on were read
+abbrev pub ReachesInList : InputEnd → List ℕ → ℕ → Type 0
+ReachesInList z octets read =
+    AtLine (event_rules {A = Global}) First z octets (take read (listing (event_rules {A = Global}) First z 0 octets).items)
+    ⊎ AtLine (event_rules {A = Global}) First z octets (take (read - 1) (listing (event_rules {A = Global}) First z 0 octets).items)
 
 -- so of what a capture tells, or of what a list says
 abbrev pub PassesInput : Bool → Ending → InputEnd → List ℕ → Tally → Type 0
-PassesInput true ending z read tally = PassesOver (captured_events z read) ending tally
-PassesInput false ending z read tally = PassesOver (listing event_rules First z 0 read) ending tally
+PassesInput true ending z read tally = PassesOver (captured_events z read) ending (ReachesInCapture read) tally
+PassesInput false ending z read tally = PassesOver (listing event_rules First z 0 read) ending (ReachesInList z read) tally
 
 -- octets that the reader gave are an input of which that is kept
 abbrev pub PassesGiven : Bool → Ending → InputEnd → Option (List ℕ) → Option (List ℕ) → Tally → Type 0
