@@ -48,10 +48,11 @@ def worked():
     yield from both_inputs("frames of each sort", ((700 * at, frame) for at, frame in enumerate(frames)))
     yield from both_inputs("a lifetime that ends at a frame of another protocol", [(0, WORKED), (1999999, ARP), (2000000, ARP), (2000001, state(1, 2))])
     yield from both_inputs("a time that goes back in a frame of another protocol", [(5000000, WORKED), (1, ARP), (6999999, ARP), (0, ARP), (7000000, PTP)])
-    sizes = 1599, 1600, 1601, 2000
+    each = product((ARP, PTP, WORKED, WORKED[:12] + TAG + WORKED[12:], SAMPLED), (1599, 1600, 1601, 2000))
     yield from both_inputs("long frames of other protocols and of GOOSE and Sampled Values",
-                           ((at, long(frame, size)) for at, (frame, size) in enumerate(product((ARP, PTP, WORKED, WORKED[:12] + TAG + WORKED[12:], SAMPLED), sizes))))
-    yield from both_inputs("a lifetime that ends at a long frame of another protocol", [(0, WORKED), (2000000, long(other(0x0800), 2000)), (2000001, state(1, 2))])
+                           ((at, long(frame, size)) for at, (frame, size) in enumerate(each)))
+    yield from both_inputs("a lifetime that ends at a long frame of another protocol",
+                           [(0, WORKED), (2000000, long(other(0x0800), 2000)), (2000001, state(1, 2))])
     yield from long_frames()
     yield from both_inputs("nothing to pass over", [(0, WORKED), (5, SAMPLED)])
     yield from both_inputs("frames of other protocols alone", [(at, ARP) for at in range(30)])
@@ -84,7 +85,8 @@ def long_frames():
         goose = (b"", 0) if size == 1600 else (b"1 fault 1600 FrameTooLong\n", 1)
         frames = {"MMS": (other(0x0800), b"", 0, over), "MMS behind a tag": (other(0x0800, tag=TAG), b"", 0, over), "GOOSE": (WORKED, *goose)}
         for name, (frame, *wanted) in frames.items():
-            yield Case(f"{name}, {size} octets, captured", ["check", "--capture", "--skip-other"], header() + record(1, 2, long(frame, size)), *wanted)
+            captured = header() + record(1, 2, long(frame, size))
+            yield Case(f"{name}, {size} octets, captured", ["check", "--capture", "--skip-other"], captured, *wanted)
             if size < 2000:
                 yield Case(f"{name}, {size} octets, in a list", ["check", "--skip-other"], listed(long(frame, size)), *wanted)
     yield Case("without the option MMS is too long", ["check"], listed(long(other(0x0800), 1601)), b"1 fault 1600 FrameTooLong\n", 1)
