@@ -15,7 +15,7 @@ from helpers.harness import SECONDS, first_difference, listed, run, untaken
 from themes.devices import CHANGE, SCRIPT, words
 
 # The least that a pipe holds; how long the program surely waits for its partner, and how long this one looks at a pipe.
-PAGE, WAITED, LOOK = 4096, 0.03, SECONDS / 4
+PAGE, WAITED, LOOK = 4096, 0.03, 0.2
 FRAMES = listed(WORKED, put(WORKED, at66=1), SAMPLED) * 60
 INPUTS = {
     "show": (["show"], FRAMES), "check": (["check"], b"F 0 01\n" * 300), "rewrite": (["rewrite"], FRAMES), "replay": (words("replay"), FRAMES * 4),
