@@ -35,11 +35,13 @@ class Frame:
     def octets(self):
         flag = {False: b"\x00", True: b"\xff"}
         frame = with_fields(
-            gocb_ref=element(0x80, self.reference.encode()), live=element(0x81, number(LIVE)), dat_set=element(0x82, f"D{self.device}LD0/LLN0$ds1".encode()),
+            gocb_ref=element(0x80, self.reference.encode()), live=element(0x81, number(LIVE)), dat_set=element(0x82,
+                f"D{self.device}LD0/LLN0$ds1".encode()),
             t=element(0x84, utc(self.t, self.quality)), st_num=element(0x85, number(self.state)), sq_num=element(0x86, number(self.sequence)),
             simulation=element(0x87, flag[self.simulated]), conf_rev=element(0x88, number(self.revision)),
             nds_com=element(0x89, flag[self.commissioning]), members=element(0xAB, b"\x83\x01" + flag[self.state % 2 == 0]))
-        envelope = bytes([1, 0x0C, 0xCD, 1, 0, self.device, 2, 0, 0, 0, 1, self.source]) + b"\x88\xb8" + (0x1000 + self.device).to_bytes(2, "big") + bytes(2)
+        envelope = bytes([1, 0x0C, 0xCD, 1, 0, self.device, 2, 0, 0, 0, 1, self.source]) + b"\x88\xb8" + (0x1000 + self.device).to_bytes(2,
+            "big") + bytes(2)
         return framed(frame[22:], envelope=envelope + (b"\x80\x00" if self.simulated else bytes(2)) + bytes(2))
 
 
@@ -77,12 +79,12 @@ def capture(held, link=1, **how):
 # ---- Streams -----------------------------------------------------------------
 
 
-def stream(rate, seconds, name=b"MU1", a_frame=8, source=0x31, **fields):
-    """The frames of a stream, so many samples a second and so many in each frame, from smpCnt 0 on."""
+def stream(rate, seconds, name=b"MU1", a_frame=8, source=0x31, count=0, **fields):
+    """The frames of a stream, so many samples a second and so many in each frame, from a smpCnt on."""
     whole = round(rate * seconds)
     for first in range(0, whole, a_frame):
-        counts = [at % rate for at in range(first, min(first + a_frame, whole))]
-        frame = with_asdus(*(asdu(sv_id=element(0x80, name), smp_cnt=element(0x82, count.to_bytes(2, "big")), **fields) for count in counts))
+        counts = [(count + at) % rate for at in range(first, min(first + a_frame, whole))]
+        frame = with_asdus(*(asdu(sv_id=element(0x80, name), smp_cnt=element(0x82, it.to_bytes(2, "big")), **fields) for it in counts))
         yield START + (first + a_frame) * SECOND // rate, frame[:11] + bytes([source]) + frame[12:]
 
 
@@ -92,7 +94,8 @@ def configured_stream(name, rate, mode=None):
     return ('<SCL xmlns="http://www.iec.ch/61850/2003/SCL"><Communication><SubNetwork name="S"><ConnectedAP iedName="M1" apName="P1">'
             '<SMV ldInst="LD0" cbName="ms1"><Address><P type="MAC-Address">01-0C-CD-04-00-01</P><P type="APPID">4000</P></Address></SMV>'
             '</ConnectedAP></SubNetwork></Communication><IED name="M1"><AccessPoint name="P1"><Server><LDevice inst="LD0"><LN0 lnClass="LLN0" inst="">'
-            f'<DataSet name="ds1"><FCDA/></DataSet><SampledValueControl name="ms1" datSet="ds1" confRev="1" smvID="{name}" smpRate="{rate}" nofASDU="8"{how}/>'
+            f'<DataSet name="ds1"><FCDA/></DataSet><SampledValueControl name="ms1" datSet="ds1" confRev="1" '
+            f'smvID="{name}" smpRate="{rate}" nofASDU="8"{how}/>'
             '</LN0></LDevice></Server></AccessPoint></IED></SCL>')
 
 

@@ -3,7 +3,8 @@ nothing is wrong nothing is red."""
 from helpers import page_station
 from helpers.capture_parts import block, fours, header, interface, old_packet, option, packet, record, section, statistics, twos
 from helpers.frames import element
-from helpers.page_station import (FAILED, HOUR, SECOND, START, UNSYNCHRONIZED, capture, configured_blocks, configured_stream, in_order, packets, stream)
+from helpers.page_station import (FAILED, HOUR, SECOND, START, UNSYNCHRONIZED, capture, configured_blocks, configured_stream, in_order, packets,
+                                  stream)
 from themes.report import STATUSES, Page, reported
 
 # The states of statements, by the words of the tables below.
@@ -73,7 +74,8 @@ def recorded():
         told = {"Capture": (AMBER, f"{len(good)} packets of Linux cooked ({name}), from packet 1 on", "capture on the network card itself")}
         yield Judged(f"the interface any, link type {link}", capture(good, link), told)
     both = section() + interface() + interface(link=113) + b"".join(packet(at, it) for at, it in good) + packet(good[-1][0], good[0][1], which=1)
-    yield Judged("one packet of the interface any", both, {"Capture": (AMBER, f"1 packet of Linux cooked (LINUX_SLL), from packet {len(good) + 1} on")})
+    yield Judged("one packet of the interface any", both, {"Capture": (AMBER,
+        f"1 packet of Linux cooked (LINUX_SLL), from packet {len(good) + 1} on")})
     for name, head, what in (("an HSR ring", "892f00400001", "892f (HSR)"), ("frames with an outer tag", "88a80005", "88a8"),
                              ("frames of MACsec", "88e5000000000001", "88e5 (MACsec)"), ("frames with an old outer tag", "91000005", "9100"),
                              ("frames with a tag in a tag", "8100000581000006", "8100 (a tag in a tag)")):
@@ -126,8 +128,19 @@ def times():
     quiet = lambda it: not middle <= it.at < middle + 3 * SECOND
     shifted = capture(leapt(packets(), 20 * SECOND, middle))
     yield Judged("a capture whose clock leaps by 20 s", shifted, {
-        "Capture": (AMBER, "the capture's clock leapt by 20", "none left out a sqNum"), "Losses": (AMBER, "4 silences where the capture's clock leapt"),
+        "Capture": (AMBER, "the capture's clock leapt by 20", "none left out a sqNum"), "Losses": (AMBER,
+            "4 silences where the capture's clock leapt"),
         "Clocks": (AMBER, "the capture's clock is off, or the station's"), "Events acted on": (RED, "expired")})
+    sampled = list(stream(100, 12, a_frame=1))
+    told = {"Losses": (AMBER, "5 silences where the capture's clock leapt"), "Capture": (AMBER, "leapt"), "Clocks": (AMBER,),
+            "Events acted on": (RED,)}
+    yield Judged("a clock that leaps in a capture with a stream", capture(leapt(in_order([*packets(), *sampled]), 20 * SECOND, middle)), told,
+                 "--period", "100")
+    sampled = [it for it in sampled if not middle - 300_000 <= it[0] < middle]
+    told = {"Losses": (RED, "4 silences", "samples missing"), "Clocks": (RED, "20.001 s behind"), "Events acted on": (RED,)}
+    yield Judged("all senders silent, and a part of a second of samples gone", capture(leapt(in_order([*packets(), *sampled]), 20 * SECOND, middle)),
+                 told,
+                 "--period", "100")
     yield Judged("all senders silent, each of which leaves out frames", capture(leapt(packets(quiet), 20 * SECOND, middle)), {
         "Losses": (RED, "4 silences", "missing"), "Events acted on": (RED,)})
     alone = packets(lambda it: it.device < 3 and setattr(it, "source", 0x55) is None)
@@ -136,7 +149,8 @@ def times():
     one = [it if at != 20 else (it[0] + 2 * HOUR, it[1]) for at, it in enumerate(packets())]
     hides = lambda it: it.device != 2 or not START + 5 * SECOND <= it.at < START + 9 * SECOND
     ahead = in_order((it.at, it.octets()) for it in page_station.frames(hides))
-    back = {"Capture": (RED, "times go back, at packet 22 by up to 1 h 59 min 59 s", "from that of packet 21"), "Losses": (AMBER, "silences after packet 21 cannot be seen"),
+    back = {"Capture": (RED, "times go back, at packet 22 by up to 1 h 59 min 59 s", "from that of packet 21"), "Losses": (AMBER,
+        "silences after packet 21 cannot be seen"),
             "Events acted on": (RED,)}
     yield Judged("one packet two hours ahead", capture(one), back)
     one = [it if at != 20 else (it[0] + 2 * HOUR, it[1]) for at, it in enumerate(ahead)]
@@ -148,7 +162,8 @@ def times():
     # The frame that ends the silence stands a place later, so that its time goes back by a millisecond.
     late = next(place for place, (at, it) in enumerate(ahead) if at >= START + 9 * SECOND and it[11] == 2)
     swapped = [*ahead[:late], ahead[late + 1], ahead[late], *ahead[late + 2:]]
-    yield Judged("a silence that ends where a time goes back by a millisecond", capture(swapped), {"Losses": (RED, "1 silence"), "Events acted on": (RED,)})
+    yield Judged("a silence that ends where a time goes back by a millisecond", capture(swapped), {"Losses": (RED, "1 silence"),
+        "Events acted on": (RED,)})
     one[20] = (one[19][0] - 999_999, one[20][1])
     yield Judged("a time that goes back by less than a second", capture(one), {})
 
@@ -167,7 +182,8 @@ def clocks():
                            (-3600, "behind (quarters of an hour: a time zone)")):
         yield Judged(f"a device whose t is off by {seconds} s", shifted([2], seconds), {"Clocks": (RED, d2, words)})
     yield Judged("a device whose t is off by less than is judged", shifted([2], -9), {})
-    yield Judged("a device of which one frame is ahead", capture(packets(changed(lambda it: it.device == 2 and it.state == 6, t=lambda it: it.t + 37 * SECOND))),
+    yield Judged("a device of which one frame is ahead", capture(packets(changed(lambda it: it.device == 2 and it.state == 6,
+        t=lambda it: it.t + 37 * SECOND))),
                  {"Clocks": (RED, d2, "36.999 s ahead")})
     told = {"Clocks": (GREEN,), "Losses": (RED,), "Events acted on": (RED,)}
     again = changed(lambda it: it.device == 2 and later(8)(it), state=1, sequence=lambda it: (it.at - START) // SECOND - 8, t=START - HOUR)
@@ -178,20 +194,25 @@ def clocks():
         yield Judged(f"a clock that says it is {name}", shifted([2], 37, quality=quality), {"Clocks": (GREEN, "1 control block with a clock")})
     told = {"Simulation": (RED,), "Events acted on": (RED, "Simulated")}
     yield Judged("simulated frames whose t is ahead", shifted([2], 37, simulated=True), told)
-    yield Judged("a station whose devices all are ahead", shifted([1, 2, 3, 4], 37), {"Clocks": (AMBER, "36.999 s ahead (as far as TAI is from UTC) alike",
+    yield Judged("a station whose devices all are ahead", shifted([1, 2, 3, 4], 37), {"Clocks": (AMBER,
+        "36.999 s ahead (as far as TAI is from UTC) alike",
                                                                                                "the capture's clock is off, or the station's")})
     yield Judged("a station of which three devices of four are ahead", shifted([1, 3, 4], 37), {
         "Clocks": (RED, d2, "37.000 s behind", "the capture's clock is off, or the station's")})
     yield Judged("two devices of four that are ahead", shifted([1, 2], 37), {"Clocks": (RED, d2, "36.999 s ahead", "D1LD0/LLN0$GO$gcb1")})
+    yield Judged("two devices of four that are behind", shifted([1, 2], -20), {"Clocks": (RED, d2, "20.001 s behind", "D1LD0/LLN0$GO$gcb1")})
 
 
 def sources():
     turns = capture(packets(changed(lambda it: it.device == 3 and it.sequence % 2 == 0, source=0x99)))
-    yield Judged("two sources in turns", turns, {"Source addresses": (RED, "D3LD0/LLN0$GO$gcb1", "02-00-00-00-01-03 from packet", "02-00-00-00-01-99 from packet")})
+    yield Judged("two sources in turns", turns, {"Source addresses": (RED, "D3LD0/LLN0$GO$gcb1", "02-00-00-00-01-03 from packet",
+        "02-00-00-00-01-99 from packet")})
     taken = capture(packets(changed(lambda it: it.device == 3 and later(6)(it), source=0x99)))
     yield Judged("a source that takes over", taken, {"Source addresses": (AMBER, "took over for good", "02-00-00-00-01-99 from packet")})
-    twin = in_order([*packets(), *packets(lambda it: it.device == 3 and setattr(it, "simulated", True) is None and setattr(it, "source", 0x99) is None)])
-    yield Judged("a simulated copy from a test set", capture(twin), {"Simulation": (RED, "D3LD0/LLN0$GO$gcb1", "still on at the end"), "Events acted on": (RED,)})
+    twin = in_order([*packets(), *packets(lambda it: it.device == 3 and setattr(it, "simulated", True) is None and setattr(it, "source",
+        0x99) is None)])
+    yield Judged("a simulated copy from a test set", capture(twin), {"Simulation": (RED, "D3LD0/LLN0$GO$gcb1", "still on at the end"),
+        "Events acted on": (RED,)})
     streams = in_order([*stream(100, 1, a_frame=1), *stream(100, 1, a_frame=1, source=0x32)])
     yield Judged("a stream of two sources in turns", capture(streams), {"Source addresses": (RED, "MU1: 02-00-00-00-00-31 from packet 1 on")},
                  "--period", "100")
@@ -212,21 +233,24 @@ def simulation():
 
 def synchronised():
     def sampled(*values):
-        """A second of samples, each part of it with another smpSynch."""
-        held = list(stream(100, 1, a_frame=1))
+        """Three seconds of samples, each part of them with another smpSynch."""
+        held = list(stream(100, 3, a_frame=1))
         size = len(held) // len(values)
-        return capture((at, it.replace(b"\x85\x01\x02", bytes([0x85, 1, values[min(place // size, len(values) - 1)]]))) for place, (at, it) in enumerate(held))
+        return capture((at, it.replace(b"\x85\x01\x02", bytes([0x85, 1, values[min(place // size, len(values) - 1)]]))) for place, (at,
+            it) in enumerate(held))
 
     for name, octets, *told in (
             ("samples by a global clock", sampled(2), GREEN, "2 (global clock)"), ("samples by a local clock", sampled(1), GREEN, "1 (local clock)"),
-            ("samples of another clock", sampled(2, 1), AMBER, "smpSynch changes: MU1: 2 from packet 1 on", "1 from packet 51 on (22:13:20.510000 UTC)"),
-            ("samples of another clock for a while", sampled(1, 254, 1), AMBER, "254 from packet 34 on", "1 from packet 67 on"),
+            ("samples of another clock", sampled(2, 1), AMBER, "smpSynch changes: MU1: 2 from packet 1 on",
+             "1 from packet 151 on (22:13:21.510000 UTC)"),
+            ("samples of another clock for a while", sampled(1, 254, 1), AMBER, "254 from packet 101 on", "1 from packet 201 on"),
             ("samples that are not synchronised", sampled(0), AMBER, "smpSynch is 0", "from packet 1 on"),
-            ("samples that are synchronised later", sampled(0, 2), AMBER, "smpSynch is 0", "2 from packet 51 on"),
-            ("samples that lose their clock", sampled(2, 0), RED, "smpSynch goes to 0", "MU1: 0 from packet 51 on (22:13:20.510000 UTC)")):
+            ("samples that are synchronised later", sampled(0, 2), AMBER, "smpSynch is 0", "2 from packet 151 on"),
+            ("samples that lose their clock", sampled(2, 0), RED, "smpSynch goes to 0", "MU1: 0 from packet 151 on (22:13:21.510000 UTC)")):
         yield Judged(name, octets, {"Synchronisation": told}, "--period", "100")
     differing = in_order([*stream(100, 1, a_frame=1), *stream(100, 1, b"MU2", a_frame=1, smp_synch=element(0x85, b"\1"))])
-    yield Judged("streams of two clocks", capture(differing), {"Synchronisation": (AMBER, "differs between streams", "1 (local clock); 2 (global clock)")},
+    yield Judged("streams of two clocks", capture(differing), {"Synchronisation": (AMBER, "differs between streams",
+        "1 (local clock); 2 (global clock)")},
                  "--period", "100")
 
 
@@ -246,36 +270,51 @@ def rates():
     lost = capture(gone(stream(4000, 1.45), 0.21, 1.21))
     yield Judged("a stream whose rate the capture shows", good, {"Samples": (GREEN, "MU1: 4,000 samples a second by what the capture shows")})
     yield Judged("a whole second of samples gone, and no rate given", lost, {"Losses": (RED, "4,000 samples missing")})
-    yield Judged("another rate than is given", lost, {"Samples": (AMBER, "the capture shows about 4,000 samples a second, and not 4,800 (by --period)")},
+    yield Judged("another rate than is given", lost, {"Samples": (AMBER,
+        "the capture shows about 4,000 samples a second, and not 4,800 (by --period)")},
                  "--period", "4800")
     yield Judged("the rate that is given", good, {"Samples": (GREEN, "4,000 samples a second by --period")}, "--period", "4000")
     slow = capture(stream(200, 1, a_frame=1))
-    yield Judged("a stream of no usual rate", slow, {"Samples": (AMBER, "samples of 1 stream are not judged: MU1", "no rate is known", "give --period N")})
+    yield Judged("a stream of no usual rate", slow, {"Samples": (AMBER, "samples of 1 stream are not judged: MU1", "no rate is known",
+        "give --period N")})
     yield Judged("a stream of no usual rate that is given", slow, {}, "--period", "200")
     two = capture(in_order([*gone(stream(4000, 0.5), 0.2, 0.25), *stream(4800, 0.45, b"MU2", source=0x32)]))
     both = [f"{name}: {rate} samples a second by what the capture shows" for name, rate in (("MU1", "4,000"), ("MU2", "4,800"))]
     yield Judged("two streams of two rates", two, {"Losses": (RED, "200 samples missing"), "Samples": (GREEN, *both)})
-    yield Judged("two streams of two rates that are given", two, {"Losses": (RED, "200 samples missing"), "Samples": (GREEN, "MU2: 4,800 samples a second by --period")},
+    yield Judged("two streams of two rates that are given", two, {"Losses": (RED, "200 samples missing"), "Samples": (GREEN,
+        "MU2: 4,800 samples a second by --period")},
                  "--period", "MU2=4800", "--period", "4000")
+    whole = in_order([*stream(4000, SHORT), *stream(4800, SHORT, b"MU2", source=0x32, count=4000)])
+    yield Judged("two streams of two rates, of which nothing is missing", capture(whole), {"Losses": (GREEN,), "Samples": (GREEN, *both)})
+    lacking = without(lambda it: it.device == 2 and it.sequence == 101)
+    yield Judged("two streams of two rates beside a lost frame", capture(in_order([*whole, *lacking])), {"Losses": (RED, "1 frame missing (")})
     yield Judged("a rate that is given twice", two, {"Losses": (RED, "200 samples missing")}, "--period", "MU1=50", "--period", "MU1=4000")
-    for rate, mode, words in ((80, None, "smpRate 80, a period at 50 Hz"), (80, "SmpPerPeriod", "smpRate 80, a period at 50 Hz"), (4000, "SmpPerSec", "smpRate 4000, a second")):
-        yield Judged(f"the rate of an SCL file, {rate} of {mode}", capture(stream(4000, SHORT)), {"Samples": (GREEN, f"4,000 samples a second by of.scd: {words}")},
+    for rate, mode, words in ((80, None, "smpRate 80, a period at 50 Hz"), (80, "SmpPerPeriod", "smpRate 80, a period at 50 Hz"), (4000, "SmpPerSec",
+        "smpRate 4000, a second")):
+        yield Judged(f"the rate of an SCL file, {rate} of {mode}", capture(stream(4000, SHORT)), {"Samples": (GREEN,
+            f"4,000 samples a second by of.scd: {words}")},
                      scd=configured_stream("MU1", rate, mode))
     other = {"Samples": (RED, "another rate than in of.scd: MU1", "the capture shows about 4,000 samples a second, and not 4,800")}
     yield Judged("another rate than in the SCL file", capture(stream(4000, SHORT)), other, scd=configured_stream("MU1", 4800, "SmpPerSec"))
-    yield Judged("a rate of the SCL file that --frequency makes another", capture(stream(4000, SHORT)), other, "--frequency", "60", scd=configured_stream("MU1", 80))
-    yield Judged("a rate of the SCL file at 60 Hz", capture(stream(4800, SHORT)), {"Samples": (GREEN, "smpRate 80, a period at 60 Hz")}, scd=configured_stream("MU1", 80))
-    yield Judged("seconds a sample", capture(stream(4000, SHORT)), {"Samples": (AMBER, "smpRate is seconds a sample")}, scd=configured_stream("MU1", 2, "SecPerSmp"))
-    yield Judged("96,000 samples a second", capture(stream(4000, 0.1)), {"Samples": (AMBER, "96,000 samples a second", "more than two octets can count")},
+    yield Judged("a rate of the SCL file that --frequency makes another", capture(stream(4000, SHORT)), other, "--frequency", "60",
+                 scd=configured_stream("MU1", 80))
+    yield Judged("a rate of the SCL file at 60 Hz", capture(stream(4800, SHORT)), {"Samples": (GREEN, "smpRate 80, a period at 60 Hz")},
+                 scd=configured_stream("MU1", 80))
+    yield Judged("seconds a sample", capture(stream(4000, SHORT)), {"Samples": (AMBER, "smpRate is seconds a sample")}, scd=configured_stream("MU1",
+        2, "SecPerSmp"))
+    yield Judged("96,000 samples a second", capture(stream(4000, 0.1)), {"Samples": (AMBER, "96,000 samples a second",
+        "more than two octets can count")},
                  scd=configured_stream("MU1", 96000, "SmpPerSec"))
     short = capture(stream(4000, 0.2))
-    yield Judged("a recording too short to show the frequency", short, {"Samples": (AMBER, "give --frequency 50 or 60")}, scd=configured_stream("MU1", 80))
+    yield Judged("a recording too short to show the frequency", short, {"Samples": (AMBER, "give --frequency 50 or 60")},
+                 scd=configured_stream("MU1", 80))
     yield Judged("a frequency that is given", short, {"Samples": (GREEN, "a period at 60 Hz")}, "--frequency", "60", scd=configured_stream("MU1", 80))
     for rate, mode, words in ((80, 0, "smpRate 80, a period at 50 Hz"), (4000, 1, "smpRate 4000, a second")):
         fields = {"smp_rate": element(0x86, rate.to_bytes(2, "big")), "smp_mod": element(0x88, bytes([0, mode]))}
         yield Judged(f"the rate that frames tell, {mode}", capture(stream(4000, SHORT, **fields)), {"Samples": (GREEN, f"by its frames: {words}")})
     fields = {"smp_rate": element(0x86, (80).to_bytes(2, "big")), "smp_mod": b""}
-    yield Judged("the rate that frames tell without smpMod", capture(stream(4000, SHORT, **fields)), {"Samples": (GREEN, "4,000 samples a second by its frames: smpRate 80")})
+    yield Judged("the rate that frames tell without smpMod", capture(stream(4000, SHORT, **fields)), {"Samples": (GREEN,
+        "4,000 samples a second by its frames: smpRate 80")})
 
 
 # ---- What a device receives --------------------------------------------------
@@ -288,7 +327,8 @@ def received():
     yield Judged("a device that receives all", good, {"Received": (GREEN, "4 of 4 control blocks that SUB receives")}, *asked, scd=clean)
     refused = capture(packets(changed(of(1, 2, 3, 4), revision=7)))
     names = [f"SUB accepts no frame of D{it}LD0/LLN0$GO$gcb1: 14 frames refused (ConfRev)" for it in range(1, 5)]
-    yield Judged("a device that accepts no frame", refused, {"Received": (RED, *names), "Configuration": (RED,), "Events acted on": (RED,)}, *asked, scd=clean)
+    yield Judged("a device that accepts no frame", refused, {"Received": (RED, *names), "Configuration": (RED,), "Events acted on": (RED,)}, *asked,
+                 scd=clean)
     never = {"Received": (AMBER, "no frame of D5LD0/LLN0$GO$gcb1 came", "capture for longer"), "Configuration": (RED,)}
     yield Judged("a block that did not come in a short recording", good, never, *asked, scd=scd)
     yield Judged("a block that did not come in less than its MaxTime", good, never, *asked, scd=configured_blocks(range(1, 6), 20000))

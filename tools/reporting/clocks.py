@@ -70,7 +70,7 @@ class Device:
         """How far its clock is from the capture's, where its frames tell: new states do, and a t that is ahead."""
         new = [it.offset for it in self.moments if it.is_new]
         most = max(it.offset for it in self.moments)
-        return statistics.median(new) if new else most if most > AHEAD else None
+        return statistics.median_high(new) if new else most if most > AHEAD else None
 
     def worst(self, common):
         """The frame by which it is furthest off, beside what is common to all, or None."""
@@ -138,7 +138,8 @@ class Stretch:
         """A row for each device that is off."""
         for device, worst in self.off:
             beside = " beside the other devices" if self.common else ""
-            yield page.row(COLUMNS, [page.element("span", senders.hyphened(device.source), class_="whole"), page.Raw("<br/>".join(map(page.text, device.names))),
+            yield page.row(COLUMNS, [page.element("span", senders.hyphened(device.source), class_="whole"), page.Raw("<br/>".join(map(page.text,
+                device.names))),
                                      page.duration(round(worst.offset, -3)), worst.where.packet, page.when(worst.where, short),
                                      f"{told(worst.offset - self.common)}{beside}"], found=5)
 
@@ -151,8 +152,10 @@ def stretches(clocks, leaps):
 
 def judge(found, _own):
     parts = found.clocks
-    off = [f"{device.told()}: t is {told(worst.offset - part.common)}, packet\u00a0{worst.where.packet}" for part in parts for device, worst in part.off]
-    common = [f"t of most devices is {told(part.common)} alike{f' from packet {part.first} on' if part.first else ''}" for part in parts if part.common]
+    off = [f"{device.told()}: t is {told(worst.offset - part.common)}, packet\u00a0{worst.where.packet}" for part in parts for device,
+           worst in part.off]
+    common = [f"t of most devices is {told(part.common)} alike{f' from packet {part.first} on' if part.first else ''}"
+              for part in parts if part.common]
     if off:
         yield finding(f"clock: {some(off)}.")
     if common:

@@ -38,7 +38,8 @@ def of_recorder(found):
     """Packets that the recorder dropped or cut."""
     drops = [f"{page.count(it.drops, 'packet')} at {it.name or f'interface {at}'}" for at, it in enumerate(found.recorded.interfaces) if it.drops]
     if drops:
-        yield not_judged(f"the recorder dropped {some(drops)}: what is missing may be its own.", "capture again with a larger buffer, or filter while capturing")
+        yield not_judged(f"the recorder dropped {some(drops)}: what is missing may be its own.",
+                         "capture again with a larger buffer, or filter while capturing")
     cut = found.recorded.cut
     if cut.number:
         yield not_judged(f"the recorder cut {page.count(cut.number, 'packet')}, from packet\u00a0{cut.first} on: errors of these may be its own.",
@@ -51,8 +52,8 @@ def of_times(found):
     if times.backs:
         it = times.greatest_back
         more = f", first at packet\u00a0{times.backs[0].first.packet}" if it is not times.backs[0] else ""
-        yield finding(f"times go back, at packet\u00a0{it.first.packet} by up to {page.duration(it.by)} from that of packet\u00a0{it.greatest}{more}: "
-                      "silences after it cannot be seen.")
+        yield finding(f"times go back, at packet\u00a0{it.first.packet} by up to {page.duration(it.by)} "
+                      f"from that of packet\u00a0{it.greatest}{more}: silences after it cannot be seen.")
     leaps = [f"by {page.duration(it.after - it.before)} before packet\u00a0{it.packet}" for it in times.leaps]
     if leaps:
         yield not_judged(f"the capture's clock leapt {some(leaps)}: all senders were silent at once, and none left out a sqNum.",
@@ -71,7 +72,8 @@ def silences(found):
     times = found.station.times
     if times.backs:
         more = f"; {page.count(found.missing.hidden, 'silence')} that they show may be none" if found.missing.hidden else ""
-        yield not_judged(f"times go back at packet\u00a0{times.backs[0].first.packet}: silences after packet\u00a0{times.backs[0].greatest} cannot be seen{more}.",
+        it = times.backs[0]
+        yield not_judged(f"times go back at packet\u00a0{it.first.packet}: silences after packet\u00a0{it.greatest} cannot be seen{more}.",
                          "mend the times, as with editcap -t or reordercap, and report again")
     own = sum(it.silences + it.outages for it in times.leaps)
     if own:

@@ -20,7 +20,8 @@ COLUMNS = [page.Column("Time"), page.Column("Packet"), page.Column("Sender"), pa
 # The kinds that are findings, in the order of the summary. The other two are told and are no loss.
 FOUND = ("end-silent", "silent", "restarted", "states-missing", "frames-missing", "samples-missing", "count-out-of-range", "sample-late", "late")
 TOLD = ("sample-repeated", "synch")
-WORDS = {"silent": ("silence", "silences"), "end-silent": ("sender silent at the end", "senders silent at the end"), "restarted": ("restart", "restarts"),
+WORDS = {"silent": ("silence", "silences"), "end-silent": ("sender silent at the end", "senders silent at the end"), "restarted": ("restart",
+    "restarts"),
          "states-missing": ("state missing", "states missing"), "frames-missing": ("frame missing", "frames missing"),
          "samples-missing": ("sample missing", "samples missing"), "count-out-of-range": ("count out of range", "counts out of range"),
          "sample-late": ("late sample", "late samples"), "late": ("late frame", "late frames"),
@@ -160,7 +161,8 @@ class Missing:
 
     def list(self, record, where):
         self.rows.write(page.row(COLUMNS, [page.when(where, self.short), f"{where.packet}", sender_of(record),
-                                           record["kind"].replace("-", " "), details(record, self.short)], found=3 if record["kind"] in FOUND else None))
+                                           record["kind"].replace("-", " "), details(record,
+                                               self.short)], found=3 if record["kind"] in FOUND else None))
         self.picture.finding(record, where)
 
     def ending(self, record):

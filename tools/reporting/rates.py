@@ -143,7 +143,8 @@ def shown(measured):
 
 def row(stream, rate):
     number = "" if rate.number is None else f"{rate.number:,}"
-    return page.row(COLUMNS, [page.element("span", page.named(stream.name), class_="name"), number, rate.source or "", f"about {rate.measured:,.0f}" if rate.measured else "too little to tell",
+    return page.row(COLUMNS, [page.element("span", page.named(stream.name), class_="name"), number, rate.source or "",
+                              f"about {rate.measured:,.0f}" if rate.measured else "too little to tell",
                               "yes" if rate.why is None else f"no: {rate.why}"], found=4 if rate.why else None)
 
 

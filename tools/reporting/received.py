@@ -28,10 +28,12 @@ def judge(found, own):
         elif block and reasons(block):
             yield finding(f"{own.ied} accepts no frame of {name}: {reasons(block)}.")
         elif seen and seen.frames:
-            yield finding(f"{own.ied} accepts no frame of {name}, of which {page.count(seen.frames, 'frame')} came (first: packet\u00a0{seen.first.packet}).")
+            yield finding(f"{own.ied} accepts no frame of {name}, of which {page.count(seen.frames, 'frame')} came "
+                          f"(first: packet\u00a0{seen.first.packet}).")
         elif length < (MILLISECOND * longest if longest else LONG):
             until = f"MaxTime is {longest:,} ms" if longest else "its MaxTime is not known"
             yield not_judged(f"no frame of {name} came in {found.all_packets}, {page.duration(length)} long; {until}.", "capture for longer")
         else:
             yield finding(f"no frame of {name} came in {found.all_packets}, which {own.ied} receives.")
-    yield clean(f"{accepted:,} of {page.count(len(found.blocks), 'control block')} that {own.ied} receives came and were accepted in {found.all_packets}.")
+    blocks = page.count(len(found.blocks), "control block")
+    yield clean(f"{accepted:,} of {blocks} that {own.ied} receives came and were accepted in {found.all_packets}.")

@@ -150,7 +150,8 @@ class Recorded:
         elif kind == INTERFACE:
             told = self.options(octets[at + 16:at + size - 4])
             link, _, snapshot = self.fields.interface(octets, at + 8)
-            self.section.append(Interface(self.text(told.get(NAME)), self.text(told.get(DESCRIPTION, UNREAD if size > MOST else None)), link, snapshot))
+            self.section.append(Interface(self.text(told.get(NAME)), self.text(told.get(DESCRIPTION, UNREAD if size > MOST else None)), link,
+                                          snapshot))
             self.interfaces.append(self.section[-1])
         else:
             self.statistics(octets, at, size)

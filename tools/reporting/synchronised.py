@@ -13,7 +13,8 @@ COLUMNS = [page.Column("Stream"), page.Column("smpSynch"), page.Column("Changes"
 
 def meaning(value):
     """What a value of smpSynch says."""
-    return {NONE: "0 (not synchronised)", GLOBAL: "2 (global clock)"}.get(value, f"{value} (local clock)" if value == 1 or 5 <= value <= 254 else f"{value}")
+    return {NONE: "0 (not synchronised)", GLOBAL: "2 (global clock)"}.get(value,
+        f"{value} (local clock)" if value == 1 or 5 <= value <= 254 else f"{value}")
 
 
 class Synch:
@@ -33,12 +34,13 @@ class Synch:
     @property
     def lost(self):
         """Where it goes to 0 from another value."""
-        return [(value, where) for (before, _), (value, where) in zip(self.values, self.values[1:]) if value == NONE != before]
+        return [(value, where) for value, where in self.values[1:] if value == NONE]
 
     def told(self, short):
         """The values in order, each with the place from which on it holds."""
         more = [f"{self.changes + 1 - len(self.values)} more"] if self.changes + 1 > len(self.values) else []
-        held = [page.element("span", [f"{meaning(value)} from ", page.when(where, short), f" (packet\u00a0{where.packet}) on"]) for value, where in self.values]
+        held = [page.element("span", [f"{meaning(value)} from ", page.when(where, short), f" (packet\u00a0{where.packet}) on"]) for value,
+                where in self.values]
         return page.Raw("<br/>".join(map(page.text, [*held, *more])))
 
 
