@@ -44,6 +44,10 @@ def installed_wrong(prefix):
                 env={**os.environ, "PATH": "/usr/bin:/bin", "GOOSE": ""})
     if asked.returncode or asked.stderr or not asked.stdout.startswith(b"<svg "):
         yield f"draw_recording: {asked!r}"
+    for tool in ("goose-report", "goose-to-csv", "goose-scl-blocks"):
+        asked = ran([prefix / "bin" / tool, "--help"], cwd=documents, env={**os.environ, "PATH": path})
+        if asked.returncode or not asked.stdout.startswith(f"usage: {tool} ".encode()):
+            yield f"{tool}: {asked!r}"
     for words, wanted in ((["goose", ""], {*reference.HELP, "--help", "--version"}), (["goose", "re"], {"replay", "rewrite"}),
                           (["goose", "watch", "--p"], {"--period"}), (["goose", "losses", "--p"], {"--period"})):
         completed = ran(["bash", "-c", COMPLETE, "bash", str(prefix / "share/bash-completion/completions/goose"), *words],

@@ -40,11 +40,16 @@ PACKETS, MOST_SECONDS, MOST_MEMORY = 500000, 10, 200 * 1024
 
 # An earlier page, by what a page has near its head.
 EARLIER = b'<!DOCTYPE html>\n<html lang="en">\n<head>\n<meta charset="utf-8"/>\n<meta name="generator" content="goose report"/>\nbefore'
-# What tells how wide each frame of a page is, and what stands in it.
+# What tells how wide each frame of a page is, what stands in it, and how many elements reach beyond it: but for those in what can be moved
+# sideways, and heads of tables that are shown to readers of screens alone.
 WIDTHS = """onload = () => {
+  const beyond = root => [...root.querySelectorAll("body *")].filter(it => !it.closest(".scroll, thead, svg")
+    && it.getBoundingClientRect().right > root.clientWidth + 1).length
   const roots = [...document.querySelectorAll("iframe")].map(it => it.contentDocument.documentElement)
-  document.title = roots.map(it => `${it.clientWidth}:${it.scrollWidth}`).join(" ")
+  document.title = roots.map(it => `${it.clientWidth}:${it.scrollWidth}:${beyond(it)}`).join(" ")
 }"""
+# The widths of windows in pixels, and what an A4 sheet has between its margins.
+WINDOWS, SHEET = (360, 1000, 1400), 703
 
 
 # ---- Pages read --------------------------------------------------------------
@@ -157,7 +162,7 @@ def why_losses_wrong(page, found):
         totals = [(sender(it), *(it[name] for name in names if name in it)) for it in found if it["kind"] == kind]
         rows = next((rows for caption, rows in page.tables.items() if caption.startswith("Totals of c" if "goose" in kind else "Totals of s")), [])
         got = [(row[0], *map(whole, row[1:-1] if len(row) > 2 else row[1:])) for row in rows]
-        yield from compared(kind, totals, got)
+        yield from compared(kind, sorted(totals), sorted(got))
 
 
 def leaves(members, path=""):
@@ -183,12 +188,13 @@ def changes(acts):
     return first, others
 
 
-def why_events_wrong(page, found):
+def why_events_wrong(page, found, is_named=False):
+    """Members are not compared where an SCL file names them: other tests do."""
     acts = [it for it in found if it["kind"] == "act"]
     for caption, wanted in zip((FIRST, EVENTS), changes(acts)):
         rows = list(zip(page.rows(caption), page.times.get(caption, [])))
         told = [(int(row[1]), row[2], int(row[3]), int(row[4]), times[0], row[6]) for row, times in rows if row[5]]
-        yield from compared(caption, wanted, told)
+        yield from compared(caption, *([it[:-1] for it in held] if is_named else held for held in (wanted, told)))
     delays = {int(row[1]): length(row[5]) for caption in (FIRST, EVENTS) for row in page.rows(caption) if row[5]}
     yield from compared("delays", {it["packet"]: it["delay"] for it in acts if abs(it["delay"]) < 600 * 10**6},
                         {packet: it for packet, it in delays.items() if packet in {it["packet"] for it in acts if abs(it["delay"]) < 600 * 10**6}})
@@ -293,7 +299,7 @@ class Told:
         frames, over = told(program, self.octets, "show")
         own = self.blocks or [it["text"] for it in blocks if it["kind"] == "block"]
         yield from why_senders_wrong(page, blocks, frames)
-        yield from why_events_wrong(page, told(program, self.octets, "replay", "--", *own)[0] if own else [])
+        yield from why_events_wrong(page, told(program, self.octets, "replay", "--", *own)[0] if own else [], "DataTypeTemplates" in (self.scd or ""))
         yield from why_losses_wrong(page, told(program, self.octets, "losses", *period)[0])
         yield from why_errors_wrong(page, told(program, self.octets, "check")[0])
         yield from why_others_wrong(page, over)
@@ -441,7 +447,10 @@ class Browsed:
 
     def why_rendered_wrong(self, browser, folder, octets):
         (folder / "page.html").write_bytes(octets)
-        frames = "".join(f'<iframe src="page.html" style="width:{width}px;height:900px"></iframe>' for width in (360, 1000))
+        printed = octets.decode().replace("@media print", "@media all").replace("@media screen and", "@media not all and")
+        (folder / "printed.html").write_text(printed)
+        pages = [("page.html", width) for width in WINDOWS] + [("printed.html", SHEET)]
+        frames = "".join(f'<iframe src="{name}" style="width:{width}px;height:900px;border:0"></iframe>' for name, width in pages)
         (folder / "frames.html").write_text(f"<!DOCTYPE html><body>{frames}<script>{WIDTHS}</script>")
         dumped = self.dump(browser, folder / "page.html", folder)
         inside = lambda text: re.sub(r"\s+", "", re.sub(r"<[^>]*>", "", text.partition("<main>")[2].partition("</main>")[0]).replace("&#x27;", "'")
@@ -450,7 +459,7 @@ class Browsed:
             yield f"it shows another text, of {len(inside(dumped))} letters: {dumped[:200]}"
         title = re.search(r"<title>([^<]*)</title>", self.dump(browser, folder / "frames.html", folder))
         widths = [it.split(":") for it in title[1].split(" ")] if title else []
-        if len(widths) != 2 or any(int(wide) > int(seen) or int(seen) < 300 for seen, wide in widths):
+        if len(widths) != len(pages) or any(int(wide) > int(seen) or int(seen) < 300 or int(beyond) for seen, wide, beyond in widths):
             yield f"it is wider than its window: {title and title[1]}"
 
     def dump(self, browser, file, folder):

@@ -29,8 +29,8 @@ class Broken:
 class Asked:
     """The runs of goose over a capture, in order."""
 
-    def __init__(self, path, progress):
-        self.path, self.progress, self.goose = path, progress, goose()
+    def __init__(self, path, progress, given):
+        self.path, self.progress, self.given, self.goose = path, progress, given, goose()
         self.commands, self.messages, self.broken, self.packets = [], [], None, None
 
     def version(self):
@@ -99,7 +99,7 @@ class Asked:
         name = record["error"]
         told = next((line.partition(f"{name}: ")[2] for line in lines if f"{name}: " in line), "")
         if record["packet"] == 0:
-            raise Ended(f"{self.path} is no capture that can be read: {name}: {told}", more=lines[1:])
+            raise Ended(f"{self.given} is no capture that can be read: {name}: {told}", more=lines[1:])
         self.broken = Broken(record["packet"], name, told)
 
     def passed_over(self):

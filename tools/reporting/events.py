@@ -3,7 +3,8 @@ import collections
 import json
 import re
 
-from reporting import naming, page
+import member_names
+from reporting import page
 from reporting.places import HEAD, place
 
 ENTRY = re.compile(HEAD.pattern + rb',"block":(\d+),')
@@ -11,7 +12,7 @@ ENTRY = re.compile(HEAD.pattern + rb',"block":(\d+),')
 SAMPLED = b'"kind":"sampled"}'
 REASON = re.compile(rb'"reason":"(\w+)"')
 COLUMNS = [page.Column("Time"), page.Column("Packet", page.NUMBER), page.Column("Control block"), page.Column("stNum", page.NUMBER),
-           page.Column("sqNum", page.NUMBER), page.Column("Delay from t", page.NUMBER), page.Column("Members that changed, or what else happened")]
+           page.Column("sqNum", page.NUMBER), page.Column("Delay from\u00a0t", page.NUMBER), page.Column("Members that changed, or what else happened")]
 FIRST = [*COLUMNS[:-1], page.Column("Members")]
 # The kinds of entries of a block, in the order in which they are told, and those that are listed beside what is acted on.
 KINDS = ("act", "refreshed", "repeated", "old", "refused", "expired", "switched")
@@ -43,7 +44,7 @@ class Block:
 
     def __init__(self, record):
         self.appid, self.name, self.counts, self.members = record["appid"], record["gocbRef"], {}, None
-        self.names, self.event = naming.POSITIONS, None
+        self.names, self.event = member_names.NONE, None
 
     def count(self, kind, found):
         if kind in self.counts:
@@ -87,7 +88,7 @@ class Events:
     """The entries of a replay: the events, and a picture of all entries. Comments of the capture stand among them."""
 
     def __init__(self, picture, trip, names=None, restarts=(), comments=(), most=page.MOST_ROWS):
-        self.picture, self.trip, self.names, self.restarts, self.comments = picture, trip, names or naming.Unnamed(), restarts, collections.deque(comments)
+        self.picture, self.trip, self.names, self.restarts, self.comments = picture, trip, names or member_names.Names(), restarts, collections.deque(comments)
         self.blocks, self.acts, self.first, self.last, self.slowest = {}, 0, None, None, None
         self.listed, self.beyond, self.more, self.firsts, self.started, self.restarted = [], None, 0, [], 0, None
         self.most = most
@@ -118,7 +119,7 @@ class Events:
         """The comments up to a packet, or all that are left."""
         while self.comments and (packet is None or self.comments[0].packet <= packet):
             it = self.comments.popleft()
-            self.list(Event("comment", it, None, it.told))
+            self.list(Event("comment", it.place, None, it.told))
 
     def act(self, record, block, where):
         """An event that the device acts on. Its stNum is answered."""
@@ -266,6 +267,7 @@ def row(event, short):
 def first_row(event, short):
     """A row of the first states."""
     told = some(values(event)) if event.members else "no members"
+    told = page.element("span", [told, page.element("span", f" {member_names.DIFFERS}", class_="note mark")]) if event.names.differs else told
     return page.row(FIRST, [page.when(event.place, short), event.place.packet, page.element("span", page.named(event.block.name), class_="name"),
                             event.record["stNum"], event.record["sqNum"], delay_of(event.record), told])
 

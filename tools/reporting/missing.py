@@ -84,6 +84,8 @@ class Missing:
         self.kinds, self.senders, self.many, self.totals = {}, {}, {}, []
         # The last silence of each sender: its packet and the gap in all packets in which it began; and how many silences cannot be seen.
         self.silences, self.hidden, self.periods, self.devices = {}, 0, {}, {}
+        # How many rows are listed, of how many octets, and how many may be; the senders silent at the end that are not.
+        self.listed, self.octets, self.most, self.more_ends = 0, 0, page.MOST_ROWS, 0
 
     def see(self, lines):
         for line in lines:
@@ -108,7 +110,7 @@ class Missing:
         number = self.senders[held] = self.senders.get(held, 0) + 1
         if not self.of_times(kind, line, found, held[0]):
             self.count(kind.decode(), size_of(line, kind), int(found[1]))
-        if number <= MOST:
+        if self.most is None or (number <= MOST and self.has_room()):
             self.list(json.loads(line), place(found))
             return
         many = self.many.setdefault(held, Many())
@@ -159,10 +161,16 @@ class Missing:
         held[1] += size
         held[2] = packet if held[2] is None or packet is None else min(packet, held[2])
 
+    def has_room(self):
+        return self.most is None or (self.listed < self.most and self.octets < page.MOST_OCTETS)
+
+    def write(self, row):
+        self.listed, self.octets = self.listed + 1, self.octets + len(row)
+        self.rows.write(row)
+
     def list(self, record, where):
-        self.rows.write(page.row(COLUMNS, [page.when(where, self.short), f"{where.packet}", sender_of(record),
-                                           record["kind"].replace("-", " "), details(record,
-                                               self.short)], found=3 if record["kind"] in FOUND else None))
+        self.write(page.row(COLUMNS, [page.when(where, self.short), f"{where.packet}", sender_of(record),
+                                      record["kind"].replace("-", " "), details(record, self.short)], found=3 if record["kind"] in FOUND else None))
         self.picture.finding(record, where)
 
     def ending(self, record):
@@ -171,13 +179,24 @@ class Missing:
         if kind.startswith("total-"):
             self.totals.append(record)
         elif kind == "end-silent":
-            if self.times.ends_back:
-                self.hidden += 1
-            else:
-                self.count(kind, 1, None)
-            self.rows.write(page.row(COLUMNS, ["end of the capture", "none after", sender_of(record), "silent at the end",
-                                               details(record, self.short)], found=3))
-            self.picture.finding(record, Place(None, record["since"] + record["for"], None))
+            self.silent_at_end(record)
+
+    def silent_at_end(self, record):
+        """A sender that is silent at the end. One of simulated frames is a test set that stopped, which is no loss."""
+        is_test = record.get("simulation", False)
+        if is_test:
+            self.count("simulated-ended", 1, None)
+        elif self.times.ends_back:
+            self.hidden += 1
+        else:
+            self.count("end-silent", 1, None)
+        if self.has_room():
+            what = "simulated frames ended" if is_test else "silent at the end"
+            self.write(page.row(COLUMNS, ["end of the capture", "none after", sender_of(record), what, details(record, self.short)],
+                                found=None if is_test else 3))
+        else:
+            self.more_ends += 1
+        self.picture.finding(record, Place(None, record["since"] + record["for"], None))
 
     def rest(self):
         """Rows of what was not listed one by one."""
@@ -243,9 +262,9 @@ SAMPLED = {"samples": "Samples", "missing": "Missing", "late": "Late", "repeated
            "outages": "Gaps", "longest": "Longest gap"}
 
 
-def totals(records, kind, names, first):
+def totals(records, kind, names, first, order):
     """A table of totals: columns and rows."""
-    held = [it for it in records if it["kind"] == kind]
+    held = sorted((it for it in records if it["kind"] == kind), key=lambda it: order(it.get("gocbRef") or it["svID"], it["appid"], it.get("source", "")))
     there = {name: words for name, words in names.items() if any(name in it for it in held)}
     columns = [page.Column(first), *(page.Column(words, page.NUMBER) for words in there.values())]
     return columns, [page.row(columns, [sender_of(it), *(total(it, name) for name in there)]) for it in held]

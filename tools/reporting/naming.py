@@ -1,33 +1,4 @@
-"""What members and devices are called: members by their positions where no file names them, devices by an SCL file or by references."""
-from reporting import page
-
-
-class Positions:
-    """Members that nothing is known of: they are told by their positions, and their values as goose shows them."""
-
-    is_known = False
-
-    def path(self, path):
-        return path
-
-    def word(self, _path, member):
-        return page.shown(member)
-
-    def is_trip(self, _path):
-        return False
-
-    def is_breaker(self, _path):
-        return False
-
-
-POSITIONS = Positions()
-
-
-class Unnamed:
-    """Names where no file is given."""
-
-    def names_of(self, _appid, _reference, _members, _data_set=None):
-        return POSITIONS
+"""The device that a control block belongs to: by an SCL file, or by the block's reference."""
 
 
 class Devices:

@@ -38,7 +38,7 @@ caption { text-align: left; font-weight: 600; padding: 0.3rem 0; font-size: 0.95
 th, td { text-align: left; vertical-align: top; padding: 0.3rem 0.5rem; border-bottom: 1px solid var(--line); }
 thead th { border-bottom: 2px solid var(--line); color: var(--soft); font-weight: 600; }
 tbody th { font-weight: 600; }
-td.number, th.number { text-align: right; font-variant-numeric: tabular-nums; } .wide td.number, .wide th.number { width: 1%; }
+td.number, th.number { text-align: right; font-variant-numeric: tabular-nums; }
 .mark { color: var(--alarm); font-weight: 600; }
 details { margin: 0.6rem 0; } summary { font-weight: 600; cursor: pointer; }
 time { font-variant-numeric: tabular-nums; white-space: nowrap; }
@@ -59,12 +59,15 @@ svg text { fill: var(--ink); font: 13px system-ui, "Segoe UI", Roboto, "DejaVu S
 svg .scale, svg .state { fill: var(--soft); font-size: 12px; }
 svg .lane { font-weight: 600; }
 svg .grid { stroke: var(--line); } svg .moment { stroke: var(--alarm); stroke-width: 1.5; stroke-dasharray: 4 3; } svg .words { font-size: 12px; }
+svg .lead { stroke: var(--soft); stroke-width: 0.7; }
 svg .valid { fill: var(--held); } svg .flow { fill: var(--flow); } svg .silent { fill: var(--silent); }
 svg .act { fill: var(--act); } svg .refreshed { stroke: var(--refreshed); stroke-width: 1.5; }
 svg .repeated { fill: none; stroke: var(--repeated); stroke-width: 1.5; } svg .old { fill: var(--old); }
 svg .refused { fill: none; stroke: var(--refused); stroke-width: 2; } svg .switched { fill: var(--switched); }
 svg .expired { stroke: var(--expired); stroke-width: 3; } svg .lost { fill: var(--lost); } svg .late { fill: none; stroke: var(--lost);
   stroke-width: 1.8; } svg text.act { fill: var(--act); font-size: 12px; }
+@media screen and (min-width: 720px) { .wide td.number, .wide th.number { width: 1%; } }
+@media print { .wide td.number, .wide th.number { width: 1%; } }
 @media screen and (min-width: 1000px) { .wide .name { display: inline-block; min-width: 9rem; } }
 @media screen and (max-width: 719px) {
   body { padding: 0.7rem; } h1 { font-size: 1.35rem; }
@@ -79,7 +82,11 @@ svg .expired { stroke: var(--expired); stroke-width: 3; } svg .lost { fill: var(
 }
 @page { size: A4; margin: 14mm 12mm; }
 @media print {
-  body { max-width: none; padding: 0; font-size: 9.5pt; } h1 { font-size: 16pt; } h2 { font-size: 12.5pt; margin-top: 1.2rem; }
+  body { max-width: none; padding: 0; font-size: 9.5pt; } h1 { font-size: 14pt; margin: 0 0 0.3rem; }
+  h2 { font-size: 12pt; margin: 0.9rem 0 0.3rem; padding-top: 0.2rem; } p { margin: 0.2rem 0; }
+  .verdict { font-size: 10.5pt; padding: 0.25rem 0.5rem; } .summary, p { max-width: none; }
+  .summary li { font-size: 8pt; line-height: 1.25; padding: 0.12rem 0.5rem; margin: 0.1rem 0; }
+  .wide .name { display: inline-block; min-width: 10.5em; } .legend { break-after: avoid; }
   h2, h3, caption, figcaption { break-after: avoid; } tr, .summary li, figure { break-inside: avoid; } thead { display: table-header-group; break-after: avoid; } thead tr { break-after: avoid; }
   table { font-size: 7.6pt; } .legend, figcaption { font-size: 8pt; } th, td { padding: 0.15rem 0.3rem; } .summary a { display: none; }
   a { color: inherit; text-decoration: none; }

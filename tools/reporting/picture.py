@@ -7,6 +7,8 @@ from reporting import page
 from time_axis import places_of, step_of
 
 WIDTH, SIDE, TOP, LANE, BAR, TRACK = 1000, 24, 34, 54, 14, 33
+# The most octets of pictures, and the most marks and bars of one lane.
+MOST_OCTETS, MOST_DRAWN = 250_000, 150
 # How each entry is drawn around (0, 0), in the order of the legend, and what it is.
 MARKS = {
     "act": ('<circle class="act" {at} r="5"/>', "act: the device takes a new state; its stNum below"),
@@ -147,10 +149,34 @@ class Picture:
         firsts = [it.first - BEFORE for it in self.bursts]
         return [it for it in self.bursts[:bisect.bisect_right(firsts, until)] if it.until >= since]
 
+    def sort(self, order):
+        """Puts the lanes in order: control blocks by device and name, then streams."""
+        self.lanes = dict(sorted(self.lanes.items(), key=lambda it: (len(it[0]), *order(it[0][-1], *it[0]))))
+
     def end(self):
         """The end of the capture: what has not expired by then is still valid."""
         for lane in self.lanes.values():
             lane.end(self.axis.first + self.axis.span)
+
+
+class Limited:
+    """Figures as long as there is room for them. The others are counted. One at least is drawn."""
+
+    def __init__(self, is_all):
+        self.is_all, self.octets, self.more = is_all, 0, 0
+
+    def some(self, figures):
+        for it in figures:
+            if self.octets == 0 or self.is_all or (not self.more and self.octets + len(it) <= MOST_OCTETS):
+                self.octets += len(it)
+                yield it
+            else:
+                self.more += 1
+
+    def left_out(self):
+        """A sentence on those that are not drawn, which is known behind them."""
+        if self.more:
+            yield page.Raw(page.element("p", f"{page.count(self.more, 'more picture')} not drawn: --all draws all.", class_="soft") + "\n")
 
 
 # ---- Drawing -----------------------------------------------------------------
@@ -184,10 +210,36 @@ def labels(marks, y):
             free = x + half
 
 
+def thinned(marks):
+    """The marks of a lane, of which those close to another of their kind are left out where there are very many. Retransmissions are one
+    path, and stay."""
+    step, held, rest = 1, {key: label for key, label in marks.items() if key[0] != "refreshed"}, {}
+    while len(held) > MOST_DRAWN:
+        step, rest = step * 2, {}
+        for (kind, x), label in sorted(held.items(), key=lambda it: it[0][1]):
+            rest.setdefault((kind, x // step), ((kind, x), label))
+        held = dict(rest.values())
+    return {**held, **{key: label for key, label in marks.items() if key[0] == "refreshed"}}
+
+
+def joined(bars):
+    """The bars of a lane: where there are very many, those close to the next of their kind are one with it."""
+    gap, held = 1, list(bars)
+    while len(held) > MOST_DRAWN:
+        gap, before, held = gap * 2, held, []
+        for kind, x, wide in sorted(before):
+            if held and held[-1][0] == kind and x - held[-1][1] - held[-1][2] <= gap:
+                held[-1] = (kind, held[-1][1], max(held[-1][2], x + wide - held[-1][1]))
+            else:
+                held.append((kind, x, wide))
+    return held
+
+
 def lane_of(name, marks, bars, top):
     """One lane: its name, bars, and marks over them."""
     y = top + TRACK
     yield text(SIDE, top + 11, name if len(name) <= LONGEST_NAME else f"{name[:LONGEST_NAME]} ..", class_="lane")
+    marks, bars = thinned(marks), joined(bars)
     for kind, x, wide in sorted(bars, key=lambda it: list(BARS).index(it[0])):
         yield f'<rect class="{kind}" x="{x}" y="{y - BAR // 2}" width="{wide}" height="{BAR}"/>'
     # Retransmissions are many: they are one path, and lie under the other marks.

@@ -4,17 +4,22 @@ import os
 import struct
 import zlib
 
+from output import date
+from reporting.places import Place
+
 PIECE = 1 << 20
 # What a file begins with: classic captures of both orders, in microseconds and nanoseconds, and pcapng.
 CLASSIC = {0xA1B2C3D4: "microseconds", 0xA1B23C4D: "nanoseconds"}
 SECTION, INTERFACE, OLD_PACKET, SIMPLE, STATISTICS, PACKET = 0x0A0D0D0A, 1, 2, 3, 5, 6
 LINKS = {1: "Ethernet", 105: "Wi-Fi (IEEE 802.11)", 113: "Linux cooked (LINUX_SLL)", 127: "Wi-Fi (radiotap)", 276: "Linux cooked (LINUX_SLL2)"}
 ETHERNET = 1
-# Options of an interface and of a section.
-NAME, DESCRIPTION, APPLICATION = 2, 3, 4
+# Options of an interface and of a section: a comment stands in any block. Of an interface also the unit of its times and from when on they count.
+COMMENT, NAME, DESCRIPTION, APPLICATION, UNIT, OFFSET = 1, 2, 3, 4, 9, 14
 # Options of an interface's statistics: packets that the card and that the system dropped, from the beginning on. Of a packet: how many
 # were dropped before it.
 CARD_DROPS, SYSTEM_DROPS, DROPS = 5, 7, 4
+# The most comments that are kept, and letters of one.
+MOST_COMMENTS, MOST_LETTERS = 400, 500
 # The most octets of a block that are looked into, and what is told of an interface whose names can lie behind them.
 MOST = 1 << 20
 UNREAD = "what its block says after 1 MiB is not read"
@@ -49,13 +54,24 @@ class Interface:
 
     def __init__(self, name, description, link, snapshot=0):
         self.name, self.description, self.link = name, description, LINKS.get(link, f"link type {link}")
-        self.is_ethernet, self.snapshot = link == ETHERNET, snapshot
+        self.is_ethernet, self.snapshot, self.unit, self.offset = link == ETHERNET, snapshot, 6, 0
         self.packets, self.first, self.last, self.dropped, self.dropped_before = 0, None, None, 0, 0
+
+    def microseconds(self, ticks):
+        """The time of a packet; the unit of the interface's times is a power of ten, or of two."""
+        return self.offset * 10**6 + (ticks * 10**6 >> (self.unit & 0x7F) if self.unit & 0x80 else ticks * 10**6 // 10**self.unit)
 
     @property
     def drops(self):
         """How many packets were dropped, by what says more: its statistics or its packets."""
         return max(self.dropped, self.dropped_before)
+
+
+class Comment:
+    """What somebody wrote to a packet, and its place."""
+
+    def __init__(self, place, told):
+        self.place, self.packet, self.told = place, place.packet, told
 
 
 class Cut:
@@ -77,6 +93,8 @@ class Recorded:
         self.form, self.application, self.numbers, self.most = "", None, 0, packets
         self.order, self.section, self.rest, self.skip, self.is_over, self.cut = "<", [], b"", 0, False, Cut()
         self.walk, self.fields = self.blocks, FIELDS["<"]
+        # The comments of packets in their order, those of the capture, and how many more there are.
+        self.comments, self.remarks, self.more_comments = [], [], 0
         with open(path, "rb") as file:
             while piece := file.read(PIECE):
                 self.digest.update(piece)
@@ -145,27 +163,32 @@ class Recorded:
 
     def block(self, kind, octets, at, size):
         if kind == SECTION:
-            self.section = []
-            self.application = self.application or self.text(self.options(octets[at + 24:at + size - 4]).get(APPLICATION))
+            self.section, told = [], self.options(octets[at + 24:at + size - 4])
+            self.application = self.application or self.text(told.get(APPLICATION))
+            self.remark(told)
         elif kind == INTERFACE:
             told = self.options(octets[at + 16:at + size - 4])
             link, _, snapshot = self.fields.interface(octets, at + 8)
             self.section.append(Interface(self.text(told.get(NAME)), self.text(told.get(DESCRIPTION, UNREAD if size > MOST else None)), link,
                                           snapshot))
             self.interfaces.append(self.section[-1])
+            self.section[-1].unit = told.get(UNIT, b"\6")[0] if told.get(UNIT) else 6
+            self.section[-1].offset = int.from_bytes(told.get(OFFSET, b""), "little" if self.order == "<" else "big", signed=True)
+            self.remark(told)
         else:
             self.statistics(octets, at, size)
 
     def packet(self, kind, octets, at, size):
         """A packet: its interface, whether it is cut, and what was dropped before it."""
-        dropped = 0
+        dropped, told = 0, {}
         self.is_over = self.is_over or self.numbers >= self.most or size < (16 if kind == SIMPLE else 32)
         if self.is_over:
             return
         if kind == PACKET:
-            which, _, _, captured, original = self.fields.packet(octets, at + 8)
+            which, high, low, captured, original = self.fields.packet(octets, at + 8)
             if 36 + captured < size:
-                dropped = self.number(self.options(octets[at + 28 + (captured + 3) // 4 * 4:at + size - 4]).get(DROPS))
+                told = self.options(octets[at + 28 + (captured + 3) // 4 * 4:at + size - 4])
+                dropped = self.number(told.get(DROPS))
         elif kind == OLD_PACKET:
             which, dropped, _, _, captured, original = self.fields.old_packet(octets, at + 8)
             dropped = dropped if dropped < 0xFFFF else 0
@@ -179,8 +202,22 @@ class Recorded:
         it = self.section[which]
         it.packets, it.first, it.last = it.packets + 1, it.first or self.numbers, self.numbers
         it.dropped_before += dropped
+        if COMMENT in told:
+            self.comment(it.microseconds(high << 32 | low), told[COMMENT])
         if captured < original:
             self.cut.add(self.numbers)
+
+    def comment(self, microseconds, octets):
+        """A comment of the packet that is looked at."""
+        if len(self.comments) < MOST_COMMENTS:
+            self.comments.append(Comment(Place(self.numbers, microseconds, date(microseconds)), self.text(octets)[:MOST_LETTERS]))
+        else:
+            self.more_comments += 1
+
+    def remark(self, told):
+        """The comment of a section or interface."""
+        if COMMENT in told and len(self.remarks) < MOST_COMMENTS:
+            self.remarks.append(self.text(told[COMMENT])[:MOST_LETTERS])
 
     def statistics(self, octets, at, size):
         """The statistics of an interface, which count from the beginning on."""
@@ -203,12 +240,13 @@ class Recorded:
         return sum(it.drops for it in self.interfaces)
 
     def options(self, octets):
-        """The octets of options by their codes; the last of a code counts."""
+        """The octets of options by their codes; the last of a code counts, and of comments all."""
         found, at = {}, 0
         while at + 4 <= len(octets):
             code, size = struct.unpack_from(f"{self.order}HH", octets, at)
             if code == 0:
                 break
-            found[code] = octets[at + 4:at + 4 + size]
+            told = octets[at + 4:at + 4 + size]
+            found[code] = found[code] + b"; " + told if code == COMMENT and code in found else told
             at += 4 + (size + 3) // 4 * 4
         return found

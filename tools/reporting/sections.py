@@ -1,15 +1,21 @@
 """The sections of the page, each from what was found."""
+import os
 import shlex
+import sys
 
 import senders
 from reporting import clocks, events, faults, missing, page, picture, rates, synchronised
 
 # How many leaps of the capture's clock are told.
 MOST_LEAPS = 20
+# The most letters of one command that are told.
+MOST_WORDS = 20000
 BLOCKS = [page.Column("Reference"), page.Column("APPID"), page.Column("Addresses"), page.Column("Lifetime"), page.Column("Frames", page.NUMBER),
           page.Column("First and last"), page.Column("Data set, goID, confRev, members")]
 STREAMS = [page.Column("svID"), page.Column("APPID"), page.Column("Addresses"), page.Column("Frames", page.NUMBER), page.Column("First and last"),
            page.Column("confRev", page.NUMBER)]
+FILES = [page.Column("File"), page.Column("Size", page.NUMBER), page.Column("Packets", page.NUMBER), page.Column("First packet", page.NUMBER),
+         page.Column("SHA-256")]
 FACTS = [page.Column("What"), page.Column("Value")]
 INTERFACES = [page.Column("Interface"), page.Column("Link type"), page.Column("Packets", page.NUMBER), page.Column("First packet", page.NUMBER),
               page.Column("Last packet", page.NUMBER)]
@@ -40,8 +46,11 @@ def whole(value):
 def recorded(found, own):
     """The file, its packets and its interfaces."""
     file, station = found.recorded, found.station
-    rows = [("File", page.element("span", found.name, class_="name")), ("Format", file.form), ("Size", f"{file.size:,} octets")]
+    rows = [("File", page.element("span", found.name, class_="name")), ("Format", file.form), ("Size", size_of(found))]
     rows += [("Saved by", file.application)] if file.application else []
+    rows += [("Comment", it) for it in file.remarks]
+    rows += [("Comments of packets", f"{len(file.comments) + file.more_comments:,}, which stand among the events"
+              + (f" up to packet\u00a0{file.comments[-1].packet}: {file.more_comments:,} more are not told" if file.more_comments else ""))] if file.comments else []
     rows += [("Packets", f"{found.packets:,}" + (f" ({page.packets(1, found.packets)})" if found.packets else "")),
              ("Of these", "; ".join(kinds_of(found)))]
     if station.first:
@@ -50,21 +59,46 @@ def recorded(found, own):
     told = [page.table("The capture", FACTS, [page.row(FACTS, it) for it in rows], False)]
     if found.is_short and station.first and station.first.time:
         told.append(paragraph(f"Times below are UTC, on {station.first.time[:10]}.", class_="soft"))
+    if len(found.source.parts) > 1:
+        told.append(page.bounded("Files, whose packets are numbered one after another", FILES, map(file_row, found.source.parts), found.room, "file"))
     if any(it.name or it.description or it.packets for it in file.interfaces):
-        told.append(page.table("Interfaces", INTERFACES, [interface(at, it) for at, it in enumerate(file.interfaces)]))
+        told.append(page.bounded("Interfaces", INTERFACES, (interface(at, it) for at, it in enumerate(file.interfaces)), found.room, "interface"))
     if found.others:
         told.append(page.table("Frames of other protocols, which are counted and not judged", OTHERS, [page.row(OTHERS, [
             name.replace("EtherType ", ""), f"{number:,}", first]) for number, name, first in found.others], False))
     return section("What was recorded", "recorded", *told)
 
 
+def size_of(found):
+    """The octets of a capture, and of what was uncompressed."""
+    parts, size = found.source.parts, found.recorded.size
+    if not parts:
+        return f"{size:,} octets"
+    return f"{sum(it.size for it in parts):,} octets" + (f", {size:,} uncompressed" if len(parts) == 1 and parts[0].size != size else "")
+
+
+def file_row(part):
+    cut = page.element("span", " breaks off", class_="mark") if part.is_cut else ""
+    return page.row(FILES, [page.element("span", [page.named(part.name), cut]), f"{part.size:,}", f"{part.packets:,}", part.first if part.packets else "",
+                            page.digits(part.sha256)])
+
+
 def commands(found, own):
     """The commands by which all of the page can be had again, the program and the capture's checksum."""
-    ran = [shlex.join(["tools/report", *own.words])] + [f"{shlex.join(['goose', *it])} < {shlex.quote(found.name)}" for it in found.commands]
+    tool = os.path.basename(sys.argv[0])
+    ran = [shlex.join([tool if tool.startswith("goose-") else f"tools/{tool}", *own.words])]
+    ran += [found.source.command(shlex.join(["goose", *it]) if found.room.is_all else clipped(shlex.join(["goose", *it])), shlex.quote)
+            for it in found.commands]
+    held = found.source.parts if len(found.source.parts) == 1 else [] if found.source.parts else [found.recorded]
     told = [page.element("pre", page.element("code", "\n".join(ran))),
             page.table("The program and the file", FACTS, [page.row(FACTS, it) for it in (
-                ("Program", found.version), ("SHA-256 of the capture", page.digits(found.recorded.sha256)))], False)]
+                ("Program", found.version), *((f"SHA-256 of {'the capture' if len(held) == 1 else it.name}", page.digits(it.sha256)) for it in held))], False)]
     return section("Commands", "commands", *told)
+
+
+def clipped(command):
+    """A command line, cut where it is very long."""
+    return command if len(command) <= MOST_WORDS else f"{command[:MOST_WORDS]} .."
 
 
 def full(place):
@@ -180,7 +214,7 @@ def station(found, own, short):
         told.append(paragraph(f"{own.scd}, line {line}: {reference} is not compared: {why}."))
     for it in found.clocks:
         where = f"from packet\u00a0{it.first} on" if it.first else f"{found.all_packets}"
-        told += [page.table(f"Clocks of devices beside the capture's, {where}", clocks.COLUMNS, it.rows(short))] if it.off else []
+        told += [page.bounded(f"Clocks of devices beside the capture's, {where}", clocks.COLUMNS, it.rows(short), found.room, "row")] if it.off else []
     return section("Control blocks and streams", "station", *told)
 
 
@@ -214,13 +248,16 @@ def lost(found, _own, rows):
     """Losses, silences, restarts, late frames, and totals."""
     it, told = found.missing, []
     if it.kinds or it.senders or it.hidden:
-        told += [page.head("Findings in the order of packets", missing.COLUMNS), rows, it.rest(), page.FOOT]
+        found.room.left -= it.octets
+        told += [page.head("Findings in the order of packets", missing.COLUMNS), rows, page.FOOT, page.left_out(it.more_ends, "sender silent at the end",
+                                                                                                              "senders silent at the end")]
+        told += [page.bounded("Findings that are not listed one by one", missing.COLUMNS, it.rest(), found.room, "row")] if it.many else []
     else:
         told.append(paragraph(f"Nothing is missing, late, silent or restarted in {found.all_packets}."))
     for kind, names, what, first in (("total-goose", missing.GOOSE, "Totals of control blocks", "Control block"),
                                      ("total-sv", missing.SAMPLED, "Totals of streams", "Stream")):
-        columns, held = missing.totals(it.totals, kind, names, first)
-        told += [page.table(f"{what}, {found.all_packets}", columns, held)] if held else []
+        columns, held = missing.totals(it.totals, kind, names, first, found.devices.order)
+        told += [page.bounded(f"{what}, {found.all_packets}", columns, held, found.room, "row")] if held else []
     if not it.totals and found.broken:
         told.append(paragraph("There are no totals, since the capture breaks off."))
     for leap in found.station.times.leaps[:MOST_LEAPS]:
@@ -228,8 +265,9 @@ def lost(found, _own, rows):
                               f"that it shows from packet\u00a0{leap.first} on may be none."))
     streams = found.station.of_kind("stream")
     if streams:
-        told += [page.table("Rates of streams, by which samples are judged", rates.COLUMNS, [rates.row(it, found.rates[it]) for it in streams]),
-                 page.table("How samples are synchronised", synchronised.COLUMNS, synchronised.rows(streams, found.is_short))]
+        told += [page.bounded("Rates of streams, by which samples are judged", rates.COLUMNS, [rates.row(it, found.rates[it]) for it in streams],
+                              found.room, "stream"),
+                 page.bounded("How samples are synchronised", synchronised.COLUMNS, synchronised.rows(streams, found.is_short), found.room, "row")]
     told.append(paragraph("What is lost at the end of a state that another followed cannot be seen.", class_="soft"))
     return section("Losses, silences, restarts and late frames", "losses", *told)
 
@@ -249,9 +287,11 @@ def pictures(found, short):
         return section("Picture", "picture", paragraph(f"There is nothing to draw in {found.all_packets}."))
     kinds = {kind for lane in it.lanes.values() for kind, _ in lane.marks}
     bars = {kind for lane in it.lanes.values() for kind, *_ in lane.bars}
-    told = [picture.legend(kinds, bars), picture.overviews(it, found.station.first)]
+    drawn = picture.Limited(found.room.is_all)
+    told = [picture.legend(kinds, bars), drawn.some(picture.overviews(it, found.station.first))]
     if it.bursts:
-        told += [page.element("h3", "Events close up"), picture.zooms(it, short)]
+        told += [page.element("h3", "Events close up"), drawn.some(picture.zooms(it, short))]
+    told.append(drawn.left_out())
     if it.more:
         told.append(paragraph(f"{it.more:,} more, from packet\u00a0{it.beyond} on, are not drawn close up."))
     return section("Picture", "picture", *told)

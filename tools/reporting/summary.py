@@ -1,11 +1,14 @@
 """The summary: what was found, not judged or clean of each topic, each with the packets that it rests on."""
 from reporting import clocks, looked, missing, page, rates, received, simulation, sources, subscriptions, synchronised
-from reporting.verdict import Line, Verdict, clean, found as finding, some
+from reporting.verdict import Line, Verdict, clean, found as finding, not_judged, some
 
 
 def capture(found, _own):
     if found.broken:
         yield finding(f"it breaks off where packet\u00a0{found.broken.packet} should be ({found.broken.error}).")
+    cut = [f"{it.name} breaks off after its packet\u00a0{it.packets} (packet\u00a0{it.first + it.packets - 1} here)" for it in found.source.parts if it.is_cut]
+    if cut:
+        yield finding(f"{some(cut)}: what follows in it is missing.")
     yield from looked.judge(found)
     if not found.broken:
         others = found.passed
@@ -83,6 +86,8 @@ TOPICS = (("Capture", "recorded", capture), ("Received", "events", received.judg
 def verdict(found, own):
     """What each topic comes to."""
     lines = [Line(topic, key, list(judge(found, own))) for topic, key, judge in TOPICS]
+    unmet = found.trip.unmet()
+    lines += [Line("Trip", "trip", [not_judged(f"{unmet}, in {found.all_packets}.", "name another packet or member")])] if unmet else []
     return Verdict([it for it in lines if it.statements])
 
 

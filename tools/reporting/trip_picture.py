@@ -6,7 +6,7 @@ from time_axis import places_of, step_of
 # How high a lane's name, a line of words, and what is over and under all lanes are; how wide a letter is.
 NAME, LINE, TOP, BOTTOM, LETTER = 17, 15, 40, 8, 6.6
 # The most lanes, lines of words of one lane, members and letters of one mark.
-MOST_LANES, MOST_LINES, MOST_WORDS, MOST_LETTERS = 14, 6, 3, 60
+MOST_LANES, MOST_LINES, MOST_WORDS, MOST_LETTERS = 20, 6, 3, 60
 # What is drawn of the time around the first and the last event, as a part of the time between them; and the least time, in microseconds.
 MARGIN, LEAST = 12, 20_000
 
@@ -24,28 +24,30 @@ class Lane:
 
     def put(self, x, words):
         wide = LETTER * len(words)
-        is_left = x + 10 + wide > WIDTH and x - 10 - wide > 0
-        since, until = (x - 10 - wide, x - 10) if is_left else (x + 10, x + 10 + wide)
+        is_left = x + 6 + wide > WIDTH and x - 6 - wide > 0
+        since, until = (x - 6 - wide, x) if is_left else (x, x + 6 + wide)
         row = next((at for at, taken in enumerate(self.free) if all(until < a or since > b for a, b in taken)), len(self.free))
         if row == len(self.free) and row >= MOST_LINES:
             return
         if row == len(self.free):
             self.free.append([])
-        self.free[row].append((min(since, x), max(until, x)))
-        self.words.append((row, until if is_left else since, "end" if is_left else None, words))
+        self.free[row].append((since, until))
+        self.words.append((row, x, "end" if is_left else None, words))
 
     @property
     def height(self):
-        return NAME + LINE * max(len(self.free), 1) + 6
+        return NAME + LINE * (max(len(self.free), 1) + 1) + 4
 
     def drawn(self, top):
         y = top + NAME + 8
         yield text(SIDE, top + 12, self.name if len(self.name) <= LONGEST_NAME else f"{self.name[:LONGEST_NAME]} ..", class_="lane")
         yield f'<path class="grid" d="M{SIDE} {y}H{WIDTH - SIDE}"/>'
-        for kind, x in self.marks:
-            yield MARKS.get(kind, MARKS["act"])[0].format(at=f'transform="translate({x} {y})"')
         for row, x, anchor, words in self.words:
-            yield text(round(x), y + 4 + LINE * row, words, class_="words", text_anchor=anchor)
+            under = y + LINE * (row + 1)
+            yield f'<path class="lead" d="M{x} {y}V{under + 2}"/>'
+            yield text(x - 4 if anchor else x + 4, under + 2, words, class_="words", text_anchor=anchor)
+        for kind, x in self.marks:
+            yield MARKS[kind][0].format(at=f'transform="translate({x} {y})"')
 
 
 def words_of(event):

@@ -4,7 +4,7 @@ from reporting.events import delay_of
 from reporting.trip import AFTER, BEFORE
 
 COLUMNS = [page.Column("Time", page.NUMBER), page.Column("Packet", page.NUMBER), page.Column("Device"), page.Column("Control block"),
-           page.Column("Data"), page.Column("Old to new"), page.Column("Delay from t", page.NUMBER)]
+           page.Column("Data"), page.Column("Old to new"), page.Column("Delay from\u00a0t", page.NUMBER)]
 RULES = {"packet": "--trip names this packet", "member": "the member that --trip names goes true",
          "name": "by its name this member says that the device trips"}
 
@@ -23,8 +23,9 @@ def rows(moment, devices):
         device, block = devices.parts(event.block.name) if event.block else ("", "")
         for name, *values in told:
             yield page.row(COLUMNS, [
-                relative(moment.since(event)), event.packets(), page.element("span", page.named(device), class_="name"),
-                page.element("span", page.named(block), class_="name"), page.element("span", [page.digits(name), mark_of(event)]) if name else "",
+                relative(moment.since(event)), event.packets(), page.element("span", page.named(device)) if device else "",
+                page.element("span", page.named(block), class_="name") if block else "", page.element("span", [page.element("span", name, class_="digits name"), mark_of(event)])
+                if name else "",
                 page.digits(" \u2192 ".join(values)), delay_of(event.record) if event.kind == "act" else ""])
 
 

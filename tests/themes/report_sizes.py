@@ -1,0 +1,53 @@
+"""The page is bounded whatever the capture, and what it leaves out is counted."""
+import re
+
+from helpers.capture_parts import interface, packet, section
+from helpers.frames import element, with_fields
+from themes.report import EVENTS, Page, reported, told, words
+
+MOST_OCTETS, MOST_ROWS = 1_500_000, 200
+BLOCKS, ROUNDS = 230, 8
+
+
+def station():
+    """Very many control blocks with long names, each of which changes again and again, loses states and frames, and ends."""
+    for at in range(ROUNDS * BLOCKS):
+        block, turn = at % BLOCKS, at // BLOCKS
+        name = f"DEVICE_{block:03}/LLN0$GO$gcb_{'x' * 40}".encode()
+        members = b"".join(element(0x83, bytes([255 * (turn + it & 1)])) for it in range(60))
+        frame = with_fields(gocb_ref=element(0x80, name), st_num=element(0x85, bytes([1 + 2 * turn])), sq_num=element(0x86, bytes([turn % 3])),
+                            live=element(0x81, b"\x03\xe8"), entries=element(0x8A, b"\x3c"), members=element(0xAB, members))
+        yield packet(1_700_000_000 * 10**6 + at * 4000, frame)
+
+
+class Bounded:
+    """No table has over 200 rows and the page 1.5 MB, what is left out is counted, and --all lists it."""
+
+    name = "a page of very many control blocks, events and findings"
+
+    def why_wrong(self, program):
+        octets = section() + interface() + b"".join(station())
+        page, said, status, _ = reported(program, octets)
+        every, _, _, _ = reported(program, octets, "--all")
+        return list(self.why_pages_wrong(page, every, program, octets)) if page and every else [f"status {status}: {said}"]
+
+    def why_pages_wrong(self, octets, every, program, given):
+        page, whole = Page(octets), Page(every)
+        if len(octets) > MOST_OCTETS:
+            yield f"it has {len(octets)} octets"
+        yield from (f"{caption} has {len(rows)} rows" for caption, rows in page.tables.items() if len(rows) > MOST_ROWS)
+        blocks = [it["text"] for it in told(program, given, "blocks")[0] if it["kind"] == "block"]
+        acts = sum(it["kind"] != "refreshed" and it["kind"] != "repeated" for it in told(program, given, "replay", "--", *blocks)[0]) - BLOCKS
+        more = re.search(r"([\d,]+) more events, from packet \d+ on, are not listed", words(page.root.find(".//main")))
+        number = int(more[1].replace(",", "")) if more else 0
+        if len(page.rows(EVENTS)) + number != acts or len(whole.rows(EVENTS)) != acts:
+            yield f"{len(page.rows(EVENTS))} events are listed, {number} more are counted, {len(whole.rows(EVENTS))} are all, and there are {acts}"
+        folded = [words(it.find("summary")) for it in page.root.iter("details")]
+        if folded != [f"{BLOCKS} first states"]:
+            yield f"folded: {folded}"
+        if len(whole.rows("Control blocks (GOOSE)")) != BLOCKS:
+            yield f"--all lists {len(whole.rows('Control blocks (GOOSE)'))} control blocks"
+
+
+def cases():
+    yield Bounded()
