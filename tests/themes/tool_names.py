@@ -6,8 +6,10 @@ import tempfile
 
 from helpers import made_station
 from helpers.asked_tools import EXAMPLES, TOOLS, Asked, ask, module
-from helpers.harness import SECONDS, run, text
+from helpers.frames import element, with_fields
+from helpers.harness import SECONDS, classic_pcap, run, text
 from helpers.typed_station import appid, reference, scd
+from themes.report import body, words
 
 POSITION, GOOD = {"bits": "10"}, {"bits": "0000000000000"}
 TIME = {"utc": "6553f1000000000a", "time": "2023-11-14T22:13:20.000000Z", "quality": {}}
@@ -310,7 +312,46 @@ class Table(Each):
             yield f"the head of all columns is {head}"
 
 
+def captured(values, at=0):
+    """A frame of the two positions of dsDevices, or of other members, in its state `at`."""
+    members = b"".join(values)
+    told = {"gocb_ref": (0x80, reference("dsDevices").encode()), "dat_set": (0x82, b"CTLLD0/LLN0$dsDevices"), "go_id": (0x83, b"dsDevices"),
+            "st_num": (0x85, bytes([at + 1])), "entries": (0x8A, bytes([len(values)])), "members": (0xAB, members)}
+    frame = with_fields(**{name: element(*it) for name, it in told.items()})
+    return frame[:14] + bytes.fromhex(appid("dsDevices")) + frame[16:]
+
+
+class OnPage(Each):
+    """The page has names and words, or positions where the data set differs."""
+
+    def __init__(self, name, states, scl_words, wanted, unwanted):
+        self.name, self.states, self.scl_words, self.wanted, self.unwanted = f"report: {name}", states, scl_words, wanted, unwanted
+
+    def wrong(self, program):
+        with tempfile.TemporaryDirectory() as folder:
+            folder = pathlib.Path(folder)
+            (folder / "of.pcap").write_bytes(classic_pcap([captured(it, at) for at, it in enumerate(self.states)]))
+            (folder / "of.scd").write_text(scd())
+            (folder / "of.names").write_bytes(ask(program, "scl_blocks", ["--names", folder / "of.scd"])[0])
+            _, said, _ = ask(program, "report", [*self.scl_words, "of.pcap"], cwd=folder)
+            if not (folder / "report.html").exists():
+                return [f"{said!r}"]
+            page = words(body((folder / "report.html").read_bytes()))
+        return [f"the page lacks {it!r}" for it in self.wanted if it not in page] + [f"the page has {it!r}" for it in self.unwanted if it in page]
+
+
+def on_page():
+    on, off, true = (bytes.fromhex(it) for it in ("84020680", "84020640", "8301ff"))
+    change = "LD1/Q0XCBR1.Pos.stVal: on \u2192 off"
+    differs = "data set differs from the file: CTLLD0/LLN0$GO$gcbDevices, packet 1: their members are told by positions."
+    for words_of_scl in (["--scd", "of.scd"], ["--names", "of.names"]):
+        yield OnPage(f"names and words by {words_of_scl[0]}", [[on, on], [on, off]], words_of_scl, [change], ["data set differs"])
+        yield OnPage(f"a data set that differs by {words_of_scl[0]}", [[true, true], [on, off]], words_of_scl, [differs], [change])
+    yield OnPage("positions without a file", [[on, on], [on, off]], [], ["2: 10 \u2192 01"], ["Pos.stVal"])
+
+
 def cases():
+    yield from on_page()
     yield Names("--scd")
     yield Names("--names")
     yield Nameless()

@@ -1,4 +1,5 @@
 """The summary: what was found, not judged or clean of each topic, each with the packets that it rests on."""
+import member_names
 from reporting import clocks, looked, missing, page, rates, received, simulation, sources, subscriptions, synchronised
 from reporting.verdict import Line, Verdict, clean, found as finding, not_judged, some
 
@@ -39,7 +40,15 @@ def errors(found, _own):
     yield finding(f"{some(told)}.{notes}") if told else clean(f"none in {found.all_packets}.{notes}")
 
 
+def differing(found):
+    """The control blocks whose members are others than those of the file that names them, each with the first packet that is acted on."""
+    return {it.name: f"{it.name}, packet\u00a0{it.counts['act', None].first.packet}" for it in found.events.blocks.values() if it.names.differs}
+
+
 def configuration(found, own):
+    others = differing(found)
+    if others:
+        yield finding(f"{member_names.DIFFERS}: {some(list(others.values()))}: their members are told by positions.")
     if not own.scd:
         senders = page.count(len(found.station.seen), "control block or stream", "control blocks and streams")
         yield clean(f"no SCL file was given; {senders} in {found.all_packets}.")
@@ -53,7 +62,7 @@ def configuration(found, own):
         (strange, f"is not in {own.scd}", f"are not in {own.scd}")) if held]
     if told:
         yield finding(f"{'; '.join(told)}.")
-    agree = sum(held == [] for _, held in seen)
+    agree = sum(held == [] and it.name not in others for it, held in seen)
     yield clean(f"{agree:,} {'agrees' if agree == 1 else 'agree'} with {own.scd} in {found.all_packets}.")
 
 
