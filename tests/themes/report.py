@@ -566,8 +566,8 @@ class Spared:
     runs = (("of.pcap", (), b"of.pcap is the file of.pcap, which is read", 2), ("of.pcap", ("--force",), b"which is read", 2),
             ("../{here}/of.pcap", (), b"which is read", 2), ("hard.pcap", ("--force",), b"hard.pcap is the file of.pcap, which is read", 2),
             ("soft.pcap", (), b"which is read", 2), ("of.scd", ("--force",), b"of.scd is the file of.scd, which is read", 2),
-            ("notes.txt", (), b"notes.txt is there and is no page of tools/report: --force replaces it", 2), ("notes.txt", ("--force",), b"", 0),
-            ("empty.html", (), b"", 0), ("page.html", (), b"", 0), ("p" * 250 + ".html", (), b"", 0), ("p" * 250 + ".html", (), b"", 0))
+            ("notes.txt", (), b"notes.txt is there and is no page of tools/report: --force replaces it", 2), ("notes.txt", ("--force",), b"", 6),
+            ("empty.html", (), b"", 6), ("page.html", (), b"", 6), ("p" * 250 + ".html", (), b"", 6), ("p" * 250 + ".html", (), b"", 6))
     name = "a page in the place of what is read, or of another file"
 
     def why_wrong(self, program):
@@ -591,9 +591,9 @@ class Spared:
         scd = ["--scd", "of.scd"] if page == "of.scd" else []
         _, said, status = ask(program, "report", [*scd, *asked, "-o", page, "of.pcap"], cwd=folder)
         after = {it.name: it.read_bytes() for it in folder.iterdir()}
-        is_page = status == 0 and b"<main>" in after.pop(page, b"")
-        before.pop(page if status == 0 else "", None)
-        if status != wanted or part not in said or before != after or is_page != (wanted == 0):
+        is_page = status == 6 and b"<main>" in after.pop(page, b"")
+        before.pop(page if status == 6 else "", None)
+        if status != wanted or part not in said or before != after or is_page != (wanted == 6):
             yield f"-o {page} {asked}: status {status}, {said!r}, there is {sorted(after)}"
 
 
