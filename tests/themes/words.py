@@ -37,7 +37,8 @@ OWN_WORDS = {
 }
 # What would have been right, by what the message of the parser says: it stands behind that, or that says it itself.
 RIGHT = {
-    b"unrecognized subcommand": b"\nThe commands are show, check, rewrite, blocks, replay, publish, watch, losses and import; ",
+    b"unrecognized subcommand": b"\nThe commands are show, check, rewrite, blocks, replay, publish, watch, losses and import; goose --help says what "
+                                b"each does. A page of a capture: goose-report FILE, in a checkout tools/report FILE\n",
     b"unexpected argument": b"\nA list, script or capture is read from standard input: goose COMMAND < FILE; ",
     b"invalid value": b"\nN is a whole number from 2 to 65536: ",
     b"requires a subcommand": b"\n  [subcommands: show, check, rewrite, blocks, replay, publish, watch, losses, import]\n",

@@ -172,8 +172,14 @@ const REFUSALS: [(&[&str], ErrorKind); 16] = [
     (&["goose"], ErrorKind::MissingSubcommand),
     (&["goose", "fly"], ErrorKind::InvalidSubcommand),
     // Two options exclude each other, and a command that writes lists takes none.
-    (&["goose", "show", "--json", "--time"], ErrorKind::ArgumentConflict),
-    (&["goose", "rewrite", "--capture"], ErrorKind::UnknownArgument),
+    (
+        &["goose", "show", "--json", "--time"],
+        ErrorKind::ArgumentConflict,
+    ),
+    (
+        &["goose", "rewrite", "--capture"],
+        ErrorKind::UnknownArgument,
+    ),
     (&["goose", "--loud", "show"], ErrorKind::UnknownArgument),
     (&["goose", "show", "list"], ErrorKind::UnknownArgument),
     (

@@ -43,7 +43,7 @@ const BLOCK_FORM: &str =
 fn advice_on(kind: WordsErrorKind) -> Option<&'static str> {
     match kind {
         WordsErrorKind::InvalidSubcommand => Some(
-            "The commands are show, check, rewrite, blocks, replay, publish, watch, losses and import; goose --help says what each does",
+            "The commands are show, check, rewrite, blocks, replay, publish, watch, losses and import; goose --help says what each does. A page of a capture: goose-report FILE, in a checkout tools/report FILE",
         ),
         WordsErrorKind::UnknownArgument => Some(
             "A list, script or capture is read from standard input: goose COMMAND < FILE; goose COMMAND --help says which arguments a command takes",
