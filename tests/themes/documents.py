@@ -196,7 +196,7 @@ class Refused:
         table = (TOP / "docs" / "tables" / "WRONG_BODIES.md").read_text().replace("](../../", "](../").splitlines()
         rows = re.findall(r"(?m)^\| .*\.edit\) \| .* \|$", self.text)
         why = [f"the table has no row {it}" for it in rows if it not in table] + ([] if rows else ["there are no rows"])
-        others = len(list((TOP / "wrong_bodies").glob("*/*.edit")))
+        others = len(list((TOP / "crates").glob("*/wrong_bodies/*.edit")))
         why += [] if f"\n{others} more stand in" in self.text else [f"{others} others are not told"]
         for edit in sorted((TOP / "crates").glob("*/must-fail/*.edit")):
             name = str(edit.relative_to(TOP))

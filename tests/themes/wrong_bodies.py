@@ -58,7 +58,7 @@ class Tree:
                 self.put(f"crates/{crate}/{name}", "")
         for crate, edits in bodies.items():
             for name, new in edits.items():
-                self.put(f"wrong_bodies/{crate}/{name}.edit", f"file: src/lib.rt\nold: this\nnew: {new}\n")
+                self.put(f"crates/{crate}/wrong_bodies/{name}.edit", f"file: src/lib.rt\nold: this\nnew: {new}\n")
 
     def put(self, name, octets, mode=0o644):
         file = self.top / name
@@ -193,7 +193,7 @@ def wrong_words(tree):
         wanted = ([], f"tools/wrong_bodies: error: {why}", 2)
         yield " ".join(words), wanted, (lines, said.splitlines()[-1], status)
     lines, said, status = tree.run("--help")
-    first = "Tries the wrong bodies of the folder wrong_bodies: the prover must refuse each."
+    first = "Tries the wrong bodies of the folders crates/CRATE/wrong_bodies: the prover must refuse each."
     yield "help", (True, "", 0), (first in lines, said, status)
     yield "runs", [], tree.ran()
 
@@ -211,7 +211,7 @@ class Applied:
 
 def edits_of(crate):
     """The wrong bodies of a crate, those that the gate tries first."""
-    folders = (TOP / "crates" / crate / "must-fail", TOP / "wrong_bodies" / crate)
+    folders = (TOP / "crates" / crate / "must-fail", TOP / "crates" / crate / "wrong_bodies")
     return [it for folder in folders for it in sorted(folder.glob("*.edit"))]
 
 
@@ -249,6 +249,6 @@ def cases():
     yield Tries("a copy that is kept", kept)
     yield Tries("one that is ended early", ended)
     yield Tries("wrong words", wrong_words)
-    folders = [*(TOP / "crates").glob("*/must-fail"), *(TOP / "wrong_bodies").glob("*/*.edit")]
+    folders = [*(TOP / "crates").glob("*/must-fail"), *(TOP / "crates").glob("*/wrong_bodies")]
     for crate in sorted({it.parent.name for it in folders}):
         yield Applied(crate)
