@@ -334,6 +334,22 @@ def received():
     yield Judged("a block that did not come in less than its MaxTime", good, never, *asked, scd=configured_blocks(range(1, 6), 20000))
     told = {"Received": (RED, "no frame of D5LD0/LLN0$GO$gcb1 came"), "Configuration": (RED,)}
     yield Judged("a block that did not come in its MaxTime", good, told, *asked, scd=configured_blocks(range(1, 6), 5000))
+    yield Judged("a capture without a packet, and a device", capture([]), never, *asked, scd=configured_blocks([5]))
+
+
+def unjudged():
+    """What cannot be told of a block, or of a device, is not clean."""
+    good, clean = packets(), configured_blocks(range(1, 5))
+    told = {"Received": (AMBER, "of.scd has no control block that D1 receives")}
+    yield Judged("a device that receives nothing", capture(good), told, "--ied", "D1", scd=clean)
+    without_appid = configured_blocks(range(1, 6)).replace('<P type="APPID">1005</P>', "")
+    block = "D5LD0/LLN0$GO$gcb1 (line 1"
+    compared = {"Configuration": (AMBER, f"1 control block of of.scd cannot be compared: {block}): it has no GSE address with an APPID")}
+    yield Judged("a block of the SCL file that has no APPID", capture(good), compared, scd=without_appid)
+    told = {"Received": (AMBER, f"1 input of SUB cannot be judged: {block} of the SCL file): it has no GSE address with an APPID"), **compared}
+    yield Judged("a block without APPID that a device receives", capture(good), told, "--ied", "SUB", scd=without_appid)
+    comma = capture((at, it.replace(b"D2LD0/LLN0$GO$gcb1", b"D2LD0/LLN0$GO$gcb,")) for at, it in good)
+    yield Judged("a block whose name has a comma", comma, {"Events acted on": (AMBER, "no event is told of 1 control block", "D2LD0/LLN0$GO$gcb,: its texts")})
 
 
 def cases():
@@ -346,3 +362,4 @@ def cases():
     yield from synchronised()
     yield from rates()
     yield from received()
+    yield from unjudged()

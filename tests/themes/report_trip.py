@@ -7,7 +7,7 @@ from themes.report import EVENTS, FINDINGS, Page, reported, words
 
 TABLE = re.compile(r"Events from 200 ms before to 2 s after (the trip|this)")
 # What the section says of each rule.
-NAMED, OPENS, ALONE = "by its name this member says that the device trips", "this boolean goes true, and", "no boolean goes true in the 100 ms before"
+NAMED, OPENS, ALONE = "Chosen because the member's name says that the device trips.", "Chosen because this boolean goes true and", "no boolean goes true in the 100 ms before"
 BUSIEST, NONE, ASKED = "No trip was recognised. The busiest 100 ms begin", "no event meets any of the rules", "--trip names this packet"
 
 
@@ -164,6 +164,7 @@ def cases():
     yield Moment("a member that --trip names", FAULT, "the member that --trip names goes true", 2, "--trip", "GGIO1.Ind1", zero=cause, has_scd=True)
     yield Moment("a packet that --trip names", FAULT, ASKED, 6, "--trip", f"{closing}", has_scd=True)
     yield Moment("a packet that is not there", FAULT, "There is no packet 999, which --trip names.", 1, "--trip", "999", has_scd=True, status=6)
+    yield Moment("digits of another kind name no packet", FAULT, "No member \u00b2, which --trip names, goes true.", 1, "--trip", "\u00b2", has_scd=True, status=6)
     yield Moment("a member that does not go true", FAULT, "No member XCBR9.Pos, which --trip names, goes true.", 1, "--trip", "XCBR9.Pos", has_scd=True, status=6)
     yield Moment("a breaker that opens, by its name", BREAKER, OPENS, 0, zero=cause, has_scd=True)
     yield Moment("a breaker that opens, without names", BREAKER, "94.8 ms later a breaker opens", 0)

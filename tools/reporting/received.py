@@ -1,6 +1,6 @@
 """What a device gets of the control blocks that it subscribes to: a block of which it takes no frame is told by itself."""
 from reporting import page
-from reporting.verdict import clean, found as finding, not_judged
+from reporting.verdict import clean, found as finding, not_judged, some
 
 # The kinds of what a device does with a frame that it takes for one of its block.
 ACCEPTED = ("act", "refreshed", "repeated", "old")
@@ -35,5 +35,10 @@ def judge(found, own):
             yield not_judged(f"no frame of {name} came in {found.all_packets}, {page.duration(length)} long; {until}.", "capture for longer")
         else:
             yield finding(f"no frame of {name} came in {found.all_packets}, which {own.ied} receives.")
+    if found.untold:
+        told = [f"{what}: {why}" for what, why in found.untold]
+        yield not_judged(f"{page.count(len(told), 'input')} of {own.ied} cannot be judged: {some(told)}.", "mend the SCL file")
+    elif not found.blocks:
+        yield not_judged(f"{own.scd} has no control block that {own.ied} receives, so none is judged.", "name a device with IEDNames or Inputs")
     blocks = page.count(len(found.blocks), "control block")
     yield clean(f"{accepted:,} of {blocks} that {own.ied} receives came and were accepted in {found.all_packets}.")

@@ -283,7 +283,7 @@ def wrong(found, short):
 
 def pictures(found, short):
     it = found.picture
-    if not it or not it.lanes:
+    if not it.lanes or not found.packets:
         return section("Picture", "picture", paragraph(f"There is nothing to draw in {found.all_packets}."))
     kinds = {kind for lane in it.lanes.values() for kind, _ in lane.marks}
     bars = {kind for lane in it.lanes.values() for kind, *_ in lane.bars}

@@ -62,11 +62,14 @@ def configuration(found, own):
         (strange, f"is not in {own.scd}", f"are not in {own.scd}")) if held]
     if told:
         yield finding(f"{'; '.join(told)}.")
+    if found.unusable:
+        untold = [f"{reference} (line {line}): {why}" for line, reference, why in found.unusable]
+        yield not_judged(f"{page.count(len(untold), 'control block')} of {own.scd} cannot be compared: {some(untold)}.", "mend the SCL file")
     agree = sum(held == [] and it.name not in others for it, held in seen)
     yield clean(f"{agree:,} {'agrees' if agree == 1 else 'agree'} with {own.scd} in {found.all_packets}.")
 
 
-def events(found, _own):
+def events(found, own):
     it = found.events
     others = {}
     for block in it.blocks.values():
@@ -81,6 +84,9 @@ def events(found, _own):
         acts += f"; slowest first frame {page.duration(delay)} after t (packet\u00a0{packet})"
     if told:
         yield finding(f"{some(told)}.")
+    if found.untold and not own.ied:
+        untold = [f"{what}: {why}" for what, why in found.untold]
+        yield not_judged(f"no event is told of {page.count(len(untold), 'control block')} of {found.all_packets}: {some(untold)}.", "look at its frames with goose show")
     yield clean(f"{acts}.")
 
 

@@ -5,6 +5,7 @@ trips; a boolean goes true at most 100 ms before a breaker first opens, else tha
 a trip. First states are no changes, so no rule looks at them.
 """
 import collections
+import re
 
 from reporting.places import HEAD, Place
 
@@ -14,6 +15,8 @@ BEFORE, AFTER, CLOSE, APART = 200_000, 2_000_000, 100_000, 200_000
 # The most events that are kept around one moment, before it, and that are told of later ones.
 MOST_EVENTS, MOST_RECENT, MOST_LATER = 400, 500, 20
 ON, OPEN = "10", ("00", "01")
+# What --trip names a packet by.
+PACKET = re.compile("[0-9]{1,20}")
 
 
 class Cause:
@@ -68,7 +71,7 @@ class Trip:
     """The moments that the rules find, while the events come."""
 
     def __init__(self, asked=None):
-        self.packet, self.member = (int(asked), None) if asked and asked.isdigit() else (None, asked)
+        self.packet, self.member = (int(asked), None) if asked and PACKET.fullmatch(asked) else (None, asked)
         self.moments, self.recent, self.rises, self.changed = {}, collections.deque(maxlen=MOST_RECENT), collections.deque(), collections.deque()
         self.blocks = collections.Counter()
 

@@ -6,7 +6,7 @@ from reporting.trip import AFTER, BEFORE
 COLUMNS = [page.Column("Time", page.NUMBER), page.Column("Packet", page.NUMBER), page.Column("Device"), page.Column("Control block"),
            page.Column("Data"), page.Column("Old to new"), page.Column("Delay from\u00a0t", page.NUMBER)]
 RULES = {"packet": "--trip names this packet", "member": "the member that --trip names goes true",
-         "name": "by its name this member says that the device trips"}
+         "name": "the member's name says that the device trips"}
 
 
 def relative(microseconds):
@@ -52,7 +52,7 @@ def rule_of(rule, moment):
         if cause is opening:
             return f"{opens}; no boolean goes true in the 100 ms before"
         later = (opening.microseconds - cause.microseconds) / 1000
-        return f"this boolean goes true, and {later:,.1f} ms later {opens}"
+        return f"this boolean goes true and {later:,.1f} ms later {opens}"
     return RULES[rule]
 
 
@@ -63,7 +63,7 @@ def head(rule, moment, found):
         return [page.element("strong", ["No trip was recognised. The busiest 100 ms begin", *at]),
                 f": {page.count(moment.blocks, 'control block')} changed a boolean or a two-bit position. Name the trip with --trip PACKET or --trip NAME."]
     cause = [": ", *said(moment.cause, found.devices)] if moment.cause else []
-    return [page.element("strong", ["The trip" if moment.cause else "The moment asked for", *at]), *cause, f". Found since {rule_of(rule, moment)}."]
+    return [page.element("strong", ["The trip" if moment.cause else "The moment asked for", *at]), *cause, f". Chosen because {rule_of(rule, moment)}."]
 
 
 def later(rule, moment, found):
