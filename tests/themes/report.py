@@ -27,6 +27,8 @@ from themes.installing import binary
 OPTIONS = ["--capture", "--json", "--skip-other"]
 UNITS = {"ms": 1000, "s": 10**6, "min": 60 * 10**6, "h": 3600 * 10**6, "d": 86400 * 10**6}
 EVENTS, FIRST, FINDINGS = "Events in the order of packets", "First states", "Findings in the order of packets"
+# The columns of totals that goose does not tell, which other tests hold.
+OWN = ("Of these late", "Missing, but with an error", "Late, not missing")
 FRAMES_OF_ALL = "What the device did with all frames of its control blocks"
 ERRORS, NOTES, OTHERS = "Errors of frames, by kind", "Notes on valid frames", "Frames of other protocols, which are counted and not judged"
 HEADINGS = ["Summary", "The trip", "Events acted on", "Picture", "Losses, silences, restarts and late frames", "Control blocks and streams", "Errors",
@@ -74,6 +76,7 @@ class Page:
     def __init__(self, octets):
         self.root = body(octets)
         self.tables = {words(table.find("caption")): [[words(cell) for cell in row] for row in table.find("tbody")] for table in self.root.iter("table")}
+        self.heads = {words(table.find("caption")): [words(it) for it in table.find("thead").iter("th")] for table in self.root.iter("table")}
         self.times = {words(table.find("caption")): [[it.get("datetime") for it in row.iter("time")] for row in table.find("tbody")]
                       for table in self.root.iter("table")}
         self.summary = [(words(it), it.get("class")) for it in self.root.find(".//ol")]
@@ -150,7 +153,7 @@ def finding(it):
 def shown(row, times):
     """A finding as the page shows it."""
     _, place, who, kind, details = row
-    own = [length(details.partition(" since ")[0])] if "silent" in kind else numbers(details)
+    own = [length(details.partition(" since ")[0])] if "silent" in kind else numbers(details.partition(";")[0])
     return (int(place) if place.isdigit() else place, who, kind, times, own)
 
 
@@ -160,8 +163,9 @@ def why_losses_wrong(page, found):
     for kind, names in (("total-goose", ("frames", "statesMissing", "framesMissing", "late", "repeated", "restarted", "silent")),
                         ("total-sv", ("samples", "missing", "late", "repeated", "outOfRange", "outages"))):
         totals = [(sender(it), *(it[name] for name in names if name in it)) for it in found if it["kind"] == kind]
-        rows = next((rows for caption, rows in page.tables.items() if caption.startswith("Totals of c" if "goose" in kind else "Totals of s")), [])
-        got = [(row[0], *map(whole, row[1:-1] if len(row) > 2 else row[1:])) for row in rows]
+        caption = next((it for it in page.tables if it.startswith("Totals of c" if "goose" in kind else "Totals of s")), None)
+        own = [not head.startswith("Longest") and head not in OWN for head in page.heads.get(caption, [])]
+        got = [(row[0], *map(whole, [it for it, is_told in zip(row, own) if is_told][1:])) for row in page.rows(caption)]
         yield from compared(kind, sorted(totals), sorted(got))
 
 

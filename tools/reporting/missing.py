@@ -5,8 +5,10 @@ import math
 import re
 
 from reporting import page
+from reporting.late import Lates
 from reporting.places import HEAD, Place, place
 from reporting.times import SECOND
+from reporting.verdict import not_judged
 
 # How many findings of one kind and one sender the page lists one by one; the others are added up.
 MOST = 200
@@ -17,14 +19,16 @@ SINCE = re.compile(rb'"since":(\d+),.*"for":(\d+)\}$')
 # How much is missing, at the end of a line: a number, or the first and the last one.
 SIZE = re.compile(rb'"missing":(\d+)\}|"from":(\d+),"to":(\d+)\}')
 COLUMNS = [page.Column("Time"), page.Column("Packet"), page.Column("Sender"), page.Column("Finding"), page.Column("Details")]
-# The kinds that are findings, in the order of the summary. The other two are told and are no loss.
-FOUND = ("end-silent", "silent", "restarted", "states-missing", "frames-missing", "samples-missing", "count-out-of-range", "sample-late", "late")
+# The kinds that are findings, in the order of the summary. The others are told and are no loss.
+FOUND = ("end-silent", "silent", "restarted", "states-missing", "frames-missing", "samples-missing", "count-out-of-range", "sample-late")
+# Those that say which frames of a control block came or did not.
+NUMBERED = (b"restarted", b"states-missing", b"frames-missing", b"late")
 TOLD = ("sample-repeated", "synch")
 WORDS = {"silent": ("silence", "silences"), "end-silent": ("sender silent at the end", "senders silent at the end"), "restarted": ("restart",
     "restarts"),
          "states-missing": ("state missing", "states missing"), "frames-missing": ("frame missing", "frames missing"),
          "samples-missing": ("sample missing", "samples missing"), "count-out-of-range": ("count out of range", "counts out of range"),
-         "sample-late": ("late sample", "late samples"), "late": ("late frame", "late frames"),
+         "sample-late": ("late sample", "late samples"),
          "sample-repeated": ("repeated sample", "repeated samples"), "synch": ("change of smpSynch", "changes of smpSynch")}
 
 
@@ -75,12 +79,27 @@ class Many:
         self.number, self.first, self.last, self.record = 0, None, None, None
 
 
-class Missing:
-    """The findings of goose losses: rows as they come, totals, and marks of a picture. Silences are held beside the capture's times:
-    those that come of these are no findings."""
+class Bad:
+    """Frames with an error that are missing of control blocks: how many, the first, and how many of each sender."""
 
-    def __init__(self, rows, picture, short, times):
-        self.rows, self.picture, self.short, self.times = rows, picture, short, times
+    def __init__(self):
+        self.number, self.first, self.senders = 0, None, {}
+
+    def add(self, sender, packets):
+        if packets:
+            self.number, self.first = self.number + len(packets), min(packets[0], self.first or packets[0])
+            self.senders[sender] = self.senders.get(sender, 0) + len(packets)
+
+
+class Missing:
+    """The findings of goose losses: rows as they come, totals, and marks of a picture. Silences are held beside the capture's times: those
+    that come of these are no findings. Late frames are held beside what is missing, and frames with an error too."""
+
+    def __init__(self, rows, picture, short, station):
+        self.rows, self.picture, self.short, self.times, self.malformed = rows, picture, short, station.times, station.malformed
+        # The control blocks; late frames, and of how many states and frames that were missing; frames that came with an error.
+        self.blocks = {key_of(it): it for it in station.of_kind("block")}
+        self.lates, self.late, self.bad = Lates(), {}, Bad()
         self.kinds, self.senders, self.many, self.totals = {}, {}, {}, []
         # The last silence of each sender: its packet and the gap in all packets in which it began; and how many silences cannot be seen.
         self.silences, self.hidden, self.periods, self.devices = {}, 0, {}, {}
@@ -108,14 +127,35 @@ class Missing:
         sender = SENDER.match(line, found.end())
         held = (sender[0] if sender else b"", kind)
         number = self.senders[held] = self.senders.get(held, 0) + 1
-        if not self.of_times(kind, line, found, held[0]):
+        note = None
+        if kind in NUMBERED:
+            note = self.numbered(held[0], kind, line, int(found[1]))
+        if not self.of_times(kind, line, found, held[0]) and kind not in NUMBERED:
             self.count(kind.decode(), size_of(line, kind), int(found[1]))
         if self.most is None or (number <= MOST and self.has_room()):
-            self.list(json.loads(line), place(found))
+            self.list(json.loads(line), place(found), note)
             return
         many = self.many.setdefault(held, Many())
         many.number, many.last = many.number + 1, found
         many.first, many.record = many.first or place(found), many.record or json.loads(line)
+
+    def numbered(self, sender, kind, line, packet):
+        """Counts what is missing but for what came with an error, restarts and late frames. What the row of it says beside is answered."""
+        size, bad = size_of(line, kind), []
+        if kind.endswith(b"-missing") and self.malformed.count:
+            it = self.blocks.get(sender.partition(b',"simulation"')[0])
+            bad = self.malformed.take(sender, it.envelopes, it.appid, packet, size) if it else []
+            self.bad.add(sender, bad)
+        what, since = self.lates.see(sender, kind, line, packet, len(bad)) or (None, None)
+        if kind == b"late":
+            if what is None:
+                self.count("copy", 1, packet)
+                return "it was not missing: a copy, or overtaken"
+            self.late[what] = self.late.get(what, 0) + 1
+            return f"missing since packet\u00a0{since}"
+        if size > len(bad):
+            self.count(kind.decode(), size - len(bad), packet)
+        return f"{f'{len(bad):,} of these ' if len(bad) < size else ''}came with an error: {page.packets(bad[0], bad[-1])}" if bad else None
 
     def of_times(self, kind, line, found, sender):
         """Whether a finding can come of the capture's own times: it counts when these are judged, or not at all."""
@@ -168,18 +208,26 @@ class Missing:
         self.listed, self.octets = self.listed + 1, self.octets + len(row)
         self.rows.write(row)
 
-    def list(self, record, where):
-        self.write(page.row(COLUMNS, [page.when(where, self.short), f"{where.packet}", sender_of(record),
-                                      record["kind"].replace("-", " "), details(record, self.short)], found=3 if record["kind"] in FOUND else None))
+    def list(self, record, where, note=None):
+        told = details(record, self.short)
+        self.write(page.row(COLUMNS, [page.when(where, self.short), f"{where.packet}", sender_of(record), record["kind"].replace("-", " "),
+                                      f"{told}; {note}" if note else told], found=3 if record["kind"] in FOUND else None))
         self.picture.finding(record, where)
 
     def ending(self, record):
         """What is told at the end of a capture."""
         kind = record.get("kind", "")
         if kind.startswith("total-"):
-            self.totals.append(record)
+            self.total(record)
         elif kind == "end-silent":
             self.silent_at_end(record)
+
+    def total(self, record):
+        """What a sender comes to, with how many of its missing frames came late or with an error, and how many late ones were not missing."""
+        sender = f'{key_of_block(record["appid"], record["gocbRef"])},"simulation":{json.dumps(record["simulation"])}'.encode() if "gocbRef" in record else None
+        it = self.lates.held.get(sender)
+        own = {"bad": self.bad.senders.get(sender, 0), "came": it.came if it else 0, "copies": it.copies if it else 0} if sender else {}
+        self.totals.append(record | own)
 
     def silent_at_end(self, record):
         """A sender that is silent at the end. One of simulated frames is a test set that stopped, which is no loss."""
@@ -209,6 +257,21 @@ class Missing:
     def found(self):
         """The kinds of findings that are there, in the order of the summary."""
         return [kind for kind in FOUND if kind in self.kinds]
+
+
+def of_these(size, late):
+    """How many of the states or frames that were missing came late."""
+    if not late:
+        return ""
+    return f", {late:,} of these came late" if late < size else ", which came late" if size == 1 else ", all of which came late"
+
+
+def copies(it):
+    """Late frames that were not missing."""
+    if "copy" in it.kinds:
+        number, _, packet = it.kinds["copy"]
+        yield not_judged(f"{page.count(number, 'late frame was not missing', 'late frames were not missing')}, first: packet\u00a0{packet}: copies (a ring, PRP), "
+                         "or overtaken by a later state.", "capture one path alone, or take copies away, as editcap -d does")
 
 
 # ---- Runs --------------------------------------------------------------------
@@ -251,13 +314,20 @@ def key_of(seen):
     if seen.kind == "stream":
         appid, source, _ = seen.key
         return b',"appid":"%s","source":"%s","svID":%s' % (appid.encode(), source.encode(), seen.text)
-    return f',"appid":"{seen.appid}","gocbRef":{json.dumps(seen.name)}'.encode()
+    return key_of_block(seen.appid, seen.name).encode()
+
+
+def key_of_block(appid, reference):
+    return f',"appid":"{appid}","gocbRef":{json.dumps(reference)}'
 
 
 # ---- Totals ------------------------------------------------------------------
 
-GOOSE = {"frames": "Frames", "statesMissing": "States missing", "framesMissing": "Frames missing", "late": "Late", "repeated": "Repeated",
-         "restarted": "Restarts", "silent": "Silences", "longest": "Longest pause"}
+GOOSE = {"frames": "Frames", "statesMissing": "States missing", "framesMissing": "Frames missing", "came": "Of these late",
+         "bad": "Missing, but with an error", "late": "Late", "copies": "Late, not missing", "repeated": "Repeated", "restarted": "Restarts", "silent": "Silences",
+         "longest": "Longest pause"}
+# The columns that are there only where they say something.
+RARE = ("came", "bad", "copies")
 SAMPLED = {"samples": "Samples", "missing": "Missing", "late": "Late", "repeated": "Repeated", "outOfRange": "Out of range",
            "outages": "Gaps", "longest": "Longest gap"}
 
@@ -265,7 +335,7 @@ SAMPLED = {"samples": "Samples", "missing": "Missing", "late": "Late", "repeated
 def totals(records, kind, names, first, order):
     """A table of totals: columns and rows."""
     held = sorted((it for it in records if it["kind"] == kind), key=lambda it: order(it.get("gocbRef") or it["svID"], it["appid"], it.get("source", "")))
-    there = {name: words for name, words in names.items() if any(name in it for it in held)}
+    there = {name: words for name, words in names.items() if any(it.get(name) if name in RARE else name in it for it in held)}
     columns = [page.Column(first), *(page.Column(words, page.NUMBER) for words in there.values())]
     return columns, [page.row(columns, [sender_of(it), *(total(it, name) for name in there)]) for it in held]
 

@@ -5,6 +5,7 @@ import struct
 import zlib
 
 from output import date
+from reporting.malformed import HEAD, head_of
 from reporting.places import Place
 
 PIECE = 1 << 20
@@ -85,14 +86,18 @@ class Cut:
 
 
 class Recorded:
-    """A capture's file, read once from its beginning to its end; of its packets only those that goose has answered count."""
+    """A capture's file, read once from its beginning to its end; of its packets only those that goose has answered count. Of those with an
+    error it tells the heads."""
 
-    def __init__(self, path, packets, progress):
+    def __init__(self, path, packets, progress, malformed):
         self.size, self.digest, self.interfaces = os.stat(path).st_size, hashlib.sha256(), []
         self.checksum = 0
         self.form, self.application, self.numbers, self.most = "", None, 0, packets
         self.order, self.section, self.rest, self.skip, self.is_over, self.cut = "<", [], b"", 0, False, Cut()
         self.walk, self.fields = self.blocks, FIELDS["<"]
+        # The next packet with an error, all after it, and what is told of them.
+        self.after, self.heads = iter(malformed.packets), malformed.heads
+        self.wanted = next(self.after, None)
         # The comments of packets in their order, those of the capture, and how many more there are.
         self.comments, self.remarks, self.more_comments = [], [], 0
         with open(path, "rb") as file:
@@ -134,7 +139,10 @@ class Recorded:
         at, sizes, it = 0, self.fields.sizes, self.interfaces[0]
         while at + 16 <= len(octets) and self.numbers < self.most:
             captured, original = sizes(octets, at + 8)
+            if self.numbers + 1 == self.wanted and at + 16 + min(captured, HEAD) > len(octets):
+                break
             self.numbers += 1
+            self.look(octets, at + 16, captured)
             if captured < original:
                 self.cut.add(self.numbers)
             at += 16 + captured
@@ -202,10 +210,17 @@ class Recorded:
         it = self.section[which]
         it.packets, it.first, it.last = it.packets + 1, it.first or self.numbers, self.numbers
         it.dropped_before += dropped
+        self.look(octets, at + (12 if kind == SIMPLE else 28), captured)
         if COMMENT in told:
             self.comment(it.microseconds(high << 32 | low), told[COMMENT])
         if captured < original:
             self.cut.add(self.numbers)
+
+    def look(self, octets, at, captured):
+        """The head of the packet that is looked at, if it is one with an error."""
+        if self.numbers == self.wanted:
+            self.heads[self.wanted] = head_of(octets[at:at + min(captured, HEAD)])
+            self.wanted = next(self.after, None)
 
     def comment(self, microseconds, octets):
         """A comment of the packet that is looked at."""

@@ -4,6 +4,7 @@ import re
 
 import senders
 from reporting.clocks import Clock
+from reporting.malformed import Malformed
 from reporting.places import HEAD, Span, place
 from reporting.rates import STRETCH, Rise
 from reporting.sequence import Sequences
@@ -14,6 +15,8 @@ from reporting.times import SECOND, Times
 ASDU = re.compile(rb'"svID":("(?:[^"\\]|\\.)*"),"datSet":(?:null|"(?:[^"\\]|\\.)*"),"smpCnt":\d+,"confRev":(\d+),"refrTm":(?:null|"[^"]*","refrTime":'
                   rb'(?:null|"[^"]*"),"refrQuality":\{[^}]*\}),"smpSynch":(\d+),"smpRate":(\w+),"sample":"[^"]*","smpMod":(null|"[^"]*")')
 COUNT = re.compile(rb'"smpCnt":(\d+)')
+# A sender of GOOSE, whose simulation stands further on.
+SENDER = re.compile(rb'"appid":"\w+"|"gocbRef":"(?:[^"\\]|\\.)*"')
 # What differs from one frame of a stream to the next, each by what it looks like.
 DIFFERS = {b"smpCnt": rb'"smpCnt":\d+', b"refrTm": rb'"refrTm":"[^"]*","refrTime":(?:null|"[^"]*"),"refrQuality":\{[^}]*\}',
            b"sample": rb'"sample":"[^"]*"', b"field89": rb'"field89":(?:null|"[^"]*")'}
@@ -75,11 +78,11 @@ class Sort:
     """Frames of one sender that are the same in all that is told here: how many, the first and the last. Of GOOSE also the state of the
     last one that was looked at, and since when; of Sampled Values what its ASDUs say, and its streams."""
 
-    __slots__ = ("record", "number", "first", "last", "state", "since", "clock", "sequence", "streams", "is_alike")
+    __slots__ = ("record", "number", "first", "last", "state", "since", "clock", "sequence", "streams", "is_alike", "between")
 
     def __init__(self, record, found):
         self.record, self.number, self.first, self.last = record, 0, found, found
-        self.state, self.since, self.clock, self.sequence, self.streams, self.is_alike = b"", 0, None, None, (), None
+        self.state, self.since, self.clock, self.sequence, self.streams, self.is_alike, self.between = b"", 0, None, None, (), None, None
 
 
 def pattern_of(line, at):
@@ -97,7 +100,7 @@ class Station:
 
     def __init__(self):
         self.seen, self.sorts, self.flows, self.kinds, self.clocks, self.times = {}, {}, {}, {}, {}, Times()
-        self.sequences = Sequences()
+        self.sequences, self.malformed = Sequences(), Malformed()
         self.first, self.last, self.span = None, None, None
 
     def see_blocks(self, lines):
@@ -115,7 +118,7 @@ class Station:
         """The lines of goose show."""
         first = found = top = None
         least = greatest = 0
-        kinds, looks = self.kinds, {b"goose": self.goose, b"sv": self.sampled}
+        kinds, looks = self.kinds, {b"goose": self.goose, b"sv": self.sampled, b"fault": self.fault}
         for found in filter(None, map(HEAD.match, lines)):
             kind, now = found[4], int(found[2])
             kinds[kind] = kinds.get(kind, 0) + 1
@@ -149,6 +152,8 @@ class Station:
         sort = self.sorts.get(key) or self.sort_of_goose(key, found)
         sort.number += 1
         sort.last = found
+        if sort.between.count != self.malformed.count:
+            self.malformed.between(sort.between, int(found[1]))
         state = line[until:upto]
         if sort.sequence and sort.sequence.sort is not sort:
             sort.sequence.go_on(sort)
@@ -163,11 +168,17 @@ class Station:
         """A new sort of frames of GOOSE. The clock of a simulated one is not judged."""
         record = json.loads(b"{%s,%s}" % key)
         sort = self.sort(key, Sort(record, found))
+        appid, reference = SENDER.findall(key[0])
+        sort.between = self.malformed.of(b',%s,%s,"simulation":%s' % (appid, reference, b"true" if record["simulation"] else b"false"))
         if not record["simulation"]:
             own = record["appid"], record["gocbRef"], record["source"]
             sort.sequence = self.sequences.of(record)
             sort.clock = self.clocks.get(own) or self.clocks.setdefault(own, Clock(record["source"], record["gocbRef"]))
         return sort
+
+    def fault(self, found, _line, _now):
+        """A frame with an error."""
+        self.malformed.see(int(found[1]))
 
     def sampled(self, found, line, now):
         """A frame of Sampled Values. Those of one envelope mostly are of one sort; smpCnt is looked at once a stretch."""

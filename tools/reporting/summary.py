@@ -22,13 +22,15 @@ def losses(found, _own):
     for kind in it.found():
         number, size, packet = it.kinds[kind]
         where = f"up to packet\u00a0{found.packets}" if packet is None else f"first: packet\u00a0{packet}"
-        told.append(f"{page.count(size, *missing.WORDS[kind])} ({where})")
-    unsure = list(looked.silences(found))
+        told.append(f"{page.count(size, *missing.WORDS[kind])}{missing.of_these(size, it.late.get(kind, 0))} ({where})")
+    unsure = [*looked.silences(found), *missing.copies(it)]
     yield from unsure
     if told:
         yield finding(f"{'; '.join(told)}.")
-    elif not unsure:
-        yield clean(f"nothing is missing, late, silent or restarted in {found.all_packets}.")
+    if it.bad.number:
+        yield clean(f"{page.count(it.bad.number, 'frame')} that control blocks lack came with an error, first: packet\u00a0{it.bad.first}: told under errors alone.")
+    if not told and not unsure:
+        yield clean(f"nothing{' else' if it.bad.number else ''} is missing, late, silent or restarted in {found.all_packets}.")
 
 
 def errors(found, _own):
@@ -37,7 +39,9 @@ def errors(found, _own):
             sorted(it.errors.items(), key=lambda pair: -pair[1].number)]
     notes = [f"{name} in {page.count(held.number, 'frame')} (first: packet\u00a0{held.first.packet})" for name, held in it.notes.items()]
     notes = f" Notes: {some(notes)}." if notes else ""
-    yield finding(f"{some(told)}.{notes}") if told else clean(f"none in {found.all_packets}.{notes}")
+    bad = found.missing.bad
+    lacks = f"; control blocks lack {page.count(bad.number, 'frame')} of these, first: packet\u00a0{bad.first}" if bad.number else ""
+    yield finding(f"{some(told)}{lacks}.{notes}") if told else clean(f"none in {found.all_packets}.{notes}")
 
 
 def differing(found):
