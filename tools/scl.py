@@ -19,6 +19,8 @@ ADDRESSES = {"GSE": "GOOSE", "SMV": "SMV"}
 KINDS = {"GOOSE": "GO", "SMV": "MS"}
 # The least and the greatest time between two frames of a control block, which its address has beside the parts, in milliseconds.
 TIMES = ("MinTime", "MaxTime")
+# How many milliseconds their units are, by the multiplier of seconds.
+UNITS = {"m": 1, "": 1000}
 # How the parts of an address that a BLOCK does not have are written.
 FORMS = {"MAC-Address": r"[0-9a-fA-F]{2}(-[0-9a-fA-F]{2}){5}", "VLAN-ID": r"[0-9a-fA-F]{1,3}", "VLAN-PRIORITY": r"[0-7]"}
 # The greatest confRev, and the most octets of a BLOCK whose texts a frame can have.
@@ -128,7 +130,7 @@ class Station:
         if not is_visible(stated["smvID"]):
             raise ValueError(f"a stream cannot have the svID {stated['smvID']!r}")
         for address in addresses:
-            stream = senders.stream_of(stated["smvID"], int(stated["confRev"]), APPID=appid_of(address), **address.fields())
+            stream = senders.stream_of(stated["smvID"], int(stated["confRev"]), APPID=appid_of(address), **address.fields(), **sampling_of(stated))
             stream.more.update(address=address, stated=stated)
             yield stream
 
@@ -205,8 +207,23 @@ def check_numbers(addresses, stated):
         raise ValueError(f"{bad[0]!r} is no number of a BLOCK")
 
 
+def sampling_of(stated):
+    """How many samples a frame has and how fast they come, as a SampledValueControl states it."""
+    count, rate = (int(it) if re.fullmatch("[0-9]{1,9}", it) else None for it in (stated.get("nofASDU", ""), stated.get("smpRate", "")))
+    mode = stated.get("smpMod", senders.MODES[0])
+    return senders.sampling_fields(count, rate, senders.MODES.index(mode) if mode in senders.MODES else None)
+
+
 def appid_of(address):
     return f"{int(address.parts['APPID'], 16):04x}"
+
+
+def milliseconds(text, multiplier):
+    """A time of milliseconds, or of seconds where the multiplier is empty; None where it is no such number."""
+    if not re.fullmatch(r"[0-9]{1,9}(\.[0-9]{1,9})?", text) or multiplier not in UNITS:
+        return None
+    number = UNITS[multiplier] * float(text)
+    return int(number) if number.is_integer() else number
 
 
 def is_visible(text):
@@ -270,8 +287,8 @@ class Reader:
             self.ends_part(self.at["P"].get("type"))
         elif local in ADDRESSES:
             self.ends_address(local)
-        elif local in TIMES and parent == "GSE" and re.fullmatch(r"[0-9]{1,9}", self.told()):
-            self.times[local] = int(self.told())
+        elif local in TIMES and parent == "GSE":
+            self.times.update({local: it for it in [milliseconds(self.told(), self.at[local].get("multiplier", "m"))] if it})
         elif local == "IEDName" and self.path[-2:-1] == ["LN0"] and parent in SERVICES:
             self.station.controls[-1].receivers.add(self.told())
         self.words = None if local in TEXTS else self.words

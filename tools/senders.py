@@ -3,6 +3,7 @@
 A block is the same as another of its APPID and gocbRef, a stream as another of its svID. What only one side tells is not
 compared.
 """
+import collections
 import functools
 import json
 import re
@@ -13,6 +14,10 @@ STREAM = re.compile(r'(stream id=".*") rev=([0-9]{1,20})')
 VISIBLE, DIGITS = re.compile("[ -~]*"), re.compile("[0-9]{1,20}")
 # What only objects tell of both.
 ADDRESS = ("MAC address", "VLAN", "priority")
+# What streams alone have.
+SAMPLING = ("nofASDU", "smpRate", "smpMod")
+# What smpRate counts, by the numbers that frames have for it.
+MODES = ("SmpPerPeriod", "SmpPerSec", "SecPerSmp")
 
 
 class Sender:
@@ -39,6 +44,7 @@ class Sender:
         address = {"destination": squeezed(fields["MAC address"]), "vlan": number(fields["VLAN"]), "priority": number(fields["priority"])}
         if self.kind == "stream":
             own = {"kind": "stream", "confRev": int(fields["confRev"]), "svID": self.more["svID"], "appid": fields["APPID"]}
+            address |= {name: it if name == "smpMod" else int(it) for name in SAMPLING if (it := fields.get(name)) is not None}
         else:
             own = {"kind": "block", "text": self.text, "appid": fields["APPID"], "gocbRef": fields["gocbRef"], "datSet": fields["datSet"],
                    "goID": fields["goID"] or None, "confRev": int(fields["confRev"]), "entries": int(fields["entries"])}
@@ -66,6 +72,12 @@ def quoted(text):
 
 def address_fields(destination=None, vlan=None, priority=None):
     return {"MAC address": destination, "VLAN": None if vlan is None else str(vlan), "priority": None if priority is None else str(priority)}
+
+
+def sampling_fields(count=None, rate=None, mode=None):
+    """How many samples a frame has, and how fast they come. smpMod alone tells nothing."""
+    return {"nofASDU": None if count is None else str(count), "smpRate": None if rate is None else str(rate),
+            "smpMod": None if None in (rate, mode) else MODES[mode] if mode < len(MODES) else str(mode)}
 
 
 # ---- Senders of texts --------------------------------------------------------
@@ -113,8 +125,11 @@ def of_frame(record):
     """The senders of a frame that goose show --json has told."""
     envelope = envelope_of(record)
     if record["kind"] == "sv":
+        counts = collections.Counter(asdu["svID"] for asdu in record["asdus"])
         for asdu in record["asdus"]:
-            yield stream_of(asdu["svID"], asdu["confRev"], APPID=record["appid"], **envelope)
+            mode = asdu.get("smpMod")
+            told = sampling_fields(counts[asdu["svID"]], asdu.get("smpRate"), None if mode is None else int(mode or "0", 16))
+            yield stream_of(asdu["svID"], asdu["confRev"], APPID=record["appid"], **envelope, **told)
         return
     text = block_text(*(record[it] for it in ("appid", "gocbRef", "datSet", "goID", "confRev")), len(record["members"]))
     yield Sender(text, "block", {**(block_fields(text) or {}), **envelope})
@@ -129,12 +144,14 @@ VALUES = {
     **dict.fromkeys(("text", "gocbRef", "datSet", "goID", "svID"), lambda it: isinstance(it, str) and VISIBLE.fullmatch(it)),
     **dict.fromkeys(("confRev", "vlan", "priority"), lambda it: type(it) is int and 0 <= it < 1 << 64),
     **dict.fromkeys(("members", "asdus"), lambda it: isinstance(it, list)),
+    **dict.fromkeys(("nofASDU", "smpRate"), lambda it: type(it) is int and 0 <= it < 1 << 64),
+    "smpMod": lambda it: isinstance(it, str) and (it in MODES or re.fullmatch("(?:[0-9a-f]{2}){0,8}", it)),
     "destination": hexadecimal(12), "tag": hexadecimal(4), "appid": hexadecimal(4),
 }
 NEEDED = {"goose": ("destination", "appid", "gocbRef", "datSet", "confRev", "members"), "sv": ("destination", "appid", "asdus"),
           "asdu": ("svID", "confRev"), "block": ("text",), "stream": ("svID", "confRev")}
-ABSENT = {"goose": ("tag", "goID"), "sv": ("tag",), "asdu": (), "block": ("destination", "vlan", "priority"),
-          "stream": ("appid", "destination", "vlan", "priority")}
+ABSENT = {"goose": ("tag", "goID"), "sv": ("tag",), "asdu": ("smpRate", "smpMod"), "block": ("destination", "vlan", "priority"),
+          "stream": ("appid", "destination", "vlan", "priority", *SAMPLING)}
 
 
 def check_object(sort, record):
@@ -169,7 +186,9 @@ def of_object(record):
         if kind.startswith("block"):
             text = record["text"]
             return [Sender(text, "block", {**(block_fields(text) or {}), **address})]
-        return [stream_of(record["svID"], record["confRev"], APPID=record.get("appid"), **address)]
+        mode = record.get("smpMod")
+        told = sampling_fields(record.get("nofASDU"), record.get("smpRate"), MODES.index(mode) if mode is not None else None)
+        return [stream_of(record["svID"], record["confRev"], APPID=record.get("appid"), **address, **told)]
     return [] if kind in ("fault", "clock", "mode") else None
 
 
@@ -194,8 +213,8 @@ GOOSE = re.compile(
     HEAD % "goose" + rf'({ENVELOPE}"gocbRef":{TEXT}),"timeAllowedtoLive":[0-9]+,("datSet":{TEXT},"goID":(?:{TEXT}|null)),"t":"[0-9a-f]{{16}}",'
     rf'"tTime":(?:"[^"\\]*"|null),"tQuality":{QUALITY},"stNum":[0-9]+,"sqNum":[0-9]+,"simulation":\w+,"confRev":([0-9]+),"ndsCom":\w+,'
     rf'"members":(\[.*\]){TRAILER}')
-# Of an ASDU all but svID and confRev differs from frame to frame.
-OWN = re.compile(r'"(?:smpCnt|smpSynch|smpRate)":(?:[0-9]+|null)|"(?:refrTm|refrTime|sample|smpMod|field89)":(?:"[^"\\]*"|null)|"refrQuality":' + QUALITY)
+# What of an ASDU differs from frame to frame, or is not compared.
+OWN = re.compile(r'"(?:smpCnt|smpSynch)":(?:[0-9]+|null)|"(?:refrTm|refrTime|sample|field89)":(?:"[^"\\]*"|null)|"refrQuality":' + QUALITY)
 SAMPLED = re.compile(HEAD % "sv" + rf'({ENVELOPE}"asdus":)(\[.*\]){TRAILER}')
 
 

@@ -1,6 +1,7 @@
 """What an SCL file configures, held beside what a capture has."""
 import data_types
 import senders
+from reporting.pace import Pace
 from reporting.rates import MODES
 
 
@@ -9,14 +10,26 @@ class Configured:
 
     def __init__(self, path):
         self.path, self.station = path, data_types.Station(path)
-        self.senders, self.unusable, self.used, self.longest = {}, [], set(), {}
+        self.senders, self.unusable, self.used, self.longest, self.times = {}, [], set(), {}, {}
         for control in self.station.controls:
             try:
                 for it in self.station.senders(control):
                     self.senders.setdefault(it.key, []).append(it)
                     self.longest.setdefault(it.text, it.more["address"].times.get("MaxTime"))
+                    self.time(it)
             except ValueError as why:
                 self.unusable.append((control.line, control.told(), str(why)))
+
+    def time(self, sender):
+        """MinTime and MaxTime of a control block; of several addresses the greatest."""
+        times = sender.more["address"].times if sender.kind == "block" else {}
+        if times:
+            held = self.times.setdefault(sender.key, {})
+            held.update({name: max(it, held.get(name, it)) for name, it in times.items()})
+
+    def paces(self):
+        """What looks at the pauses of the control blocks with such times."""
+        return {key: Pace() for key in self.times}
 
     def beside(self, seen):
         """How a sender of the capture differs from its configuration, each difference with the first packet that has it; None where no
@@ -56,6 +69,8 @@ def differences(wanted, seen):
     parts = [(senders.of_text(text).fields, packet) for text, packet in seen.forms.items()]
     parts += [(senders.envelope_of({"destination": destination, "tag": tag}), packet) for (destination, _, tag), packet in seen.envelopes.items()]
     first = min(packet for _, packet in parts) if parts else 0
+    parts += [(senders.sampling_fields(count), packet) for count, packet in seen.counts.items()]
+    parts += [(senders.sampling_fields(None, *told), packet) for told, packet in seen.rates.items()]
     parts += [({"APPID": seen.appid}, first)]
     for fields, packet in parts:
         for what in senders.differences(wanted, senders.Sender("", seen.kind, fields)):

@@ -167,13 +167,12 @@ def forms(seen):
     return page.element("span", lines_of(told), class_="name")
 
 
-def agreement(differences, name):
-    """How a sender is beside its configuration, and whether it differs."""
+def agreement(differences, name, times=()):
+    """How a sender is beside its configuration and its times, and whether it differs."""
     if differences is None:
         return f"not in {name}", True
-    if not differences:
-        return "agrees", False
-    return lines_of(f"differs: {what} {theirs} (packet\u00a0{packet}), configured {ours}" for (what, ours, theirs), packet in differences), True
+    told = [f"differs: {what} {theirs} (packet\u00a0{packet}), configured {ours}" for (what, ours, theirs), packet in differences]
+    return lines_of([*(told or ["agrees"]), *times]), bool(told)
 
 
 def block_row(seen, columns, short, compared, changes=0):
@@ -206,7 +205,7 @@ def station(found, own, short):
         heads = [*columns, *([page.Column(f"Beside {own.scd}")] if own.scd else [])]
         held = [it for it in found.station.seen.values() if it.kind == kind]
         held.sort(key=lambda it: (*found.devices.order(it.name), it.appid))
-        rows = [row(it, heads, short, agreement(found.differences[id(it)], own.scd) if own.scd else (),
+        rows = [row(it, heads, short, agreement(found.differences[id(it)], own.scd, found.paces.get(id(it), ())) if own.scd else (),
                     found.station.sequences.changes(it.appid, it.name)) for it in held]
         rows += [missing_row(it, heads, found.all_packets, own.scd) for it in found.missing_senders if it.kind == kind]
         told.append(page.bounded(what, heads, rows, found.room, "row") if rows else paragraph(f"{what}: none in {found.all_packets}."))

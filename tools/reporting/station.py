@@ -39,8 +39,9 @@ class Seen:
         self.span, self.forms, self.envelopes, self.lifetimes = Span(), {}, {}, {}
         # Its sources, each with whether frames are simulated; its simulated frames and the end of their lifetime; those of ndsCom true.
         self.sources, self.simulated, self.commissioning, self.lives_until = {}, Span(), Span(), 0
-        # Of a stream: how fast its samples come, what it says of that, how they are synchronised, and its svID as goose writes it.
-        self.rise, self.rates, self.synch, self.text = Rise(), {}, Synch(), b""
+        # Of a stream: how fast its samples come, what it says of that, how many a frame has, how they are synchronised, and its svID as goose
+        # writes it.
+        self.rise, self.rates, self.counts, self.synch, self.text = Rise(), {}, {}, Synch(), b""
         # The least and the greatest lifetime in milliseconds, each with its first packet.
         self.lives = []
 
@@ -78,11 +79,11 @@ class Sort:
     """Frames of one sender that are the same in all that is told here: how many, the first and the last. Of GOOSE also the state of the
     last one that was looked at, and since when; of Sampled Values what its ASDUs say, and its streams."""
 
-    __slots__ = ("record", "number", "first", "last", "state", "since", "clock", "sequence", "streams", "is_alike", "between")
+    __slots__ = ("record", "number", "first", "last", "state", "since", "clock", "sequence", "streams", "is_alike", "between", "pace")
 
     def __init__(self, record, found):
         self.record, self.number, self.first, self.last = record, 0, found, found
-        self.state, self.since, self.clock, self.sequence, self.streams, self.is_alike, self.between = b"", 0, None, None, (), None, None
+        self.state, self.since, self.clock, self.sequence, self.streams, self.is_alike, self.between, self.pace = b"", 0, None, None, (), None, None, None
 
 
 def pattern_of(line, at):
@@ -96,9 +97,11 @@ def pattern_of(line, at):
 
 
 class Station:
-    """The senders of a capture in the order in which they occur, and how many packets are what."""
+    """The senders of a capture in the order in which they occur, and how many packets are what. Pauses are looked at of the control blocks
+    that have a pace."""
 
-    def __init__(self):
+    def __init__(self, paces=None):
+        self.paces = paces or {}
         self.seen, self.sorts, self.flows, self.kinds, self.clocks, self.times = {}, {}, {}, {}, {}, Times()
         self.sequences, self.malformed = Sequences(), Malformed()
         self.first, self.last, self.span = None, None, None
@@ -155,6 +158,9 @@ class Station:
         if sort.between.count != self.malformed.count:
             self.malformed.between(sort.between, int(found[1]))
         state = line[until:upto]
+        if sort.pace:
+            begin = upto + len(b',"sqNum":')
+            sort.pace.see(found, state, int(line[begin:line.find(b",", begin)]), now, self.times.gaps)
         if sort.sequence and sort.sequence.sort is not sort:
             sort.sequence.go_on(sort)
         if state != sort.state or now < sort.since:
@@ -172,7 +178,7 @@ class Station:
         sort.between = self.malformed.of(b',%s,%s,"simulation":%s' % (appid, reference, b"true" if record["simulation"] else b"false"))
         if not record["simulation"]:
             own = record["appid"], record["gocbRef"], record["source"]
-            sort.sequence = self.sequences.of(record)
+            sort.sequence, sort.pace = self.sequences.of(record), self.paces.get((record["appid"], record["gocbRef"]))
             sort.clock = self.clocks.get(own) or self.clocks.setdefault(own, Clock(record["source"], record["gocbRef"]))
         return sort
 
@@ -205,14 +211,14 @@ class Station:
         sort = self.sorts.get((envelope, asdus))
         if sort is None:
             sort = self.sort((envelope, asdus), Sort(json.loads(b"{%s}" % envelope), found))
-            sort.state, sort.streams = asdus, self.streams_of(sort.record, asdus)
+            sort.state, sort.streams = asdus, self.streams_of(sort.record, asdus, int(found[1]))
         self.flows[envelope] = sort
         named = {json.loads(svid): synch for svid, _, synch, *_ in asdus}
         for _, stream in sort.streams:
             stream.synch.see(int(named[stream.name]), found)
         return sort
 
-    def streams_of(self, record, asdus):
+    def streams_of(self, record, asdus, packet):
         """The streams of a frame, each once, with the position of its first ASDU."""
         found = {}
         for at, (svid, _, _, rate, mode) in enumerate(asdus):
@@ -220,8 +226,10 @@ class Station:
             it = self.sender("stream", (record["appid"], record["source"], name), name, record["appid"])
             found.setdefault(name, (at, it))
             it.text = svid
-            if rate != b"null" and len(it.rates) < MOST_FORMS:
-                it.rates[int(rate), None if mode == b"null" else int(mode[1:-1] or b"0", 16)] = None
+            if rate != b"null":
+                it.note(it.rates, (int(rate), None if mode == b"null" else int(mode[1:-1] or b"0", 16)), packet)
+        for _, it in found.values():
+            it.note(it.counts, sum(svid == it.text for svid, *_ in asdus), packet)
         return list(found.values())
 
     def sort(self, key, sort):

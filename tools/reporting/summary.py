@@ -1,6 +1,6 @@
 """The summary: what was found, not judged or clean of each topic, each with the packets that it rests on."""
 import member_names
-from reporting import clocks, looked, missing, page, rates, received, simulation, sources, subscriptions, synchronised
+from reporting import clocks, looked, missing, pace, page, rates, received, simulation, sources, subscriptions, synchronised
 from reporting.verdict import Line, Verdict, clean, found as finding, not_judged, some
 
 
@@ -69,6 +69,7 @@ def configuration(found, own):
     if found.unusable:
         untold = [f"{reference} (line {line}): {why}" for line, reference, why in found.unusable]
         yield not_judged(f"{page.count(len(untold), 'control block')} of {own.scd} cannot be compared: {some(untold)}.", "mend the SCL file")
+    yield from pace.judge(found, own)
     agree = sum(held == [] and it.name not in others for it, held in seen)
     yield clean(f"{agree:,} {'agrees' if agree == 1 else 'agree'} with {own.scd} in {found.all_packets}.")
 
