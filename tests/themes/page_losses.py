@@ -12,8 +12,8 @@ SENDER = "D1LD0/LLN0$GO$gcb1 (APPID 1001)"
 
 
 class Rows(Judged):
-    """A capture whose page also has these findings of one block but for silences, each a packet, its kind and details; and of the frames that it lacks so
-    many late, so many with an error, and so many late ones that were not missing."""
+    """A capture whose page also has these findings of one block but for silences, each a packet, its kind and details; and of the frames that
+    it lacks so many late, so many with an error, and so many late ones that were not missing."""
 
     def __init__(self, name, octets, told, rows, totals):
         super().__init__(name, octets, told)
@@ -126,7 +126,8 @@ def malformed():
     yield Rows("two frames with an error", capture(two), told, [(13, "frames missing", "state 5: sqNum 101 to 102; came with an error: packets 5 to 9")], (0, 2, 0))
     lost = spoilt(good, 5)
     del lost[8]
-    told = {"Errors": (RED, bad, "control blocks lack 1 frame of these"), "Losses": (RED, "1 silence (first: packet 12); 1 frame missing (first: packet 12)", "1 frame that control blocks lack"), **silent}
+    told = {"Errors": (RED, bad, "control blocks lack 1 frame of these"), **silent,
+            "Losses": (RED, "1 silence (first: packet 12); 1 frame missing (first: packet 12)", "1 frame that control blocks lack")}
     rows = [(12, "frames missing", "state 5: sqNum 101 to 102; 1 of these came with an error: packet 5")]
     yield Rows("a frame with an error before one that is missing", capture(lost), told, rows, (0, 1, 0))
     whole = {"Losses": (RED, "1 frame missing (first: packet 8)")}

@@ -224,10 +224,11 @@ class Missing:
 
     def total(self, record):
         """What a sender comes to, with how many of its missing frames came late or with an error, and how many late ones were not missing."""
-        sender = f'{key_of_block(record["appid"], record["gocbRef"])},"simulation":{json.dumps(record["simulation"])}'.encode() if "gocbRef" in record else None
-        it = self.lates.held.get(sender)
-        own = {"bad": self.bad.senders.get(sender, 0), "came": it.came if it else 0, "copies": it.copies if it else 0} if sender else {}
-        self.totals.append(record | own)
+        if "gocbRef" in record:
+            sender = f'{key_of_block(record["appid"], record["gocbRef"])},"simulation":{json.dumps(record["simulation"])}'.encode()
+            it = self.lates.held.get(sender)
+            record |= {"bad": self.bad.senders.get(sender, 0), "came": it.came if it else 0, "copies": it.copies if it else 0}
+        self.totals.append(record)
 
     def silent_at_end(self, record):
         """A sender that is silent at the end. One of simulated frames is a test set that stopped, which is no loss."""
