@@ -9,7 +9,7 @@ from themes.report import STATUSES, Page, reported
 
 # The states of statements, by the words of the tables below.
 RED, AMBER, GREEN = "found", "unjudged", "clean"
-TOPICS = {"Capture", "Received", "Losses", "Samples", "Errors", "Configuration", "Clocks", "Source addresses", "Simulation", "Synchronisation",
+TOPICS = {"Capture", "Received", "Losses", "Samples", "Errors", "Configuration", "Subscriptions", "Clocks", "Source addresses", "Simulation", "Synchronisation",
           "Events acted on"}
 
 
@@ -337,6 +337,22 @@ def received():
     yield Judged("a capture without a packet, and a device", capture([]), never, *asked, scd=configured_blocks([5]))
 
 
+def received_streams():
+    """A device that receives a stream and no control block."""
+    inside = 'smpRate="80" nofASDU="8"'
+    scd = configured_stream("MU1", 80).replace(f"{inside}/>", f"{inside}><IEDName>SUB</IEDName></SampledValueControl>")
+    scd, asked = scd.replace("</SCL>", '<IED name="SUB"><AccessPoint name="P1"/></IED></SCL>'), ("--ied", "SUB", "--subscriptions")
+    good = list(stream(4000, SHORT))
+    served = {"Subscriptions": (GREEN, "1 of 1 subscription is served")}
+    yield Judged("a device that receives a stream", capture(good), {"Received": (GREEN, "1 of 1 control block or stream that SUB receives"), **served}, *asked, scd=scd)
+    never = {"Received": (AMBER, "no frame of MU1 (stream) came"), "Configuration": (RED,), "Subscriptions": (AMBER, "1 block or stream that is subscribed to")}
+    yield Judged("a stream that did not come", capture(packets()), never, *asked, scd=scd)
+    for name, held, reason, line in (("only simulated samples", ((at, it[:18] + b"\x80" + it[19:]) for at, it in good), "Simulated), first: packet 1", "Simulation"),
+                                     ("samples of another confRev", stream(4000, SHORT, conf_rev=element(0x83, b"\0\0\0\7")), "confRev 7", "Configuration")):
+        told = {"Received": (RED, "SUB accepts no frame of MU1 (stream): 225 refused (", reason), "Subscriptions": (RED, reason), line: (RED,)}
+        yield Judged(f"a device that receives {name}", capture(held), told, *asked, scd=scd)
+
+
 def unjudged():
     """What cannot be told of a block, or of a device, is not clean."""
     good, clean = packets(), configured_blocks(range(1, 5))
@@ -362,4 +378,5 @@ def cases():
     yield from synchronised()
     yield from rates()
     yield from received()
+    yield from received_streams()
     yield from unjudged()

@@ -1,5 +1,8 @@
-"""What a device gets of the control blocks that it subscribes to: a block of which it takes no frame is told by itself."""
+"""What a device gets of the control blocks and streams that it subscribes to: a block of which it takes no frame is told by itself."""
+import contextlib
+
 from reporting import page
+from reporting.subscriptions import streamed
 from reporting.verdict import clean, found as finding, not_judged, some
 
 # The kinds of what a device does with a frame that it takes for one of its block.
@@ -14,8 +17,25 @@ def reasons(block):
                      for (kind, reason), held in block.counts.items() if kind == "refused")
 
 
+def streams_of(station, ied):
+    """The streams that an IED receives, by their svIDs."""
+    streams = {}
+    for control in station.received(ied):
+        with contextlib.suppress(ValueError):
+            streams.update((it.more["svID"], it) for it in station.senders(control) if it.kind == "stream")
+    return streams
+
+
+def never_came(name, found, own, length, longest=None):
+    """A block or stream of which no frame came: found where the capture is long enough."""
+    if length >= (MILLISECOND * longest if longest else LONG):
+        return finding(f"no frame of {name} came in {found.all_packets}, which {own.ied} receives.")
+    until = f"; MaxTime is {longest:,} ms" if longest else ""
+    return not_judged(f"no frame of {name} came in {found.all_packets}, {page.duration(length)} long{until}.", "capture for longer")
+
+
 def judge(found, own):
-    """What of the blocks of a subscriber came, one by one."""
+    """What of the blocks and streams of a subscriber came, one by one."""
     if not own.ied:
         return
     length, accepted = found.station.span[1] - found.station.span[0] if found.station.span else 0, 0
@@ -30,15 +50,22 @@ def judge(found, own):
         elif seen and seen.frames:
             yield finding(f"{own.ied} accepts no frame of {name}, of which {page.count(seen.frames, 'frame')} came "
                           f"(first: packet\u00a0{seen.first.packet}).")
-        elif length < (MILLISECOND * longest if longest else LONG):
-            until = f"MaxTime is {longest:,} ms" if longest else "its MaxTime is not known"
-            yield not_judged(f"no frame of {name} came in {found.all_packets}, {page.duration(length)} long; {until}.", "capture for longer")
         else:
-            yield finding(f"no frame of {name} came in {found.all_packets}, which {own.ied} receives.")
+            yield never_came(name, found, own, length, longest)
+    streams = streams_of(found.configured.station, own.ied)
+    for name, wanted in streams.items():
+        stream = streamed(found.station.of_kind("stream"), wanted)
+        if stream is None:
+            yield never_came(f"{name} (stream)", found, own, length)
+        elif stream.accepted:
+            accepted += 1
+        else:
+            yield finding(f"{own.ied} accepts no frame of {name} (stream): {stream.reasons()}.")
     if found.untold:
         told = [f"{what}: {why}" for what, why in found.untold]
         yield not_judged(f"{page.count(len(told), 'input')} of {own.ied} cannot be judged: {some(told)}.", "mend the SCL file")
-    elif not found.blocks:
+    elif not found.blocks and not streams:
         yield not_judged(f"{own.scd} has no control block that {own.ied} receives, so none is judged.", "name a device with IEDNames or Inputs")
-    blocks = page.count(len(found.blocks), "control block")
+    number = len(found.blocks) + len(streams)
+    blocks = page.count(number, "control block or stream", "control blocks and streams") if streams else page.count(number, "control block")
     yield clean(f"{accepted:,} of {blocks} that {own.ied} receives came and were accepted in {found.all_packets}.")

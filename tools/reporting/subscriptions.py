@@ -153,12 +153,13 @@ def counted(held, found):
 
 
 class Streamed(Outcome):
-    """What came of one stream: its frames by the confRev that they have."""
+    """What came of one stream: its frames by the confRev that they have. Simulated ones are refused."""
 
-    def __init__(self, frames, revisions, wanted):
+    def __init__(self, frames, revisions, wanted, simulated=()):
         super().__init__()
         self.frames, self.revisions, self.wanted = frames, revisions, wanted
-        self.accepted = frames if wanted in revisions else 0
+        self.simulated, self.first_simulated = sum(it.number for it in simulated), min((it.first.packet for it in simulated), default=None)
+        self.accepted = frames - self.simulated if wanted in revisions else 0
 
     @property
     def is_partly_refused(self):
@@ -174,7 +175,20 @@ class Streamed(Outcome):
     def reasons(self):
         told = ", ".join(f"confRev {it}, configured {self.wanted}, first: packet\u00a0{packet}"
                          for it, packet in self.revisions.items() if it != self.wanted)
+        if self.simulated and (self.accepted or not told):
+            simulated = f"{self.simulated:,} refused (Simulated), first: packet\u00a0{self.first_simulated}"
+            return f"{simulated}, {told}" if told else simulated
         return f"{self.frames:,} refused ({told})" if told and not self.accepted else told
+
+
+def streamed(streams, wanted):
+    """What came of one configured stream, by those of a capture, or None."""
+    of, revisions = [it for it in streams if it.name == wanted.more["svID"]], {}
+    for text, packet in (form for it in of for form in it.forms.items()):
+        revision = REVISION.search(text)[1]
+        revisions[revision] = min(packet, revisions.get(revision, packet))
+    simulated = [it.simulated for it in of if it.simulated.number]
+    return Streamed(sum(it.frames for it in of), revisions, wanted.fields["confRev"], simulated) if of else None
 
 
 class Matrix:
@@ -220,14 +234,9 @@ class Matrix:
 
     def see_streams(self, seen):
         """The streams that a capture has."""
+        streams = [it for it in seen if it.kind == "stream"]
         for at, wanted in self.streams.items():
-            of = [it for it in seen if it.kind == "stream" and it.name == wanted.more["svID"]]
-            revisions = {}
-            for text, packet in (form for it in of for form in it.forms.items()):
-                revision = REVISION.search(text)[1]
-                revisions[revision] = min(packet, revisions.get(revision, packet))
-            if of:
-                self.outcomes[at] = Streamed(sum(it.frames for it in of), revisions, wanted.fields["confRev"])
+            self.outcomes[at] = streamed(streams, wanted) or self.outcomes[at]
 
     def state(self, ied, control):
         """What a subscription comes to: clean, found or not judged, and why."""
@@ -297,11 +306,11 @@ def judge(found, own):
     unseen = [f"{name_of(control)} ({listed(ieds, 2)})" for control, state, ieds in by_block.values()
               if state.state == State.NOT_JUDGED and not matrix.outcomes[id(control)].why]
     if unseen:
-        yield not_judged(f"no frame came of {page.count(len(unseen), 'block or stream', 'blocks and streams')} that are subscribed to in "
+        yield not_judged(f"no frame came of {page.count(len(unseen), 'block or stream that is', 'blocks and streams that are')} subscribed to in "
                          f"{found.all_packets}: {some(unseen)}.", "record where their frames pass")
     accepted = sum(state.state == State.CLEAN for *_, state in rows)
     if rows:
-        yield clean(f"{accepted:,} of {page.count(len(rows), 'subscription')} are served in {found.all_packets}.")
+        yield clean(f"{accepted:,} of {page.count(len(rows), 'subscription is', 'subscriptions are')} served in {found.all_packets}.")
     else:
         yield not_judged(f"{own.scd} has no subscription, so none is judged.", "give a file with IEDNames, or Inputs that are bound")
 
