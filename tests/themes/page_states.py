@@ -164,6 +164,9 @@ def times():
     swapped = [*ahead[:late], ahead[late + 1], ahead[late], *ahead[late + 2:]]
     yield Judged("a silence that ends where a time goes back by a millisecond", capture(swapped), {"Losses": (RED, "1 silence"),
         "Events acted on": (RED,)})
+    back = [(at - 3 * HOUR if place >= 30 else at, it) for place, (at, it) in enumerate(packets())]
+    yield Judged("times that go back by three hours for good", capture(back), {
+        "Capture": (RED, "times go back, at packet 31"), "Losses": (AMBER,), "Clocks": (AMBER, "t of most devices is 2 h 59 min 59 s ahead", "from packet 31 on")})
     one[20] = (one[19][0] - 999_999, one[20][1])
     yield Judged("a time that goes back by less than a second", capture(one), {})
 

@@ -16,8 +16,8 @@ SECOND = 10**6
 AHEAD, BEHIND = SECOND, 10 * SECOND
 # How many states of a sender are held; of the others only those further ahead or behind.
 MOST = 1000
-# At how many leaps of the capture's clock its beginning is looked at anew.
-MOST_LEAPS = 20
+# At how many steps of the capture's clock the devices are looked at anew.
+MOST_STEPS = 20
 # How many devices tell whether they or the capture are off.
 DEVICES = 3
 # How far other times are from UTC, in seconds.
@@ -122,7 +122,7 @@ def told(offset):
 
 
 class Stretch:
-    """A part of a capture whose clock does not leap: the devices in it, and how they are beside it."""
+    """A part of a capture whose clock makes no step: the devices in it, and how they are beside it."""
 
     def __init__(self, clocks, first, last):
         devices = {}
@@ -144,9 +144,10 @@ class Stretch:
                                      f"{told(worst.offset - self.common)}{beside}"], found=5)
 
 
-def stretches(clocks, leaps):
-    """The parts of a capture, each up to the next leap of its clock."""
-    clocks, starts = list(clocks), [0, *(it.packet for it in leaps[:MOST_LEAPS])]
+def stretches(clocks, times):
+    """The parts of a capture, each up to the next step of its clock: a leap, or times that go back."""
+    steps = sorted({*(it.packet for it in times.leaps), *(it.first.packet for it in times.backs)})
+    clocks, starts = list(clocks), [0, *steps[:MOST_STEPS]]
     return [Stretch(clocks, first, last) for first, last in zip(starts, [*starts[1:], float("inf")])]
 
 
