@@ -271,8 +271,8 @@ def copies(it):
     """Late frames that were not missing."""
     if "copy" in it.kinds:
         number, _, packet = it.kinds["copy"]
-        yield not_judged(f"{page.count(number, 'late frame was not missing', 'late frames were not missing')}, first: packet\u00a0{packet}: copies (a ring, PRP), "
-                         "or overtaken by a later state.", "capture one path alone, or take copies away, as editcap -d does")
+        yield not_judged(f"{page.count(number, 'late frame was not missing', 'late frames were not missing')}, first: packet\u00a0{packet}: "
+                         "copies (a ring, PRP), or overtaken by a later state.", "capture one path alone, or take copies away, as editcap -d does")
 
 
 # ---- Runs --------------------------------------------------------------------
@@ -325,8 +325,8 @@ def key_of_block(appid, reference):
 # ---- Totals ------------------------------------------------------------------
 
 GOOSE = {"frames": "Frames", "statesMissing": "States missing", "framesMissing": "Frames missing", "came": "Of these late",
-         "bad": "Missing, but with an error", "late": "Late", "copies": "Late, not missing", "repeated": "Repeated", "restarted": "Restarts", "silent": "Silences",
-         "longest": "Longest pause"}
+         "bad": "Missing, but with an error", "late": "Late", "copies": "Late, not missing", "repeated": "Repeated", "restarted": "Restarts",
+         "silent": "Silences", "longest": "Longest pause"}
 # The columns that are there only where they say something.
 RARE = ("came", "bad", "copies")
 SAMPLED = {"samples": "Samples", "missing": "Missing", "late": "Late", "repeated": "Repeated", "outOfRange": "Out of range",

@@ -83,7 +83,8 @@ class Sort:
 
     def __init__(self, record, found):
         self.record, self.number, self.first, self.last = record, 0, found, found
-        self.state, self.since, self.clock, self.sequence, self.streams, self.is_alike, self.between, self.pace = b"", 0, None, None, (), None, None, None
+        self.state, self.since, self.clock, self.sequence, self.streams, self.is_alike = b"", 0, None, None, (), None
+        self.between, self.pace = None, None
 
 
 def pattern_of(line, at):

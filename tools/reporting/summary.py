@@ -28,7 +28,8 @@ def losses(found, _own):
     if told:
         yield finding(f"{'; '.join(told)}.")
     if it.bad.number:
-        yield clean(f"{page.count(it.bad.number, 'frame')} that control blocks lack came with an error, first: packet\u00a0{it.bad.first}: told under errors alone.")
+        yield clean(f"{page.count(it.bad.number, 'frame')} that control blocks lack came with an error, first: packet\u00a0{it.bad.first}: "
+                    "told under errors alone.")
     if not told and not unsure:
         yield clean(f"nothing{' else' if it.bad.number else ''} is missing, late, silent or restarted in {found.all_packets}.")
 
