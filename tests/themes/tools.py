@@ -223,7 +223,8 @@ class Clean:
             ["to_csv", EXAMPLES / "one_frame.list"], ["field_at", "2", "3"], ["draw_replay", EXAMPLES / "one_frame.list"],
             ["draw_replay", "--losses", "/dev/null", EXAMPLES / "one_frame.list"], ["draw_recording", EXAMPLES / "one_frame.list", "0001,G,D,,1,1"],
             ["name_members", "--scd", EXAMPLES / "station.scd"], ["scl_blocks", "--names", EXAMPLES / "station.scd"],
-            ["report", "--scd", EXAMPLES / "station.scd", EXAMPLES / "two_frames.pcap"], ["report", "/dev/null"])
+            ["report", "--scd", EXAMPLES / "station.scd", EXAMPLES / "two_frames.pcap"], ["report", "/dev/null"],
+            ["to_comtrade", "--scd", EXAMPLES / "fault.scd", "--svid", "MU01", "-o", "fault", EXAMPLES / "fault.pcapng"])
     name = "tools that leave files open"
 
     def why_wrong(self, program):

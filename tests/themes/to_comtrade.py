@@ -1,0 +1,502 @@
+"""tools/to_comtrade: what a reader that shares nothing with it finds in its files is what was put into a capture, and what is refused."""
+import gzip
+import json
+import os
+import pathlib
+import resource
+import struct
+import subprocess
+import tempfile
+
+from helpers import comtrade_reader, fault_station
+from helpers.asked_tools import EXAMPLES, TOOLS, ask, module
+from helpers.fault_station import (BEGIN, FAULT, FAULT_AT, FIRST, LATER, LOST, OPEN_AT, RATE, SAMPLES, SECOND, TRIP_AT, Unit, capture, events, goose,
+                                   line_values, other_values, pairs, sample_of_line, sample_of_other, trip)
+from helpers.frames import asdu, element
+from helpers.harness import run
+
+ENDINGS = ("cfg", "dat", "hdr")
+
+
+class Made:
+    """The files that a run makes of a capture, and how it ends."""
+
+    def __init__(self, program, octets, *words, scd=None, before=(), **how):
+        with tempfile.TemporaryDirectory() as folder:
+            folder = pathlib.Path(folder)
+            (folder / "of.pcapng").write_bytes(octets)
+            for name in before:
+                (folder / name).write_bytes(b"before")
+            if scd:
+                (folder / "of.scd").write_text(scd)
+            asked = [*(["--scd", "of.scd"] if scd else []), *words]
+            asked += [] if "-o" in words else ["-o", "made"]
+            wrote, said, self.status = ask(program, "to_comtrade", [*asked, "of.pcapng"], cwd=folder, **how)
+            self.said = (wrote + said).decode()
+            self.files = {it.name: it.read_bytes() for it in folder.iterdir() if it.name not in ("of.pcapng", "of.scd")}
+
+    @property
+    def recording(self):
+        if "made.cfg" not in self.files:
+            raise AssertionError(f"nothing was made: {self.said}")
+        return comtrade_reader.Recording(self.files["made.cfg"], self.files["made.dat"])
+
+    @property
+    def header(self):
+        return self.files["made.hdr"].decode()
+
+
+class Each:
+    """A case that tells what is wrong, one after another."""
+
+    def __init__(self, name, *told):
+        self.name, self.told = name, told
+
+    def why_wrong(self, program):
+        return list(self.wrong(program))
+
+
+def differs(what, wanted, got):
+    return [] if wanted == got else [f"{what}: wanted {wanted}, got {got}"]
+
+
+def unlike(what, wanted, got, most):
+    """Values that differ by more than so much, and missing ones that are there."""
+    for at, (ours, theirs) in enumerate(zip(wanted, got)):
+        if (ours is None) != (theirs is None) or (ours is not None and abs(ours - theirs) > most):
+            return [f"{what}, sample {at + 1}: wanted {ours}, got {theirs}"]
+    return differs(f"{what}: samples", len(wanted), len(got))
+
+
+# ---- A fault -----------------------------------------------------------------
+
+
+class Fault(Each):
+    """The line's values, the states, the time, the trigger and the inception, in each form of .dat, with names and without."""
+
+    def wrong(self, program):
+        form, scd = self.told
+        it = Made(program, capture(), "--svid", "MU01", "--format", form, scd=scd and fault_station.scd())
+        yield from differs("the status", (0, ""), (it.status, it.said))
+        yield from differs("files", sorted(f"made.{ending}" for ending in ENDINGS), sorted(it.files))
+        found = it.recording
+        yield from differs("the form", (form.upper(), SAMPLES, RATE, 50), (found.form, found.last, found.rate, found.frequency))
+        currents, voltages = zip(*map(line_values, range(SAMPLES)))
+        wanted = [*zip(*currents), *([value / (1000 if scd else 1) for value in column] for column in zip(*voltages))]
+        for channel, column in zip(found.analog, wanted):
+            yield from unlike(channel.name, column, channel.values, 1e-2 if channel.unit == "V" else 1e-3)
+        yield from differs("units", [*["A"] * 4, *["kV" if scd else "V"] * 4], [channel.unit for channel in found.analog])
+        yield from differs("phases", list("ABCNABCN"), [channel.phase for channel in found.analog])
+        yield from differs("the station and the device", ("of.pcapng", "MU01"), (found.station, found.device))
+        yield from self.wrong_times(found)
+        yield from self.wrong_states(found, scd)
+
+    def wrong_times(self, found):
+        yield from differs("the first sample", BEGIN, found.first)
+        yield from differs("time stamps", [at * 250 for at in range(SAMPLES)], found.stamps)
+        captured = BEGIN + 7 * SECOND // RATE + fault_station.DELAY
+        yield from differs("the time's quality", ("0,x", "0,0", 1), (found.code, found.quality, found.multiplier))
+        rise = TRIP_AT if found.digital[0].name.startswith("PTRC") else FAULT_AT + 9_000
+        yield from differs("the trigger", BEGIN + rise - captured, found.trigger)
+        at = comtrade_reader.inception(found, RATE // 50)
+        if at is None or abs(at - FAULT) > 1 or abs(found.at(at) - FAULT_AT) > SECOND / RATE:
+            yield f"the fault begins at sample {at}, and not at {FAULT}"
+
+    def wrong_states(self, found, scd):
+        names = (["PTRC1.Tr.general", "PTOC1.Str.general", "XCBR1.Pos.stVal on", "XCBR1.Pos.stVal off"] if scd else
+                 ["BAY1PROT/LLN0$GO$gcbTrip 1", "BAY1PROT/LLN0$GO$gcbTrip 3", "BAY1CTRL/LLN0$GO$gcbPos 1 on", "BAY1CTRL/LLN0$GO$gcbPos 1 off"])
+        yield from differs("digital channels", names, [it.name for it in found.digital])
+        spans = [[(TRIP_AT, None)], [(FAULT_AT + 9_000, None)], [(BEGIN + 90_000, OPEN_AT - 12_000)], [(OPEN_AT, None)]]
+        unit = fault_station.units()[0]
+        frames = [unit.captured(min(at // 8 * 8 + 7, SAMPLES - 1)) for at in range(SAMPLES)]
+        for channel, held in zip(found.digital, spans):
+            wanted = [int(any(since <= now and (until is None or now < until) for since, until in held)) for now in frames]
+            yield from differs(f"{channel.name} first set, and how often", (wanted.index(1), sum(wanted)), (channel.values.index(1), sum(channel.values)))
+            yield from differs(channel.name, wanted, channel.values)
+
+
+class Header(Each):
+    """What .hdr says of the states before the first, of quality and of what is missing."""
+
+    def wrong(self, program):
+        it = Made(program, capture(), "--svid", "MU02", scd=fault_station.scd())
+        wanted = ["2,200, of which 8 are missing", "I01ATCTR1.AmpSv.instMag.i: 40 not good, from sample 1601 on: questionable oldData",
+                  "XCBR1.Pos.stVal on: its first state is that of packet ", "by the data set dsSv of MU02MU/LLN0$MS$msv1",
+                  "PTRC1.Tr.general from false to true", "by of.scd: smpRate 80, a period at 50 Hz"]
+        yield from (f".hdr lacks {part!r}: {it.header}" for part in wanted if part not in it.header)
+        if "\n" in it.header.replace("\r\n", ""):
+            yield "lines of .hdr do not end with CR LF"
+        found = it.recording
+        columns = zip(*map(other_values, range(SAMPLES)))
+        for channel, column in zip(found.analog, columns):
+            yield from unlike(channel.name, [None if at in LOST else value for at, value in enumerate(column)], channel.values, 2e-3)
+        yield from differs("scales", [0.002] * 4, [channel.a for channel in found.analog])
+
+
+# ---- Samples that are missing, late, copies ----------------------------------
+
+
+def counting(at):
+    """A sample whose values tell which it is."""
+    return pairs([at, -at])
+
+
+class Moved(Each):
+    """Samples that are lost, late or come twice have their places; and they are counted as goose losses counts them."""
+
+    def wrong(self, program):
+        rate, order, missing, *words = self.told
+        unit = Unit("S", 0x4000, 1, counting, rate=rate, a_frame=1, first=rate - 30)
+        held = [(unit.captured(max(order[:at + 1])) + 3 * at, unit.frame(number)) for at, number in enumerate(order)]
+        for form in ("binary32", "ascii", "float32"):
+            it = Made(program, capture(held), "--period", f"{rate}", "--format", form, *words)
+            found, least = it.recording, min(order)
+            wanted = [None if at in missing else at for at in range(least, max(order) + 1)]
+            yield from differs(f"values in {form}", [None if value is None else round(value, 6) for value in wanted], found.analog[0].stored)
+            yield from differs(f"negative values in {form}", [value and -value for value in wanted], found.analog[1].stored)
+            yield from differs("stamps", [(2 * at * SECOND + rate) // (2 * rate) for at in range(len(wanted))], found.stamps)
+        wrote, _, _ = run(program, ["losses", "--capture", "--json", "--period", f"{rate}"], capture(held))
+        told = json.loads(wrote.splitlines()[-1])
+        line = f"{told['late']:,} came late, {told['repeated']:,} were copies"
+        yield from [] if line in it.header else [f".hdr lacks {line!r}: {it.header}"]
+        after = [len([it for it in held if it >= order[0]]) for held in (missing, late(order))]
+        yield from differs("missing after the first, by losses less late ones", after[0], told["missing"] - after[1])
+
+
+def late(order):
+    """Those of samples that come after a later one, once each."""
+    return {it for at, it in enumerate(order) if it < max(order[:at + 1]) and it not in order[:at]}
+
+
+def moved():
+    whole = list(range(200))
+    yield "none", whole, set()
+    yield "some lost", [it for it in whole if it not in (7, 8, 9, 150)], {7, 8, 9, 150}
+    yield "one late", [*range(50), *range(51, 53), 50, *range(53, 200)], set()
+    yield "two late, of which one is further back", [*range(50), *range(52, 60), 51, *range(60, 90), 50, *range(90, 200)], set()
+    yield "copies", [it for at in whole for it in ([at, at] if at % 3 == 0 else [at])], set()
+    yield "one before the first", [5, 6, 9, 2, *range(10, 200)], {3, 4, 7, 8}
+
+
+class Outage(Each):
+    """A stream that is silent for longer than its counter takes: whole seconds are missing."""
+
+    def wrong(self, program):
+        unit = Unit("S", 0x4000, 1, counting, rate=100, a_frame=1, first=0)
+        held = [(unit.captured(at), unit.frame(at)) for at in [*range(30), *range(280, 300)]]
+        found = Made(program, capture(held), "--period", "100").recording
+        yield from differs("values", [None if 30 <= at < 280 else at for at in range(300)], found.analog[0].stored)
+
+
+class Least(Each):
+    """The least number of 32 bits is a value, and in binary32 no missing one."""
+
+    def wrong(self, program):
+        unit = Unit("S", 0x4000, 1, lambda at: pairs([-2**31, 2**31 - 1]), rate=100, a_frame=1)
+        held = [(unit.captured(at), unit.frame(at)) for at in range(20)]
+        for form, least in (("binary32", 1 - 2**31), ("ascii", -2**31), ("float32", -2.0**31)):
+            found = Made(program, capture(held), "--period", "100", "--format", form).recording
+            yield from differs(form, [least, float(2**31) if form == "float32" else 2**31 - 1], [it.stored[0] for it in found.analog])
+
+
+# ---- Time --------------------------------------------------------------------
+
+
+class Timed(Each):
+    """Where smpSynch is 2 and the capture agrees with t, the time is that of the whole second and smpCnt; else that of the capture."""
+
+    def wrong(self, program):
+        synch, off, quality, wanted = self.told
+        unit = Unit("MU01", 0x4000, 1, sample_of_line, synch=synch, delay=1700, a_frame=1, samples=1600, first=FIRST)
+        held = [(at, octets) for at, octets in unit.packets()] + [(BEGIN + 40_000, goose(1, 7, 20, BEGIN - 3600 * SECOND, trip(False, False))),
+                (TRIP_AT, goose(1, 8, 0, TRIP_AT - off, trip(True, True), quality))]
+        found = Made(program, capture(held), "--period", f"{RATE}", scd=fault_station.scd()).recording
+        first, timed = (BEGIN, "0") if wanted else (BEGIN + 1700, "F")
+        yield from differs("the first sample", first, found.first)
+        yield from differs("the quality of the time", f"{timed},{0 if quality & 0x80 else 3}", found.quality)
+        yield from differs("the trigger", first + TRIP_AT - BEGIN - 1700, found.trigger)
+
+
+class Untripped(Each):
+    """Without a trip the trigger is the first sample, and without control blocks there are no digital channels."""
+
+    def wrong(self, program):
+        unit = Unit("S", 0x4000, 1, counting, rate=100, a_frame=1)
+        found = Made(program, capture([(unit.captured(at), unit.frame(at)) for at in range(20)]), "--period", "100").recording
+        yield from differs("times", (BEGIN + 300, BEGIN + 300, "F,3", []), (found.first, found.trigger, found.quality, found.digital))
+
+
+class Long(Each):
+    """Time stamps that would not fit into 32 bits are in units of ten microseconds."""
+
+    def wrong(self, program):
+        unit = Unit("S", 0x4000, 1, counting, rate=4, a_frame=1, first=0)
+        last = 4 * 4296
+        held = [(unit.captured(at), unit.frame(at)) for at in (*range(8), *range(last - 3, last + 1))]
+        found = Made(program, capture(held), "--period", "4").recording
+        yield from differs("the multiplier, the last stamp and the values", (10, 429_600_000, last, None),
+                           (found.multiplier, found.stamps[-1], found.analog[0].stored[-1], found.analog[0].stored[100]))
+
+
+class Part(Each):
+    """--from and --to choose packets; states from before them are known."""
+
+    def wrong(self, program):
+        since, until = "2023-11-14T22:13:21.15Z", f"{BEGIN + 400_000}"
+        it = Made(program, capture(), "--svid", "MU01", "--from", since, "--to", until, scd=fault_station.scd())
+        found, first = it.recording, next(at for at in range(0, SAMPLES, 8) if BEGIN + (at + 7) * 250 + 300 >= BEGIN + 250_000)
+        last = next(at for at in range(SAMPLES - 1, 0, -8) if BEGIN + at * 250 + 300 <= BEGIN + 400_000)
+        yield from differs("the first sample, and how many", (BEGIN + first * 250, last - first + 1), (found.first, found.last))
+        yield from differs("the breaker is on at first", [0, 0, 1, 0], [channel.values[0] for channel in found.digital])
+        if "first state" in it.header:
+            yield f"states before the first sample are not known: {it.header}"
+        after = Made(program, capture(), "--svid", "MU01", "--from", f"{OPEN_AT + 10_000}", scd=fault_station.scd())
+        if "there is no trip" not in after.header or after.recording.trigger != after.recording.first:
+            yield "a trip before the recording is its trigger"
+
+
+class Frequency(Each):
+    """The line frequency is that of the samples, or what is asked for."""
+
+    def wrong(self, program):
+        rate, frequency, words, wanted = self.told
+        unit = Unit("MU01", 0x4000, 1, lambda at: sample_of_line(at % FAULT, frequency * RATE / rate), rate=rate, a_frame=8, samples=rate // 4, first=0)
+        yield from differs("the frequency", wanted, Made(program, capture(list(unit.packets())), "--period", f"{rate}", *words).recording.frequency)
+
+
+# ---- What a sample says ------------------------------------------------------
+
+FLOATS = ('<DAType id="INT_T"><BDA name="i" bType="INT32"/></DAType>', '<DAType id="INT_T"><BDA name="i" bType="FLOAT32"/></DAType>')
+
+
+def raw_words(at):
+    return struct.pack(">iI", at, 0x4000)
+
+
+class Said(Each):
+    """The names, units and scales of channels, by the SCL file, by --channels, or by octets alone."""
+
+    def wrong(self, program):
+        sample, words, scd, wanted, why = self.told
+        unit = Unit("MU01", 0x4000, 1, sample, a_frame=1, samples=40)
+        it = Made(program, capture(list(unit.packets())), "--period", f"{RATE}", *words, scd=scd)
+        yield from differs("channels", wanted, [(channel.name, channel.unit, channel.a, channel.b) for channel in it.recording.analog])
+        yield from [] if why in it.header else [f".hdr lacks {why!r}: {it.header}"]
+
+
+def named(scale, unit, *at):
+    return [(f"{letter}01{phase}{sort}{number}.{name}.instMag.i", unit[sort], scale[sort], 0.0)
+            for letter, sort, name in (("I", "TCTR", "AmpSv"), ("U", "TVTR", "VolSv")) for number, phase in enumerate("ABCN", 1)]
+
+
+def channels():
+    scd = fault_station.scd()
+    yield "of an SCL file", sample_of_line, (), scd, named({"TCTR": 0.001, "TVTR": 0.00001}, {"TCTR": "A", "TVTR": "kV"}), "by the data set dsSv"
+    unscaled = scd.replace('<DA name="sVC"', '<DA name="no"')
+    yield "of an SCL file without sVC", sample_of_line, (), unscaled, named({"TCTR": 0.001, "TVTR": 0.01}, {"TCTR": "A", "TVTR": "V"}), "by the data set dsSv"
+    own = scd.replace('<LN prefix="I01A" lnClass="TCTR" inst="1" lnType="TCTR_T"></LN>\n', "").replace(
+        '<LN prefix="I01A" lnClass="TCTR" inst="1" lnType="TCTR_T"></LN>', '<LN prefix="I01A" lnClass="TCTR" inst="1" lnType="TCTR_T"><DOI name="AmpSv">'
+        '<SDI name="sVC"><DAI name="scaleFactor"><Val>0.5</Val></DAI><DAI name="offset"><Val>-2.5</Val></DAI></SDI>'
+        '<SDI name="units"><DAI name="multiplier"><Val>3</Val></DAI></SDI></DOI></LN>', 1)
+    first = ("I01ATCTR1.AmpSv.instMag.i", "kA", 0.5, -2.5)
+    yield ("of a DAI, before those of types", sample_of_line, (), own,
+           [first, *named({"TCTR": 0.001, "TVTR": 0.00001}, {"TCTR": "A", "TVTR": "kV"})[1:]], "by the data set dsSv")
+    pair = [("I1", "A", 0.001, 0.0), ("U1", "V", 0.01, 0.0)]
+    yield "of --channels", counting, ("--channels", "1I1U"), None, pair, "1I1U: currents of 1 mA"
+    yield "of --channels, voltages first", counting, ("--channels", "1U1I"), None, pair[::-1], "1U1I"
+    yield "of pairs that are not eight", counting, (), None, [("X1", "", 1.0, 0.0), ("X2", "", 1.0, 0.0)], "--channels says it"
+    yield "of raw words", raw_words, (), None, [("word 1", "", 1.0, 0.0), ("word 2", "", 1.0, 0.0)], "raw words of 32 bits"
+    yield "of octets at the end", lambda at: raw_words(at) + b"\x01", (), None, [("word 1", "", 1.0, 0.0), ("word 2", "", 1.0, 0.0)], "1 octets at its end"
+    yield "of another size than the SCL file's", counting, (), scd, [("X1", "", 1.0, 0.0), ("X2", "", 1.0, 0.0)], "is of 64 octets, and a sample of 16"
+    untyped = scd.replace(FLOATS[0], "")
+    yield ("of an SCL file without a type", sample_of_line, (), untyped, [*[(f"I{at}", "A", 0.001, 0.0) for at in range(1, 5)],
+           *[(f"U{at}", "V", 0.01, 0.0) for at in range(1, 5)]], "does not say the size")
+
+
+class Floats(Each):
+    """Floating-point values are in float32 alone, as they are."""
+
+    def wrong(self, program):
+        values = [0.5, -1.25, 3e38, 1e-3, 100.0, 2.0**30, 0.0, -7.0]
+        unit = Unit("MU01", 0x4000, 1, lambda at: b"".join(struct.pack(">fI", it, 0) for it in values), a_frame=1, samples=10)
+        octets, scd = capture(list(unit.packets())), fault_station.scd().replace(*FLOATS)
+        found = Made(program, octets, "--period", f"{RATE}", scd=scd).recording
+        got = [channel.stored[0] for channel in found.analog]
+        yield from differs("values", [struct.unpack("<f", struct.pack("<f", it))[0] for it in values], got)
+        yield from differs("the form and scales", ("FLOAT32", {(1.0, 0.0)}), (found.form, {(it.a, it.b) for it in found.analog}))
+        for form in ("binary32", "ascii"):
+            it = Made(program, octets, "--period", f"{RATE}", "--format", form, scd=scd)
+            if it.status != 2 or "--format float32" not in it.said or it.files:
+                yield f"{form}: status {it.status}, {it.said}, {sorted(it.files)}"
+
+
+class Qualities(Each):
+    """Qualities as words: validity from the lowest bits on, the flags, and derived, which alone is good."""
+
+    def wrong(self, _program):
+        values = module("sample_values")
+        for quality, words, good in ((0, "good", True), (1, "invalid", False), (2, "invalid", False), (3, "questionable", False), (4, "overflow", False),
+                                     (1 << 13, "derived", True), (1 << 13 | 1, "invalid derived", False), (1 << 11, "test", False),
+                                     (1 << 12, "operatorBlocked", False), (0x3F8 | 3, "questionable outOfRange badReference oscillatory failure oldData "
+                                                                           "inconsistent inaccurate", False),
+                                     (1 << 10, "substituted", False), (1 << 20, "reserved bits", False)):
+            yield from differs(f"{quality:x}", (words, good), (values.quality_words(quality), values.is_good(quality)))
+
+
+# ---- What is refused, and how it ends ----------------------------------------
+
+
+class Ends(Each):
+    """How a run ends that makes nothing, or leaves something out."""
+
+    def wrong(self, program):
+        octets, words, status, said, files = self.told
+        it = Made(program, octets, *words, scd=fault_station.scd() if "--scd" in self.name else None)
+        yield from differs("the status", status, it.status)
+        yield from [] if said in it.said else [f"standard error lacks {said!r}: {it.said}"]
+        yield from [f"a traceback: {it.said}"] if "error of the tool" in it.said else []
+        yield from differs("files", files, len(it.files))
+
+
+def streams(*units):
+    return capture([it for unit in units for it in unit.packets()])
+
+
+def ends():
+    short = {"a_frame": 1, "samples": 40, "rate": RATE}
+    one, other = Unit("S", 0x4000, 1, counting, **short), Unit("T", 0x4000, 1, counting, **short)
+    two = Unit("S", 0x4000, 2, counting, **short)
+    octets, asked = streams(one), ("--period", "4000")
+    yield "several streams", streams(one, other), asked, 2, "there are several streams, and --svid chooses one: S, T", 0
+    yield "a stream that is not there", octets, (*asked, "--svid", "X"), 2, "there is no stream X: there are S", 0
+    yield "no stream", capture(list(events())), asked, 3, "the capture has no stream", 0
+    yield "two senders of one svID", streams(one, two), asked, 3, "two streams have the svID S", 0
+    yield "no rate", octets, (), 2, "no rate is known: give --period N", 0
+    yield "another rate than the capture shows", capture(), ("--svid", "MU01", "--period", "4800"), 2, "the capture shows about 4,000 samples a second", 0
+    yield "a period that is none", octets, ("--period", "1"), 2, "--period is from 2 to 65536", 0
+    yield "a frequency that is none", octets, (*asked, "--frequency", "0"), 2, "--frequency is from 1 to 1000 Hz", 0
+    yield "channels that are none", octets, (*asked, "--channels", "4X"), 2, "--channels says how many currents", 0
+    yield "channels that do not fit", octets, (*asked, "--channels", "3I"), 2, "--channels 3I are 3 channels, and a sample of the stream has 2", 0
+    yield "a form that is none", octets, (*asked, "--format", "binary"), 2, "invalid choice", 0
+    for time in ("yesterday", "2023-13-14T22:13:20Z", "-5", "9" * 19, "2023-11-14 22:13:20"):
+        yield f"the time {time}", octets, (*asked, f"--from={time}"), 2, "is no time", 0
+    yield "a span that is none", octets, (*asked, "--from", "5", "--to", "4"), 2, "--to is before --from", 0
+    yield "a span without samples", octets, (*asked, "--from", "5", "--to", "6"), 3, "there is no sample", 0
+    yield "no name", octets, (*asked, "-o", ""), 2, "names no file", 0
+    yield "a folder that is not there", octets, (*asked, "-o", "none/made"), 4, "No such file or directory", 0
+    yield "a name with its ending", octets, (*asked, "-o", "made.cfg"), 0, "", 3
+    yield "a capture that breaks off", octets[:-10], asked, 3, "breaks off where packet 40 should be: CaptureShort", 3
+    yield "no capture", b"none", asked, 3, "CaptureHeader", 0
+    jump = [*one.packets(), (BEGIN + 10**12, one.frame(40))]
+    yield "samples without end", capture(jump), asked, 3, "over 100,000,000 samples", 0
+    empty = Unit("S", 0x4000, 1, lambda at: b"", **short)
+    yield "samples of no octets", streams(empty), asked, 3, "there is no sample that has octets", 0
+    mixed = Unit("S", 0x4000, 1, lambda at: counting(at) * (2 if at == 30 else 1), **short)
+    yield "a sample of another size", streams(mixed), asked, 1, "1 ASDUs have a sample of another size than 16 octets, from packet 31 on", 3
+    beyond = capture([*one.packets(), (BEGIN + 11_000, Unit("S", 0x4000, 1, counting, rate=65536, first=5000).frame(0))])
+    yield "a count out of range", beyond, asked, 1, "1 ASDUs have a smpCnt that is not below 4000", 3
+
+
+class Compressed(Each):
+    """A capture that is compressed, or comes by standard input, is read as one that is a file."""
+
+    def wrong(self, program):
+        octets = streams(Unit("S", 0x4000, 1, counting, a_frame=1, samples=40))
+        wanted = Made(program, octets, "--period", "4000").files["made.dat"]
+        it = Made(program, gzip.compress(octets), "--period", "4000")
+        yield from differs("compressed", (0, wanted), (it.status, it.files.get("made.dat")))
+        with tempfile.TemporaryDirectory() as folder:
+            _, said, status = ask(program, "to_comtrade", ["--period", "4000", "-o", f"{folder}/made", "-"], octets)
+            yield from differs("standard input", (0, wanted, b""), (status, (pathlib.Path(folder) / "made.dat").read_bytes(), said))
+
+
+class Kept(Each):
+    """Files that are there stay unless --force is given, and a file that is read always does; nothing is left of a run that fails."""
+
+    def wrong(self, program):
+        octets = streams(Unit("S", 0x4000, 1, counting, a_frame=1, samples=40))
+        for ending in ENDINGS:
+            name = f"made.{ending}"
+            it = Made(program, octets, "--period", "4000", before=[name])
+            yield from differs(f"{name} is there", (2, {name: b"before"}), (it.status, it.files))
+            it = Made(program, octets, "--period", "4000", "--force", before=[name])
+            yield from differs(f"{name} is replaced", (0, 3, False), (it.status, len(it.files), b"before" in it.files.values()))
+        with tempfile.TemporaryDirectory() as folder:
+            path = pathlib.Path(folder) / "of.dat"
+            path.write_bytes(octets)
+            _, said, status = ask(program, "to_comtrade", ["--period", "4000", "--force", "-o", path.with_suffix(""), path])
+            yield from differs("the capture itself", (2, True, octets, 1), (status, b"is read" in said, path.read_bytes(), len(list(path.parent.iterdir()))))
+
+
+class Full(Each):
+    """A device that takes no more ends it with status 4: what was there stays, and no part of a file is left."""
+
+    def wrong(self, program):
+        octets = streams(Unit("S", 0x4000, 1, counting, a_frame=8, samples=4000))
+        for most in (1 << 12, 1 << 16, 80_000, 90_000):
+            it = Made(program, octets, "--period", "4000", "--force", before=["made.cfg"], preexec_fn=lambda: limit(most))
+            yield from differs(f"{most} octets: the status and files", (4, {"made.cfg": b"before"}), (it.status, it.files))
+            yield from [] if "File too large" in it.said else [f"{most} octets: {it.said}"]
+
+
+def limit(octets):
+    resource.setrlimit(resource.RLIMIT_FSIZE, (octets, octets))
+
+
+class Memory(Each):
+    """What it takes of memory does not grow with the samples."""
+
+    def wrong(self, program):
+        unit = Unit("S", 0x4000, 1, sample_of_line, a_frame=1)
+        frames = [unit.frame(at) for at in range(RATE)]
+        most = []
+        for number in (10_000, 40_000):
+            held = [(BEGIN + at * 250, frames[at % RATE]) for at in range(number)]
+            with tempfile.TemporaryDirectory() as folder:
+                path = pathlib.Path(folder) / "of.pcapng"
+                path.write_bytes(capture(held))
+                ran = subprocess.Popen([TOOLS / "to_comtrade", "--period", "4000", "-o", pathlib.Path(folder) / "made", path], stderr=subprocess.DEVNULL,
+                                       env={**os.environ, "GOOSE": " ".join(program)})
+                _, _, used = os.wait4(ran.pid, 0)
+                most.append(used.ru_maxrss)
+        if most[1] > most[0] + 16 * 1024:
+            yield f"{most[0]} KB for 10,000 packets, and {most[1]} KB for 40,000"
+
+
+class Example(Each):
+    """The example of a fault is what its helper makes, and small."""
+
+    def wrong(self, _program):
+        yield from differs("the capture", True, (EXAMPLES / "fault.pcapng").read_bytes() == capture())
+        yield from differs("the SCL file", True, (EXAMPLES / "fault.scd").read_text() == fault_station.scd())
+        yield from differs("at most 400,000 octets", True, len(capture()) <= 400_000)
+
+
+def cases():
+    for form in ("binary32", "ascii", "float32"):
+        yield Fault(f"a fault in {form}", form, False)
+        yield Fault(f"a fault in {form}, with an SCL file", form, True)
+    yield Header("what .hdr says")
+    yield from (Moved(f"samples moved: {name}", 4000, *told) for name, *told in moved())
+    yield Moved("samples moved at a rate that divides no second", 4800, [*range(50), *range(51, 53), 50, *range(54, 120)], {53})
+    yield Outage("an outage of more than a second")
+    yield Least("the least number of 32 bits")
+    for name, *told in (("synchronised", 2, LATER, 0x8A, True), ("locally synchronised", 1, LATER, 0x8A, False), ("not synchronised", 0, LATER, 0x8A, False),
+                        ("t is half a second before", 2, 500_000, 0x8A, False), ("t is 0.3 s after", 2, -300_000, 0x0A, True),
+                        ("t is of a clock that failed", 2, LATER, 0xCA, False), ("t is of a clock that is not synchronised", 2, LATER, 0x2A, False)):
+        yield Timed(f"time: {name}", *told)
+    yield Untripped("no trip and no control blocks")
+    yield Long("time stamps of over 32 bits")
+    yield Part("--from and --to")
+    for name, *told in (("50 Hz", 4000, 50, (), 50), ("60 Hz of 4,000", 4000, 60, (), 60), ("60 Hz of 4,800", 4800, 60, (), 60),
+                        ("asked for", 4000, 50, ("--frequency", "60"), 60)):
+        yield Frequency(f"the line frequency: {name}", *told)
+    yield from (Said(f"channels {name}", *told) for name, *told in channels())
+    yield Floats("floating-point values")
+    yield Qualities("qualities in words")
+    yield from (Ends(f"ends: {name}", *told) for name, *told in ends())
+    yield Compressed("a compressed capture")
+    yield Kept("files that are there")
+    yield Full("a device that is full")
+    yield Memory("memory for more samples")
+    yield Example("the example of a fault")
