@@ -224,7 +224,8 @@ class Clean:
             ["draw_replay", "--losses", "/dev/null", EXAMPLES / "one_frame.list"], ["draw_recording", EXAMPLES / "one_frame.list", "0001,G,D,,1,1"],
             ["name_members", "--scd", EXAMPLES / "station.scd"], ["scl_blocks", "--names", EXAMPLES / "station.scd"],
             ["report", "--scd", EXAMPLES / "station.scd", EXAMPLES / "two_frames.pcap"], ["report", "/dev/null"],
-            ["to_comtrade", "--scd", EXAMPLES / "fault.scd", "--svid", "MU01", "-o", "fault", EXAMPLES / "fault.pcapng"])
+            ["to_comtrade", "--scd", EXAMPLES / "fault.scd", "--svid", "MU01", "-o", "fault", EXAMPLES / "fault.pcapng"],
+            ["compare_captures", "--same-clock", EXAMPLES / "two_frames.pcap", EXAMPLES / "two_frames.pcapng"])
     name = "tools that leave files open"
 
     def why_wrong(self, program):
