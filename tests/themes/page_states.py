@@ -368,7 +368,7 @@ def unjudged():
     told = {"Received": (AMBER, f"1 input of SUB cannot be judged: {block} of the SCL file): it has no GSE address with an APPID"), **compared}
     yield Judged("a block without APPID that a device receives", capture(good), told, "--ied", "SUB", scd=without_appid)
     comma = capture((at, it.replace(b"D2LD0/LLN0$GO$gcb1", b"D2LD0/LLN0$GO$gcb,")) for at, it in good)
-    yield Judged("a block whose name has a comma", comma, {"Events acted on": (AMBER, "no event is told of 1 control block", "D2LD0/LLN0$GO$gcb,: its texts")})
+    yield Judged("a block whose name has a comma", comma, {"Events acted on": (AMBER, "no event is told of D2LD0/LLN0$GO$gcb,: its texts")})
 
 
 def cases():

@@ -1,7 +1,9 @@
 """The page tells the trip first: its moment by the first rule that any event meets, the events around it, and their picture."""
 import re
+import types
 
 from helpers import trip_station
+from helpers.asked_tools import module
 from helpers.trip_station import BETWEEN, FALSE, FAULT, GOOD, OFF, ON, START, TEST, TIME, TRUE, capture, frame, frames, reference, scd
 from themes.report import EVENTS, FINDINGS, Page, reported, words
 
@@ -152,6 +154,36 @@ class Folded:
             yield f"lifetimes: {lives}"
 
 
+class Looked(dict):
+    """A member that counts how often it is looked at."""
+
+    number = 0
+
+    def get(self, *asked):
+        Looked.number += 1
+        return super().get(*asked)
+
+
+class Qualities:
+    """Whether a member is in test is known by one look at each member of an event, however many change."""
+
+    name = "the bit test of an event of many members"
+
+    def why_wrong(self, _):
+        events, many = module("reporting.events"), 400
+        members = [Looked(bits="10") for _ in range(many)]
+        event = events.Event("act", types.SimpleNamespace(packet=1), None)
+        event.act({**dict.fromkeys(events.STATE), "members": members}, [(f"{at}", "01", "10") for at in range(1, many + 1)], False)
+        if Looked.number > 2 * many or event.is_test:
+            yield f"{many} members are looked at {Looked.number} times, test: {event.is_test}"
+        good, test = {"bits": "0" * 13}, {"bits": "0" * 11 + "10"}
+        for members, path, wanted in (([True, test], "1", True), ([True, good, test], "1", False), ([True, good, True, test], "3", True), ([True], "1", False),
+                                      ([{"structure": [True, test]}, True, good], "1.1", True), ([{"structure": [True, test]}, True, good], "2", False)):
+            event.act({**dict.fromkeys(events.STATE), "members": members}, [(path, False, True)], False)
+            if event.is_test != wanted:
+                yield f"member {path} of {members}: test {event.is_test}"
+
+
 BREAKER = [(3000, "input", [TRUE, GOOD]), (3090, "isolator", [ON]), (3095, "breaker", [BETWEEN, GOOD, TIME])]
 
 
@@ -177,4 +209,4 @@ def cases():
     yield Moment("a start and a reclosing are no trips", [(2000, "trip", [FALSE, GOOD, TRUE]), (3000, "closing", [TRUE])], NONE, None, has_scd=True)
     yield Moment("a test", [(2000, "trip", [TRUE, TEST, FALSE])], "(test)", 0, has_scd=True)
     yield Moment("no test", [(2000, "trip", [TRUE, GOOD, FALSE])], NAMED, 0, has_scd=True, lacks=["test"])
-    yield from (Around(), Simulated(), Restarted(), Folded())
+    yield from (Around(), Simulated(), Restarted(), Folded(), Qualities())

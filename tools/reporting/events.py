@@ -77,7 +77,8 @@ class Event:
         """The state that is acted on. All its members are kept only where they are told."""
         self.record, self.changes = {name: record[name] for name in STATE}, changes
         self.members = record["members"] if is_whole else None
-        self.is_test = any(is_test(record["members"], path) for path, _, _ in changes)
+        tests = tests_of(record["members"]) if changes else ()
+        self.is_test = any(path in tests for path, _, _ in changes)
 
     def words(self):
         """The members that changed, each with its name, its old and its new value in words."""
@@ -215,13 +216,19 @@ def changes_of(before, members, path=""):
     return found
 
 
-def is_test(members, path):
-    """Whether the quality behind a member has the bit test: that is the first one of 13 bits in what holds the member."""
-    *outer, last = map(int, path.split("."))
-    for at in outer:
-        members = inside_of(members[at - 1])
-    quality = next((it["bits"] for it in members[last - 1:] if isinstance(it, dict) and len(it.get("bits", "")) == 13), "")
-    return quality[11:12] == "1"
+def tests_of(members, path=""):
+    """The paths of the members whose quality has the bit test: that is the first one of 13 bits from there on in what holds the member."""
+    found, is_test = set(), False
+    for at in range(len(members), 0, -1):
+        it = members[at - 1]
+        inside = inside_of(it)
+        if inside is not None:
+            found |= tests_of(inside, f"{path}{at}.")
+        elif isinstance(it, dict) and len(it.get("bits", "")) == 13:
+            is_test = it["bits"][11] == "1"
+        if is_test:
+            found.add(f"{path}{at}")
+    return found
 
 
 # ---- Rows --------------------------------------------------------------------

@@ -92,7 +92,7 @@ def events(found, own):
         yield finding(f"{some(told)}.")
     if found.untold and not own.ied:
         untold = [f"{what}: {why}" for what, why in found.untold]
-        yield not_judged(f"no event is told of {page.count(len(untold), 'control block')} of {found.all_packets}: {some(untold)}.", "look at its frames with goose show")
+        yield not_judged(f"of {found.all_packets} no event is told of {some(untold)}.", "look at the frames with goose show")
     yield clean(f"{acts}.")
 
 
