@@ -40,7 +40,7 @@ def bad_objects():
     yield '{"kind":"stream","svID":"S"}', b"lacks confRev"
     for name in ("appid", "gocbRef", "datSet", "confRev", "members"):
         yield line_of(SHOWN, name), b"lacks " + name.encode()
-    for name, value in (("destination", 5), ("destination", "zz0ccd010001"), ("tag", "8100"), ("appid", None), ("gocbRef", ["G"]), ("datSet", "\u00dc"),
+    for name, value in (("destination", 5), ("destination", "zz0ccd010001"), ("tag", "81008005"), ("appid", None), ("gocbRef", ["G"]), ("datSet", "\u00dc"),
                         ("goID", {}), ("confRev", "1"), ("confRev", True), ("members", {"0": 1}), ("members", None), ("gocbRef", "\ud800")):
         yield line_of(SHOWN, **{name: value}), b"has the " + name.encode()
     for asdus, why in ((5, b"has the asdus"), ([5], b"is no object"), ([{}], b"lacks svID"), ([{"svID": "S", "confRev": -1}], b"has the confRev")):
