@@ -334,9 +334,16 @@ def received():
                  scd=clean)
     never = {"Received": (AMBER, "no frame of D5LD0/LLN0$GO$gcb1 came", "capture for longer"), "Configuration": (RED,)}
     yield Judged("a block that did not come in a short recording", good, never, *asked, scd=scd)
-    yield Judged("a block that did not come in less than its MaxTime", good, never, *asked, scd=configured_blocks(range(1, 6), 20000))
+    young = {**never, "Received": (AMBER, "no frame of D5LD0/LLN0$GO$gcb1 (MaxTime is 20,000 ms) came", "capture for longer")}
+    yield Judged("a block that did not come in less than its MaxTime", good, young, *asked, scd=configured_blocks(range(1, 6), 20000))
     told = {"Received": (RED, "no frame of D5LD0/LLN0$GO$gcb1 came"), "Configuration": (RED,)}
     yield Judged("a block that did not come in its MaxTime", good, told, *asked, scd=configured_blocks(range(1, 6), 5000))
+    more = "no frame of D5LD0/LLN0$GO$gcb1 (MaxTime is 20,000 ms); D6LD0/LLN0$GO$gcb1 (MaxTime is 20,000 ms); D7LD0/LLN0$GO$gcb1 (MaxTime is 20,000 ms); 3 more came"
+    yield Judged("many blocks that did not come in less than their MaxTime", good, {**never, "Received": (AMBER, more)}, *asked,
+                 scd=configured_blocks(range(1, 11), 20000))
+    gone = "; ".join(f"D{it}LD0/LLN0$GO$gcb1" for it in range(5, 11))
+    yield Judged("many blocks that did not come in their MaxTime", good, {**told, "Received": (RED, f"no frame of {gone} came")}, *asked,
+                 scd=configured_blocks(range(1, 11), 5000))
     yield Judged("a capture without a packet, and a device", capture([]), never, *asked, scd=configured_blocks([5]))
 
 

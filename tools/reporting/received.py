@@ -26,19 +26,21 @@ def streams_of(station, ied):
     return streams
 
 
-def never_came(name, found, own, length, longest=None):
-    """A block or stream of which no frame came: found where the capture is long enough."""
-    if length >= (MILLISECOND * longest if longest else LONG):
-        return finding(f"no frame of {name} came in {found.all_packets}, which {own.ied} receives.")
-    until = f"; MaxTime is {longest:,} ms" if longest else ""
-    return not_judged(f"no frame of {name} came in {found.all_packets}, {page.duration(length)} long{until}.", "capture for longer")
+def never_came(names, found, own, length):
+    """Blocks and streams of which no frame came, each with its MaxTime: found where the capture is long enough, and then each by its name."""
+    gone = [name for name, longest in names.items() if length >= (MILLISECOND * longest if longest else LONG)]
+    if gone:
+        yield finding(f"no frame of {'; '.join(gone)} came in {found.all_packets}, which {own.ied} receives.")
+    young = [f"{name} (MaxTime is {longest:,} ms)" if longest else name for name, longest in names.items() if name not in gone]
+    if young:
+        yield not_judged(f"no frame of {some(young)} came in {found.all_packets}, {page.duration(length)} long.", "capture for longer")
 
 
 def judge(found, own):
     """What of the blocks and streams of a subscriber came, one by one."""
     if not own.ied:
         return
-    length, accepted = found.station.span[1] - found.station.span[0] if found.station.span else 0, 0
+    length, accepted, never = found.station.span[1] - found.station.span[0] if found.station.span else 0, 0, {}
     for at, text in enumerate(found.blocks):
         block, longest = found.events.blocks.get(at), found.configured.longest.get(text)
         name = text.split(",")[1]
@@ -51,16 +53,17 @@ def judge(found, own):
             yield finding(f"{own.ied} accepts no frame of {name}, of which {page.count(seen.frames, 'frame')} came "
                           f"(first: packet\u00a0{seen.first.packet}).")
         else:
-            yield never_came(name, found, own, length, longest)
+            never[name] = longest
     streams = streams_of(found.configured.station, own.ied)
     for name, wanted in streams.items():
         stream = streamed(found.station.of_kind("stream"), wanted)
         if stream is None:
-            yield never_came(f"{name} (stream)", found, own, length)
+            never[f"{name} (stream)"] = None
         elif stream.accepted:
             accepted += 1
         else:
             yield finding(f"{own.ied} accepts no frame of {name} (stream): {stream.reasons()}.")
+    yield from never_came(never, found, own, length)
     if found.untold:
         told = [f"{what}: {why}" for what, why in found.untold]
         yield not_judged(f"{page.count(len(told), 'input')} of {own.ied} cannot be judged: {some(told)}.", "mend the SCL file")
