@@ -234,6 +234,19 @@ def simulation():
                                                                                "Events acted on": (RED,)})
 
 
+    marked = capture((at, it[:18] + b"\x80" + it[19:] if it[11] == 2 else it) for at, it in packets())
+    told = {"Simulation": (AMBER, "Reserved 1 says simulated, and the APDU does not: D2LD0/LLN0$GO$gcb1: 14 frames from packet 2 on")}
+    yield Judged("frames that Reserved 1 alone calls simulated", marked, told)
+
+
+def copied():
+    """The frames of two paths, of which the second is slower than what a state's frames are apart."""
+    good = packets()
+    both = in_order([*good, *((at + 1_600_000, it) for at, it in good)])
+    old = {"Losses": (AMBER, "copies"), "Events acted on": (AMBER, "old, first: packet", "copies, or overtaken by a later state")}
+    yield Judged("copies that come late", capture(both), old)
+
+
 def synchronised():
     def sampled(*values):
         """Three seconds of samples, each part of them with another smpSynch."""
@@ -385,6 +398,7 @@ def cases():
     yield from clocks()
     yield from sources()
     yield from simulation()
+    yield from copied()
     yield from synchronised()
     yield from rates()
     yield from received()

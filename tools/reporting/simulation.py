@@ -1,6 +1,6 @@
 """Frames of tests: simulated ones, and those of control blocks that need commissioning."""
 from reporting import page
-from reporting.verdict import clean, found as finding, some
+from reporting.verdict import clean, found as finding, not_judged, some
 
 SECOND = 10**6
 
@@ -32,5 +32,8 @@ def judge(found, _own):
         yield finding(f"simulated frames: {some(simulated)}.")
     if needing:
         yield finding(f"ndsCom is true: {some(needing)}.")
-    if not simulated and not needing:
+    marked = [f"{it.name}: {page.count(it.marked.number, 'frame')} from packet\u00a0{it.marked.first.packet} on" for it in seen if it.marked.number]
+    if marked:
+        yield not_judged(f"Reserved 1 says simulated, and the APDU does not: {some(marked)}.", "ask by which of the two the subscribers go")
+    if not simulated and not needing and not marked:
         yield clean(f"no simulated frame and no ndsCom in {found.all_packets}.")

@@ -39,6 +39,8 @@ class Seen:
         self.span, self.forms, self.envelopes, self.lifetimes = Span(), {}, {}, {}
         # Its sources, each with whether frames are simulated; its simulated frames and the end of their lifetime; those of ndsCom true.
         self.sources, self.simulated, self.commissioning, self.lives_until = {}, Span(), Span(), 0
+        # The frames that Reserved 1 alone calls simulated.
+        self.marked = Span()
         # Of a stream: how fast its samples come, what it says of that, how many a frame has, how they are synchronised, and its svID as goose
         # writes it.
         self.rise, self.rates, self.counts, self.synch, self.text = Rise(), {}, {}, Synch(), b""
@@ -248,6 +250,8 @@ class Station:
                 self.add(it, sort, record["simulation"], first, last)
                 it.note(it.lifetimes, record["timeAllowedtoLive"], first.packet)
                 it.live(record["timeAllowedtoLive"], first.packet)
+                if int(record["reserved1"], 16) >= SIMULATED and not record["simulation"]:
+                    it.marked.add(sort.number, first, last)
                 if record["simulation"]:
                     it.lives_until = max(it.lives_until, last.microseconds + 1000 * record["timeAllowedtoLive"])
                 if record["ndsCom"]:

@@ -75,6 +75,12 @@ def configuration(found, own):
     yield clean(f"{agree:,} {'agrees' if agree == 1 else 'agree'} with {own.scd} in {found.all_packets}.")
 
 
+def are_copies(found, old):
+    """Whether all old frames, of which the number and the first packet are given, are late ones that were never missing."""
+    number, _, packet = found.missing.kinds.get("copy", (0, 0, None))
+    return old == (number, packet) and not found.events.restarted
+
+
 def events(found, own):
     it = found.events
     others = {}
@@ -83,6 +89,7 @@ def events(found, own):
             if kind in ("refused", "old", "expired", "switched"):
                 number, packet = others.get((kind, reason), (0, held.first.packet))
                 others[kind, reason] = (number + held.number, min(packet, held.first.packet))
+    copies = others.pop(("old", None), None) if are_copies(found, others.get(("old", None))) else None
     told = [f"{number:,} {kind}{f' ({reason})' if reason else ''}, first: packet\u00a0{packet}" for (kind, reason), (number, packet) in others.items()]
     acts = f"{page.count(it.acts, 'event')} in {page.packets(it.first.packet, it.last.packet)}" if it.acts else f"none in {found.all_packets}"
     if it.slowest:
@@ -90,6 +97,8 @@ def events(found, own):
         acts += f"; slowest first frame {page.duration(delay)} after t (packet\u00a0{packet})"
     if told:
         yield finding(f"{some(told)}.")
+    if copies:
+        yield not_judged(f"{copies[0]:,} old, first: packet\u00a0{copies[1]}: copies, or overtaken by a later state.", "look at the line on losses")
     if found.untold and not own.ied:
         untold = [f"{what}: {why}" for what, why in found.untold]
         yield not_judged(f"of {found.all_packets} no event is told of {some(untold)}.", "look at the frames with goose show")
