@@ -8,6 +8,7 @@ import subprocess
 import sys
 import tempfile
 import time
+from xml.etree import ElementTree
 
 from helpers.asked_tools import TOOLS, ask, module
 from helpers.capture_parts import header, interface, option, options, packet, record, section, simple_packet
@@ -432,10 +433,53 @@ class Room:
             return peak_memory([TOOLS / "compare_captures", "--same-clock", path, path], subprocess.DEVNULL)
 
 
+class Page:
+    """The section of a page beside another capture, its line of the summary, and the picture."""
+
+    name = "the page beside another capture"
+
+    def why_wrong(self, program):
+        with tempfile.TemporaryDirectory() as folder:
+            for name, octets in (("a", captured(*FIVE)), ("b", captured(*FOUR, begin=START + HOUR)), ("c", captured(*FIVE)), ("d", captured(*FIVE)[:-9])):
+                (pathlib.Path(folder) / name).write_bytes(octets)
+            for beside, line, state in (("b", "found: 1 frame only in this capture (first: packet 2); 1 frame only in b (first: packet 4). more", "found"),
+                                         ("c", "clean: 5 frames in both this capture and c, none in one alone while both were on. more", "clean"),
+                                         ("d", "not judged: d breaks off where packet 5 should be. To do: record it again, or compare up to there. "
+                                               "4 frames in both this capture and d, none in one alone while both were on. more", "unjudged")):
+                _, complained, got = ask(program, "report", ["--force", "--beside", beside, "a"], cwd=folder)
+                page = ElementTree.fromstring((pathlib.Path(folder) / "report.html").read_text().partition("\n")[2])
+                told = [(words(it), it.get("class")) for it in page.iter("li") if words(it).startswith("Beside, ")]
+                if told != [(f"Beside, {line}", state)] or complained or (state == "found" and got != 1):
+                    yield f"{beside}: status {got}, {told}, {complained!r}"
+                if beside == "b":
+                    yield from self.why_section_wrong(page)
+            for wrong, status in (("-", 2), ("missing", 4), ("report.html", 2)):
+                _, complained, got = ask(program, "report", ["--force", "--beside", wrong, "a"], cwd=folder)
+                if got != status or not complained:
+                    yield f"--beside {wrong}: status {got}, {complained!r}"
+
+    def why_section_wrong(self, page):
+        section = next(it for it in page.iter("section") if it.get("aria-labelledby") == "beside")
+        row = [words(it) for it in next(section.iter("tbody")).iter() if it.tag in ("td", "th")]
+        wanted = ["G (APPID 0001, from 02-00-00-00-00-01)", "5", "5", "4", "1 (packet 2)", "1 (packet 4)",
+                  "least 3,600.000110 s (packets 5, 5)median +0.010 ms (packets 3, 2)99 in 100 +0.290 ms (packets 4, 3)greatest +0.290 ms (packets 4, 3)", ""]
+        yield from ([] if row == wanted else [f"{row}"])
+        # Delays over the least: 0, 10, 40 and 290 microseconds, in bars of 5: the first, the third, the ninth and the last.
+        svg = next(section.iter("svg"))
+        bars = [it for it in svg.iter("rect") if it.get("class") == "flow"]
+        yield from ([] if len(bars) == 4 and len({it.get("height") for it in bars}) == 1 else [f"{len(bars)} bars"])
+        if "The clocks differ by, or the way takes, at least 3,600.000110 s (packets 5, 5)" not in words(section):
+            yield words(section)
+
+
+def words(it):
+    return "".join(it.itertext()).replace("\u00a0", " ")
+
+
 def cases():
     for theme in (losses, repeats, samples, apart, one_capture, unread, texts, refusals):
         yield from theme()
-    yield Listed(Clean())
+    yield from map(Listed, (Clean(), Page()))
     yield Chance()
     yield Listed(Nearest())
     yield Room()

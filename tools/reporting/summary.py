@@ -1,6 +1,6 @@
 """The summary: what was found, not judged or clean of each topic, each with the packets that it rests on."""
 import member_names
-from reporting import clocks, looked, missing, pace, page, rates, received, simulation, sources, subscriptions, synchronised
+from reporting import beside, clocks, looked, missing, pace, page, rates, received, simulation, sources, subscriptions, synchronised
 from reporting.verdict import Line, Verdict, clean, found as finding, not_judged, some
 
 
@@ -110,7 +110,7 @@ TOPICS = (("Capture", "recorded", capture), ("Received", "events", received.judg
           ("Errors", "errors", errors), ("Configuration", "station", configuration),
           ("Subscriptions", "subscriptions", subscriptions.judge), ("Clocks", "station", clocks.judge),
           ("Source addresses", "station", sources.judge), ("Simulation", "station", simulation.judge),
-          ("Synchronisation", "losses", synchronised.judge), ("Events acted on", "events", events))
+          ("Synchronisation", "losses", synchronised.judge), ("Beside", "beside", beside.judge), ("Events acted on", "events", events))
 
 
 def verdict(found, own):
