@@ -90,8 +90,9 @@ def delays(least, median, percentile, greatest):
 def sender(name, counts, delay=None, a=some(), b=some(), while_a=some(), while_b=some(), turned=(), sim=False, source=1, appid=None):
     """A sender as the tool tells it."""
     is_goose = name.startswith("G")
-    return {"kind": "compared-goose" if is_goose else "compared-sv", "appid": appid or ("0001" if is_goose else "4000"), "source": f"02000000000{source}",
-            "gocbRef" if is_goose else "svID": name, "simulation": sim, "framesA": counts[0], "framesB": counts[1], "both": counts[2],
+    return {"kind": "compared-goose" if is_goose else "compared-sv", "appid": appid or ("0001" if is_goose else "4000"),
+            "source": f"02000000000{source}", "gocbRef" if is_goose else "svID": name, "simulation": sim,
+            "framesA": counts[0], "framesB": counts[1], "both": counts[2],
             "onlyA": a, "onlyB": b, "whileOnlyA": while_a, "whileOnlyB": while_b, "delay": delay and delays(*delay),
             "turned": {"frames": len(turned), "packets": [list(it) for it in turned]}}
 
@@ -165,7 +166,8 @@ def repeats():
     """Frames of one key more than once."""
     copied = [*FIVE[:2], (1010, goose(1)), *FIVE[2:3]]
     taken = [(100, goose(0)), (1105, goose(1)), (2100, goose(2))]
-    yield two("a copy that one side has", copied, taken, sender("G", (4, 3, 3), [(95, 3, 2), (100, 1, 1), (100, 4, 3), (100, 4, 3)], a=some(2)), status=1)
+    yield two("a copy that one side has", copied, taken,
+              sender("G", (4, 3, 3), [(95, 3, 2), (100, 1, 1), (100, 4, 3), (100, 4, 3)], a=some(2)), status=1)
     both = [(0, goose(0)), (1000, goose(1)), (1001, goose(1)), (2000, goose(2))]
     yield two("copies on both sides", both, later(both, 100), sender("G", (4, 4, 4), [(100, 1, 1), (100, 2, 2), (100, 4, 4), (100, 4, 4)]))
     mixed = [(0, goose(0)), (1000, goose(1)), (1001, goose(2)), (5000, goose(3))]
@@ -177,7 +179,8 @@ def repeats():
     yield two("begun anew, each side without another one", merged(ends, again[:1]), later(merged(ends, again[1:]), 100), of_ends,
               sender("G", (1, 1, 0), a=some(2), b=some(2)), status=1)
     of_all = sender("G0", (2, 2, 2), [(100, 1, 1), (100, 1, 1), (100, 4, 4), (100, 4, 4)])
-    yield two("begun anew", merged(ends, again), later(merged(ends, again), 100), of_all, sender("G", (2, 2, 2), [(100, 2, 2), (100, 2, 2), (100, 3, 3), (100, 3, 3)]))
+    yield two("begun anew", merged(ends, again), later(merged(ends, again), 100), of_all,
+              sender("G", (2, 2, 2), [(100, 2, 2), (100, 2, 2), (100, 3, 3), (100, 3, 3)]))
 
 
 def stream(seconds, first=0, **how):
@@ -201,10 +204,12 @@ def samples():
     yield two("no control block", stream(4), later(stream(4), 100_000), told, words=(), clocksKnown=False)
     often = [(at * 100_000 + 70_000, goose(at, ref=b"G2")) for at in range(40)]
     leaping = merged(beat, beats(*range(60_000, 4 * SECOND, SECOND), ref=b"G1"), often, stream(4))
-    yield Leapt("a clock that leaps", [captured(*leaping), captured(*((at + 2 * SECOND * (at >= 1_960_000), frame) for at, frame in leaping))], (), [])
+    leapt = [(at + 2 * SECOND * (at >= 1_960_000), frame) for at, frame in leaping]
+    yield Leapt("a clock that leaps", [captured(*leaping), captured(*leapt)], (), [])
     two_ids = [(at, sample(part(at // 1000), part(at // 1000 + 1), part(at // 1000, b"T"))) for at in (0, 1000, 2000)]
     one_id = sample(part(1), part(2))
-    yield two("several ASDUs, of two streams", two_ids, [two_ids[0], (1000, one_id), two_ids[2]], sender("S", (3, 3, 3), [(0, 1, 1), (0, 2, 2), (0, 3, 3), (0, 3, 3)]),
+    yield two("several ASDUs, of two streams", two_ids, [two_ids[0], (1000, one_id), two_ids[2]],
+              sender("S", (3, 3, 3), [(0, 1, 1), (0, 2, 2), (0, 3, 3), (0, 3, 3)]),
               sender("T", (3, 2, 2), [(0, 1, 1), (0, 1, 1), (0, 3, 3), (0, 3, 3)], a=some(2)), status=1)
     tested = [(0, sample(0)), (1000, sample(1)), (1500, sample(1, sim=True)), (2000, sample(2))]
     yield two("simulated samples", tested, without(tested, 3), sender("S", (3, 3, 3), [(0, 1, 1), (0, 2, 2), (0, 4, 3), (0, 4, 3)]),
@@ -244,13 +249,16 @@ def one_capture():
     # Turned round: A's greatest delay is 10 and its least -40.
     back = sender("G", (3, 4, 3), [(-40, 2, 1), (-30, 6, 5), (10, 7, 8), (10, 7, 8)], b=some(4))
     yield Pair("interfaces the other way", [octets], ["--interfaces", "1,0"], [back], status=1)
-    more = section("big") + interface("big") + b"".join(packet(START + at, goose(sq), "big") for at, sq in ((0, 0), (1000, 1))) + simple_packet(goose(2), "big")
+    more = section("big") + interface("big") + b"".join(packet(START + at, goose(at // 1000), "big") for at in (0, 1000))
+    more += simple_packet(goose(2), "big")
     # The simple packet has no time of its own: goose gives it that of the packet before.
-    yield Pair("interfaces of two sections", [begin + b"".join(packet(START + at, goose(sq), which=2) for sq, at in enumerate((0, 1000, 1000))) + more],
+    begin += b"".join(packet(START + at, goose(sq), which=2) for sq, at in enumerate((0, 1000, 1000)))
+    yield Pair("interfaces of two sections", [begin + more],
                ["--interfaces", "2,3"], [sender("G", (3, 3, 3), [(0, 1, 4), (0, 2, 5), (0, 3, 6), (0, 3, 6)])])
     lans = [(0, 10, 0, b""), (7, 11, 0, b"\0" * 5), (1000, 10, 1, b""), (2000, 11, 2, b""), (2004, 10, 2, b"")]
     frames = [(at, goose(sq, trailer=pad + redundant(lan))) for at, lan, sq, pad in lans]
-    neither = [(900, goose(1)), (901, goose(1, trailer=redundant(12))), (902, goose(1, trailer=redundant(10)[1:])), (903, goose(1, trailer=redundant(10) + b"\0"))]
+    odd = (b"", redundant(12), redundant(10)[1:], redundant(10) + b"\0")
+    neither = [(900 + at, goose(1, trailer=it)) for at, it in enumerate(odd)]
     told = sender("G", (3, 2, 2), [(-4, 9, 8), (-4, 9, 8), (7, 1, 2), (7, 1, 2)], a=some(7))
     yield Pair("networks of PRP", [captured(*merged(frames, neither))], ["--lans"], [told], status=1, neither=4, both=2)
     counted = [(at, sample(at // 1000, trailer=redundant(lan, at))) for at in (0, 1000, 2000) for lan in (10, 11)]
@@ -263,10 +271,12 @@ def unread():
     bad = (1500, goose(7)[:40])
     whole = sender("G", (5, 5, 5), [(0, 1, 1), (0, 4, 4), (0, 6, 6), (0, 6, 6)])
     a = merged(FIVE, [bad])
-    yield two("frames with an error", a, a, whole, status=1, both=5, alone=0, A={"name": "a.pcap", "packets": 6, "first": START, "last": START + 4000, "errors": 1, "leftOut": 0})
+    yield two("frames with an error", a, a, whole, status=1, both=5, alone=0,
+              A={"name": "a.pcap", "packets": 6, "first": START, "last": START + 4000, "errors": 1, "leftOut": 0})
     cut = captured(*FIVE)[:-20]
     yield Pair("a capture that breaks off", [captured(*FIVE), cut], ["--same-clock"],
-               [sender("G", (5, 4, 4), [(0, 1, 1), (0, 2, 2), (0, 4, 4), (0, 4, 4)], while_a=some(5))], status=3, said=b"b.pcap breaks off where packet 5 should be: ")
+               [sender("G", (5, 4, 4), [(0, 1, 1), (0, 2, 2), (0, 4, 4), (0, 4, 4)], while_a=some(5))], status=3,
+               said=b"b.pcap breaks off where packet 5 should be: ")
 
 
 # ---- The text, arguments, sizes ----------------------------------------------
@@ -292,7 +302,8 @@ def texts():
     only = ["   only in A: 1 (packet 2)", "   only in B: 1 (packet 4)"]
     yield Text("the text of two clocks", octets, [], [
         *sides, "B: b.pcap, 5 packets, 2023-11-14T23:13:20.000150Z to 2023-11-14T23:13:20.004110Z",
-        "The clocks differ by, or the way takes, at least 3,600,000.110 ms (packet 5 of A, 5 of B)", "4 frames in both, 2 in one alone", "", name, frames, *only,
+        "The clocks differ by, or the way takes, at least 3,600,000.110 ms (packet 5 of A, 5 of B)",
+        "4 frames in both, 2 in one alone", "", name, frames, *only,
         "   delay from A to B, with the clocks' difference: least 3,600,000.110 ms (packets 5 and 5), median 3,600,000.120 ms (packets 3 and 2), "
         "99 in 100 3,600,000.400 ms (packets 4 and 3), greatest 3,600,000.400 ms (packets 4 and 3)"])
     yield Text("the text of one clock", [octets[0], captured(*FOUR)], ["--same-clock"], [
@@ -310,7 +321,8 @@ class Refused:
 
     def why_wrong(self, program):
         with tempfile.TemporaryDirectory() as folder:
-            for name, octets in (("a", captured(*FIVE)), ("empty", b""), ("n", section() + interface(options=options([(2, b"north")])) + packet(START, goose(0)))):
+            named = section() + interface(options=options([(2, b"north")])) + packet(START, goose(0))
+            for name, octets in (("a", captured(*FIVE)), ("empty", b""), ("n", named)):
                 (pathlib.Path(folder) / name).write_bytes(octets)
             wrote, complained, status = ask(program, "compare_captures", self.words, cwd=folder)
         return [] if status == self.status and self.why in complained and not wrote else [f"status {status}: {complained!r}, {wrote!r}"]
@@ -344,8 +356,9 @@ class Clean:
                                  ("n", section() + interface() + interface() + packet(START, goose(0)))):
                 (pathlib.Path(folder) / name).write_bytes(octets)
             for words in (["a", "b"], ["--json", "a", "b"], ["a", "c"], ["--lans", "a"], ["--interfaces", "0,1", "n"], ["a", "missing"], ["a"]):
-                ran = subprocess.run([sys.executable, "-X", "dev", "-W", "error", "-B", TOOLS / "compare_captures", *words], stdin=subprocess.DEVNULL, cwd=folder,
-                                     stdout=subprocess.PIPE, stderr=subprocess.PIPE, timeout=SECONDS, env={**os.environ, "GOOSE": shlex.join(program)})
+                ran = subprocess.run([sys.executable, "-X", "dev", "-W", "error", "-B", TOOLS / "compare_captures", *words], cwd=folder,
+                                     stdin=subprocess.DEVNULL, stdout=subprocess.PIPE, stderr=subprocess.PIPE, timeout=SECONDS,
+                                     env={**os.environ, "GOOSE": shlex.join(program)})
                 if ran.returncode not in (0, 1, 2, 3, 4) or b"Warning" in ran.stderr or b"Traceback" in ran.stderr:
                     yield f"{words}: {ran!r}"
 
@@ -440,9 +453,11 @@ class Page:
 
     def why_wrong(self, program):
         with tempfile.TemporaryDirectory() as folder:
-            for name, octets in (("a", captured(*FIVE)), ("b", captured(*FOUR, begin=START + HOUR)), ("c", captured(*FIVE)), ("d", captured(*FIVE)[:-9])):
+            five = captured(*FIVE)
+            for name, octets in (("a", five), ("b", captured(*FOUR, begin=START + HOUR)), ("c", five), ("d", five[:-9])):
                 (pathlib.Path(folder) / name).write_bytes(octets)
-            for beside, line, state in (("b", "found: 1 frame only in this capture (first: packet 2); 1 frame only in b (first: packet 4). more", "found"),
+            for beside, line, state in (("b", "found: 1 frame only in this capture (first: packet 2); "
+                                         "1 frame only in b (first: packet 4). more", "found"),
                                          ("c", "clean: 5 frames in both this capture and c, none in one alone while both were on. more", "clean"),
                                          ("d", "not judged: d breaks off where packet 5 should be. To do: record it again, or compare up to there. "
                                                "4 frames in both this capture and d, none in one alone while both were on. more", "unjudged")):
@@ -462,7 +477,8 @@ class Page:
         section = next(it for it in page.iter("section") if it.get("aria-labelledby") == "beside")
         row = [words(it) for it in next(section.iter("tbody")).iter() if it.tag in ("td", "th")]
         wanted = ["G (APPID 0001, from 02-00-00-00-00-01)", "5", "5", "4", "1 (packet 2)", "1 (packet 4)",
-                  "least 3,600.000110 s (packets 5, 5)median +0.010 ms (packets 3, 2)99 in 100 +0.290 ms (packets 4, 3)greatest +0.290 ms (packets 4, 3)", ""]
+                  "least 3,600.000110 s (packets 5, 5)median +0.010 ms (packets 3, 2)"
+                  "99 in 100 +0.290 ms (packets 4, 3)greatest +0.290 ms (packets 4, 3)", ""]
         yield from ([] if row == wanted else [f"{row}"])
         # Delays over the least: 0, 10, 40 and 290 microseconds, in bars of 5: the first, the third, the ninth and the last.
         svg = next(section.iter("svg"))

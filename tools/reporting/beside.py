@@ -103,7 +103,8 @@ def delays(it):
 
 def row(it):
     """A row of one sender."""
-    what = f" ({'stream, ' if it.kind == 'sv' else ''}APPID\u00a0{it.appid}, from {senders.hyphened(it.source)}{', simulated' if it.is_simulated else ''})"
+    stream, simulated = "stream, " if it.kind == "sv" else "", ", simulated" if it.is_simulated else ""
+    what = f" ({stream}APPID\u00a0{it.appid}, from {senders.hyphened(it.source)}{simulated})"
     name = page.element("span", [page.named(it.name), page.element("span", what, class_="soft")], class_="name")
     alone = [sections.lines_of([*filter(None, [first_of(only)]), *([f"apart: {first_of(apart)}"] if apart.number else [])])
              for only, apart in zip(it.only, it.apart)]
@@ -161,9 +162,11 @@ def histogram(compared, name):
     for at, number in enumerate(counts):
         if number:
             left, right = x(at * wide), x((at + 1) * wide)
-            inside.append(page.Raw(f'<rect class="flow" x="{left}" y="{y(number)}" width="{max(right - left - 1, 1)}" height="{floor - y(number)}"/>'))
+            inside.append(page.Raw(f'<rect class="flow" x="{left}" y="{y(number)}" width="{max(right - left - 1, 1)}" '
+                                   f'height="{floor - y(number)}"/>'))
     for over in range(0, wide * len(counts), step):
-        inside.append(page.element("text", f"{over / 1000:.{places_of(step, 1000)}f}", x=x(over), y=HEIGHT - BOTTOM + 16, class_="scale", text_anchor="middle"))
+        told = f"{over / 1000:.{places_of(step, 1000)}f}"
+        inside.append(page.element("text", told, x=x(over), y=floor + 16, class_="scale", text_anchor="middle"))
     svg = page.element("svg", inside, viewBox=f"0 0 {WIDTH} {HEIGHT}", width=WIDTH, height=HEIGHT, role="img", aria_label=title)
     more = " The last bar has all greater ones." if has_more else ""
     caption = f"{title}: milliseconds over the least one, and how many frames have each (logarithmic).{more}"
