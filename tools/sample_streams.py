@@ -9,8 +9,8 @@ from running import Ended
 SECOND = 10**6
 # What a line of any event begins with, and what one of a frame of Sampled Values does.
 EVENT = re.compile(rb'\{"packet":(\d+),"microseconds":(\d+),')
-FRAME = re.compile(rb'\{"packet":(\d+),"microseconds":(\d+),"time":(?:null|"[^"]*"),"kind":"sv","destination":"\w+","source":"(\w+)","tag":(?:null|"\w+"),'
-                   rb'"appid":"(\w+)",')
+FRAME = re.compile(rb'\{"packet":(\d+),"microseconds":(\d+),"time":(?:null|"[^"]*"),"kind":"sv","destination":"\w+","source":"(\w+)",'
+                   rb'"tag":(?:null|"\w+"),"appid":"(\w+)",')
 TEXT = rb'"(?:[^"\\]|\\.)*"'
 # What follows the svID of an ASDU: smpCnt, smpSynch, smpRate, sample, smpMod.
 REST = (rb',"datSet":(?:null|%b),"smpCnt":(\d+),"confRev":\d+,"refrTm":(?:null|"[^"]*","refrTime":(?:null|"[^"]*"),"refrQuality":\{[^}]*\}),'
@@ -63,7 +63,8 @@ class Stream:
         if self.appid is None:
             self.appid, self.source = sender
         elif sender != (self.appid, self.source):
-            raise Ended(f"packet {int(frame[1])}: two streams have the svID {self.name}: APPID {self.appid} of {self.source}, and {sender[0]} of {sender[1]}. "
+            raise Ended(f"packet {int(frame[1])}: two streams have the svID {self.name}: APPID {self.appid} of {self.source}, and "
+                        f"{sender[0]} of {sender[1]}. "
                         "A filter of Wireshark leaves one of them")
 
 

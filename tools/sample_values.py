@@ -50,8 +50,8 @@ def is_good(quality):
 
 def quality_words(quality):
     """A quality in words."""
-    told = [VALIDITY[quality & 3], *(flag for at, flag in enumerate(value_words.FLAGS, 2) if quality >> at & 1), *(["derived"] if quality & DERIVED else []),
-            *(["reserved bits"] if quality >> 14 else [])]
+    told = [VALIDITY[quality & 3], *(flag for at, flag in enumerate(value_words.FLAGS, 2) if quality >> at & 1)]
+    told += (["derived"] if quality & DERIVED else []) + (["reserved bits"] if quality >> 14 else [])
     return " ".join(it for it in told if it) or "good"
 
 

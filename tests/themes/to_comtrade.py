@@ -12,7 +12,6 @@ from helpers import comtrade_reader, fault_station
 from helpers.asked_tools import EXAMPLES, TOOLS, ask, module
 from helpers.fault_station import (BEGIN, FAULT, FAULT_AT, FIRST, LATER, LOST, OPEN_AT, RATE, SAMPLES, SECOND, TRIP_AT, Unit, capture, events, goose,
                                    line_values, other_values, pairs, sample_of_line, sample_of_other, trip)
-from helpers.frames import asdu, element
 from helpers.harness import run
 
 ENDINGS = ("cfg", "dat", "hdr")
@@ -147,7 +146,7 @@ class Moved(Each):
     def wrong(self, program):
         rate, order, missing, *words = self.told
         unit = Unit("S", 0x4000, 1, counting, rate=rate, a_frame=1, first=rate - 30)
-        held = [(unit.captured(max(order[:at + 1])) + 3 * at, unit.frame(number)) for at, number in enumerate(order)]
+        held = [(unit.captured(max(order[:at + 1])) + at * 37 % 90, unit.frame(number)) for at, number in enumerate(order)]
         for form in ("binary32", "ascii", "float32"):
             it = Made(program, capture(held), "--period", f"{rate}", "--format", form, *words)
             found, least = it.recording, min(order)
