@@ -120,3 +120,15 @@ class Counted:
         least = (count - self.count) % rate
         # Of the least number and whole rates beside it the one nearest to passed * rate / SECOND.
         return least + rate * ((2 * (passed * rate - least * SECOND) + rate * SECOND) // (2 * rate * SECOND))
+
+
+def likeness(columns, lag):
+    """How unlike values are those of so many samples later, which need not be a whole number: 0 where they are equal."""
+    whole, part = int(lag), lag - int(lag)
+    apart = size = 0
+    for column in columns:
+        scale = sum(map(abs, column)) / (len(column) or 1) or 1
+        for one, two, three in zip(column, column[whole:], column[whole + 1:]):
+            apart += abs(two + (three - two) * part - one) / scale
+            size += 1
+    return apart / size if size else 0

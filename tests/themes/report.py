@@ -317,7 +317,8 @@ class Told:
         wanted = {"File": "of.pcapng", "SHA-256 of the capture": hashlib.sha256(self.octets).hexdigest()}
         yield from compared("facts", wanted, {name: facts.get(name) for name in wanted})
         yield from compared("packets", [len(frames)], numbers(facts["Packets"])[:1])
-        yield from compared("headings", HEADINGS, page.headings[1:])
+        samples = ["Currents and voltages"] if any(it["kind"] == "sv" for it in frames) else []
+        yield from compared("headings", [*HEADINGS[:2], *samples, *HEADINGS[2:]], page.headings[1:])
         states = [state for _, state in page.summary]
         if not states or states != sorted(states, key=STATES.index):
             yield f"the summary is {page.summary}"

@@ -9,11 +9,13 @@ from senders import quoted
 STYLE = """
 :root { color-scheme: light; --paper: #ffffff; --ink: #1f2328; --soft: #57606a; --line: #d0d7de; --band: #f6f8fa; --link: #0550ae;
   --alarm: #a40e26; --alarmed: #fff1f0; --warn: #8a4600; --warned: #fff8e6; --well: #1a7f37; --act: #1a7f37; --refreshed: #0969da; --repeated: #6e7781; --old: #6e7781;
-  --refused: #bc4c00; --switched: #8250df; --expired: #cf222e; --held: #aceebb; --silent: #ffc1bc; --lost: #cf222e; --flow: #b6d7f8; }
+  --refused: #bc4c00; --switched: #8250df; --expired: #cf222e; --held: #aceebb; --silent: #ffc1bc; --lost: #cf222e; --flow: #b6d7f8;
+  --wave1: #0550ae; --wave2: #c4432b; --wave3: #1a7f37; --wave4: #57606a; --wave5: #8250df; --wave6: #9a6700; --wave7: #bf3989; --wave8: #0a7f8c; }
 @media screen and (prefers-color-scheme: dark) { :root { color-scheme: dark; --paper: #0d1117; --ink: #e6edf3; --soft: #9da7b3;
   --line: #3d444d; --band: #161b22; --link: #79c0ff; --alarm: #ff9a94; --alarmed: #2d1315; --warn: #e3b341; --warned: #2b2111; --well: #56d364; --act: #56d364;
   --refreshed: #79c0ff; --repeated: #9da7b3; --old: #9da7b3; --refused: #f0a35e; --switched: #d2a8ff; --expired: #ff7b72; --held: #1f5a30;
-  --silent: #7a2a2a; --lost: #ff7b72; --flow: #1c4a75; } }
+  --silent: #7a2a2a; --lost: #ff7b72; --flow: #1c4a75; --wave1: #79c0ff; --wave2: #ff9a72; --wave3: #56d364; --wave4: #9da7b3; --wave5: #d2a8ff;
+  --wave6: #e3b341; --wave7: #ff9bce; --wave8: #56d4dd; } }
 * { box-sizing: border-box; }
 body { margin: 0 auto; padding: 1rem; max-width: 75rem; background: var(--paper); color: var(--ink);
   font: 1rem/1.45 system-ui, "Segoe UI", Roboto, "DejaVu Sans", Arial, sans-serif; overflow-wrap: break-word; }
@@ -66,6 +68,10 @@ svg .repeated { fill: none; stroke: var(--repeated); stroke-width: 1.5; } svg .o
 svg .refused { fill: none; stroke: var(--refused); stroke-width: 2; } svg .switched { fill: var(--switched); }
 svg .expired { stroke: var(--expired); stroke-width: 3; } svg .lost { fill: var(--lost); } svg .late { fill: none; stroke: var(--lost);
   stroke-width: 1.8; } svg text.act { fill: var(--act); font-size: 12px; }
+""" + "".join(f"svg .wave{at} {{ fill: none; stroke: var(--wave{at}); stroke-width: 15; stroke-linejoin: round; }} svg .name{at} {{ fill: var(--wave{at}); font-weight: 600; }}\n"
+               for at in range(1, 9)) + """svg .wave4 { stroke-dasharray: 50 30; }
+svg .invalid { stroke: var(--expired); stroke-width: 1.4; } svg .doubtful { stroke: var(--warn); stroke-width: 0.8; }
+svg .inception { stroke: var(--warn); stroke-width: 1.5; } svg .opening { stroke: var(--soft); stroke-width: 1.5; stroke-dasharray: 2 2; }
 @media screen and (min-width: 720px) { .wide td.number, .wide th.number { width: 1%; } }
 @media print { .wide td.number, .wide th.number { width: 1%; } }
 @media screen and (min-width: 1000px) { .wide .name { display: inline-block; min-width: 9rem; } }

@@ -162,12 +162,12 @@ class Picture:
 class Limited:
     """Figures as long as there is room for them. The others are counted. One at least is drawn."""
 
-    def __init__(self, is_all):
-        self.is_all, self.octets, self.more = is_all, 0, 0
+    def __init__(self, is_all, most=MOST_OCTETS):
+        self.is_all, self.most, self.octets, self.more = is_all, most, 0, 0
 
     def some(self, figures):
         for it in figures:
-            if self.octets == 0 or self.is_all or (not self.more and self.octets + len(it) <= MOST_OCTETS):
+            if self.octets == 0 or self.is_all or (not self.more and self.octets + len(it) <= self.most):
                 self.octets += len(it)
                 yield it
             else:

@@ -103,8 +103,8 @@ class Station:
     """The senders of a capture in the order in which they occur, and how many packets are what. Pauses are looked at of the control blocks
     that have a pace."""
 
-    def __init__(self, paces=None):
-        self.paces = paces or {}
+    def __init__(self, paces=None, samples=None):
+        self.paces, self.samples = paces or {}, samples
         self.seen, self.sorts, self.flows, self.kinds, self.clocks, self.times = {}, {}, {}, {}, {}, Times()
         self.sequences, self.malformed = Sequences(), Malformed()
         self.first, self.last, self.span = None, None, None
@@ -200,6 +200,8 @@ class Station:
                 sort.is_alike = pattern_of(line, until)
         sort.number += 1
         sort.last = found
+        if self.samples:
+            self.samples.see(sort, line, until, now, int(found[1]))
         if not 0 <= now - sort.since < STRETCH:
             sort.since = now
             counts = COUNT.findall(line, until)
