@@ -66,11 +66,14 @@ def streams():
     address = '"destination":"010ccd0100%s","vlan":31,"priority":4}'
     blocks = [f'{{"kind":"block","text":"{text}","appid":"{text[:4]}","gocbRef":"{text.split(",")[1]}","datSet":"{text.split(",")[2]}","goID":null,'
               f'"confRev":{text.split(",")[4]},"entries":1,{address % text[2:4]}' for text in (BLOCK_G, BLOCK_H)]
-    stream = f'{{"kind":"stream","confRev":3,"svID":"MU01","appid":"0003",{address % "03"}'
+    # smpMod is absent in the file, and is SmpPerPeriod then.
+    rate = ',"nofASDU":1,"smpRate":80,"smpMod":"SmpPerPeriod"}'
+    stream = f'{{"kind":"stream","confRev":3,"svID":"MU01","appid":"0003",{(address % "03").replace("}", rate)}'
     yield Configured("objects", station(), [*blocks, stream], words=["--json"], **unicast)
     odd = station().replace("01F", "4096").replace(">4<", ">8<").replace("01-0c", "010c")
     nothing = '"destination":null,"vlan":null,"priority":null}'
-    yield Configured("odd addresses", odd, [it.partition('"destination"')[0] + nothing for it in (*blocks, stream)], words=["--json"], status=1,
+    yield Configured("odd addresses", odd, [*(it.partition('"destination"')[0] + nothing for it in blocks), stream.partition('"destination"')[0] + nothing.replace("}", rate)],
+                     words=["--json"], status=1,
                      stderr=[b"its address has the MAC-Address '010c-cd-01-00-01', VLAN-ID '4096', VLAN-PRIORITY '8', which is left out"])
     yield Configured("odd addresses of BLOCKs", odd, [BLOCK_G, BLOCK_H])
     for name, old, new, why in (("no svID", ' smvID="MU01"', "", b"it has no smvID"), ("no address", 'cbName="v"', 'cbName="w"', b"no SMV address"),
