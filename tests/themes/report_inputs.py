@@ -82,6 +82,18 @@ class Commented:
             yield f"the capture's comment: {facts}"
 
 
+class LastDay:
+    """The last day of dates has no local time east of UTC."""
+
+    name = "a page of the last day of the year 9999, and a time zone"
+
+    def why_wrong(self, program):
+        if "Europe/Berlin" not in zoneinfo.available_timezones():
+            raise Skipped("there are no time zones")
+        octets, said, _, _ = reported(program, capture([(253402300799 * 10**6, SENT[0][1])]), "--zone", "Europe/Berlin")
+        return [] if octets and "9999-12-31 23:59:59.000000" in words(Page(octets).root) else [said]
+
+
 class Piped:
     """A pipe that ends is read whole, and nothing is left where copies are put."""
 
@@ -119,8 +131,12 @@ def cases():
     yield Refused("two files, one of which is none", {"of_1.pcapng": first, "of_2": struct.pack("<I", 1) * 10}, ["of_1.pcapng", "of_2"],
                   "of_2 is no capture that can be read", 3)
     yield Refused("a time zone that there is not", {"of.pcapng": whole}, ["--zone", "Europe/Nowhere", "of.pcapng"], "there is no time zone Europe/Nowhere", 2)
+    yield Refused("a time zone without a name", {"of.pcapng": whole}, ["--zone", "", "of.pcapng"], "there is no time zone '' here", 2)
     yield Refused("standard input twice", {}, ["-", "-"], "standard input can be read once", 2)
-    yield from (Commented(), Piped())
+    begun = header() + record(1, 1, SENT[0][1])[:-3]
+    yield Input("a capture that is cut in its first packet, and a whole one", {"of_1.pcap": begun, "of_2.pcapng": whole}, status=1,
+                said=["of_1.pcap breaks off before its first packet"])
+    yield from (Commented(), Piped(), LastDay())
 
 
 assert len(SENT) == 2 * len(FAULT) + 8 * len(trip_station.BLOCKS)

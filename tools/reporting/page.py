@@ -150,7 +150,10 @@ class Zone:
         """The local time of a time, with its day where that is another one than is told."""
         if cls.zone is None:
             return ""
-        told = datetime.datetime.fromisoformat(time.replace("Z", "+00:00")).astimezone(cls.zone)
+        try:
+            told = datetime.datetime.fromisoformat(time.replace("Z", "+00:00")).astimezone(cls.zone)
+        except OverflowError:  # later than dates go
+            return ""
         form = "%H:%M:%S.%f %Z" if told.date().isoformat() == day else "%Y-%m-%d %H:%M:%S.%f %Z"
         return element("span", f" {told.strftime(form)}", class_="soft local")
 

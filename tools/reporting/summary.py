@@ -7,7 +7,8 @@ from reporting.verdict import Line, Verdict, clean, found as finding, not_judged
 def capture(found, _own):
     if found.broken:
         yield finding(f"it breaks off where packet\u00a0{found.broken.packet} should be ({found.broken.error}).")
-    cut = [f"{it.name} breaks off after its packet\u00a0{it.packets} (packet\u00a0{it.first + it.packets - 1} here)" for it in found.source.parts if it.is_cut]
+    cut = [f"{it.name} breaks off after its packet\u00a0{it.packets} (packet\u00a0{it.first + it.packets - 1} here)" if it.packets
+           else f"{it.name} breaks off before its first packet" for it in found.source.parts if it.is_cut]
     if cut:
         yield finding(f"{some(cut)}: what follows in it is missing.")
     yield from looked.judge(found)
