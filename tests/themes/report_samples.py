@@ -1,5 +1,6 @@
 """The page shows what samples of streams say: currents and voltages around the trip and over the whole recording, where their qualities are not
 good, and when the fault began."""
+import functools
 import re
 
 from helpers import fault_station
@@ -116,6 +117,13 @@ def one_is_wild(at):
     """Samples of a line one of which is far off, and is not followed."""
     current, voltage = line_values(at % 80)
     return pairs(steps([it + 5000 * (at == FAULT) for it in current], 0.001) + steps(voltage, 0.01))
+
+
+def noisy(at):
+    """The fault, and some steps before it in the sum of the currents, which is 0 till then."""
+    current, voltage = line_values(at)
+    noise = 3 if FAULT - 80 <= at < FAULT else 0
+    return pairs([value + noise * (place == 3) for place, value in enumerate(steps(current, 0.001))] + steps(voltage, 0.01))
 
 
 def doubtful_fault(at):
@@ -236,13 +244,19 @@ class Bounded(Each):
         yield from [f"{len(page.rows(SPANS))} spans are listed"] if len(page.rows(SPANS)) > 200 else []
 
 
+@functools.cache
+def restless_of(at):
+    current, voltage = line_values(at)
+    return pairs(steps(current, 0.001) + steps(voltage, 0.01), 3 if at % 2 else 0)
+
+
 def restless(at):
     """Samples of which every second one is questionable."""
-    return pairs(steps([100.0] * 8, 0.001), 3 if at % 2 else 0)
+    return restless_of(at % 80)
 
 
 def many():
-    return [Unit(f"UNIT{it:02}", 0x4100 + it, it, restless, samples=480) for it in range(1, 31)]
+    return [Unit(f"UNIT{it:02}", 0x4100 + it, it, restless, samples=2000) for it in range(1, 31)]
 
 
 def words_of(at):
@@ -258,6 +272,7 @@ def cases():
     yield Inception("one sample a frame", sent_of(unit_of(sample_of_line, a_frame=1)), "I1", "--trip",
                     f"{sum(at < TRIP_AT for at, _ in sent_of(unit_of(sample_of_line, a_frame=1))()) + 1}")
     own = f"{sum(at < TRIP_AT for at, _ in sent_of(unit_of(sample_of_line))()) + 1}"
+    yield Inception("noise in a channel that was 0", sent_of(unit_of(noisy)), "I1", "--trip", own)
     yield NoInception("a step of 4 in 100", sent_of(unit_of(step(1.04))), "No fault inception", "--trip", own)
     yield NoInception("one wild sample", sent_of(unit_of(one_is_wild)), "No fault inception", "--trip", own)
     yield NoInception("a fault in invalid samples", sent_of(unit_of(doubtful_fault)), "No fault inception", "--trip", own)
