@@ -184,6 +184,15 @@ class Pictures(Each):
             yield f"the spans are {page.rows(SPANS)}"
 
 
+class LongGap(Each):
+    """A gap of some periods is left open in both pictures."""
+
+    def wrong(self, page, _octets):
+        for what in (AROUND, WHOLE):
+            got = [len(runs) for runs in lines(figures(page)[f"MU01: {what}"])]
+            yield from [] if got == [2] * 8 else [f"{what}: a line has {got} runs"]
+
+
 class Spans(Each):
     """Spans by channel: one that changes its quality is two, one that a gap parts is two, and `derived` alone is good."""
 
@@ -280,6 +289,8 @@ def cases():
     yield NoInception("another bay alone", sent_of(units()[1]), "No fault inception", "--trip", own)
     yield Pictures("pictures, with an SCL file", sent_of(*units()), scd=fault_station.scd())
     yield Pictures("pictures, as 9-2LE", sent_of(*units()), "--trip", trip)
+    yield LongGap("a gap of five periods", sent_of(unit_of(sample_of_line, lost=range(800, 1200))), "--trip",
+                  f"{sum(at < TRIP_AT for at, _ in sent_of(unit_of(sample_of_line, lost=range(800, 1200)))()) + 1}")
     yield Spans("spans of qualities", sent_of(unit_of(qualities, lost=range(800, 808))))
     yield Known("9-2LE, and four pairs", sent_of(*units()), ["pairs of INT32 and Quality, 4I4U", "it is not known what they measure"])
     yield Known("raw words", sent_of(unit_of(words_of)), ["raw words of 32 bits"])

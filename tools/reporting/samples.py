@@ -365,7 +365,7 @@ class Wave:
         for place, until in zip(steps, [*steps[1:], size]):
             value, since = column[place] & 0xFFFFFFFF, self.start + place
             running = self.running.get(at)
-            if running and (running.value != value or running.until != since - 1):
+            if running and running.value != value:
                 self.end_spans((at,))
                 running = None
             if self.is_guess and value > sample_values.MOST_QUALITY:
