@@ -772,8 +772,9 @@ def cases():
     yield Told("frames of two streams", section() + interface() + packet(3, both[0]) + packet(9, both[1]), status=6)
     linked = section() + interface() + interface(link=113) + packet(3, WORKED) + packet(4, WORKED, which=1) + packet(5, put(WORKED, at13=0))
     yield Told("packets that are no Ethernet frames", linked, status=6, said="1 GOOSE frame; 1 of another protocol; 1 no Ethernet frame")
-    yield Told("no packet", section() + interface(), status=0, said="There is nothing to draw in no packets.")
-    yield Told("other protocols alone", section() + interface() + packet(9, put(WORKED, at13=0)), status=0)
+    yield Told("no packet", section() + interface(), status=6, said="There is nothing to draw in no packets.")
+    yield Told("other protocols alone", section() + interface() + packet(9, put(WORKED, at13=0)), status=6,
+               said="no frame of GOOSE or Sampled Values is in packet 1.")
     segments = section() + interface() + packet(3, WORKED) + packet(4, put(WORKED, at12=8, at13=0) + bytes(3000))
     yield Told("segments of another protocol that a network card put together", segments, status=0, said="1 GOOSE frame; 1 of another protocol")
     yield Broken("a capture that is cut", bays[:5000], status=3, said="CaptureShort")

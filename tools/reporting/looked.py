@@ -60,7 +60,14 @@ def of_times(found):
                          "look at the clock of the computer that captured")
 
 
+def of_senders(found):
+    """A capture in which there is nothing to judge."""
+    if not any(found.station.kinds.get(kind) for kind in (b"goose", b"sv", b"fault")):
+        yield not_judged(f"no frame of GOOSE or Sampled Values is in {found.all_packets}.", "look whether port, mirror and filter let them pass")
+
+
 def judge(found):
+    yield from of_senders(found)
     yield from of_times(found)
     yield from of_links(found)
     yield from of_others(found)
