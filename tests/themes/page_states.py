@@ -357,7 +357,8 @@ def received():
     gone = "; ".join(f"D{it}LD0/LLN0$GO$gcb1" for it in range(5, 11))
     yield Judged("many blocks that did not come in their MaxTime", good, {**told, "Received": (RED, f"no frame of {gone} came")}, *asked,
                  scd=configured_blocks(range(1, 11), 5000))
-    yield Judged("a capture without a packet, and a device", capture([]), never, *asked, scd=configured_blocks([5]))
+    yield Judged("a capture without a packet, and a device", capture([]), {**never, "Capture": (AMBER, "no frame of GOOSE or Sampled Values")}, *asked,
+                 scd=configured_blocks([5]))
 
 
 def received_streams():
