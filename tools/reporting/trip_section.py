@@ -82,8 +82,8 @@ def inception(found, moment):
     told = (f", by capture times. The fault begins with smpCnt {fault.count} of {fault.wave.seen.name}, in packet\u00a0{fault.place.packet}: "
             f"{fault.channel.name} differs by {fault.difference:,.4g}{unit} from one period before; the limit is {fault.limit:,.4g}{unit}. "
             "A load step looks alike, and the delay of the merging unit is in this time.")
-    others = [f"{it.wave.seen.name} {milliseconds(it.place.microseconds - moment.place.microseconds)} ({it.channel.name}, packet\u00a0{it.place.packet})"
-              for it in found.inceptions[1:]]
+    others = [f"{it.wave.seen.name} {milliseconds(it.place.microseconds - moment.place.microseconds)} ({it.channel.name}, "
+              f"packet\u00a0{it.place.packet})" for it in found.inceptions[1:]]
     return [page.element("p", [page.element("strong", ", ".join(line)), told, f" Other streams: {'; '.join(others)}." if others else ""]), "\n"]
 
 
