@@ -8,6 +8,7 @@ from themes.report import FINDINGS, OWN
 # Device 1 sends a frame a second: sqNum 100 to 103 of state 5, and of state 6 sqNum 1 to 4; the first frames of states 6 and 7 come half a
 # second after those of 3 and 7 s.
 ACTS = {"Events acted on": (RED, "old")}
+COPIED = {"Events acted on": (AMBER, "copies, or overtaken by a later state")}
 SENDER = "D1LD0/LLN0$GO$gcb1 (APPID 1001)"
 
 
@@ -72,10 +73,10 @@ def late():
 def copies():
     copy = "it was not missing: a copy, or overtaken"
     first = station([], (1500, 5, 100))
-    yield Rows("a copy that came late", capture(first), {"Losses": (AMBER, "1 late frame was not missing, first: packet 9", "a ring, PRP"), **ACTS},
+    yield Rows("a copy that came late", capture(first), {"Losses": (AMBER, "1 late frame was not missing, first: packet 9", "a ring, PRP"), **COPIED},
                [(9, "late", f"state 5, sqNum 100; {copy}")], (0, 0, 1))
     ring = station([], *[(1500 + at, 5, 100) for at in range(3)])
-    yield Rows("copies that came late", capture(ring), {"Losses": (AMBER, "3 late frames were not missing, first: packet 9"), **ACTS},
+    yield Rows("copies that came late", capture(ring), {"Losses": (AMBER, "3 late frames were not missing, first: packet 9"), **COPIED},
                [(at, "late", f"state 5, sqNum 100; {copy}") for at in (9, 10, 11)], (0, 0, 3))
     yield Judged("copies that come at once", capture(station([], *[(at * 1000 + 1, 5, 100 + at) for at in range(3)])), {})
 
