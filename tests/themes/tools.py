@@ -189,7 +189,8 @@ class Printed:
                                 (["to_csv", "--columns", "\x9b"], rb"there is no column \x9b")):
                 told = ran([TOOLS / words[0], *words[1:]])
                 is_clean = set(told.stderr) <= {*b"\n", *range(0x20, 0x7F)}
-                if part not in told.stderr or not is_clean or (words[0] == "scl_blocks" and len(words) == 2 and told.stderr.count(b"\n") != 1):
+                is_lined = words[0] != "scl_blocks" or len(words) != 2 or all(it.startswith(b"scl_blocks: ") for it in told.stderr.splitlines())
+                if part not in told.stderr or not is_clean or not is_lined:
                     yield f"{words}: {told!r}"
 
 
