@@ -281,8 +281,8 @@ def overviews(picture, zero):
                      [(it.name, it.marks, it.bars) for it in some], zero.microseconds, 1_000_000)
 
 
-def lanes_of(burst, axis):
-    """The lanes of a burst: those that have marks in it. Data that was valid before it is so until the first mark that says otherwise."""
+def lanes_of(burst, axis, places):
+    """The lanes of a burst in the order of all lanes: those that have marks in it. Data that was valid before it is so until the first mark that says otherwise."""
     lanes = {}
     for lane, kind, moment, label in sorted(burst.marks, key=lambda it: it[2]):
         if lane.key not in lanes:
@@ -294,16 +294,17 @@ def lanes_of(burst, axis):
             lanes[lane.key].bar(kind, since, until)
     for lane in lanes.values():
         lane.end(axis.first + axis.span)
-    return [(it.name, it.marks, it.bars) for it in lanes.values()]
+    return [(it.name, it.marks, it.bars) for it in sorted(lanes.values(), key=lambda it: places[it.key])]
 
 
 def zooms(picture, short):
     """A picture of each burst."""
+    places = {key: at for at, key in enumerate(picture.lanes)}
     for number, burst in enumerate(picture.bursts, 1):
         axis = Axis(burst.first - BEFORE, min(burst.until, picture.axis.first + picture.axis.span))
         at, what = page.packets(*burst.packets), "Event" if burst.packets[0] == burst.packets[1] else "Events"
         told = page.element("span", [f"{what} at {at}. Milliseconds from ", page.moment(date(burst.first), short), f" (packet\u00a0{burst.packets[0]})."])
-        for some in parted(lanes_of(burst, axis), MOST_CLOSE):
+        for some in parted(lanes_of(burst, axis, places), MOST_CLOSE):
             yield figure(told, f"Burst {number}, {at}", axis, some, burst.first, 1000)
 
 
