@@ -72,10 +72,10 @@ svg .expired { stroke: var(--expired); stroke-width: 3; } svg .lost { fill: var(
                for at in range(1, 9)) + """svg .wave4 { stroke-dasharray: 50 30; }
 svg .invalid { stroke: var(--expired); stroke-width: 1.4; } svg .doubtful { stroke: var(--warn); stroke-width: 0.8; }
 svg .inception { stroke: var(--warn); stroke-width: 1.5; } svg .opening { stroke: var(--soft); stroke-width: 1.5; stroke-dasharray: 2 2; }
-@media screen and (min-width: 720px) { .wide td.number, .wide th.number { width: 1%; } }
+@media screen and (min-width: 940px) { .wide td.number, .wide th.number { width: 1%; } }
 @media print { .wide td.number, .wide th.number { width: 1%; } }
-@media screen and (min-width: 1000px) { .wide .name { display: inline-block; min-width: 9rem; } }
-@media screen and (max-width: 719px) {
+@media screen and (min-width: 1200px) { .wide .name { display: inline-block; min-width: 9rem; } }
+@media screen and (max-width: 939px) {
   body { padding: 0.7rem; } h1 { font-size: 1.35rem; }
   table.wide thead { position: absolute; width: 1px; height: 1px; overflow: hidden; clip-path: inset(50%); }
   table.wide, table.wide tbody, table.wide tr, table.wide th, table.wide td, table.wide caption { display: block; }
