@@ -438,13 +438,14 @@ class Summed:
 class Browsed:
     """Chromium renders the page: what stands in it is there, and nothing is wider than the window."""
 
-    name = "a page in a browser"
+    def __init__(self, what, octets, scd, *asked):
+        self.name, self.octets, self.scd, self.asked = f"a page of {what} in a browser", octets, scd, asked
 
     def why_wrong(self, program):
         browser = shutil.which("chromium") or shutil.which("chromium-browser")
         if not browser:
             raise Skipped("there is no chromium")
-        octets, said, _, _ = reported(program, (EXAMPLES / "two_bays.pcapng").read_bytes(), "--scd", "of.scd", scd=(EXAMPLES / "station.scd").read_text())
+        octets, said, _, _ = reported(program, self.octets, "--scd", "of.scd", *self.asked, scd=self.scd)
         if octets is None:
             return [said]
         with tempfile.TemporaryDirectory() as folder:
@@ -784,7 +785,9 @@ def cases():
     yield Drawn()
     yield Strange()
     yield Summed()
-    yield Browsed()
+    yield Browsed("two bays", bays, (EXAMPLES / "station.scd").read_text())
+    yield Browsed("a station with every kind of finding", station, made_station.scd(), "--period", "100")
+    yield Browsed("a fault", (EXAMPLES / "fault.pcapng").read_bytes(), (EXAMPLES / "fault.scd").read_text())
     yield from without()
     yield Stopped(signal.SIGTERM)
     yield Stopped(signal.SIGINT)

@@ -94,7 +94,7 @@ svg .inception { stroke: var(--warn); stroke-width: 1.5; } svg .opening { stroke
   .summary li { font-size: 8pt; line-height: 1.25; padding: 0.12rem 0.5rem; margin: 0.1rem 0; }
   .wide .name { display: inline-block; min-width: 10.5em; } .legend { break-after: avoid; }
   h2, h3, caption, figcaption { break-after: avoid; } tr, .summary li, figure { break-inside: avoid; } thead { display: table-header-group; break-after: avoid; } thead tr { break-after: avoid; }
-  table { font-size: 7.6pt; } .legend, figcaption { font-size: 8pt; } th, td { padding: 0.15rem 0.3rem; } .summary a { display: none; }
+  table { font-size: 7.6pt; } .wide .whole { white-space: normal; overflow-wrap: anywhere; } .legend, figcaption { font-size: 8pt; } th, td { padding: 0.15rem 0.3rem; } .summary a { display: none; }
   a { color: inherit; text-decoration: none; }
   .scroll { overflow: visible; border: 0; } .scroll svg { min-width: 0; max-height: 255mm; } pre { font-size: 7.5pt; }
   body, .summary li, svg, .broken, .verdict { print-color-adjust: exact; -webkit-print-color-adjust: exact; }
