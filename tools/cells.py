@@ -17,6 +17,8 @@ OF_PART = re.compile(r"(member|asdu)[1-9][0-9]*(\.\w+)*|tQuality\.\w+")
 QUOTED = re.compile('[,;"\t\r\n]')
 # Where a spreadsheet takes a text for a formula: at its front, and where one that divides cells by semicolons or tabs begins a cell.
 FORMULA = re.compile("(^|[;\t\r\n])(?=[-=+@\t\r\n\uff0b\uff0d\uff1d\uff20])")
+# What of a text is not as it is in a cell.
+ODD = re.compile('^[-=+@\uff0b\uff0d\uff1d\uff20]|[,;"\t\r\n]')
 encode = json.JSONEncoder().encode
 
 
@@ -24,9 +26,11 @@ def cell(value):
     """A value as the text of a cell: an absent one as nothing, a text as it is but for a ' where a formula could begin, others as JSON
     writes them; in quotes where it has a comma, a semicolon, a tab, a quote or the end of a line."""
     if isinstance(value, str):
+        if not ODD.search(value):
+            return value
         text = FORMULA.sub(r"\1'", value)
     else:
-        text = "" if value is None else str(value) if type(value) is int else encode(value)
+        text = "" if value is None else str(value) if type(value) is int else "true" if value is True else "false" if value is False else encode(value)
     return '"' + text.replace('"', '""') + '"' if QUOTED.search(text) else text
 
 

@@ -17,7 +17,7 @@ COLUMNS = ("line", "microseconds", "time", "kind", "block", "reason", "offset", 
            # Those that objects alone have.
            "packet", "tQuality", "delay", "entries")
 # Those that objects of losses alone have.
-LOSSES = ("since", "sinceTime", "for", "from", "to", "frames", "statesMissing", "framesMissing", "late", "repeated", "restarted", "silent",
+LOSSES = ("since", "sinceTime", "for", "by", "from", "to", "frames", "statesMissing", "framesMissing", "late", "repeated", "restarted", "silent",
           "samples", "outOfRange", "outages", "longest")
 
 # The words of a shown line, and the standard's; those of an ASDU differ.

@@ -22,6 +22,9 @@ WINDOW = 9
 MOST_SENDERS, MOST_KNOWN, MOST_NAMED = 20_000, 100_000, 10
 # The greatest time that is told apart, in microseconds.
 LATEST = 1 << 62
+# Over how much of a comparison at its beginning and end the least delay tells whether clocks drift: a part in so many, with so many frames; and
+# from how many microseconds on it is told.
+PART, FEWEST, DRIFT = 10, 5, 100
 # The bit of Reserved 1 that says that a frame is simulated.
 SIMULATED = 0x8000
 STATE = re.compile(rb',"stNum":(\d+),"sqNum":(\d+),"simulation":(true|false)')
@@ -343,6 +346,19 @@ class Sender:
         self.a = self.b = self.partners = self.ours = None
 
 
+def drift(senders):
+    """By how much the least delay is greater at the end than at the beginning of what both sides have, where that is told; else None."""
+    held = [(array.array("q", map(it.a.times.__getitem__, it.ours)), it.delayed) for it in senders if it.ours]
+    if not held:
+        return None
+    first, last = min(min(times) for times, _ in held), max(max(times) for times, _ in held)
+    early, late = first + (last - first) // PART, last - (last - first) // PART
+    before = [delay for times, delays in held for time, delay in zip(times, delays) if time <= early]
+    after = [delay for times, delays in held for time, delay in zip(times, delays) if time >= late]
+    found = min(after) - min(before)
+    return found if min(len(before), len(after)) >= FEWEST and abs(found) >= DRIFT else None
+
+
 class Compared:
     """Two sides, and what became of the frames of each sender."""
 
@@ -350,6 +366,7 @@ class Compared:
         self.sides, self.is_same_clock = (a, b), is_same_clock
         self.clocks = SAME if is_same_clock else difference(a, b)
         self.senders = [self.sender(own) for own in dict.fromkeys([*a.senders, *b.senders])]
+        self.drift = None if is_same_clock else drift(self.senders)
         self.part()
 
     def sender(self, own):
@@ -379,6 +396,14 @@ class Compared:
         for it in self.senders:
             it.leave(is_on)
             it.forget()
+
+    @property
+    def unknown_clocks(self):
+        """What was assumed of clocks of which no control block tells how they differ."""
+        has = {it.kind for it in self.senders if it.both}
+        told = (["frames were compared as if they were less than 10 s apart"] if "goose" in has else []) + (
+            ["samples were compared as if they were less than half a second apart"] if "sv" in has else [])
+        return f"No control block tells how the clocks differ: {', and '.join(told)}"
 
     @property
     def both(self):

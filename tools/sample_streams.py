@@ -1,6 +1,7 @@
 """The samples of one stream in what goose show --json writes of a capture, and the index of each among all that were sent."""
 import binascii
 import json
+import operator
 import re
 
 from reporting import rates
@@ -12,21 +13,22 @@ EVENT = re.compile(rb'\{"packet":(\d+),"microseconds":(\d+),')
 FRAME = re.compile(rb'\{"packet":(\d+),"microseconds":(\d+),"time":(?:null|"[^"]*"),"kind":"sv","destination":"\w+","source":"(\w+)",'
                    rb'"tag":(?:null|"\w+"),"appid":"(\w+)",')
 TEXT = rb'"(?:[^"\\]|\\.)*"'
-# What follows the svID of an ASDU: smpCnt, smpSynch, smpRate, sample, smpMod.
+# What follows the svID of an ASDU: smpCnt, smpSynch, smpRate, sample and smpMod, of which some are groups.
 REST = (rb',"datSet":(?:null|%b),"smpCnt":(\d+),"confRev":\d+,"refrTm":(?:null|"[^"]*","refrTime":(?:null|"[^"]*"),"refrQuality":\{[^}]*\}),'
-        rb'"smpSynch":(\d+),"smpRate":(\w+),"sample":"([0-9a-f]*)","smpMod":(null|"[^"]*")' % TEXT)
+        rb'"smpSynch":%%b,"smpRate":%%b,"sample":%%b,"smpMod":%%b' % TEXT)
+SAMPLES, RATES = REST % (rb"(\d+)", rb"\w+", b'"([^"]*)"', b'(?:null|"[^"]*")'), REST % (rb"\d+", rb"(\w+)", b'"[^"]*"', b'(null|"[^"]*")')
 # How many rises of smpCnt tell the rate.
 RISES = 5
 
 
 class Asdu:
-    """What an ASDU says beside its sample: smpCnt, smpSynch, the octets of its sample, its packet, and when that was captured."""
+    """What an ASDU says beside its sample: smpCnt, smpSynch, the octets of its sample, its packet, and when that or the sample was captured."""
 
-    __slots__ = ("packet", "microseconds", "now", "count", "synch", "octets", "rate", "mode")
+    __slots__ = ("packet", "microseconds", "now", "count", "synch", "octets")
 
     def __init__(self, packet, microseconds, now, told):
         self.packet, self.microseconds, self.now = packet, microseconds, now
-        count, synch, self.rate, octets, self.mode = told
+        count, synch, octets = told
         self.count, self.synch, self.octets = int(count), int(synch), binascii.unhexlify(octets)
 
 
@@ -35,11 +37,11 @@ class Stream:
 
     def __init__(self, svid):
         self.name, self.appid, self.source = svid, None, None
-        self.asdus_in = re.compile(rb'\{"svID":%b' % re.escape(json.dumps(svid).encode()) + REST).findall
+        self.begin = rb'\{"svID":%b' % re.escape(json.dumps(svid).encode())
 
-    def asdus(self, lines):
-        """The ASDUs of the stream. `now` is the greatest time so far of any packet."""
-        now, frame_of, asdus_in, sender = 0, FRAME.match, self.asdus_in, None
+    def frames(self, lines, fields=SAMPLES):
+        """The frames of the stream: what is told of each ASDU, when they were captured, the greatest time so far of any packet, and the packet."""
+        now, frame_of, asdus_in, sender = 0, FRAME.match, re.compile(self.begin + fields).findall, None
         for line in lines:
             frame = frame_of(line)
             begin = frame or EVENT.match(line)
@@ -53,9 +55,7 @@ class Stream:
                 if frame.group(3, 4) != sender:
                     sender = frame.group(3, 4)
                     self.see(frame)
-                packet = int(frame[1])
-                for it in told:
-                    yield Asdu(packet, moment, now, it)
+                yield told, moment, now, int(frame[1])
 
     def see(self, frame):
         """The sender of a frame."""
@@ -73,12 +73,16 @@ class Head:
 
     def __init__(self, stream, lines):
         self.name, self.rise, self.rates = stream.name, rates.Rise(), {}
-        for it in stream.asdus(lines):
-            if it.rate != b"null":
-                self.rates[int(it.rate), None if it.mode == b"null" else int(it.mode[1:-1] or b"0", 16)] = None
-            self.rise.see(it.microseconds, it.count)
-            if len(self.rise.rates) >= RISES:
+        for told, moment, _, _ in stream.frames(lines, RATES):
+            if not all(self.goes_on(moment, *it) for it in told):
                 break
+
+    def goes_on(self, moment, count, rate, mode):
+        """What an ASDU says. Whether more are needed is answered."""
+        if rate != b"null":
+            self.rates[int(rate), None if mode == b"null" else int(mode[1:-1] or b"0", 16)] = None
+        self.rise.see(moment, int(count))
+        return len(self.rise.rates) < RISES
 
 
 class Counted:
@@ -112,8 +116,24 @@ class Counted:
         if -advance < self.run:
             self.repeated += 1
             return None
-        self.late += 1
+        # One from before the first sample is not late, as in losses: a capture of two networks may begin with the later copy.
+        self.late += self.newest + advance >= 0
         return self.newest + advance
+
+    def first_of(self, counts, times):
+        """The index of the first of some samples, with the times of their packets, or None where they are not simply the next ones."""
+        first, number = counts[0], len(counts)
+        if self.newest is None or first != (self.count + 1) % self.rate or counts[-1] != (first + number - 1) % self.rate:
+            return None
+        passed = list(map(operator.sub, times, (self.now, *times)))
+        if min(passed) < 0 or max(passed) >= self.soon:
+            return None
+        whole, rest = divmod(first + number, self.rate)
+        if counts != (list(range(first, first + number)) if not whole else [*range(first, self.rate), *range(rest)]):
+            return None
+        self.samples, self.run, self.newest = self.samples + number, self.run + number, self.newest + number
+        self.count, self.now = counts[-1], times[-1]
+        return self.newest - number + 1
 
     def advance(self, count, now):
         rate, passed = self.rate, now - self.now

@@ -111,12 +111,13 @@ def taken(places):
     return (lambda told: (told[places[0]],)) if places else lambda told: ()
 
 
-def are_pairs_of(size):
-    """What answers whether a sample of this size can be pairs of INT32 and Quality; None where none can."""
+def are_pairs_of(size, before=0, number=1):
+    """What answers whether a sample of this size can be pairs of INT32 and Quality, or each of at most so many samples with so many octets before
+    them; None where none can."""
     if not size or size % PAIR or size // PAIR > MOST_PAIRS:
         return None
-    mask = int.from_bytes(bytes(4) + (0xFFFFFFFF - MOST_QUALITY).to_bytes(4, "big"), "big")
-    whole = sum(mask << 64 * at for at in range(size // PAIR))
+    mask = bytes(before) + (bytes(4) + (0xFFFFFFFF - MOST_QUALITY).to_bytes(4, "big")) * (size // PAIR)
+    whole = int.from_bytes(mask * number, "big")
     return lambda octets: not int.from_bytes(octets, "big") & whole
 
 

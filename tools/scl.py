@@ -32,10 +32,11 @@ DATA = ("ldInst", "prefix", "lnClass", "lnInst", "doName")
 
 
 class Address:
-    """An address of a control block: the texts of its parts, by their types, and its times in milliseconds."""
+    """An address of a control block: the texts of its parts, by their types, its times in milliseconds, the texts of times that are no such
+    number, and its line."""
 
-    def __init__(self, parts, times):
-        self.parts, self.times = parts, times
+    def __init__(self, parts, times, unread=(), line=None):
+        self.parts, self.times, self.unread, self.line = parts, times, dict(unread), line
 
     def odd(self):
         """The parts that are not written as they should be, which nothing is compared with."""
@@ -241,7 +242,7 @@ class Reader:
     def __init__(self, station, parser):
         self.station, self.parser = station, parser
         self.path, self.at, self.skipped, self.words = [], {}, 0, None
-        self.parts, self.appids, self.times = {}, [], {}
+        self.parts, self.appids, self.times, self.unread, self.line = {}, [], {}, {}, None
 
     def refuse(self, *_):
         raise Ended("it has a document type, which SCL does not have")
@@ -259,7 +260,8 @@ class Reader:
         if parent == "Address" or local == "IEDName" or (parent == "GSE" and local in TIMES):
             self.words = []
         elif local in ADDRESSES:
-            self.parts, self.appids, self.times, self.station.has_address = {}, [], {}, True
+            self.parts, self.appids, self.times, self.unread, self.station.has_address = {}, [], {}, {}, True
+            self.line = self.parser.CurrentLineNumber
         elif self.path == ["SCL", "IED"]:
             self.station.ieds.append(stated.get("name", ""))
         elif parent == "Inputs":
@@ -288,10 +290,18 @@ class Reader:
         elif local in ADDRESSES:
             self.ends_address(local)
         elif local in TIMES and parent == "GSE":
-            self.times.update({local: it for it in [milliseconds(self.told(), self.at[local].get("multiplier", "m"))] if it})
+            self.ends_time(local, self.told(), self.at[local].get("multiplier", "m"))
         elif local == "IEDName" and self.path[-2:-1] == ["LN0"] and parent in SERVICES:
             self.station.controls[-1].receivers.add(self.told())
         self.words = None if local in TEXTS else self.words
+
+    def ends_time(self, name, text, multiplier):
+        """A time of an address. Of none at all, and of one that is no number, its text is kept."""
+        told = milliseconds(text, multiplier)
+        if told:
+            self.times[name] = told
+        else:
+            self.unread[name] = text if multiplier in UNITS else f"{text} {multiplier}s"
 
     def ends_part(self, sort):
         """A part of an address. APPID can be there twice."""
@@ -305,7 +315,7 @@ class Reader:
         if self.appids:
             key = ADDRESSES[local], self.at["ConnectedAP"]["iedName"], stated["ldInst"], stated["cbName"]
             held = self.station.addresses.setdefault(key, [])
-            held += [Address({**self.parts, "APPID": appid}, self.times) for appid in self.appids]
+            held += [Address({**self.parts, "APPID": appid}, self.times, self.unread, self.line) for appid in self.appids]
 
     def text(self, text):
         if self.words is not None and not self.skipped:

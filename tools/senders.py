@@ -204,35 +204,97 @@ def read_object(line):
 # ---- Frames that tell what others told ---------------------------------------
 
 TEXT = r'"[^"\\]*(?:\\.[^"\\]*)*"'
-HEAD = r'\{"(?:line|packet)":[0-9]+,"microseconds":[0-9]+,"time":(?:"[^"\\]*"|null),"kind":"%s",'
+HEAD = r'\{"(?:line|packet)":[0-9]+,"microseconds":[0-9]+,"time":(?:"[^"\\]*"|null),"kind":'
 ENVELOPE = (r'"destination":"[0-9a-f]{12}","source":"[0-9a-f]{12}","tag":(?:"[0-9a-f]{4}"|null),"appid":"[0-9a-f]{4}",'
             r'"reserved1":"[0-9a-f]{4}","reserved2":"[0-9a-f]{4}",')
 TRAILER = r',"trailer":(?:"[0-9a-f]*"|null)\}'
-QUALITY = r'\{(?:"\w+":(?:true|false|[0-9]+),?)*\}'
-GOOSE = re.compile(
-    HEAD % "goose" + rf'({ENVELOPE}"gocbRef":{TEXT}),"timeAllowedtoLive":[0-9]+,("datSet":{TEXT},"goID":(?:{TEXT}|null)),"t":"[0-9a-f]{{16}}",'
-    rf'"tTime":(?:"[^"\\]*"|null),"tQuality":{QUALITY},"stNum":[0-9]+,"sqNum":[0-9]+,"simulation":\w+,"confRev":([0-9]+),"ndsCom":\w+,'
-    rf'"members":(\[.*\]){TRAILER}')
+# The quality of a time in the one form that goose writes, which is told in a third of the time, or any.
+BOOLEAN = "(?:true|false)"
+QUALITY = (rf'(?:\{{"leapSecondsKnown":{BOOLEAN},"clockFailure":{BOOLEAN},"clockNotSynchronized":{BOOLEAN},"timeAccuracy":[0-9]+\}}'
+           rf'|\{{(?:"\w+":(?:true|false|[0-9]+),?)*\}})')
+BEGIN = re.compile(HEAD + '"(goose|sv)",')
+CLOCK = re.compile(HEAD.replace("[0-9]+", "(?:0|[1-9][0-9]*)").replace(r'[^"\\]', "[-0-9:.TZ]") + r'"clock"\}')
+# A frame of GOOSE in three parts: what stays from frame to frame before t, what does not, and what stays behind sqNum.
+STATE = ',"t":"'
+FRONT = re.compile(rf'({ENVELOPE}"gocbRef":{TEXT}),"timeAllowedtoLive":[0-9]+,("datSet":{TEXT},"goID":(?:{TEXT}|null))')
+BETWEEN = re.compile(rf',"t":"[0-9a-f]{{16}}","tTime":(?:"[^"\\]*"|null),"tQuality":{QUALITY},"stNum":[0-9]+,"sqNum":[0-9]+,')
+REST = re.compile(rf'"simulation":\w+,"confRev":([0-9]+),"ndsCom":\w+,"members":(\[.*\]){TRAILER}')
 # What of an ASDU differs from frame to frame, or is not compared.
 OWN = re.compile(r'"(?:smpCnt|smpSynch)":(?:[0-9]+|null)|"(?:refrTm|refrTime|sample|field89)":(?:"[^"\\]*"|null)|"refrQuality":' + QUALITY)
-SAMPLED = re.compile(HEAD % "sv" + rf'({ENVELOPE}"asdus":)(\[.*\]){TRAILER}')
+OF_NAME = {'"smpCnt":': "(?:[0-9]+|null)", '"smpSynch":': "(?:[0-9]+|null)", '"refrQuality":': QUALITY}
+ASDUS = '"asdus":['
+SAMPLED = re.compile(rf'({ENVELOPE}"asdus":)(\[.*\]){TRAILER}')
+# How many sorts of frames are known again, and of how many their texts or a pattern.
+MOST_KEYS, MOST_ALIKE = 100000, 4096
+
+
+class Known:
+    """Lines that tell the same as an earlier one. A frame of GOOSE is mostly known by the text of what stays from frame to frame, one of Sampled
+    Values by a pattern of the first that came twice with its envelope."""
+
+    def __init__(self):
+        self.keys, self.alike, self.patterns, self.key = set(), set(), {}, None
+
+    def has(self, line):
+        """Whether a line is known. If it is not, `add` adds it."""
+        self.key, begin = None, BEGIN.match(line)
+        if not begin:
+            self.key = CLOCK.fullmatch(line) and "clock"
+            return self.key in self.keys
+        if begin[1] == "sv":
+            return self.has_sampled(line, begin.end())
+        at = line.find(STATE, begin.end())
+        between = at >= 0 and BETWEEN.match(line, at)
+        parts = between and (line[begin.end():at], line[between.end():])
+        return parts in self.alike or bool(parts) and self.has_goose(*parts)
+
+    def has_goose(self, front, rest):
+        """A frame of GOOSE by what it tells before t and behind sqNum."""
+        before, behind = FRONT.fullmatch(front), told_behind(rest)
+        self.key = before and behind and (before.groups(), behind)
+        is_known = self.key in self.keys
+        if is_known and len(self.alike) < MOST_ALIKE:
+            self.alike.add((front, rest))
+        return is_known
+
+    def has_sampled(self, line, at):
+        """A frame of Sampled Values. One with a backslash is known by no pattern."""
+        until = line.find(ASDUS, at)
+        envelope = line[at:until] if until >= 0 and "\\" not in line else None
+        pattern = self.patterns.get(envelope)
+        if pattern and pattern(line, until):
+            return True
+        found = SAMPLED.fullmatch(line, at)
+        self.key = found and (found[1], OWN.sub("", found[2]))
+        is_known = self.key in self.keys
+        if is_known and envelope and not pattern and len(self.patterns) < MOST_ALIKE:
+            self.patterns[envelope] = pattern_of(line, until)
+        return is_known
+
+    def add(self):
+        """Adds the line that was looked at last."""
+        if self.key and len(self.keys) < MOST_KEYS:
+            self.keys.add(self.key)
 
 
 @functools.lru_cache(4096)
-def entries_of(members):
-    return len(json.loads(members))
+def told_behind(text):
+    """What a frame of GOOSE tells behind sqNum: confRev and the number of members; or None."""
+    found = REST.fullmatch(text)
+    try:
+        return found and (found[1], len(json.loads(found[2])))
+    except (RecursionError, ValueError):
+        return None
 
 
-def told_by(line):
-    """What a frame of goose show --json tells of its senders, as a key: frames of one key tell the same. None of another line."""
-    if '"kind":"goose"' in line[:150]:
-        found = GOOSE.fullmatch(line)
-        try:
-            return found and (*found.groups()[:3], entries_of(found[4]))
-        except (RecursionError, ValueError):
-            return None
-    found = SAMPLED.fullmatch(line)
-    return found and (found[1], OWN.sub("", found[2]))
+def pattern_of(line, at):
+    """What matches the ASDUs of frames without a backslash that tell the same as this one, up to the end of their lines."""
+    pattern, begin = "", at
+    for it in OWN.finditer(line, at):
+        name = it[0][:it[0].index(":") + 1]
+        pattern += re.escape(line[begin:it.start()]) + name + OF_NAME.get(name, '(?:"[^"]*"|null)')
+        begin = it.end()
+    return re.compile(pattern + re.escape(line[begin:])).fullmatch
 
 
 # ---- Comparison --------------------------------------------------------------

@@ -21,6 +21,10 @@ class Interfaces(Recorded):
         self.of = array.array("I")
         super().__init__(path, math.inf, progress, Malformed())
 
+    def usual(self, octets, at):
+        """None is taken with others, since of each the interface is noted."""
+        return at
+
     def packet(self, kind, octets, at, size):
         before = self.numbers
         super().packet(kind, octets, at, size)

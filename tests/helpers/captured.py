@@ -2,7 +2,7 @@
 import re
 
 from helpers.harness import clipped, first_difference, never_seen, run, text
-from oracles import reading
+from oracles import losses, reading
 from oracles.objects import numbers_read
 
 # The words of each command, for frames of the worked block and the worked stream.
@@ -11,6 +11,7 @@ ASKED = {
     "watch": ["watch", "--period", "4000", "--id", "S"], "losses": ["losses", "--period", "4000"],
 }
 PASSED = re.compile(r"(\d+) of (?:EtherType )?([0-9a-f]{4})(?: \([^;()]*(?:\([^()]*\))?[^;()]*\))?, from (\d+) on")
+SAMPLES = re.compile(r' id="((?:[^"\\]|\\.)*)" samples=\d+$')
 
 
 def asking(command, *options):
@@ -56,15 +57,25 @@ def why_passed(passed, lines):
     return why + ([] if [(it[0], it[-1]) if it else it for it in numbers] == wanted else [f"the rest are {wanted}: {others}"])
 
 
+def not_judged(lines):
+    """What is said of the streams whose totals are samples alone."""
+    found = [SAMPLES.search(line) for line in lines]
+    keys = [(None, None, None, re.sub(r"\\(.)", r"\1", it[1]).encode()) for it in found if it]
+    return [f"goose losses: {it}" for it in losses.not_judged(keys)]
+
+
 def why_said(asked, lines, status, passed, complained):
-    """What is wrong with the messages of a run: the sentence on what was passed over; behind that, where the input ended the run,
-    the place and the name in the last line of its text; of a failing device, that; else which blocks were never seen."""
+    """What is wrong with the messages of a run: the sentence on what was passed over, and that on streams that were not judged; behind
+    those, where the input ended the run, the place and the name in the last line of its text; of a failing device, that; else which blocks
+    were never seen."""
     told = complained.decode("utf-8", "replace").splitlines()
     over = [line for line in told if "passed over: " in line]
     # The source that fails is a terminal, on which the program says what it awaits.
-    rest = [line for line in told if line not in over and ": waiting for a " not in line]
+    named = [line for line in told if asked[0] == "losses" and ": not judged: " in line]
+    rest = [line for line in told if line not in over and line not in named and ": waiting for a " not in line]
     why = why_passed(passed, over) if passed and status in (0, 1) else []
     why += [f"said {over}"] if over and not passed else []
+    why += [f"said {named}"] if status in (0, 1) and named != not_judged(lines) else []
     if status in (3, 4):
         number, sort, name = lines[-1].split(" ")
         place = {"list": f"line {number}", "capture": f"packet {number}" if number != "0" else "header"}[sort]

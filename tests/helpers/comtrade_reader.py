@@ -16,11 +16,11 @@ class Analog:
     def __init__(self, line, at):
         fields = line.split(",")
         assert len(fields) == 13 and fields[0] == f"{at}", line
-        assert all(map(REAL.fullmatch, fields[5:12])), line
+        assert all(map(REAL.fullmatch, fields[5:12])) and all(len(it) <= 13 for it in fields[8:10]), line
         self.name, self.phase, self.circuit, self.unit = fields[1:5]
         self.a, self.b, self.skew, self.least, self.greatest, self.primary, self.secondary = map(float, fields[5:12])
         self.side, self.values, self.stored = fields[12], [], []
-        assert len(self.name) <= 128 and len(self.unit) <= 32 and self.side in "PS", line
+        assert len(self.name) <= 128 and 1 <= len(self.unit) <= 32 and len(self.phase) <= 2 and self.side in ("P", "S"), line
 
     def put(self, stored):
         self.stored.append(stored)
@@ -33,7 +33,7 @@ class Digital:
 
     def __init__(self, line, at):
         number, self.name, _, _, self.normal = line.split(",")
-        assert number == f"{at}" and self.normal in "01", line
+        assert number == f"{at}" and self.normal in ("0", "1") and len(self.name) <= 128, line
         self.values = []
 
 
@@ -98,9 +98,9 @@ class Recording:
         return next(it for it in [*self.analog, *self.digital] if it.name == name)
 
 
-def inception(recording, period):
+def inception(recording, period, since=None):
     """The first sample, from 0 on, from which some channel is no longer as it was a period before."""
-    for at in range(12 * period, recording.last - 1):
+    for at in range(since or 12 * period, recording.last - 1):
         for channel in recording.analog:
             values = channel.values
             apart = [abs(values[it] - values[it - period]) for it in (at, at + 1) if None not in (values[it], values[it - period])]

@@ -7,6 +7,7 @@ is lost, and some samples are questionable."""
 import math
 import pathlib
 import sys
+from fractions import Fraction
 
 sys.dont_write_bytecode = True
 sys.path.insert(0, str(pathlib.Path(__file__).resolve().parent.parent))
@@ -154,6 +155,26 @@ def events():
     yield OPEN_AT - 12_000, goose(2, 4, 0, OPEN_AT - 12_000 - LATER, [position("00"), GOOD])
     yield OPEN_AT, goose(2, 5, 0, OPEN_AT - LATER, [position("01"), GOOD])
     yield OPEN_AT + 4_000, goose(2, 5, 1, OPEN_AT - LATER, [position("01"), GOOD])
+
+
+class OtherRate:
+    """The fault of the line at another rate and line frequency: when each sample was, exactly; and when trip and breaker were captured."""
+
+    def __init__(self, rate, frequency, a_frame):
+        self.rate, self.frequency, self.first, self.samples, self.fault = rate, frequency, rate - rate // 10 + 1, rate * 45 // 100, rate * 3 // 10 + 3
+        begin, turns = START + Fraction(self.first * SECOND, rate), Fraction(frequency * RATE, rate)
+        self.exact = [begin + Fraction(at * SECOND, rate) for at in range(self.samples)]
+        self.begin, self.trip_at = round(begin), round(self.exact[self.fault]) + 18_403
+        self.open_at = self.trip_at + 39_607
+        self.unit = Unit("MU01", 0x4000, 1, lambda at: sample_of_line(at - self.fault + FAULT, turns), rate=rate, a_frame=a_frame,
+                         samples=self.samples, first=self.first, begin=self.begin)
+
+    def packets(self):
+        early = self.begin + 5_000
+        return [*self.unit.packets(), (early, goose(1, 8, 20, early - SECOND, trip(False, True))),
+                (self.trip_at, goose(1, 9, 0, self.trip_at - LATER, trip(True, True))),
+                (early, goose(2, 4, 9, early - SECOND, [position("10"), GOOD])),
+                (self.open_at, goose(2, 5, 0, self.open_at - LATER, [position("01"), GOOD]))]
 
 
 def packets():

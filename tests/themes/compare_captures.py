@@ -155,6 +155,9 @@ def losses():
     simulated = [(1000, goose(5)), (2000, goose(5, sim=True))]
     yield two("simulated frames are others", merged(ends, simulated), merged(ends, [simulated[0], (2000, ARP)]), same,
               sender("G", (1, 1, 1), [(0, 2, 2)] * 4), sender("G", (1, 0, 0), a=some(3), sim=True), status=1)
+    other = [(2000, goose(0, st=3)), (2100, goose(0, st=4))]
+    yield two("another state is another frame", [FIVE[0], other[0], FIVE[4]], [FIVE[0], other[1], FIVE[4]],
+              sender("G", (3, 3, 2), [(0, 1, 1), (0, 1, 1), (0, 3, 3), (0, 3, 3)], a=some(2), b=some(2)), status=1)
     own = [(1000, goose(5)), (2000, goose(5, source=2))]
     yield two("another source is another sender", merged(ends, own), merged(ends, [own[0], (2000, ARP)]), same,
               sender("G", (1, 1, 1), [(0, 2, 2)] * 4), sender("G", (1, 0, 0), a=some(3), source=2), status=1)
@@ -205,24 +208,56 @@ def samples():
     often = [(at * 100_000 + 70_000, goose(at, ref=b"G2")) for at in range(40)]
     leaping = merged(beat, beats(*range(60_000, 4 * SECOND, SECOND), ref=b"G1"), often, stream(4))
     leapt = [(at + 2 * SECOND * (at >= 1_960_000), frame) for at, frame in leaping]
-    yield Leapt("a clock that leaps", [captured(*leaping), captured(*leapt)], (), [])
+    yield Leapt("a clock that leaps", [captured(*leaping), captured(*leapt)], (), [], both=88)
+    ten = merged(beats(*range(50_000, 10 * SECOND, SECOND), ref=b"G0"), stream(10))
+    slow = merged([(at + 600_000 * (at == 4_050_000), frame) for at, frame in ten])
+    yield Leapt("one beat that is slow", [captured(*ten), captured(*slow)], (), [], both=110)
     two_ids = [(at, sample(part(at // 1000), part(at // 1000 + 1), part(at // 1000, b"T"))) for at in (0, 1000, 2000)]
     one_id = sample(part(1), part(2))
     yield two("several ASDUs, of two streams", two_ids, [two_ids[0], (1000, one_id), two_ids[2]],
               sender("S", (3, 3, 3), [(0, 1, 1), (0, 2, 2), (0, 3, 3), (0, 3, 3)]),
               sender("T", (3, 2, 2), [(0, 1, 1), (0, 1, 1), (0, 3, 3), (0, 3, 3)], a=some(2)), status=1)
+    longer = [(0, sample(part(0), part(5, b"T"), part(6, b"T")))]
+    yield two("the first count of a further stream", longer, [(0, sample(part(0), part(5, b"T")))],
+              sender("S", (1, 1, 1), [(0, 1, 1)] * 4), sender("T", (1, 1, 1), [(0, 1, 1)] * 4))
     tested = [(0, sample(0)), (1000, sample(1)), (1500, sample(1, sim=True)), (2000, sample(2))]
     yield two("simulated samples", tested, without(tested, 3), sender("S", (3, 3, 3), [(0, 1, 1), (0, 2, 2), (0, 4, 3), (0, 4, 3)]),
               sender("S", (1, 0, 0), a=some(3), sim=True), status=1)
 
 
 class Leapt(Pair):
-    """Where one clock leaps forward, all frames are still found on both sides."""
+    """Where one clock leaps forward, or one frame is late, all frames are still found on both sides."""
 
     def why_wrong(self, program):
         wrote, _, status = self.run(program, "--json")
         last = json.loads(wrote.splitlines()[-1])
-        return [] if (status, last["both"], last["alone"]) == (0, 88, 0) else [f"status {status}: {last}"]
+        return [] if (status, last["both"], last["alone"]) == (0, self.last["both"], 0) else [f"status {status}: {last}"]
+
+
+def drifting():
+    """Clocks that drift apart are told, in either direction; one clock does not drift, and neither do a few microseconds."""
+    for name, rise, words, drift in (("a clock that is faster", 50, (), 90 * 50), ("a clock that is slower", -50, (), -90 * 50),
+                                     ("ways that differ", 1, (), None), ("one clock", 50, ("--same-clock",), None)):
+        sent = [(at * SECOND, goose(at)) for at in range(100)]
+        taken = [(at + 6000 + rise * count, frame) for count, (at, frame) in enumerate(sent)]
+        yield Drifting(name, [captured(*sent), captured(*taken)], words, [], drift=drift)
+    few = [(at * SECOND, sample(at)) for at in range(9)]
+    yield Drifting("few frames", [captured(*few), captured(*((at + at // 100, frame) for at, frame in few))], (), [], drift=None)
+    often = [(at * 100_000, sample(at)) for at in range(100)]
+    yield Drifting("samples alone", [captured(*often), captured(*((at + at // 1000, frame) for at, frame in often))], (), [], drift=9000)
+
+
+class Drifting(Pair):
+    """By how much the least delay changes from the first tenth of the time to the last one."""
+
+    def why_wrong(self, program):
+        wrote, complained, status = self.run(program, "--json")
+        last, drift = json.loads(wrote.splitlines()[-1]), self.last["drift"]
+        text = self.run(program)[0].decode()
+        way = "greater" if (drift or 0) > 0 else "less"
+        line = f"to the last one the least delay becomes {abs(drift or 0) / 1000:.3f} ms {way}: clocks that drift"
+        why = [f"status {status}, {complained!r}: {last}"] if (status, last["drift"], last["alone"]) != (0, drift, 0) else []
+        return why + ([f"{text}"] if (line in text) != (drift is not None) or ("tenth" in text) != (drift is not None) else [])
 
 
 def apart():
@@ -233,6 +268,21 @@ def apart():
     on = [(0, ARP), (10 * SECOND, ARP)]
     yield two("a sender that is silent on one side", merged(on, beats(2 * SECOND, 3 * SECOND)), merged(on, [(SECOND, sample(0))]),
               sender("G", (2, 0, 0), a=some(2, 3)), sender("S", (0, 1, 0), b=some(2)), status=1, both=0, alone=3)
+    yield two("on from and up to a packet", [(0, goose(0, ref=b"G0")), (1000, goose(5)), (9000, goose(1, ref=b"G0"))],
+              [(1000, ARP), (9000, goose(1, ref=b"G0"))], sender("G0", (2, 1, 1), [(0, 3, 2)] * 4, while_a=some(1)), sender("G", (1, 0, 0), a=some(2)), status=1)
+    yield two("at the edges of both, with ways of 0.1 ms", [(1000, goose(7, ref=b"G1")), *beats(2000, 3000, ref=b"G0"), (8950, goose(8, ref=b"G1"))],
+              [(1050, goose(5, ref=b"G2")), *beats(2100, 3100, ref=b"G0"), (9000, goose(6, ref=b"G2"))],
+              sender("G1", (2, 0, 0), a=some(1), while_a=some(4)), sender("G0", (2, 2, 2), [(100, 2, 2), (100, 2, 2), (100, 3, 3), (100, 3, 3)]),
+              sender("G2", (0, 2, 0), b=some(4), while_b=some(1)), status=1)
+    yield two("a capture whose times go back", [(5000, goose(1)), (0, goose(0)), (9000, goose(2)), (8000, goose(3))],
+              [(0, goose(0)), (1000, goose(7, ref=b"G1")), (5000, goose(1)), (8000, goose(3)), (9000, goose(2)), (8500, goose(8, ref=b"G1"))],
+              sender("G", (4, 4, 4), [(0, 1, 3), (0, 2, 1), (0, 4, 4), (0, 4, 4)], turned=[(2, 1), (4, 4)]),
+              sender("G1", (0, 2, 0), b=some(2, 6)), status=1)
+    sent = beats(*range(0, 21 * SECOND, SECOND), ref=b"G0")
+    leapt = merged([(HOUR + at + 2 * SECOND * (at >= 10 * SECOND), frame) for at, frame in sent], [(HOUR + 1_500_000, goose(5, ref=b"G1"))])
+    yield two("a frame of B alone before its clock leaps", sent, leapt,
+              sender("G0", (21, 21, 21), [(HOUR, 1, 1), (HOUR + 2 * SECOND, 11, 12), (HOUR + 2 * SECOND, 21, 22), (HOUR + 2 * SECOND, 21, 22)]),
+              sender("G1", (0, 1, 0), b=some(3)), words=(), status=1)
     yield two("never on at once", beats(0, 1000), later(beats(0, 1000, ref=b"G0"), SECOND), sender("G", (2, 0, 0), while_a=some(1, 2)),
               sender("G0", (0, 2, 0), while_b=some(1, 2)), status=1, both=0, alone=0)
     yield two("no packets at all", [], [], status=1, both=0, alone=0)
@@ -257,10 +307,10 @@ def one_capture():
                ["--interfaces", "2,3"], [sender("G", (3, 3, 3), [(0, 1, 4), (0, 2, 5), (0, 3, 6), (0, 3, 6)])])
     lans = [(0, 10, 0, b""), (7, 11, 0, b"\0" * 5), (1000, 10, 1, b""), (2000, 11, 2, b""), (2004, 10, 2, b"")]
     frames = [(at, goose(sq, trailer=pad + redundant(lan))) for at, lan, sq, pad in lans]
-    odd = (b"", redundant(12), redundant(10)[1:], redundant(10) + b"\0")
+    odd = (b"", redundant(12), redundant(10)[1:], redundant(10) + b"\0", redundant(10)[:-1] + b"\xfa")
     neither = [(900 + at, goose(1, trailer=it)) for at, it in enumerate(odd)]
-    told = sender("G", (3, 2, 2), [(-4, 9, 8), (-4, 9, 8), (7, 1, 2), (7, 1, 2)], a=some(7))
-    yield Pair("networks of PRP", [captured(*merged(frames, neither))], ["--lans"], [told], status=1, neither=4, both=2)
+    told = sender("G", (3, 2, 2), [(-4, 10, 9), (-4, 10, 9), (7, 1, 2), (7, 1, 2)], a=some(8))
+    yield Pair("networks of PRP", [captured(*merged(frames, neither))], ["--lans"], [told], status=1, neither=5, both=2)
     counted = [(at, sample(at // 1000, trailer=redundant(lan, at))) for at in (0, 1000, 2000) for lan in (10, 11)]
     yield Pair("samples in both networks", [captured(*counted)], ["--lans"],
                [sender("S", (3, 3, 3), [(0, 1, 2), (0, 3, 4), (0, 5, 6), (0, 5, 6)])], neither=0)
@@ -311,6 +361,31 @@ def texts():
         "The way from A to B takes at least 0.110 ms (packet 5 of A, 5 of B)", "4 frames in both, 2 in one alone", "", name, frames, *only,
         "   delay from A to B: least 0.110 ms (packets 5 and 5), median 0.120 ms (packets 3 and 2), "
         "99 in 100 0.400 ms (packets 4 and 3), greatest 0.400 ms (packets 4 and 3)"])
+
+
+    alike = [(at * 1000, goose(5)) for at in range(4)]
+    yield Text("the text of frames that repeat as they are", [captured(*alike), captured(*without(alike, 2))], [], [
+        "A: a.pcap, 4 packets, 2023-11-14T22:13:20.000000Z to 2023-11-14T22:13:20.003000Z",
+        "B: b.pcap, 3 packets, 2023-11-14T22:13:20.000000Z to 2023-11-14T22:13:20.003000Z",
+        "The clocks differ by, or the way takes, at least 0.000 ms (packet 1 of A, 1 of B)",
+        "No control block tells how the clocks differ: frames were compared as if they were less than 10 s apart",
+        "3 frames in both, 1 in one alone", "", name, "   frames: 4 in A, 3 in B, 3 in both", "   only in A: 1 (packet 2)",
+        "   delay from A to B, with the clocks' difference: least 0.000 ms (packets 1 and 1), median 0.000 ms (packets 3 and 2), "
+        "99 in 100 0.000 ms (packets 4 and 3), greatest 0.000 ms (packets 4 and 3)"])
+    untimed = [captured(*stream(2)), captured(*later(stream(2), 100))]
+    yield Said("samples alone", untimed, "clocks differ: samples were compared as if they were less than half a second apart")
+
+
+class Said(Pair):
+    """A line of the text."""
+
+    def __init__(self, name, captures, line):
+        super().__init__(f"it says of {name}", captures, [], [])
+        self.line = line
+
+    def why_wrong(self, program):
+        wrote = self.run(program)[0].decode()
+        return [] if f"{self.line}\n" in wrote else [wrote]
 
 
 class Refused:
@@ -454,6 +529,7 @@ class Page:
     def why_wrong(self, program):
         with tempfile.TemporaryDirectory() as folder:
             five = captured(*FIVE)
+            yield from self.why_drift_wrong(program, pathlib.Path(folder))
             for name, octets in (("a", five), ("b", captured(*FOUR, begin=START + HOUR)), ("c", five), ("d", five[:-9])):
                 (pathlib.Path(folder) / name).write_bytes(octets)
             for beside, line, state in (("b", "found: 1 frame only in this capture (first: packet 2); "
@@ -472,6 +548,15 @@ class Page:
                 _, complained, got = ask(program, "report", ["--force", "--beside", wrong, "a"], cwd=folder)
                 if got != status or not complained:
                     yield f"--beside {wrong}: status {got}, {complained!r}"
+
+    def why_drift_wrong(self, program, folder):
+        sent = [(at * SECOND, goose(5)) for at in range(100)]
+        for name, frames in (("a", sent), ("b", [(at + at // 20_000, frame) for at, frame in sent])):
+            (folder / name).write_bytes(captured(*frames))
+        ask(program, "report", ["--force", "--beside", "b", "a"], cwd=folder)
+        told = words(ElementTree.fromstring((folder / "report.html").read_text().partition("\n")[2]))
+        for part in ("frames were compared as if they were less than 10 s apart.", "to the last one the least delay becomes 4.500 ms greater: "):
+            yield from [] if part in told else [f"the page lacks {part!r}"]
 
     def why_section_wrong(self, page):
         section = next(it for it in page.iter("section") if it.get("aria-labelledby") == "beside")
@@ -493,7 +578,7 @@ def words(it):
 
 
 def cases():
-    for theme in (losses, repeats, samples, apart, one_capture, unread, texts, refusals):
+    for theme in (losses, repeats, samples, drifting, apart, one_capture, unread, texts, refusals):
         yield from theme()
     yield from map(Listed, (Clean(), Page()))
     yield Chance()

@@ -1,7 +1,7 @@
 """What a page says of frames that are named missing and came late or with an error, and of late ones that were never missing."""
 from helpers.capture_parts import header, record
 from helpers.frames import put
-from helpers.page_station import HOUR, SECOND, START, Frame, capture, frames, in_order
+from helpers.page_station import HOUR, SECOND, START, Frame, capture, frames, in_order, stream
 from themes.page_states import AMBER, GREEN, RED, Judged
 from themes.report import FINDINGS, OWN
 
@@ -9,23 +9,25 @@ from themes.report import FINDINGS, OWN
 # second after those of 3 and 7 s.
 ACTS = {"Events acted on": (RED, "old")}
 COPIED = {"Events acted on": (AMBER, "copies, or overtaken by a later state")}
-SENDER = "D1LD0/LLN0$GO$gcb1 (APPID 1001)"
 
 
 class Rows(Judged):
     """A capture whose page also has these findings of one block but for silences, each a packet, its kind and details; and of the frames that
     it lacks so many late, so many with an error, and so many late ones that were not missing."""
 
-    def __init__(self, name, octets, told, rows, totals):
-        super().__init__(name, octets, told)
+    sender, caption = "D1LD0/LLN0$GO$gcb1 (APPID 1001)", "Totals of control blocks"
+
+    def __init__(self, name, octets, told, rows, totals, *asked, **how):
+        super().__init__(name, octets, told, *asked, **how)
         self.rows, self.totals = rows, totals
 
     def why_page_wrong(self, page, status):
         yield from super().why_page_wrong(page, status)
-        rows = [(int(packet), kind, details) for _, packet, sender, kind, details in page.rows(FINDINGS) if sender == SENDER and kind != "silent"]
+        rows = [(int(packet), kind, details) for _, packet, sender, kind,
+                details in page.rows(FINDINGS) if sender == self.sender and kind != "silent"]
         yield from [] if rows == self.rows else [f"the findings are {rows}"]
-        caption = next(it for it in page.tables if it.startswith("Totals of control blocks"))
-        own = dict(zip(page.heads[caption], next(row for row in page.rows(caption) if row[0] == SENDER)))
+        caption = next(it for it in page.tables if it.startswith(self.caption))
+        own = dict(zip(page.heads[caption], next(row for row in page.rows(caption) if row[0] == self.sender)))
         totals = tuple(int(own.get(it, "0")) for it in OWN)
         yield from [] if totals == self.totals else [f"the totals are {own}"]
 
@@ -68,6 +70,25 @@ def late():
     copy = "late frame was not missing, first: packet"
     yield Rows("a frame that came late, and a copy of it", capture(twice), {"Losses": (RED, "2 frames missing, all of which came late", f"1 {copy} 17"), **ACTS},
                [missing, *late_two, (17, "late", "state 5, sqNum 102; it was not missing: a copy, or overtaken")], (2, 0, 1))
+
+
+def between():
+    """Of three frames that are missing the second one comes first, and then the others; and numbers that were missing before a restart."""
+    three = station([(6, 1), (6, 2), (6, 3)], (7100, 6, 2), (7110, 6, 3), (7120, 6, 1))
+    at = 1 + sum(it[0] < START + 7_100_000 for it in three)
+    missing = (at - 4, "frames missing", "state 6: sqNum 1 to 3")
+    told = {"Losses": (RED, "3 frames missing, all of which came late"), "Events acted on": (RED, "old", "expired")}
+    yield Rows("three frames missing, of which the second came late first", capture(three),
+               {**told, "Losses": (RED, "1 silence", *told["Losses"][1:])}, [
+        missing, *((at + place, "late", f"state 6, sqNum {it}; missing since packet {at - 4}") for place, it in enumerate((2, 3, 1)))], (3, 0, 0))
+    gone = [(state, sequence) for state in (5, 6, 7) for sequence in range(110) if (state, sequence) not in ((5, 100), (5, 102))]
+    again = station(gone, *((6000 + 1000 * place, 5, 99 + place) for place in range(4)), (9100, 5, 101))
+    copy = 1 + sum(it[0] < START + 9_100_000 for it in again)
+    back = 1 + sum(it[0] < START + 6_000_000 for it in again)
+    yield Rows("a number that was missing before a restart, and a late copy of it after", capture(again), {
+        "Losses": (RED, "1 restart", "1 frame missing (first: packet 8)", "1 late frame was not missing"), "Events acted on": (RED,)}, [
+        (8, "frames missing", "state 5: sqNum 101"), (back, "restarted", "with state 5, sqNum 99"),
+        (copy, "late", "state 5, sqNum 101; it was not missing: a copy, or overtaken")], (0, 0, 1))
 
 
 def copies():
@@ -120,6 +141,10 @@ def malformed():
     time, octets = tagged[4]
     tagged[4] = time, put(octets, at34=0x99)
     yield Rows("a frame with an error and a tag", capture(tagged), told, rows, (0, 1, 0))
+    again = spoilt(station([], (2500, 5, 101)), 5)
+    yield Rows("a frame with an error, and a late one of its numbers", capture(again), {
+        "Errors": (RED, bad), "Losses": (AMBER, "1 frame that control blocks lack", "1 late frame was not missing, first: packet 13"), **COPIED},
+        [rows[0], (13, "late", "state 5, sqNum 101; it was not missing: a copy, or overtaken")], (0, 1, 1))
     two = spoilt(spoilt(good, 5), 9)
     silent = {"Events acted on": (RED, "1 expired")}
     told = {"Errors": (RED, "NotVisible in 2 frames", "control blocks lack 2 frames of these, first: packet 5"),
@@ -151,8 +176,93 @@ def malformed():
                "Errors": (RED, "NotVisible in 3 frames", "lack 1 frame of these")}, [(11, "frames missing", "state 5: sqNum 101; came with an error: packet 5")], (0, 1, 0))
 
 
+# ---- Samples -----------------------------------------------------------------
+
+STREAM = "MU1 (stream, APPID 4000, from 020000000031)"
+
+
+class SampleRows(Rows):
+    """The same of a stream: how many samples that were missing came late, and how many late ones were not missing."""
+
+    sender, caption = STREAM, "Totals of streams"
+
+
+def swapped(held, first, second):
+    """Packets of which two come in each other's place."""
+    held = list(held)
+    (one, of_one), (other, of_other) = held[first], held[second]
+    held[first], held[second] = (one, of_other), (other, of_one)
+    return held
+
+
+def samples():
+    """A stream of 100 samples a second: packet 31 has smpCnt 30."""
+    asked, good = ("--period", "100"), list(stream(100, 3, a_frame=1))
+    missing = (31, "samples missing", "1 sample, from smpCnt 30 on")
+    late = (32, "sample late", "smpCnt 30; missing since packet 31")
+    yield SampleRows("two samples in each other's place", capture(swapped(good, 30, 31)), {
+        "Losses": (RED, "1 sample missing, which came late (first: packet 31)")}, [missing, late], (1, 0, 0), *asked, lacks=["late sample"])
+    frames = list(stream(4000, 0.45))
+    rows = [(31, "samples missing", "8 samples, from smpCnt 240 on"), *((32, "sample late",
+                                                                         f"smpCnt {it}; missing since packet 31") for it in range(240, 248))]
+    yield SampleRows("two frames of samples in each other's place", capture(swapped(frames, 30, 31)), {
+        "Losses": (RED, "8 samples missing, all of which came late (first: packet 31)")}, rows, (8, 0, 0), "--period", "4000")
+    two = good[:30] + good[32:34] + [(good[34][0] - 5000, good[31][1])] + good[34:]
+    rows = [(31, "samples missing", "2 samples, from smpCnt 30 on"), (33, "sample late", "smpCnt 31; missing since packet 31")]
+    yield SampleRows("two samples missing, of which one came late", capture(two), {
+        "Losses": (RED, "2 samples missing, 1 of these came late (first: packet 31)")}, rows, (1, 0, 0), *asked)
+    copy = good[:30] + good[31:33] + [(good[33][0] - 5000, good[28][1])] + good[33:]
+    rows = [missing, (33, "sample late", "smpCnt 28; it was not missing: a copy, or overtaken")]
+    yield SampleRows("a sample missing, and a late copy of one before", capture(copy), {
+        "Losses": (RED, "1 sample missing (first: packet 31)", "1 late sample was not missing, first: packet 33: copies (a ring, PRP)")}, rows,
+        (0, 0, 1), *asked)
+    later = good[:30] + good[31:150] + good[151:153] + [(good[153][0] - 5000, good[130][1])] + good[153:]
+    rows = [missing, (150, "samples missing", "1 sample, from smpCnt 50 on"), (152, "sample late",
+                                                                               "smpCnt 30; it was not missing: a copy, or overtaken")]
+    yield SampleRows("a late copy of a count that was missing a second before", capture(later), {
+        "Losses": (RED, "2 samples missing (first: packet 31)", "1 late sample was not missing, first: packet 152")}, rows, (0, 0, 1), *asked)
+    shown = good[:30] + good[31:33] + good[34:36] + [(good[36][0] - 5000, good[31][1]), (good[36][0] - 4000, good[29][1])] + good[36:]
+    rows = [missing, (33, "samples missing", "1 sample, from smpCnt 33 on"), *((at, "sample late",
+                                                                                f"smpCnt {it}; it was not missing: a copy, or overtaken")
+                                                                          for at, it in ((35, 31), (36, 29)))]
+    yield SampleRows("late copies of the samples beside one that is missing", capture(shown), {
+        "Losses": (RED, "2 samples missing (first: packet 31)", "2 late samples were not missing, first: packet 35")}, rows, (0, 0, 2), *asked)
+    three = good[:98] + good[102:105] + [(good[105][0] - 5000 + place, good[it][1]) for place, it in enumerate((99, 101, 98, 100, 99))] + good[105:]
+    rows = [(99, "samples missing", "4 samples, from smpCnt 98 on"), *((at, "sample late", f"smpCnt {it}; missing since packet 99")
+                                                                      for at, it in ((102, 99), (103, 1), (104, 98), (105, 0))),
+            (106, "sample late", "smpCnt 99; it was not missing: a copy, or overtaken")]
+    yield SampleRows("four samples missing that came in another order, and a copy", capture(three), {
+        "Losses": (RED, "4 samples missing, all of which came late (first: packet 99)", "1 late sample was not missing, first: packet 106")}, rows,
+        (4, 0, 1), *asked)
+    turned = swapped(good, 99, 100)
+    rows = [(100, "samples missing", "1 sample, from smpCnt 99 on"), (101, "sample late", "smpCnt 99; missing since packet 100")]
+    yield SampleRows("two samples in each other's place where counts begin again", capture(turned),
+                     {"Losses": (RED, "1 sample missing, which came late")}, rows,
+                     (1, 0, 0), *asked)
+
+
+class Order(Judged):
+    """A capture of two streams of two rates, whose findings stand in the order of packets, not stream by stream."""
+
+    def why_page_wrong(self, page, status):
+        yield from super().why_page_wrong(page, status)
+        rows = [(int(row[1]), row[2].partition(" ")[0]) for row in page.rows(FINDINGS)]
+        if [it for _, it in rows] != ["MU1", "MU2"] * 3 or rows != sorted(rows):
+            yield f"the findings are {rows}"
+
+
+def orders():
+    gaps = {b"MU1": (0.11, 0.21, 0.31), b"MU2": (0.16, 0.26, 0.36)}
+    held = [pair for name, rate, source in ((b"MU1", 4000, 0x31), (b"MU2", 4800, 0x32)) for pair in stream(rate, 0.45, name, source=source)
+            if not any(START + at * SECOND <= pair[0] < START + (at + 0.01) * SECOND for at in gaps[name])]
+    yield Order("findings of two runs, in the order of packets", capture(in_order(held)), {"Losses": (RED, "264 samples missing")})
+
+
 def cases():
+    yield from samples()
+    yield from orders()
     yield from late()
+    yield from between()
     yield from copies()
     yield from states()
     yield from malformed()

@@ -1,11 +1,15 @@
 """A page is never green where it has not looked: for each fault that is put into a station it says what in which state, and where
 nothing is wrong nothing is red."""
+import types
+
 from helpers import page_station
+from helpers.asked_tools import module
 from helpers.capture_parts import block, fours, header, interface, old_packet, option, packet, record, section, statistics, twos
 from helpers.frames import element
-from helpers.page_station import (FAILED, HOUR, SECOND, START, UNSYNCHRONIZED, capture, configured_blocks, configured_stream, in_order, packets,
+from helpers.page_station import (FAILED, HOUR, SECOND, START, UNSYNCHRONIZED, Frame, capture, configured_blocks, configured_stream, in_order,
+                                  packets,
                                   stream)
-from themes.report import STATUSES, Page, reported
+from themes.report import STATUSES, Page, reported, words
 
 # The states of statements, by the words of the tables below.
 RED, AMBER, GREEN = "found", "unjudged", "clean"
@@ -14,10 +18,12 @@ TOPICS = {"Capture", "Received", "Losses", "Samples", "Errors", "Configuration",
 
 
 class Judged:
-    """A capture, and what its page says of some topics: the state of each, and words of it. All other topics are green."""
+    """A capture, and what its page says of some topics: the state of each, and words of it. All other topics are green. The page has all of
+    the words in `says`, and none of those in `lacks`."""
 
-    def __init__(self, name, octets, told, *asked, scd=None):
+    def __init__(self, name, octets, told, *asked, scd=None, says=(), lacks=()):
         self.name, self.octets, self.told, self.asked, self.scd = f"a page of {name}", octets, told, asked, scd
+        self.says, self.lacks = says, lacks
 
     def why_wrong(self, program):
         asked = (*self.asked, *(("--scd", "of.scd") if self.scd else ()))
@@ -25,16 +31,19 @@ class Judged:
         return [f"status {status}: {said}"] if octets is None or said else list(self.why_page_wrong(Page(octets), status))
 
     def why_page_wrong(self, page, status):
-        lines = {words.partition(",")[0]: (state, words) for words, state in page.summary}
+        lines = {told.partition(",")[0]: (state, told) for told, state in page.summary}
         if not lines.keys() <= TOPICS:
             yield f"the topics are {sorted(lines)}"
-        for topic, (state, words) in lines.items():
+        for topic, (state, line) in lines.items():
             wanted, *parts = self.told.get(topic, (GREEN,))
-            yield from [] if state == wanted else [f"{topic} is {state}: {words}"]
-            yield from (f"{topic} lacks {part!r}: {words}" for part in parts if part not in words)
+            yield from [] if state == wanted else [f"{topic} is {state}: {line}"]
+            yield from (f"{topic} lacks {part!r}: {line}" for part in parts if part not in line)
         yield from (f"there is no line on {topic}" for topic in self.told.keys() - lines.keys())
         worst = min((it[0] for it in self.told.values()), key=list(STATUSES).index, default=GREEN)
         yield from [] if status == STATUSES[worst] else [f"ended with status {status}"]
+        text = words(page.root.find(".//main"))
+        yield from (f"it says {it!r}" for it in self.lacks if it in text)
+        yield from (f"it lacks {it!r}" for it in self.says if it not in text)
 
 
 def changed(which, **fields):
@@ -78,7 +87,14 @@ def recorded():
         f"1 packet of Linux cooked (LINUX_SLL), from packet {len(good) + 1} on")})
     for name, head, what in (("an HSR ring", "892f00400001", "892f (HSR)"), ("frames with an outer tag", "88a80005", "88a8"),
                              ("frames of MACsec", "88e5000000000001", "88e5 (MACsec)"), ("frames with an old outer tag", "91000005", "9100"),
-                             ("frames with a tag in a tag", "8100000581000006", "8100 (a tag in a tag)")):
+                             ("frames with a tag in a tag", "8100000581000006", "8100 (a tag in a tag)"),
+                             ("frames with an outer tag of 9200", "92000005", "9200 (an outer VLAN tag)"),
+                             ("frames with an outer tag of 9300", "93000005", "9300"),
+                             ("MPLS frames", "884700001140", "8847 (MPLS)"), ("MPLS frames to a group", "884800001140", "8848 (MPLS)"),
+                             ("MPLS frames with a VLAN tag", "81000005884700001140", "8847 (MPLS)"),
+                             ("frames of a backbone", "88e70000000a", "88e7 (a provider's backbone, PBB)"),
+                             ("frames with a tag of a port extender", "893f000000000000", "893f (a tag of IEEE 802.1BR)"),
+                             ("frames with a redundancy tag", "f1c100000001", "f1c1 (a redundancy tag, IEEE 802.1CB)")):
         told = {"Capture": (AMBER, f"{len(good)} frames of {what}", "from packet 1 on", "may carry GOOSE: not read")}
         yield Judged(f"{name}, of which no frame is read", capture((at, carried(it, head)) for at, it in good), told)
         one = [*good, (good[-1][0], carried(good[-1][1], head))]
@@ -193,6 +209,12 @@ def clocks():
     yield Judged("a device that restarts with an old state", capture(packets(again)), told)
     headless = packets(lambda it: not (it.device == 2 and it.state > 5) or (it.sequence > 0 and setattr(it, "t", it.t - 30 * SECOND) is None))
     yield Judged("old states whose first frames are lost", capture(headless), {"Clocks": (GREEN,), "Losses": (RED, "frames missing")})
+    def skipping(it):
+        """Device 2 leaves out a state, and the next one began long before."""
+        if it.device == 2 and it.state > 5:
+            it.state, it.t = it.state + 1, it.t - 30 * SECOND * (it.state == 6)
+
+    yield Judged("an old state behind one that is missing", capture(packets(skipping)), {"Clocks": (GREEN,), "Losses": (RED, "1 state missing")})
     for name, quality in (("failed", FAILED), ("not synchronized", UNSYNCHRONIZED)):
         yield Judged(f"a clock that says it is {name}", shifted([2], 37, quality=quality), {"Clocks": (GREEN, "1 control block with a clock")})
     told = {"Simulation": (RED,), "Events acted on": (RED, "Simulated")}
@@ -203,7 +225,133 @@ def clocks():
     yield Judged("a station of which three devices of four are ahead", shifted([1, 3, 4], 37), {
         "Clocks": (RED, d2, "37.000 s behind", "the capture's clock is off, or the station's")})
     yield Judged("two devices of four that are ahead", shifted([1, 2], 37), {"Clocks": (RED, d2, "36.999 s ahead", "D1LD0/LLN0$GO$gcb1")})
+    yield from quiet()
+    yield Judged("a device of very many states, one of which is ahead", many_states(1050), {"Clocks": (RED, "36.999 s ahead", "packet 1051")})
+    behind = many_states(None) + packet(START + 11 * SECOND, Frame(START, 1, 1101, 0, START - 37 * SECOND).octets())
+    yield Judged("a device of very many states, one of which is behind", behind, {"Clocks": (RED, "48.000 s behind", "packet 1101")})
+    yield Offsets()
     yield Judged("two devices of four that are behind", shifted([1, 2], -20), {"Clocks": (RED, d2, "20.001 s behind", "D1LD0/LLN0$GO$gcb1")})
+
+
+class Offsets:
+    """How far clocks are apart, held by itself: what is off, by which frame, what most devices have in common, and which other time that is."""
+
+    name = "how far clocks are off"
+    # Offsets in seconds of devices with new states, the greatest of those with older ones alone, and what is common.
+    commons = (((37, 37, 37, 0), (), 37), ((37, 37, 0, 0), (), 0), ((37, 37, 0), (), 37), ((37, 37), (), 0), ((37, 38, 0), (), 37.5),
+               ((37, 38.1, 0), (), 0),
+               ((0, 0, 0), (), 0), ((1, 1, 1), (), 0), ((1.1, 1.1, 1.1), (), 1.1), ((-10, -10, -10), (), 0), ((-11, -11, 5), (), -11),
+               ((40,), (41, 30), 40), ((40,), (41.1, 41.1), 0), ((40,), (41, 41.1), 40), ((40,), (30,), 0), ((-20, -20), (5, 5), 0),
+               ((40, 40), (50, 50), 0),
+               ((40,), (1, -50, 2), 0), ((40, -30), (30, 1), 40))
+    reasons = ((36, "TAI"), (38, "TAI"), (38.1, ""), (-37, "TAI"), (17, "GPS"), (19, "GPS"), (19.1, ""), (900, "quarters"), (901, "quarters"),
+               (901.1, ""),
+               (899, "quarters"), (450, ""), (-3600, "quarters"), (0.5, ""))
+
+    def why_wrong(self, _):
+        clocks = module("reporting.clocks")
+        return [*self.why_off_wrong(clocks), *self.why_worst_wrong(clocks), *self.why_common_wrong(clocks), *self.why_stretch_wrong(clocks)]
+
+    def why_off_wrong(self, clocks):
+        for offset, wanted in ((SECOND, False), (SECOND + 1, True), (-10 * SECOND, False), (-10 * SECOND - 1, True)):
+            if clocks.is_off(offset) != wanted:
+                yield f"{offset} is off: {not wanted}"
+            if (self.device(clocks, (offset, True)).worst(0) is not None) != wanted:
+                yield f"a new state of {offset} is off: {not wanted}"
+            if self.device(clocks, (offset, True)).agrees == wanted:
+                yield f"a new state of {offset} agrees: {wanted}"
+        yield from (f"{seconds} is {clocks.reason(round(seconds * SECOND))!r}" for seconds, wanted in self.reasons
+                    if wanted not in clocks.reason(round(seconds * SECOND)) or bool(wanted) != bool(clocks.reason(round(seconds * SECOND))))
+
+    def device(self, clocks, *moments):
+        it = clocks.Device("020000000101")
+        it.add("a block", [clocks.Moment(offset, at, is_new) for at, (offset, is_new) in enumerate(moments)])
+        return it
+
+    def why_worst_wrong(self, clocks):
+        """An older state is off only where it is ahead; of those off the first that is about as far as the furthest is told."""
+        for moments, common, wanted in ((((-20, False),), 0, None), (((2, False),), 0, 0), (((2, True), (9, True), (9.5, True)), 0, 1),
+                                        (((2, True), (3, True)), 2, None),
+                                        (((5, True), (-40, True)), 0, 1), (((5, True), (-40, False)), 0, 0), (((30, True), (-2, True)), 15, 1)):
+            worst = self.device(clocks, *((offset * SECOND, is_new) for offset, is_new in moments)).worst(common * SECOND)
+            if (worst and worst.where) != wanted:
+                yield f"of {moments} beside {common} the worst is {worst and worst.where}"
+        told = self.device(clocks, (9, True), (1, True), (5, True), (99, False))
+        if (told.offset, told.most, told.is_older_alone) != (5, 99, False) or not self.device(clocks, (99, False)).is_older_alone:
+            yield f"a device is off by {told.offset}, {told.most} at most"
+
+    def why_stretch_wrong(self, clocks):
+        """A part of a capture has the packets from its first one on, without that of the next part."""
+        moments = [clocks.Moment(0, types.SimpleNamespace(packet=it), True) for it in (4, 5, 8, 9)]
+        (device,) = clocks.Stretch([types.SimpleNamespace(source="020000000101", name="a block", moments=moments)], 5, 9).devices
+        if device.moments != moments[1:3]:
+            yield f"a part has the packets {[it.where.packet for it in device.moments]}"
+
+    def why_common_wrong(self, clocks):
+        for offsets, older, wanted in self.commons:
+            devices = [self.device(clocks, (round(it * SECOND), True)) for it in offsets] + [self.device(clocks,
+                                                                                                         (round(it * SECOND), False)) for it in older]
+            if clocks.common_of(devices) != round(wanted * SECOND):
+                yield f"{offsets} and {older} have {clocks.common_of(devices)} in common"
+
+
+def many_states(ahead):
+    """Very many new states of one device, one of which is ahead."""
+    held = [Frame(START + at * 10_000, 1, at + 1, 0, START + at * 10_000 - 1000 + (37 * SECOND if at == ahead else 0)) for at in range(1100)]
+    return capture((it.at, it.octets()) for it in held)
+
+
+DAY = 24 * HOUR
+
+
+def of_ages(*ages, events=()):
+    """The station, in which of these devices alone new states came; the others are in the state that began so many hours before."""
+    def change(it):
+        if it.device not in events and (it.state > 5 and it.sequence == 0):
+            return False
+        if it.device not in events or it.state == 5:
+            it.t = START - round(ages[it.device - 1] * HOUR)
+        if it.device not in events:
+            it.state, it.sequence = 5, 100 + (it.at - START) // SECOND
+        return None
+    return packets(change)
+
+
+def captured(held, later):
+    return capture((at + later, it) for at, it in held)
+
+
+def quiet():
+    """What a state that began before the capture tells of the clocks: nothing of how they are now, but that they differ where its t is ahead."""
+    no_event = of_ages(1, 2, 3, 30)
+    todo = "look at the clock of the computer that captured"
+    nothing = {"Clocks": (AMBER, "no state began in packets 1 to 48, and older ones tell nothing of the clocks of 4 devices", todo)}
+    yield Judged("a recorder a day ahead, and no event", captured(no_event, DAY), nothing)
+    yield Judged("a recorder whose clock is right, and no event", captured(no_event, 0), nothing)
+    older = "D1LD0/LLN0$GO$gcb1): t is 22 h 59 min 59 s ahead (quarters of an hour: a time zone) or more, packet 1;"
+    behind = {"Clocks": (AMBER, "the capture's clock is behind, or these are ahead: ", older, "No state began while it was captured", todo)}
+    yield Judged("a recorder a day behind, and no event", captured(no_event, -DAY), behind, lacks=["Found: Clocks"])
+    yield Judged("a recorder a day behind, one device, and no event", captured([it for it in no_event if it[1][5] == 1], -DAY),
+                 {"Clocks": (AMBER, older[:-1])})
+    one = of_ages(1, 2, 3, 30, events=[1])
+    alike = {"Clocks": (AMBER, "t of most devices is 23 h 59 min 59 s ahead (quarters of an hour: a time zone) alike: "
+                        "the capture's clock is off, or the station's")}
+    yield Judged("a recorder a day behind, and an event of one device of four", captured(one, -DAY), alike)
+    yield Judged("a recorder whose clock is right, and an event of one device of four", captured(one, 0), {
+        "Clocks": (GREEN, "t of 1 device agrees with the capture's clock in packets 1 to 50; 3 others sent no state that began in it")})
+    ahead = of_ages(1, -30 / 3600, 3, 30, events=[1])
+    yield Judged("an older state that is ahead, and an event of another device that is not", captured(ahead, 0), {
+        "Clocks": (RED, "02-00-00-00-01-02 (D2LD0/LLN0$GO$gcb1): t is 29.998 s ahead, packet 2")})
+    fresh = of_ages(5 / 3600, 2, 3, -30 / 3600)
+    yield Judged("an older state that is ahead, and one that began just before", captured(fresh, 0),
+                 {"Clocks": (RED, "t is 29.996 s ahead, packet 4")})
+    further = captured(of_ages(1, -90 / 3600, 3, -30 / 3600, events=[1, 3]), -40 * SECOND)
+    yield Judged("older states that are further ahead than new ones", further, {
+        "Clocks": (RED, "t is 39.999 s ahead, packet 17", "the capture's clock is behind, or these are ahead: 02-00-00-00-01-02",
+                   "t is 129.998 s ahead or more")})
+    less = captured(of_ages(1, -90 / 3600, 3, 20 / 3600, events=[1, 3]), -40 * SECOND)
+    yield Judged("older states of which one is no further ahead than new ones", less, {
+        "Clocks": (RED, "clock: 02-00-00-00-01-02 (D2LD0/LLN0$GO$gcb1): t is 89.999 s ahead, packet 2", "t of most devices is 39.999 s ahead alike")})
 
 
 def sources():
@@ -261,9 +409,17 @@ def synchronised():
              "1 from packet 151 on (22:13:21.510000 UTC)"),
             ("samples of another clock for a while", sampled(1, 254, 1), AMBER, "254 from packet 101 on", "1 from packet 201 on"),
             ("samples that are not synchronised", sampled(0), AMBER, "smpSynch is 0", "from packet 1 on"),
+            *((f"samples whose smpSynch is {it}", sampled(it), AMBER, "smpSynch is reserved", f"MU1: {it} from packet 1 on (22:13:20.010000 UTC)")
+              for it in (3, 4, 255)),
+            *((f"samples whose smpSynch is {it}", sampled(it), GREEN, f"{it} (local clock)") for it in (5, 254)),
+            ("samples of a reserved clock for a while", sampled(2, 255, 2), AMBER, "smpSynch is reserved", "MU1: 255 from packet 101 on",
+             "smpSynch changes"),
+            ("samples that lose their clock after many changes", sampled(*[1, 2] * 30, 0), RED, "smpSynch goes to 0", "MU1: 0 from packet 241 on"),
             ("samples that are synchronised later", sampled(0, 2), AMBER, "smpSynch is 0", "2 from packet 151 on"),
             ("samples that lose their clock", sampled(2, 0), RED, "smpSynch goes to 0", "MU1: 0 from packet 151 on (22:13:21.510000 UTC)")):
         yield Judged(name, octets, {"Synchronisation": told}, "--period", "100")
+    one = [(at, it.replace(b"\x85\1\2", b"\x85\1\0", 1) if place == 3 else it) for place, (at, it) in enumerate(stream(4000, SHORT))]
+    yield Judged("one sample of a frame that is not synchronised", capture(one), {"Synchronisation": (RED, "MU1: 0 from packet 4 on")})
     differing = in_order([*stream(100, 1, a_frame=1), *stream(100, 1, b"MU2", a_frame=1, smp_synch=element(0x85, b"\1"))])
     yield Judged("streams of two clocks", capture(differing), {"Synchronisation": (AMBER, "differs between streams",
         "1 (local clock); 2 (global clock)")},
@@ -361,6 +517,77 @@ def received():
                  scd=configured_blocks([5]))
 
 
+def with_inputs(scd, more=(), **inputs):
+    """The SCL file of blocks, in which no block names SUB: D1 sends more of them, each with its APPID or without one; SUB has these inputs, each of
+    which is data, or a block by its name."""
+    scd = scd.replace("<IEDName>SUB</IEDName>", "")
+    own = '<FCDA ldInst="LD0" lnClass="GGIO" lnInst="{}" doName="Ind1" daName="stVal" fc="ST"/>'.format
+    access, device = "".join(
+        f'<GSE ldInst="LD0" cbName="{name}"><Address>' + (f'<P type="APPID">{appid}</P>' if appid else "") + "</Address></GSE>" for name, appid,
+        _ in more), "".join(
+        f'<DataSet name="of_{name}">{"".join(map(own, data))}</DataSet><GSEControl name="{name}" datSet="of_{name}" confRev="1"/>' for name, _,
+        data in more)
+    scd = scd.replace('<DataSet name="ds1"><FCDA/></DataSet>', f'<DataSet name="ds1">{own(1)}</DataSet>')
+    scd = scd.replace('<ConnectedAP iedName="D1" apName="P1">', f'<ConnectedAP iedName="D1" apName="P1">{access}')
+    scd = scd.replace('<IED name="D1"><AccessPoint name="P1"><Server><LDevice inst="LD0"><LN0 lnClass="LLN0" inst="">', 
+                      f'<IED name="D1"><AccessPoint name="P1"><Server><LDevice inst="LD0"><LN0 lnClass="LLN0" inst="">{device}')
+    refs = "".join(f'<ExtRef iedName="{ied}" ldInst="LD0" lnClass="GGIO" lnInst="{at}" doName="Ind1" daName="stVal"/>' for ied,
+                   at in inputs.get("data", ()))
+    refs += "".join(f'<ExtRef iedName="{ied}" ldInst="LD0" srcCBName="{name}"/>' for ied, name in inputs.get("blocks", ()))
+    return scd.replace('<IED name="SUB"><AccessPoint name="P1"/></IED>',
+                       '<IED name="SUB"><AccessPoint name="P1"><Server><LDevice inst="LD0"><LN0 lnClass="LLN0" '
+                       f'inst=""><Inputs>{refs}</Inputs></LN0></LDevice></Server></AccessPoint></IED>')
+
+
+def several():
+    """An input without srcCBName is served by any block with its data."""
+    scd, good, asked = configured_blocks(range(1, 5)), capture(packets()), ("--ied", "SUB", "--subscriptions")
+    block = "D1LD0/LLN0$GO$".__add__
+    missed = {"Configuration": (RED, "1 is missing")}
+    second = with_inputs(scd, [("gcb2", "1009", [1])], data=[("D1", 1)])
+    yield Judged("an input that one of two blocks serves", good, {
+        **missed, "Received": (GREEN, "1 of 1 control block that SUB receives came and were accepted in packets 1 to 56; 1 more is not needed, "
+                             "since others serve."), "Subscriptions": (GREEN,)}, *asked, scd=second, lacks=["gcb2 came"])
+    refused = capture(packets(changed(of(1), revision=7)))
+    told = (f"SUB accepts no frame of {block('gcb2')} or {block('gcb1')}, of which one has to serve: "
+            f"{block('gcb2')}: no frame came; {block('gcb1')}: 14 frames refused (ConfRev)")
+    yield Judged("an input that neither of two blocks serves", refused, {"Received": (RED, told, "0 of 2 control blocks"), "Configuration": (RED,),
+                                                                         "Subscriptions": (RED,),
+                 "Events acted on": (RED,)}, *asked, scd=second)
+    gone = capture(without(of(1)))
+    told = f"no frame of {block('gcb2')} or {block('gcb1')}, of which SUB receives one, came in packets 1 to 42"
+    never = {"Configuration": (RED, "2 are missing"), "Subscriptions": (AMBER,)}
+    yield Judged("an input of which neither block came", gone, {**never, "Received": (AMBER, f"{told}, 11.", "capture for longer")}, *asked,
+                 scd=second)
+    long = second.replace("</Address>", "</Address><MaxTime>5000</MaxTime>")
+    one = long.replace("<MaxTime>5000</MaxTime>", "", 1)
+    yield Judged("an input of which neither block came in its MaxTime", gone, {**never, "Received": (RED, f"{told}."), "Configuration": (RED,)},
+                 *asked, scd=long)
+    yield Judged("an input of which neither block came, one of which has no MaxTime", gone, {**never, "Received": (AMBER, told)}, *asked, scd=one)
+    two = with_inputs(scd, [("gcb2", "1009", [1, 2]), ("gcb3", "100A", [2])], data=[("D1", 1), ("D1", 2)])
+    told = f"no frame of {block('gcb2')} or {block('gcb3')}, of which SUB receives one, came"
+    yield Judged("two inputs, of which one block serves one alone", good, {"Configuration": (RED, "2 are missing"),
+                                                                           "Received": (AMBER, told, "1 of 3 control blocks"),
+                 "Subscriptions": (AMBER, f"{block('gcb2')} (SUB); {block('gcb3')} (SUB)")}, *asked, scd=two)
+    named = with_inputs(scd, [("gcb2", "1009", [1])], data=[("D1", 1)], blocks=[("D1", "gcb2")])
+    yield Judged("an input that one block serves, and another that is named itself", good,
+                 {**missed, "Received": (AMBER, f"no frame of {block('gcb2')} came", "1 of 2 control"),
+                 "Subscriptions": (AMBER,)}, *asked, scd=named)
+    spared = with_inputs(scd, [("gcb2", "1009", [1])], data=[("D1", 1)], blocks=[("D1", "gcb1")])
+    yield Judged("an input beside a block that is named itself and did not come", gone, {**never,
+                                                                                         "Received": (AMBER, f"no frame of {block('gcb1')} came",
+                                                                                                      "0 of 1 control block",
+                 "1 more is not needed")}, *asked, scd=spared, lacks=[f"no frame of {block('gcb2')} came"])
+    own = with_inputs(scd, [("gcb2", "1009", [1])], data=[("D1", 1)]).replace('<IED name="SUB">',
+                                                                              '<IED name="D1X">').replace("</LN0></LDevice></Server></AccessPoint></IED>",
+                      '<Inputs><ExtRef iedName="D1" ldInst="LD0" lnClass="GGIO" lnInst="1" doName="Ind1"/></Inputs></LN0></LDevice></Server></AccessPoint></IED>', 1)
+    yield Judged("a device with an input of its own", good, {**missed, "Received": (AMBER, f"no frame of {block('gcb2')} came",
+                                                                                    "1 of 2 control blocks")}, "--ied", "D1", scd=own)
+    bare = with_inputs(scd, [("gcb2", None, [1])], data=[("D1", 1)])
+    yield Judged("an input that one of two blocks serves, of which the other has no APPID", good, {"Received": (GREEN, "1 of 1 control block"),
+                 "Configuration": (AMBER, "cannot be compared")}, *asked, scd=bare, lacks=["cannot be judged"])
+
+
 def received_streams():
     """A device that receives a stream and no control block."""
     inside = 'smpRate="80" nofASDU="8"'
@@ -403,5 +630,6 @@ def cases():
     yield from synchronised()
     yield from rates()
     yield from received()
+    yield from several()
     yield from received_streams()
     yield from unjudged()

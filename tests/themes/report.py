@@ -47,8 +47,9 @@ EARLIER = b'<!DOCTYPE html>\n<html lang="en">\n<head>\n<meta charset="utf-8"/>\n
 WIDTHS = """onload = () => {
   const beyond = root => [...root.querySelectorAll("body *")].filter(it => !it.closest(".scroll, thead, svg")
     && it.getBoundingClientRect().right > root.clientWidth + 1).length
+  const broken = root => [...root.querySelectorAll("td.number .whole, th.number .whole")].filter(it => it.getClientRects().length > 1).length
   const roots = [...document.querySelectorAll("iframe")].map(it => it.contentDocument.documentElement)
-  document.title = roots.map(it => `${it.clientWidth}:${it.scrollWidth}:${beyond(it)}`).join(" ")
+  document.title = roots.map(it => `${it.clientWidth}:${it.scrollWidth}:${beyond(it)}:${broken(it)}`).join(" ")
 }"""
 # The widths of windows in pixels, and what an A4 sheet has between its margins.
 WINDOWS, SHEET = (360, 1000, 1400), 703
@@ -465,8 +466,10 @@ class Browsed:
             yield f"it shows another text, of {len(inside(dumped))} letters: {dumped[:200]}"
         title = re.search(r"<title>([^<]*)</title>", self.dump(browser, folder / "frames.html", folder))
         widths = [it.split(":") for it in title[1].split(" ")] if title else []
-        if len(widths) != len(pages) or any(int(wide) > int(seen) or int(seen) < 300 or int(beyond) for seen, wide, beyond in widths):
+        if len(widths) != len(pages) or any(int(wide) > int(seen) or int(seen) < 300 or int(beyond) for seen, wide, beyond, _ in widths):
             yield f"it is wider than its window: {title and title[1]}"
+        elif any(int(broken) for *_, broken in widths):
+            yield f"a number is on two lines: {title[1]}"
 
     def dump(self, browser, file, folder):
         words = [browser, "--headless=new", "--no-sandbox", "--disable-gpu", "--allow-file-access-from-files", "--virtual-time-budget=4000",

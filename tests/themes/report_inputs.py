@@ -1,5 +1,6 @@
 """The page of a compressed capture, of standard input, of several captures in a row, and of one with comments; local times."""
 import gzip
+import hashlib
 import os
 import pathlib
 import shlex
@@ -10,7 +11,7 @@ import zoneinfo
 
 from helpers import trip_station
 from helpers.asked_tools import TOOLS, ask
-from helpers.capture_parts import header, record
+from helpers.capture_parts import block, header, interface, old_packet, packet, record, section, simple_packet
 from helpers.harness import SECONDS, Skipped
 from helpers.trip_station import FAULT, capture, frames
 from themes.report import EVENTS, Page, reported, words
@@ -41,7 +42,26 @@ class Input:
             return [f"ended with status {status}, left {left}: {said.decode()}"]
         told = words(page.root.find(".//main"))
         why = [f"it lacks {it!r}" for it in self.said if it not in told]
+        why += list(self.why_page_wrong(page))
         return why + ([] if page.rows(EVENTS) == wanted.rows(EVENTS) else [f"other events: {page.rows(EVENTS)}"])
+
+    def why_page_wrong(self, _page):
+        return ()
+
+
+class Files(Input):
+    """Several captures whose page also says how large each of them is, how many packets it has, which is the first of these, and its SHA-256."""
+
+    def __init__(self, name, files, packets, **how):
+        super().__init__(name, files, **how)
+        self.packets = packets
+
+    def why_page_wrong(self, page):
+        sizes = [(name, len(octets), hashlib.sha256(octets).hexdigest()) for name, octets in self.files.items()]
+        wanted = [[name, f"{size:,}", f"{number}", f"{sum(self.packets[:at]) + 1}", digest]
+                  for at, ((name, size, digest), number) in enumerate(zip(sizes, self.packets))]
+        got = [[row[0].removesuffix(" breaks off"), *row[1:]] for row in page.rows("Files, whose packets are numbered one after another")]
+        yield from [] if got == wanted else [f"the files are {got}"]
 
 
 class Refused:
@@ -117,6 +137,32 @@ def cut(octets):
     return octets[:-7]
 
 
+def several(first, second):
+    """Captures of other forms one after another: each is read as it would be alone."""
+    half, end = len(SENT) // 2, SENT[-1][0]
+    head, other = SENT[:half], b"\xff" * 6 + bytes([2, 0, 0, 0, 0, 9, 8, 6]) + bytes(46)
+    old = section() + interface() + b"".join(old_packet(at, octets) for at, octets in head)
+    yield Files("captures of old packets and of others", {"of_1.pcapng": old, "of_2.pcapng": second}, [half, len(SENT) - half])
+    plain = section() + interface() + packet(end, other) + simple_packet(other)
+    yield Files("captures of which the last has a packet without a time", {"of_1.pcapng": first, "of_2.pcapng": second, "of_3.pcapng": plain},
+                [half, len(SENT) - half, 2], status=6, said=[f"1 packet has no time, from packet {len(SENT) + 2} on"])
+    fine = header(magic=0xA1B23C4D) + b"".join(record(at // 10**6, at % 10**6 * 1000, octets) for at, octets in head)
+    yield Files("a classic capture in nanoseconds, and another", {"of_1.pcap": fine, "of_2.pcapng": second}, [half, len(SENT) - half])
+    big = section("big") + interface("big") + b"".join(packet(at, octets, "big") for at, octets in head)
+    yield Files("a capture of the other order, and another", {"of_1.pcapng": big, "of_2.pcapng": second}, [half, len(SENT) - half])
+    turned = header("big") + b"".join(record(*divmod(at, 10**6), octets, "big") for at, octets in head)
+    yield Files("a classic capture of the other order, and another", {"of_1.pcap": turned, "of_2.pcapng": second}, [half, len(SENT) - half])
+    cooked = header(link=113) + record(*divmod(end, 10**6), other)
+    yield Files("a classic capture of another link type behind others", {"of_1.pcapng": first, "of_2.pcapng": second, "of_3.pcap": cooked},
+                [half, len(SENT) - half, 1], status=6, said=[f"1 packet of Linux cooked (LINUX_SLL), from packet {len(SENT) + 1} on"])
+    short = header() + b"".join(it.to_bytes(4, "little") for it in (*divmod(end, 10**6), len(other), 90)) + other
+    yield Files("a classic capture with a packet that is cut behind others", {"of_1.pcapng": first, "of_2.pcapng": second, "of_3.pcap": short},
+                [half, len(SENT) - half, 1], status=6, said=[f"the recorder cut 1 packet, from packet {len(SENT) + 1} on"])
+    broken = first + block(6, b"", total=13) + bytes(3_000_000)
+    yield Files("a capture that is damaged, and another", {"of_1.pcapng": broken, "of_2.pcapng": second}, [half, len(SENT) - half], status=1,
+                said=[f"of_1.pcapng breaks off after its packet {half} (packet {half} here)"])
+
+
 def cases():
     whole, half = capture(SENT), len(SENT) // 2
     first, second = capture(SENT[:half]), capture(SENT[half:])
@@ -127,6 +173,7 @@ def cases():
     yield Input("a classic capture, and a compressed one of pcapng", {"of_1.pcap": classic(SENT[:half]), "of_2.gz": gzip.compress(second)}, said=[files])
     yield Input("two captures, the first of which is cut", {"of_1.pcapng": cut(capture(SENT[:half + 1])), "of_2.pcapng": second}, status=1,
                 said=[f"of_1.pcapng breaks off after its packet {half} (packet {half} here)"])
+    yield from several(first, second)
     yield Refused("a compressed capture that is cut", {"of.gz": cut(gzip.compress(whole))}, ["of.gz"], "of.gz cannot be uncompressed", 3)
     yield Refused("two files, one of which is none", {"of_1.pcapng": first, "of_2": struct.pack("<I", 1) * 10}, ["of_1.pcapng", "of_2"],
                   "of_2 is no capture that can be read", 3)

@@ -1,10 +1,12 @@
 """The page shows what samples of streams say: currents and voltages around the trip and over the whole recording, where their qualities are not
 good, and when the fault began."""
 import functools
+import math
 import re
 
 from helpers import fault_station
-from helpers.fault_station import (BEGIN, DELAY, FAULT, FIRST, LOST, OPEN_AT, RATE, SECOND, TRIP_AT, Unit, capture, events, line_values, pairs,
+from helpers.fault_station import (BEGIN, DELAY, FAULT, FAULT_AT, FIRST, LOST, OPEN_AT, RATE, SECOND, TRIP_AT, Unit, capture, events, line_values,
+                                   pairs,
                                    sample_of_line, steps, units)
 from themes.report import Page, reported, words
 
@@ -13,6 +15,8 @@ AROUND, WHOLE = "200 ms before to 500 ms after the trip", "RMS of each period of
 MOST_OCTETS = 1_500_000
 # Where values of the pictures are: from the left, and of how many pixels a span is.
 LEFT, WIDE = 74, 914
+# How wide a letter of a name and a digit of a scale are at most.
+LETTER, DIGIT = 9, 8
 
 
 def section(page, name):
@@ -88,6 +92,36 @@ class Inception(Each):
             yield f"the trip is {trip} from the fault"
 
 
+class AtRate(Each):
+    """At other rates and frequencies, of which a period or a sample is no whole number of microseconds, the fault is told within one sample, and
+    trip and breaker by it."""
+
+    def __init__(self, rate, frequency, a_frame):
+        self.made = made = fault_station.OtherRate(rate, frequency, a_frame)
+        super().__init__(f"a fault at {rate:,} samples a second and {frequency} Hz", made.packets, "--period", f"{rate}", scd=fault_station.scd())
+
+    def wrong(self, page, _octets):
+        made, told = self.made, told_of(page, "trip")
+        found = re.search(r"begins with smpCnt (\d+) of MU01, in packet", told)
+        at = found and (int(found[1]) - made.first) % made.rate
+        if at is None or abs(at - made.fault) > 1:
+            yield f"it begins with sample {at}, and not with {made.fault}: {told[:500]}"
+            return
+        since = float(made.exact[at]) + DELAY - made.trip_at
+        lines = {f"fault {milliseconds(since + by)}, trip 0, breaker open +39.6 ms" for by in (-2, 0, 2)}
+        yield from [] if any(it in told for it in lines) else [f"it lacks {lines}: {told[:500]}"]
+        (row,) = [it for it in page.rows(STREAMS) if "MU01" in it[0]]
+        yield from [] if f"{made.rate:,} a second, {made.frequency} Hz" in " ".join(row) else [f"the stream is {row}"]
+
+
+class OpensAtOnce(Each):
+    """A breaker that opens in the packet that --trip names is open at once."""
+
+    def wrong(self, page, _octets):
+        wanted = f"fault {milliseconds(FAULT_AT + DELAY - OPEN_AT)}, trip 0, breaker open 0.0 ms"
+        yield from [] if wanted in told_of(page, "trip") else [f"it lacks {wanted!r}: {told_of(page, 'trip')[:700]}"]
+
+
 class NoInception(Each):
     """Where nothing differs enough, no fault is told, and the table has no times from it."""
 
@@ -111,6 +145,13 @@ def step(factor):
         current, voltage = line_values(at % 80)
         return pairs(steps([it * (factor if at >= FAULT else 1) for it in current], 0.001) + steps(voltage, 0.01))
     return sample
+
+
+def small_step(at):
+    """Samples at 60 Hz, of which a period is no whole number, whose currents grow by 8 in 100 at the fault."""
+    current = [fault_station.wave(at, 400 * (1.08 if at >= FAULT else 1), 120 * phase, 60) for phase in range(3)]
+    voltage = [fault_station.wave(at, 89_800, 120 * phase, 60) for phase in range(3)]
+    return pairs(steps([*current, sum(current)], 0.001) + steps([*voltage, sum(voltage)], 0.01))
 
 
 def one_is_wild(at):
@@ -182,6 +223,117 @@ class Pictures(Each):
         names = ", ".join(f"I01{it}TCTR{at}.AmpSv.instMag.i" for at, it in enumerate("ABCN", 1)) if self.scd else "X1, X2, X3, X4"
         if row is None or row[:4] != ["MU02", names, "questionable oldData", f"{len(fault_station.DOUBTFUL)}"]:
             yield f"the spans are {page.rows(SPANS)}"
+
+
+class Drawn(Each):
+    """Read by the labels of their axes, the lines are what was sent: each point the value of its sample, and the RMS that of its period."""
+
+    def wrong(self, page, _octets):
+        found = figures(page)
+        zero = (TRIP_AT - BEGIN - DELAY) / SECOND
+        yield from self.wrong_marks(found[f"MU01: {AROUND}"])
+        for at, points in enumerate(read_lines(found[f"MU01: {AROUND}"])):
+            off = max(beyond(value, near(at, (time / 1000 + zero) * RATE)) / (3000, 100)[at // 4] for time, value in points)
+            yield from [] if len(points) > 20 and off < 0.02 else [f"line {at + 1} around the trip is off by {off:.3f} of its scale"]
+        for at, points in enumerate(read_lines(found[f"MU01: {WHOLE}"])):
+            for time, since in ((0.2, 0), (0.33, FAULT + 80)):
+                square, value = sum(sent(at, it) ** 2 for it in range(since, since + 80)) / 80, on_line(points, time)
+                if abs(value - math.sqrt(square)) > 0.01 * (2500, 80)[at // 4]:
+                    yield f"line {at + 1} is {value:.1f} at {time} s, and not {math.sqrt(square):.1f}"
+
+
+    def wrong_marks(self, figure):
+        """Names have the colours of their lines, and the moments are where they were, to a pixel or so."""
+        names = [(it.get("class"), it.text) for it in figure.iter("text") if it.get("class", "").startswith("name")]
+        wanted = [(f"name{at}", f"{letter}01{phase}{sort}{at}") for letter, sort in (("I", "TCTR"), ("U", "TVTR"))
+                  for at, phase in enumerate("ABCN", 1)]
+        yield from [] if names == wanted else [f"the names are {names}"]
+        (x0, t0), (x1, t1) = time_labels(figure)
+        for kind, time in (("inception", fault_station.FAULT_AT + DELAY - TRIP_AT), ("moment", 0), ("opening", OPEN_AT - TRIP_AT)):
+            (x,) = [int(re.match(r"M(\d+) ", it.get("d"))[1]) for it in figure.iter("path") if it.get("class") == kind]
+            if abs(t0 + (x - x0) * (t1 - t0) / (x1 - x0) - time / 1000) > 1.5:
+                yield f"the {kind} is drawn {t0 + (x - x0) * (t1 - t0) / (x1 - x0):.1f} ms from the trip"
+
+
+def time_labels(figure):
+    """Two labels of the time axis that are far apart: where they are, and their times."""
+    return [(int(it.get("x")), number_of(it.text)) for it in figure.iter("text")
+            if it.get("class") == "scale" and it.get("text-anchor") == "middle"][:-1:4]
+
+
+def sent(channel, index):
+    """The value of a channel in the units of the pictures: A and kV."""
+    current, voltage = line_values(index)
+    return [*current, *(it / 1000 for it in voltage)][channel]
+
+
+def near(channel, index):
+    """The values of a channel that are no further from a place than labels are rounded by, which is less than two samples."""
+    return [sent(channel, it) for it in range(math.floor(index) - 2, math.ceil(index) + 3)]
+
+
+def on_line(points, time):
+    """The value of a line at a time between two of its points."""
+    (before, one), (after, other) = next(it for it in zip(points, points[1:]) if it[0][0] <= time <= it[1][0])
+    return one + (other - one) * (time - before) / (after - before)
+
+
+def beyond(value, values):
+    """How far a value is from those between the least and the greatest of some."""
+    return max(min(values) - value, value - max(values), 0)
+
+
+def read_lines(figure):
+    """The points of each line of a picture, by its labels: times and values."""
+    scales = [it for it in figure.iter("text") if it.get("class") == "scale"]
+    marks = [number_of(it.text) for it in scales if it.get("text-anchor") == "end"]
+    heights = [int(re.fullmatch(r"M\d+ (\d+)H\d+", it.get("d"))[1]) for it in figure.iter("path") if it.get("class") == "grid" and "H" in it.get("d")]
+    (x0, t0), (x1, t1) = time_labels(figure)
+    panel = -1
+    for it in figure.iter("path"):
+        if it.get("class", "").startswith("wave"):
+            panel += it.get("class") == "wave1"
+            (top, high), (bottom, low) = [(heights[3 * panel + at], marks[3 * panel + at]) for at in (0, 2)]
+            yield [(t0 + (x / 10 - x0) * (t1 - t0) / (x1 - x0), high + (y / 10 - top) * (low - high) / (bottom - top))
+                   for x, y in points_of(it.get("d"))]
+
+
+def number_of(text):
+    return float(text.replace(",", "").replace(chr(0x2212), "-"))
+
+
+def points_of(path):
+    """The points of a path of lines from one to the next."""
+    x = y = 0
+    for letter, right, under in re.findall(r"([Mhl])(-?\d+) ?(-?\d+)?", path):
+        x, y = (int(right), int(under)) if letter == "M" else (x + int(right), y + int(under or 0))
+        yield x, y
+
+
+class Labels(Each):
+    """Names and scales are within the picture, none is over another one, and names are drawn over all lines."""
+
+    def wrong(self, page, _octets):
+        for title, figure in figures(page).items():
+            if title.startswith("MU0"):
+                yield from (f"{title}: {why}" for why in self.wrong_texts([it for it in figure.iter() if it.tag in ("text", "path")]))
+        sides = "primary values" in told_of(page, "samples")
+        yield from [] if sides else ["it does not say that values are primary"]
+
+    def wrong_texts(self, parts):
+        names = [at for at, it in enumerate(parts) if it.get("class", "").startswith("name")]
+        yield from [] if len(names) in (4, 8) else [f"it has {len(names)} names"]
+        yield from [] if min(names) > max(at for at, it in enumerate(parts) if it.tag == "path") else ["a line is over a name"]
+        rows = {}
+        for it in (parts[at] for at in names):
+            rows.setdefault(it.get("y"), []).append((float(it.get("x")), LETTER * len(it.text), it.text))
+        for row in rows.values():
+            ends = sorted((x, x + wide, told) for x, wide, told in row)
+            yield from (f"{one[2]} reaches {other[2]}" for one, other in zip(ends, ends[1:]) if one[1] > other[0])
+            yield from [] if ends[-1][1] <= 1000 else [f"{ends[-1][2]} reaches beyond the picture"]
+        for it in parts:
+            if it.get("class") == "scale" and it.get("text-anchor") == "middle" and float(it.get("x")) + DIGIT * len(it.text) / 2 > 1000:
+                yield f"{it.text} reaches beyond the picture"
 
 
 class LongGap(Each):
@@ -264,6 +416,14 @@ def restless(at):
     return restless_of(at % 80)
 
 
+def long_names():
+    """An SCL file in which MU01 has eight currents of long names."""
+    nodes, long = fault_station.node_names, [("FEEDERNORTH", "TCTR"), ("FEEDERSOUTH", "TCTR")]
+    own = fault_station.merging_unit("MU01", nodes("TCTR", "I") + nodes("TVTR", "U"))
+    assert own in fault_station.scd()
+    return fault_station.scd().replace(own, fault_station.merging_unit("MU01", [it for name, sort in long for it in nodes(sort, name)]))
+
+
 def many():
     return [Unit(f"UNIT{it:02}", 0x4100 + it, it, restless, samples=2000) for it in range(1, 31)]
 
@@ -278,10 +438,18 @@ def cases():
     yield Inception("a fault, with an SCL file", sent_of(*units()), first, scd=fault_station.scd())
     trip = f"{sum(at < TRIP_AT for at, _ in fault_station.packets()) + 1}"
     yield Inception("a fault, as 9-2LE", sent_of(*units()), "I1", "--trip", trip)
+    opening = f"{sum(at < OPEN_AT for at, _ in fault_station.packets()) + 1}"
+    yield OpensAtOnce("a breaker that opens in the packet that is named", sent_of(*units()), "--trip", opening)
     yield Inception("one sample a frame", sent_of(unit_of(sample_of_line, a_frame=1)), "I1", "--trip",
                     f"{sum(at < TRIP_AT for at, _ in sent_of(unit_of(sample_of_line, a_frame=1))()) + 1}")
     own = f"{sum(at < TRIP_AT for at, _ in sent_of(unit_of(sample_of_line))()) + 1}"
     yield Inception("noise in a channel that was 0", sent_of(unit_of(noisy)), "I1", "--trip", own)
+    for told in ((4800, 60, 8), (14400, 60, 6), (4000, 60, 1), (5760, 60, 1), (12800, 50, 8), (15360, 60, 8)):
+        yield AtRate(*told)
+    both = sent_of(Unit("MU00", 0x4003, 3, lambda at: sample_of_line(at - 12)), unit_of(sample_of_line))
+    yield Inception("two streams that tell it", both, "I1", "--trip", f"{sum(at < TRIP_AT for at, _ in both()) + 1}")
+    yield Inception("a step of 10 in 100", sent_of(unit_of(step(1.1))), "I2", "--trip", own)
+    yield Inception("a step of 8 in 100 at 60 Hz", sent_of(unit_of(small_step)), "I2", "--trip", own)
     yield NoInception("a step of 4 in 100", sent_of(unit_of(step(1.04))), "No fault inception", "--trip", own)
     yield NoInception("one wild sample", sent_of(unit_of(one_is_wild)), "No fault inception", "--trip", own)
     yield NoInception("a fault in invalid samples", sent_of(unit_of(doubtful_fault)), "No fault inception", "--trip", own)
@@ -289,6 +457,9 @@ def cases():
     yield NoInception("another bay alone", sent_of(units()[1]), "No fault inception", "--trip", own)
     yield Pictures("pictures, with an SCL file", sent_of(*units()), scd=fault_station.scd())
     yield Pictures("pictures, as 9-2LE", sent_of(*units()), "--trip", trip)
+    yield Drawn("values of lines", sent_of(*units()), scd=fault_station.scd())
+    yield Labels("names and scales", sent_of(*units()), scd=fault_station.scd())
+    yield Labels("names and scales of long names in one unit", sent_of(*units()), scd=long_names())
     yield LongGap("a gap of five periods", sent_of(unit_of(sample_of_line, lost=range(800, 1200))), "--trip",
                   f"{sum(at < TRIP_AT for at, _ in sent_of(unit_of(sample_of_line, lost=range(800, 1200)))()) + 1}")
     yield Spans("spans of qualities", sent_of(unit_of(qualities, lost=range(800, 808))))

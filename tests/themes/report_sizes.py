@@ -1,6 +1,8 @@
 """The page is bounded whatever the capture, and what it leaves out is counted."""
 import re
+import types
 
+from helpers.asked_tools import module
 from helpers.capture_parts import interface, packet, section
 from helpers.frames import element, with_fields
 from themes.report import EVENTS, Page, reported, told, words
@@ -49,5 +51,46 @@ class Bounded:
             yield f"--all lists {len(whole.rows('Control blocks (GOOSE)'))} control blocks"
 
 
+class Room:
+    """A table has rows and octets up to its bounds and to what is left for all tables, a first row and a little in any case; what is left out is
+    counted."""
+
+    name = "the room of tables"
+    # What is left for all tables, how many rows of how many octets there are, how many are shown, and what is left then.
+    tables = ((900_000, 300, 10, 200, 898_000), (900_000, 200, 10, 200, 898_000), (900_000, 5, 100_000, 2, 700_000),
+              (900_000, 5, 125_000, 2, 650_000),
+              (900_000, 3, 300_000, 1, 600_000), (100, 200, 100, 80, -7_900), (0, 200, 100, 80, -8_000), (20_000, 300, 200, 100, 0))
+
+    def why_wrong(self, _):
+        return list(self.why_rows_wrong())
+
+    def why_rows_wrong(self):
+        page = module("reporting.page")
+        for left, number, size, wanted, rest in self.tables:
+            room = page.Room()
+            room.left = left
+            rows = page.Limited((page.Raw("x" * size) for _ in range(number)), room)
+            got = len(list(rows)), rows.shown, rows.more, room.left
+            if got != (wanted, wanted, number - wanted, rest):
+                yield f"{number} rows of {size} octets where {left} are left: {got}"
+        yield from self.why_findings_wrong(page)
+        rows = page.Limited((page.Raw("x" * 10**6) for _ in range(300)), page.Room(True))
+        if len(list(rows)) != 300 or rows.more or rows.left_out("row"):
+            yield f"all are asked for, and {rows.shown} shown"
+
+
+    def why_findings_wrong(self, page):
+        """Findings are written as they come: up to 200 rows, and up to the octets of one table."""
+        nothing = types.SimpleNamespace(write=lambda _: None, of_kind=lambda _: [], times=None, malformed=None, wraps=None)
+        for size, number in ((10, 200), (50_000, 5), (100_000, 3)):
+            held, written = module("reporting.missing").Missing(nothing, None, True, nothing), 0
+            while held.has_room() and written < 1000:
+                held.write("x" * size)
+                written += 1
+            if written != number or held.octets != size * number:
+                yield f"{written} findings of {size} octets are written"
+
+
 def cases():
+    yield Room()
     yield Bounded()

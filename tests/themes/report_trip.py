@@ -187,6 +187,85 @@ class Qualities:
                 yield f"member {path} of {members}: test {event.is_test}"
 
 
+class Bounds:
+    """The table has events from exactly 200 ms before to exactly 2 s after, and none beyond. A block's frames come 50 us later than those of the
+    block before it, which these times take away."""
+
+    name = "the trip: the bounds of its table"
+    changes = [(2299.799, "closing", [TRUE]), (2299.9, "isolator", [OFF]), (2500, "trip", [TRUE, GOOD, FALSE]), (4499.9, "isolator", [ON]),
+               (4499.801, "closing", [FALSE])]
+
+    def why_wrong(self, program):
+        octets, said, status, _ = reported(program, capture(frames(*self.changes)), "--scd", "of.scd", scd=scd())
+        got = [(row[0], row[3]) for row in table(Page(octets))] if octets else [said]
+        wanted = [("\u2212200.0 ms", reference("isolator")[4:]), ("0.0 ms", reference("trip")[5:]), ("+2,000.0 ms", reference("isolator")[4:])]
+        return [] if got == wanted else [f"the table is {got}"]
+
+
+class Lanes:
+    """Words beside marks stand below one another where they would meet, up to six lines; at the right edge they stand left of their mark. Of many
+    members some are told, and how many more there are; of many lanes too."""
+
+    name = "the trip: words and lanes of its picture"
+
+    def why_wrong(self, _):
+        return list(self.why_lanes_wrong())
+
+    def why_lanes_wrong(self):
+        drawn, page = module("reporting.trip_picture"), module("reporting.page")
+        lane = drawn.Lane("a lane")
+        for at in range(8):
+            lane.add("act", 100, [f"word {at}"])
+        rows = [row for row, *_ in lane.words]
+        if rows != list(range(6)) or lane.height != 17 + 15 * 7 + 4:
+            yield f"eight words at one mark stand in the lines {rows}, {lane.height} high"
+        lane = drawn.Lane("a lane")
+        for x in (100, 300, 990, 990):
+            lane.add("act", x, ["ten letter"])
+        if [(row, anchor) for row, _, anchor, _ in lane.words] != [(0, None), (0, None), (0, "end"), (1, "end")]:
+            yield f"words stand as {lane.words}"
+        long = lambda number: types.SimpleNamespace(words=lambda: [(f"m{it}", "0" * 70, "1") for it in range(number)], told=lambda: "none")
+        told = [drawn.words_of(long(number)) for number in (0, 3, 5)]
+        if [len(it) for it in told] != [1, 3, 4] or told[2][3] != "and 2 more" or {len(it) for it in told[1]} != {63}:
+            yield f"events are told as {told}"
+        yield from self.why_many_wrong(drawn, page)
+
+    def why_many_wrong(self, drawn, page):
+        blocks = [types.SimpleNamespace(name=f"D{it:02}/b", appid="0001") for it in reversed(range(23))]
+        events = [types.SimpleNamespace(block=it, kind="act", place=types.SimpleNamespace(microseconds=5, packet=1), words=lambda: [],
+                                        told=lambda: "none")
+                  for it in blocks]
+        moment = types.SimpleNamespace(in_order=lambda: events, place=events[0].place)
+        svg, more = drawn.drawn(moment, module("reporting.naming").Devices(), "a title")
+        lanes = re.findall(r'class="lane">([^<]*)<', svg)
+        if more != 3 or lanes != [f"D{it:02} b" for it in range(20)]:
+            yield f"{more} more than {lanes}"
+
+
+class Beyond:
+    """Of very many events around a moment some are kept, and the others are counted on the page; so are later trips."""
+
+    name = "the trip: very many events around it, and trips after it"
+
+    def why_wrong(self, _):
+        return list(self.why_counts_wrong())
+
+    def why_counts_wrong(self):
+        trip, part = module("reporting.trip"), module("reporting.trip_section")
+        at = lambda microseconds: types.SimpleNamespace(microseconds=microseconds, packet=1)
+        moment = trip.Moment(at(0), None, ())
+        for number in range(403):
+            moment.add(types.SimpleNamespace(place=at(number)))
+        left = types.SimpleNamespace(left_out=lambda *_: "")
+        told = "".join(part.more_of(left, moment, "here to there"))
+        if len(moment.events) != 400 or "3 more events from here to there are not listed here." not in told:
+            yield f"{len(moment.events)} events are kept, and it says {told!r}"
+        for number in range(1, 24):
+            moment.again(types.SimpleNamespace(microseconds=number * 200_000))
+        if (len(moment.later), moment.more_later) != (20, 3):
+            yield f"{len(moment.later)} later trips are kept, and {moment.more_later} more counted"
+
+
 BREAKER = [(3000, "input", [TRUE, GOOD]), (3090, "isolator", [ON]), (3095, "breaker", [BETWEEN, GOOD, TIME])]
 
 
@@ -210,6 +289,20 @@ def cases():
     yield Moment("one block alone is not busy", [(2000, "input", [TRUE, GOOD]), (2010, "input", [FALSE, GOOD])], NONE, None)
     yield Moment("a quiet recording", [], NONE, None)
     yield Moment("a start and a reclosing are no trips", [(2000, "trip", [FALSE, GOOD, TRUE]), (3000, "closing", [TRUE])], NONE, None, has_scd=True)
-    yield Moment("a test", [(2000, "trip", [TRUE, TEST, FALSE])], "(test)", 0, has_scd=True)
+    yield Moment("a test", [(2000, "trip", [TRUE, TEST, FALSE])], "(test)", 0, has_scd=True, zero=[*trip[:2], "PTRC1.Tr.general test", trip[3]])
     yield Moment("no test", [(2000, "trip", [TRUE, GOOD, FALSE])], NAMED, 0, has_scd=True, lacks=["test"])
-    yield from (Around(), Simulated(), Restarted(), Folded(), Qualities())
+    # A frame of "input" comes 200 us after one of "breaker" of the same time, which these times take away.
+    yield Moment("a boolean exactly 100 ms before", [(2994.8, "input", [TRUE, GOOD]), *BREAKER[1:]], "100.0 ms later a breaker opens", 0)
+    yield Moment("a boolean over 100 ms before", [(2994.799, "input", [TRUE, GOOD]), *BREAKER[1:]], ALONE, 2)
+    yield Moment("two changes exactly 100 ms apart", [(2000, "input", [TRUE, GOOD]), (2100.05, "closing", [TRUE])], BUSIEST, 0)
+    yield Moment("two changes over 100 ms apart", [(2000, "input", [TRUE, GOOD]), (2100.051, "closing", [TRUE])], NONE, None)
+    twice = [(at + more, *what) for at in (2000, 5000) for more, *what in ((0, "input", [at == 2000, GOOD]), (10, "closing", [at == 2000]))]
+    twice = [(at, name, [TRUE if it is True else FALSE if it is False else it for it in members]) for at, name, members in twice]
+    yield Moment("the first of two times as busy", twice, BUSIEST, 0)
+    pulse = [(at, "trip", [TRUE if at % 100 == 0 else FALSE, GOOD, FALSE]) for at in (2000, 2050, 2200, 2250)]
+    yield Moment("a trip again after exactly 200 ms", pulse, "Later by the same rule: packet", 0, has_scd=True)
+    pulse = [(at, "trip", [TRUE if at % 100 else FALSE, GOOD, FALSE]) for at in (2001, 2100, 2199, 2300, 2398)]
+    yield Moment("trips each less than 200 ms after the one before", pulse, NAMED, 0, has_scd=True, lacks=["Later by the same rule"])
+    bouncing = [*BREAKER, (3150, "breaker", [ON, GOOD, TIME]), (3245, "breaker", [BETWEEN, GOOD, TIME])]
+    yield Moment("a breaker that bounces within 200 ms of its opening", bouncing, OPENS, 0, has_scd=True, lacks=["Later by the same rule"])
+    yield from (Around(), Bounds(), Lanes(), Beyond(), Simulated(), Restarted(), Folded(), Qualities())

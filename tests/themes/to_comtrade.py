@@ -10,8 +10,8 @@ import tempfile
 
 from helpers import comtrade_reader, fault_station
 from helpers.asked_tools import EXAMPLES, TOOLS, ask, module
-from helpers.fault_station import (BEGIN, FAULT, FAULT_AT, FIRST, LATER, LOST, OPEN_AT, RATE, SAMPLES, SECOND, TRIP_AT, Unit, capture, events, goose,
-                                   line_values, other_values, pairs, sample_of_line, sample_of_other, trip)
+from helpers.fault_station import (BEGIN, FAULT, FAULT_AT, FIRST, LATER, LOST, OPEN_AT, RATE, SAMPLES, SECOND, TRIP_AT, Unit, capture, events,
+                                   goose, line_values, other_values, pairs, sample_of_line, sample_of_other, trip)
 from helpers.harness import run
 
 ENDINGS = ("cfg", "dat", "hdr")
@@ -93,7 +93,7 @@ class Fault(Each):
     def wrong_times(self, found):
         yield from differs("the first sample", BEGIN, found.first)
         yield from differs("time stamps", [at * 250 for at in range(SAMPLES)], found.stamps)
-        captured = BEGIN + 7 * SECOND // RATE + fault_station.DELAY
+        captured = BEGIN + fault_station.DELAY
         yield from differs("the time's quality", ("0,x", "0,0", 1), (found.code, found.quality, found.multiplier))
         rise = TRIP_AT if found.digital[0].name.startswith("PTRC") else FAULT_AT + 9_000
         yield from differs("the trigger", BEGIN + rise - captured, found.trigger)
@@ -107,9 +107,9 @@ class Fault(Each):
         yield from differs("digital channels", names, [it.name for it in found.digital])
         spans = [[(TRIP_AT, None)], [(FAULT_AT + 9_000, None)], [(BEGIN + 90_000, OPEN_AT - 12_000)], [(OPEN_AT, None)]]
         unit = fault_station.units()[0]
-        frames = [unit.captured(min(at // 8 * 8 + 7, SAMPLES - 1)) for at in range(SAMPLES)]
+        times = [unit.captured(at) for at in range(SAMPLES)]
         for channel, held in zip(found.digital, spans):
-            wanted = [int(any(since <= now and (until is None or now < until) for since, until in held)) for now in frames]
+            wanted = [int(any(since <= now and (until is None or now < until) for since, until in held)) for now in times]
             yield from differs(f"{channel.name} first set, and how often", (wanted.index(1), sum(wanted)), (channel.values.index(1), sum(channel.values)))
             yield from differs(channel.name, wanted, channel.values)
 
@@ -119,9 +119,10 @@ class Header(Each):
 
     def wrong(self, program):
         it = Made(program, capture(), "--svid", "MU02", scd=fault_station.scd())
-        wanted = ["2,200, of which 8 are missing", "I01ATCTR1.AmpSv.instMag.i: 40 not good, from sample 1601 on: questionable oldData",
-                  "XCBR1.Pos.stVal on: its first state is that of packet ", "by the data set dsSv of MU02MU/LLN0$MS$msv1",
-                  "PTRC1.Tr.general from false to true", "by of.scd: smpRate 80, a period at 50 Hz"]
+        wanted = ["2,200, of which 8 are missing", "Captured: 2023-11-14T22:13:20.902050Z to 2023-11-14T22:13:21.450050Z",
+                  "I01ATCTR1.AmpSv.instMag.i: 40 not good, from sample 1601 on: questionable oldData",
+                  "XCBR1.Pos.stVal on: its first state is that of packet ", "a sample's is that of its packet less the samples behind it",
+                  "by the data set dsSv of MU02MU/LLN0$MS$msv1", "PTRC1.Tr.general from false to true", "by of.scd: smpRate 80, a period at 50 Hz"]
         yield from (f".hdr lacks {part!r}: {it.header}" for part in wanted if part not in it.header)
         if "\n" in it.header.replace("\r\n", ""):
             yield "lines of .hdr do not end with CR LF"
@@ -130,6 +131,17 @@ class Header(Each):
         for channel, column in zip(found.analog, columns):
             yield from unlike(channel.name, [None if at in LOST else value for at, value in enumerate(column)], channel.values, 2e-3)
         yield from differs("scales", [0.002] * 4, [channel.a for channel in found.analog])
+
+
+class Derived(Each):
+    """A value that is derived is good, beside one that is not, too."""
+
+    def wrong(self, program):
+        unit = Unit("S", 0x4000, 1, lambda at: pairs([at], 3) + pairs([at], 0x2000) + pairs([at], 0x2002), rate=100, a_frame=1, samples=20)
+        header = Made(program, capture(list(unit.packets())), "--period", "100").header
+        told = [line.strip() for line in header.splitlines() if " not good, from " in line]
+        wanted = [f"X{at}: 20 not good, from sample 1 on: {words}" for at, words in ((1, "questionable"), (3, "invalid derived"))]
+        yield from differs("not good", wanted, told)
 
 
 # ---- Samples that are missing, late, copies ----------------------------------
@@ -181,10 +193,10 @@ class Outage(Each):
     """A stream that is silent for longer than its counter takes: whole seconds are missing."""
 
     def wrong(self, program):
-        unit = Unit("S", 0x4000, 1, counting, rate=100, a_frame=1, first=0)
-        held = [(unit.captured(at), unit.frame(at)) for at in [*range(30), *range(280, 300)]]
+        unit, (until,) = Unit("S", 0x4000, 1, counting, rate=100, a_frame=1, first=0), self.told
+        held = [(unit.captured(at), unit.frame(at)) for at in [*range(30), *range(until, until + 20)]]
         found = Made(program, capture(held), "--period", "100").recording
-        yield from differs("values", [None if 30 <= at < 280 else at for at in range(300)], found.analog[0].stored)
+        yield from differs("values", [None if 30 <= at < until else at for at in range(until + 20)], found.analog[0].stored)
 
 
 class Least(Each):
@@ -196,6 +208,7 @@ class Least(Each):
         for form, least in (("binary32", 1 - 2**31), ("ascii", -2**31), ("float32", -2.0**31)):
             found = Made(program, capture(held), "--period", "100", "--format", form).recording
             yield from differs(form, [least, float(2**31) if form == "float32" else 2**31 - 1], [it.stored[0] for it in found.analog])
+            yield from differs(f"min in {form}", {"binary32": 1 - 2**31, "ascii": -2**31}.get(form, found.analog[0].least), found.analog[0].least)
 
 
 # ---- Time --------------------------------------------------------------------
@@ -205,15 +218,170 @@ class Timed(Each):
     """Where smpSynch is 2 and the capture agrees with t, the time is that of the whole second and smpCnt; else that of the capture."""
 
     def wrong(self, program):
-        synch, off, quality, wanted = self.told
-        unit = Unit("MU01", 0x4000, 1, sample_of_line, synch=synch, delay=1700, a_frame=1, samples=1600, first=FIRST)
+        synch, off, quality, wanted, *delay = self.told
+        (delay,) = delay or [1700]
+        unit = Unit("MU01", 0x4000, 1, sample_of_line, synch=synch, delay=delay, a_frame=1, samples=1600, first=FIRST)
         held = [(at, octets) for at, octets in unit.packets()] + [(BEGIN + 40_000, goose(1, 7, 20, BEGIN - 3600 * SECOND, trip(False, False))),
                 (TRIP_AT, goose(1, 8, 0, TRIP_AT - off, trip(True, True), quality))]
         found = Made(program, capture(held), "--period", f"{RATE}", scd=fault_station.scd()).recording
-        first, timed = (BEGIN, "0") if wanted else (BEGIN + 1700, "F")
+        first, timed = (BEGIN, "0") if wanted else (BEGIN + delay, "F")
         yield from differs("the first sample", first, found.first)
         yield from differs("the quality of the time", f"{timed},{0 if quality & 0x80 else 3}", found.quality)
-        yield from differs("the trigger", first + TRIP_AT - BEGIN - 1700, found.trigger)
+        yield from differs("the trigger", first + TRIP_AT - BEGIN - delay, found.trigger)
+
+
+class AtRate(Each):
+    """At other rates, whose sample periods are no whole number of microseconds: each sample's time, the fault's first sample, the trip and the
+    sample at which the breaker is open are what was put in."""
+
+    def wrong(self, program):
+        it = fault_station.OtherRate(*self.told)
+        rate, frequency, samples, exact, tripped, opened, fault = it.rate, it.frequency, it.samples, it.exact, it.trip_at, it.open_at, it.fault
+        found = Made(program, capture(it.packets()), "--period", f"{rate}", scd=fault_station.scd()).recording
+        got = found.last, found.rate, found.frequency, found.multiplier
+        yield from differs("samples, rate, frequency, multiplier", (samples, rate, frequency, 1), got)
+        off = max(range(samples), key=lambda at: abs(found.at(at) - exact[at]))
+        if abs(found.at(off) - exact[off]) > 1:
+            yield f"sample {off} is at {found.at(off)}, and not at {float(exact[off])}"
+        periods = 3 * rate // frequency
+        at = comtrade_reader.inception(found, periods, periods)
+        if at is None or abs(at - fault) > 1:
+            yield f"the fault begins at sample {at}, and not at {fault}"
+        delay = fault_station.DELAY
+        if abs(found.trigger - (tripped - delay)) > 1:
+            yield f"the trigger is at {found.trigger}, and not at {tripped - delay}"
+        for name, moment in (("PTRC1.Tr.general", tripped), ("XCBR1.Pos.stVal off", opened)):
+            # A microsecond of rounding may move it by a sample.
+            edges = {next(at for at, it in enumerate(exact) if it + delay >= moment + less) for less in (-1, 0, 1)}
+            values = found.channel(name).values
+            if samples - sum(values) not in edges or values != sorted(values):
+                yield f"{name} is set at {values.index(1) if 1 in values else None}, and not at {edges}"
+
+
+class Hour(Each):
+    """Over an hour, and over a gap at rates of which no period is a whole number of microseconds, time stamps do not drift."""
+
+    def wrong(self, program):
+        rate, seconds = self.told
+        unit, last = Unit("S", 0x4000, 1, counting, rate=rate, a_frame=1, first=0), rate * seconds
+        held = [(unit.captured(at), unit.frame(at)) for at in (*range(8), *range(last - 3, last + 1))]
+        found = Made(program, capture(held), "--period", f"{rate}").recording
+        yield from differs("samples and the last one", (last + 1, last), (found.last, found.analog[0].stored[-1]))
+        off = max(range(last + 1), key=lambda at: abs(found.stamps[at] * found.multiplier * rate - at * SECOND))
+        if abs(found.stamps[off] * found.multiplier * rate - off * SECOND) * 2 > rate * found.multiplier:
+            yield f"sample {off} has the stamp {found.stamps[off]}"
+        yield from differs("the last stamp and the multiplier", (seconds * SECOND, 1), (found.stamps[-1], found.multiplier))
+
+
+class Taken(Each):
+    """A late sample whose place is taken stays out."""
+
+    def wrong(self, program):
+        unit, other = (Unit("S", 0x4000, 1, it, rate=100, a_frame=1, first=0) for it in (counting, lambda at: pairs([999, 999])))
+        held = [(unit.captured(at), unit.frame(at)) for at in (*range(20), *range(25, 40))] + [(unit.captured(39) + 50, other.frame(10))]
+        found = Made(program, capture(held), "--period", "100").recording
+        yield from differs("values", [None if 20 <= at < 25 else at for at in range(40)], found.analog[0].stored)
+
+
+class Median(Each):
+    """Without a trip it is the half of the states that began which tells that the capture agrees with t."""
+
+    def wrong(self, program):
+        unit = Unit("S", 0x4000, 1, counting, a_frame=1, samples=400)
+        told = [(7, 20, 3600 * SECOND), (8, 0, 250), (9, 0, 300), (10, 0, 5 * SECOND)]
+        held = [(BEGIN + 9_000 * at, goose(1, state, sequence, BEGIN + 9_000 * at - off, trip(False, bool(at % 2))))
+                for at, (state, sequence, off) in enumerate(told, 1)]
+        found = Made(program, capture([*unit.packets(), *held]), "--period", f"{RATE}").recording
+        yield from differs("the first sample", (BEGIN, BEGIN, "0,3"), (found.first, found.trigger, found.quality))
+
+
+class Busiest(Each):
+    """Two control blocks that change at once are no trip."""
+
+    def wrong(self, program):
+        unit = Unit("S", 0x4000, 1, counting, a_frame=1, samples=400)
+        held = [(BEGIN + 1_000 + 20_000 * at, goose(which, 8 + at, 0, BEGIN + 900 + 20_000 * at, trip(False, bool(at))))
+                for at in (0, 1) for which in (1, 2)]
+        it = Made(program, capture([*unit.packets(), *held]), "--period", f"{RATE}")
+        yield from differs("the trigger", it.recording.first, it.recording.trigger)
+        yield from [] if "there is no trip within the recording" in it.header else [it.header]
+
+
+class Commands(Each):
+    """Two bits that are no position are no digital channels."""
+
+    def wrong(self, program):
+        scd = fault_station.scd().replace('bType="Dbpos"', 'bType="Tcmd"')
+        found = Made(program, capture(), "--svid", "MU01", scd=scd).recording
+        yield from differs("digital channels", ["PTRC1.Tr.general", "PTOC1.Str.general"], [it.name for it in found.digital])
+
+
+class Named(Each):
+    """A long name is cut at its front, and has no comma."""
+
+    def wrong(self, program):
+        unit = Unit("N" * 60 + ",MU" + "1" * 20, 0x4000, 1, counting, rate=100, a_frame=1, samples=20)
+        found = Made(program, capture(list(unit.packets())), "--period", "100").recording
+        yield from differs("the device", "N" * 41 + "_MU" + "1" * 20, found.device)
+
+
+class Sizes(Each):
+    """Members have the sizes and signs of their types; a member t in between is no channel."""
+
+    def wrong(self, program):
+        for sort, form, value, least in (("INT8", "b", -7, -128), ("INT16", "h", -300, -32768), ("INT8U", "B", 200, 0), ("INT16U", "H", 60_000, 0),
+                                         ("INT32U", "I", 4_000_000_000, 0), ("INT64", "q", -2**40, -2**63), ("FLOAT64", "d", -2.5, None)):
+            sample = b"".join(struct.pack(f">{form}I", value + at, 0) for at in range(8))
+            unit = Unit("MU01", 0x4000, 1, lambda at: sample, a_frame=1, samples=20)
+            scd, octets = fault_station.scd().replace(FLOATS[0], FLOATS[1].replace("FLOAT32", sort)), capture(list(unit.packets()))
+            is_wide = sort in ("INT32U", "INT64", "FLOAT64")
+            for asked in ("float32", "binary32", "ascii"):
+                it = Made(program, octets, "--period", f"{RATE}", "--format", asked, scd=scd)
+                if is_wide and asked != "float32":
+                    yield from differs(f"{sort} in {asked}", (2, 0), (it.status, len(it.files)))
+                    continue
+                channel, scale = it.recording.analog[1], 1 if sort == "FLOAT64" else 0.001
+                yield from [] if abs(channel.values[0] / ((value + 1) * scale) - 1) < 1e-6 else [f"{sort} in {asked}: {channel.values[0]}"]
+                if least is not None and abs(channel.a * channel.least - least * scale) > 1e-6 * abs(least * scale):
+                    yield f"{sort}: from {channel.least}"
+        yield from self.wrong_stamped(program)
+
+    def wrong_stamped(self, program):
+        own = 'prefix="I01A" lnClass="TCTR" lnInst="1" doName="AmpSv" daName="q" fc="MX"/>'
+        scd = fault_station.scd().replace(own, f'{own}<FCDA ldInst="MU" {own.replace(chr(34) + "q" + chr(34), chr(34) + "t" + chr(34))}', 1)
+        scd = scd.replace('<DA name="q" bType="Quality" fc="MX"/>', '<DA name="q" bType="Quality" fc="MX"/><DA name="t" bType="Timestamp" fc="MX"/>')
+        unit = Unit("MU01", 0x4000, 1, lambda at: pairs([11]) + bytes(range(8)) + pairs(range(12, 19)), a_frame=1, samples=20)
+        it = Made(program, capture(list(unit.packets())), "--period", f"{RATE}", scd=scd)
+        yield from differs("values beside a t", list(range(11, 19)), [channel.stored[0] for channel in it.recording.analog])
+
+
+class Drifting(Each):
+    """Where the clocks of the capture and of the merging unit drift apart, the trigger stays at its samples, as the digital channel does."""
+
+    def wrong(self, program):
+        synch, trip_after = self.told
+        rate, last = 200, 6000
+        unit = Unit("MU01", 0x4000, 1, counting, rate=rate, a_frame=1, first=0, begin=fault_station.START, synch=synch)
+        taken = [unit.captured(at) + at * SECOND // rate // 2000 for at in range(last)]
+        held = [(taken[at], unit.frame(at)) for at in range(last) if not 5100 <= at < 5105]
+        tripped = taken[trip_after] + 1_234
+        held += [(unit.begin - 50_000, goose(1, 7, 20, unit.begin - SECOND, trip(False, False))),
+                 (tripped, goose(1, 8, 0, tripped - LATER, trip(True, True)))]
+        found = Made(program, capture(held), "--period", f"{rate}", scd=fault_station.scd()).recording
+        yield from differs("the trigger after its sample", 1_234, found.trigger - found.at(trip_after))
+        yield from differs("the first sample with the trip", trip_after + 1, found.channel("PTRC1.Tr.general").values.index(1))
+
+
+class Together(Each):
+    """A state that is captured in the microsecond of a sample is that of this sample."""
+
+    def wrong(self, program):
+        unit = Unit("S", 0x4000, 1, counting, rate=100, a_frame=1, samples=80)
+        held = [*unit.packets(), (unit.captured(10), goose(1, 7, 20, BEGIN - SECOND, trip(False, False))),
+                (unit.captured(50), goose(1, 8, 0, unit.captured(50) - LATER, trip(True, True)))]
+        found = Made(program, capture(held), "--period", "100", scd=fault_station.scd()).recording
+        yield from differs("the trip", [0] * 50 + [1] * 30, found.channel("PTRC1.Tr.general").values)
+        yield from differs("the trigger", 0, found.trigger - found.at(50))
 
 
 class Untripped(Each):
@@ -288,25 +456,58 @@ def named(scale, unit, *at):
             for letter, sort, name in (("I", "TCTR", "AmpSv"), ("U", "TVTR", "VolSv")) for number, phase in enumerate("ABCN", 1)]
 
 
+def scd_of_own():
+    """An SCL file in which the first channel has a scale, an offset and a unit of its own."""
+    node = '<LN prefix="I01A" lnClass="TCTR" inst="1" lnType="TCTR_T">'
+    told = ('<DOI name="AmpSv"><SDI name="sVC"><DAI name="scaleFactor"><Val>0.5</Val></DAI><DAI name="offset"><Val>-2.5</Val></DAI></SDI>'
+            '<SDI name="units"><DAI name="multiplier"><Val>3</Val></DAI></SDI></DOI>')
+    return fault_station.scd().replace(f"{node}</LN>", f"{node}{told}</LN>", 1)
+
+
+class Offset(Each):
+    """A value is its integer times the scale plus the offset, in each form; of the steps 7, -40 and 2,000 the first channel says so much."""
+
+    def wrong(self, program):
+        unit = Unit("MU01", 0x4000, 1, lambda at: pairs([(7, -40, 2000)[at % 3]] * 8), a_frame=1, samples=30)
+        for form in ("binary32", "ascii", "float32"):
+            found = Made(program, capture(list(unit.packets())), "--period", f"{RATE}", "--format", form, scd=scd_of_own()).recording
+            yield from differs(form, ([1.0, -22.5, 997.5] * 10, "kA", "P", 1, 1, 0), (found.analog[0].values, *vars_of(found.analog[0])))
+
+
+class Limits(Each):
+    """In FLOAT32 min and max hold what single precision makes of the ends of 32 bits, closely, in fields of 13 characters."""
+
+    def wrong(self, program):
+        unit = Unit("MU01", 0x4000, 1, lambda at: pairs([(-2**31, 2**31 - 1)[at % 2]] * 8), a_frame=1, samples=10)
+        for scale in ("0.001", "1000000", "1e-12", "-0.001", "3e30"):
+            scd = scd_of_own().replace("<Val>0.5</Val>", f"<Val>{scale}</Val>").replace("<Val>-2.5</Val>", "<Val>0</Val>")
+            channel = Made(program, capture(list(unit.packets())), "--period", f"{RATE}", "--format", "float32", scd=scd).recording.analog[0]
+            ends = sorted(max(min(float(scale) * it, 3.4028235e38), -3.4028235e38) for it in (-2**31, 2**31 - 1))
+            off = max(abs(it / end - 1) for it, end in zip((channel.least, channel.greatest, min(channel.stored), max(channel.stored)), ends * 2))
+            yield from [] if off < 2e-6 else [f"{scale}: {channel.least} to {channel.greatest}, {channel.stored[:2]}"]
+
+
+def vars_of(channel):
+    return channel.unit, channel.side, channel.primary, channel.secondary, channel.skew
+
+
 def channels():
     scd = fault_station.scd()
     yield "of an SCL file", sample_of_line, (), scd, named({"TCTR": 0.001, "TVTR": 0.00001}, {"TCTR": "A", "TVTR": "kV"}), "by the data set dsSv"
     unscaled = scd.replace('<DA name="sVC"', '<DA name="no"')
     yield "of an SCL file without sVC", sample_of_line, (), unscaled, named({"TCTR": 0.001, "TVTR": 0.01}, {"TCTR": "A", "TVTR": "V"}), "by the data set dsSv"
-    own = scd.replace('<LN prefix="I01A" lnClass="TCTR" inst="1" lnType="TCTR_T"></LN>\n', "").replace(
-        '<LN prefix="I01A" lnClass="TCTR" inst="1" lnType="TCTR_T"></LN>', '<LN prefix="I01A" lnClass="TCTR" inst="1" lnType="TCTR_T"><DOI name="AmpSv">'
-        '<SDI name="sVC"><DAI name="scaleFactor"><Val>0.5</Val></DAI><DAI name="offset"><Val>-2.5</Val></DAI></SDI>'
-        '<SDI name="units"><DAI name="multiplier"><Val>3</Val></DAI></SDI></DOI></LN>', 1)
+    own = scd_of_own()
     first = ("I01ATCTR1.AmpSv.instMag.i", "kA", 0.5, -2.5)
     yield ("of a DAI, before those of types", sample_of_line, (), own,
            [first, *named({"TCTR": 0.001, "TVTR": 0.00001}, {"TCTR": "A", "TVTR": "kV"})[1:]], "by the data set dsSv")
     pair = [("I1", "A", 0.001, 0.0), ("U1", "V", 0.01, 0.0)]
     yield "of --channels", counting, ("--channels", "1I1U"), None, pair, "1I1U: currents of 1 mA"
     yield "of --channels, voltages first", counting, ("--channels", "1U1I"), None, pair[::-1], "1U1I"
-    yield "of pairs that are not eight", counting, (), None, [("X1", "", 1.0, 0.0), ("X2", "", 1.0, 0.0)], "--channels says it"
-    yield "of raw words", raw_words, (), None, [("word 1", "", 1.0, 0.0), ("word 2", "", 1.0, 0.0)], "raw words of 32 bits"
-    yield "of octets at the end", lambda at: raw_words(at) + b"\x01", (), None, [("word 1", "", 1.0, 0.0), ("word 2", "", 1.0, 0.0)], "1 octets at its end"
-    yield "of another size than the SCL file's", counting, (), scd, [("X1", "", 1.0, 0.0), ("X2", "", 1.0, 0.0)], "is of 64 octets, and a sample of 16"
+    words, numbers = ([(f"{name}{at}", "NONE", 1.0, 0.0) for at in (1, 2)] for name in ("word ", "X"))
+    yield "of pairs that are not eight", counting, (), None, numbers, "--channels says it"
+    yield "of raw words", raw_words, (), None, words, "raw words of 32 bits"
+    yield "of octets at the end", lambda at: raw_words(at) + b"\x01", (), None, words, "1 octets at its end"
+    yield "of another size than the SCL file's", counting, (), scd, numbers, "is of 64 octets, and a sample of 16"
     untyped = scd.replace(FLOATS[0], "")
     yield ("of an SCL file without a type", sample_of_line, (), untyped, [*[(f"I{at}", "A", 0.001, 0.0) for at in range(1, 5)],
            *[(f"U{at}", "V", 0.01, 0.0) for at in range(1, 5)]], "does not say the size")
@@ -392,7 +593,7 @@ def ends():
     yield "samples of no octets", streams(empty), asked, 3, "there is no sample that has octets", 0
     mixed = Unit("S", 0x4000, 1, lambda at: counting(at) * (2 if at == 30 else 1), **short)
     yield "a sample of another size", streams(mixed), asked, 1, "1 ASDUs have a sample of another size than 16 octets, from packet 31 on", 3
-    beyond = capture([*one.packets(), (BEGIN + 11_000, Unit("S", 0x4000, 1, counting, rate=65536, first=5000).frame(0))])
+    beyond = capture([*one.packets(), (BEGIN + 11_000, Unit("S", 0x4000, 1, counting, rate=65536, first=4000).frame(0))])
     yield "a count out of range", beyond, asked, 1, "1 ASDUs have a smpCnt that is not below 4000", 3
 
 
@@ -476,14 +677,31 @@ def cases():
         yield Fault(f"a fault in {form}", form, False)
         yield Fault(f"a fault in {form}, with an SCL file", form, True)
     yield Header("what .hdr says")
+    yield Derived("values that are derived")
     yield from (Moved(f"samples moved: {name}", 4000, *told) for name, *told in moved())
     yield Moved("samples moved at a rate that divides no second", 4800, [*range(50), *range(51, 53), 50, *range(54, 120)], {53})
-    yield Outage("an outage of more than a second")
+    yield Outage("an outage of more than a second", 280)
+    yield Outage("an outage after which smpCnt goes on as if nothing lacked", 230)
     yield Least("the least number of 32 bits")
     for name, *told in (("synchronised", 2, LATER, 0x8A, True), ("locally synchronised", 1, LATER, 0x8A, False), ("not synchronised", 0, LATER, 0x8A, False),
                         ("t is half a second before", 2, 500_000, 0x8A, False), ("t is 0.3 s after", 2, -300_000, 0x0A, True),
+                        ("the capture is 0.3 s slow", 2, -300_000, 0x8A, True, -300_000),
+                        ("the capture is 0.3 s fast", 2, 300_000, 0x8A, True, 300_000),
                         ("t is of a clock that failed", 2, LATER, 0xCA, False), ("t is of a clock that is not synchronised", 2, LATER, 0x2A, False)):
         yield Timed(f"time: {name}", *told)
+    for rate, frequency, a_frame in ((4800, 60, 8), (14400, 60, 6), (4000, 60, 1), (5760, 60, 1), (12800, 50, 8), (15360, 60, 8)):
+        yield AtRate(f"a fault at {rate:,} samples a second and {frequency} Hz", rate, frequency, a_frame)
+    for rate, seconds in ((7, 3600), (4800, 20), (14400, 7)):
+        yield Hour(f"{seconds:,} seconds at {rate:,} samples a second", rate, seconds)
+    for synch, at in ((2, 0), (2, 5000), (2, 5098), (0, 5998), (2, 4095), (2, 4096)):
+        yield Drifting(f"clocks that drift, a trip after sample {at}, smpSynch {synch}", synch, at)
+    yield Together("a state and a sample at once")
+    yield Taken("a late one whose place is taken")
+    yield Median("the half of the delays")
+    yield Busiest("two blocks at once")
+    yield Commands("two bits of a command")
+    yield Named("a long name")
+    yield Sizes("sizes of members")
     yield Untripped("no trip and no control blocks")
     yield Long("time stamps of over 32 bits")
     yield Part("--from and --to")
@@ -491,6 +709,8 @@ def cases():
                         ("asked for", 4000, 50, ("--frequency", "60"), 60)):
         yield Frequency(f"the line frequency: {name}", *told)
     yield from (Said(f"channels {name}", *told) for name, *told in channels())
+    yield Offset("a scale and an offset")
+    yield Limits("the limits of single precision")
     yield Floats("floating-point values")
     yield Qualities("qualities in words")
     yield from (Ends(f"ends: {name}", *told) for name, *told in ends())

@@ -25,7 +25,7 @@ COLUMNS = ("line", "microseconds", "time", "kind", "block", "reason", "offset", 
            "appid", "reserved1", "reserved2", "gocbRef", "timeAllowedtoLive", "datSet", "goID", "t", "tTime", "stNum", "sqNum",
            "simulation", "confRev", "ndsCom", "members", "asdus", "trailer", "asdu", "smpCnt", "missing", "svID", "text",
            "packet", "tQuality", "delay", "entries")
-LOSSES = ("since", "sinceTime", "for", "from", "to", "frames", "statesMissing", "framesMissing", "late", "repeated", "restarted", "silent",
+LOSSES = ("since", "sinceTime", "for", "by", "from", "to", "frames", "statesMissing", "framesMissing", "late", "repeated", "restarted", "silent",
           "samples", "outOfRange", "outages", "longest")
 FRONT = ("time", "packet", "line", "kind", "gocbRef", "stNum", "sqNum")
 REPLAYED = ["0001,G,D,,1,1", "0002,G,D,,1,1", "3001,BAY1PROT/LLN0$GO$gcbTrip,BAY1PROT/LLN0$dsTrip,BAY1_Trip,1,2"]

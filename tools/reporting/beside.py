@@ -124,8 +124,11 @@ def section(found, _own):
         told.append(sections.paragraph(f"The clocks differ by, or the way takes, at least {exactly(it.least.microseconds)} "
                                        f"(packets\u00a0{it.least.packets[0]}, {it.least.packets[1]}): two files have two clocks."))
         if not it.clocks:
-            told.append(sections.paragraph("No control block tells how the clocks differ: samples were compared as if they were less than half "
-                                           "a second apart."))
+            told.append(sections.paragraph(f"{it.unknown_clocks}."))
+        if it.drift:
+            told.append(sections.paragraph(
+                f"From the first tenth of the time to the last one the least delay becomes {exactly(abs(it.drift))} "
+                f"{'greater' if it.drift > 0 else 'less'}: clocks that drift, or a way that changes, are in all delays."))
     if beside.broken:
         told.append(sections.paragraph(f"{beside.name} breaks off where packet\u00a0{beside.broken.packet} should be: {beside.broken.error}."))
     told.append(page.bounded(f"Beside {beside.name}", COLUMNS, map(row, it.senders), found.room, "sender"))

@@ -67,10 +67,23 @@ class Device:
 
     @property
     def offset(self):
-        """How far its clock is from the capture's, where its frames tell: new states do, and a t that is ahead."""
+        """How far its clock is from the capture's, where it told a new state; or None."""
         new = [it.offset for it in self.moments if it.is_new]
-        most = max(it.offset for it in self.moments)
-        return statistics.median_high(new) if new else most if most > AHEAD else None
+        return statistics.median_high(new) if new else None
+
+    @property
+    def most(self):
+        return max(it.offset for it in self.moments)
+
+    @property
+    def is_older_alone(self):
+        """Whether all its states may have begun before the capture: one whose t is ahead then says only how far the two clocks differ at least."""
+        return self.offset is None
+
+    @property
+    def agrees(self):
+        """Whether a state began when it came, by both clocks."""
+        return any(not is_off(it.offset) for it in self.moments)
 
     def worst(self, common):
         """The frame by which it is furthest off, beside what is common to all, or None."""
@@ -92,16 +105,17 @@ def is_off(offset):
 
 
 def common_of(devices):
-    """How far over half of the devices are off alike, or 0."""
+    """How far over half of the devices are off alike, or 0. Those whose older states alone are ahead, by no more, may be so too."""
     offsets = sorted(it.offset for it in devices if it.offset is not None)
-    if len(offsets) < DEVICES:
+    least = [it.most for it in devices if it.is_older_alone and it.most > AHEAD]
+    many = (len(offsets) + len(least)) // 2 + 1
+    if len(offsets) + len(least) < DEVICES:
         return 0
-    # Over half of them in a row: where these are alike, the others that are so are beside them.
-    many = len(offsets) // 2 + 1
-    for at in range(len(offsets) - many + 1):
-        if offsets[at + many - 1] - offsets[at] <= SECOND:
-            alike = statistics.median(offsets[at:bisect.bisect_right(offsets, offsets[at] + SECOND)])
-            return round(alike) if is_off(alike) else 0
+    for at, offset in enumerate(offsets):
+        alike = offsets[at:bisect.bisect_right(offsets, offset + SECOND)]
+        common = statistics.median(alike)
+        if len(alike) + sum(it <= common + AHEAD for it in least if common > AHEAD) >= many:
+            return round(common) if is_off(common) else 0
     return 0
 
 
@@ -132,7 +146,11 @@ class Stretch:
                 devices.setdefault(it.source, Device(it.source)).add(it.name, own)
         self.first, self.devices = first, list(devices.values())
         self.common = common_of(self.devices)
-        self.off = [(it, worst) for it in self.devices for worst in [it.worst(self.common)] if worst]
+        # Where no device agrees with the capture, a state that is older than the capture does not tell which of the two clocks is off.
+        is_known = self.common or any(it.agrees for it in self.devices)
+        off = [(it, worst) for it in self.devices for worst in [it.worst(self.common)] if worst]
+        self.off = [(it, worst) for it, worst in off if is_known or not it.is_older_alone]
+        self.unsure = [pair for pair in off if pair not in self.off]
 
     def rows(self, short):
         """A row for each device that is off."""
@@ -152,18 +170,38 @@ def stretches(clocks, times):
 
 
 def judge(found, _own):
+    if found.untimed.number:
+        yield not_judged(f"t is not held beside the capture's clock, since {found.untimed.told(found.packets)}.", "capture with times")
+        return
     parts = found.clocks
     off = [f"{device.told()}: t is {told(worst.offset - part.common)}, packet\u00a0{worst.where.packet}" for part in parts for device,
            worst in part.off]
     common = [f"t of most devices is {told(part.common)} alike{f' from packet {part.first} on' if part.first else ''}"
               for part in parts if part.common]
+    unsure = [f"{device.told()}: t is {told(worst.offset)} or more, packet\u00a0{worst.where.packet}" for part in parts
+              for device, worst in part.unsure]
+    todo = "look at the clock of the computer that captured"
     if off:
         yield finding(f"clock: {some(off)}.")
     if common:
-        yield not_judged(f"{some(common)}: the capture's clock is off, or the station's; each device is held beside the others.",
-                         "look at the clock of the computer that captured")
-    if not off and not common:
-        unsynchronized = sum(it.unsynchronized > 0 for it in found.station.clocks.values())
-        beside = f"; {page.count(unsynchronized, 'control block')} with a clock that says it is not synchronized" if unsynchronized else ""
-        devices = {it.source for it in found.station.clocks.values() if it.moments}
-        yield clean(f"t of {page.count(len(devices), 'device')} agrees with the capture's clock in {found.all_packets}{beside}.")
+        yield not_judged(f"{some(common)}: the capture's clock is off, or the station's; each device is held beside the others.", todo)
+    if unsure:
+        yield not_judged(f"the capture's clock is behind, or these are ahead: {some(unsure)}. No state began while it was captured by which "
+                         "one of them could be judged.", todo)
+    if not off and not common and not unsure:
+        yield from agreeing(found, todo)
+
+
+def agreeing(found, todo):
+    """What of the clocks is known where none is off."""
+    told = found.station.clocks.values()
+    unsynchronized = sum(it.unsynchronized > 0 for it in told)
+    beside = f"; {page.count(unsynchronized, 'control block')} with a clock that says it is not synchronized" if unsynchronized else ""
+    devices = {it.source for it in told if it.moments}
+    agree = {device.source for part in found.clocks for device in part.devices if device.agrees}
+    if devices and not agree:
+        yield not_judged(f"no state began in {found.all_packets}, and older ones tell nothing of the clocks of {page.count(len(devices), 'device')}"
+                         f"{beside}.", todo)
+        return
+    older = f"; {page.count(len(devices - agree), 'other')} sent no state that began in it" if devices - agree else ""
+    yield clean(f"t of {page.count(len(agree), 'device')} agrees with the capture's clock in {found.all_packets}{older}{beside}.")

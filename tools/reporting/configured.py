@@ -1,24 +1,28 @@
 """What an SCL file configures, held beside what a capture has."""
 import data_types
 import senders
+from reporting import unread
 from reporting.pace import Pace
 from reporting.rates import MODES
 
 
 class Configured:
-    """The control blocks and streams of an SCL file, and those of which it cannot be told what they send."""
+    """The control blocks and streams of an SCL file, those of which it cannot be told what they send, and the values that cannot be read."""
 
     def __init__(self, path):
         self.path, self.station = path, data_types.Station(path)
         self.senders, self.unusable, self.used, self.longest, self.times = {}, [], set(), {}, {}
+        self.unread, self.why_not = {}, {}
         for control in self.station.controls:
             try:
                 for it in self.station.senders(control):
                     self.senders.setdefault(it.key, []).append(it)
                     self.longest.setdefault(it.text, it.more["address"].times.get("MaxTime"))
                     self.time(it)
+                    self.unread.setdefault(it.key, []).extend(unread.of_sender(control, it))
             except ValueError as why:
                 self.unusable.append((control.line, control.told(), str(why)))
+                self.why_not[control.service, control.told() if control.service == "GOOSE" else control.stated.get("smvID")] = str(why)
 
     def time(self, sender):
         """MinTime and MaxTime of a control block; of several addresses the greatest."""
@@ -34,12 +38,20 @@ class Configured:
     def beside(self, seen):
         """How a sender of the capture differs from its configuration, each difference with the first packet that has it; None where no
         such sender is configured."""
-        key = (seen.appid, seen.name) if seen.kind == "block" else f"stream id={senders.quoted(seen.name)}"
+        key = key_of(seen)
         wanted = self.senders.get(key)
         if wanted is None:
             return None
         self.used.add(key)
         return min((differences(it, seen) for it in wanted), key=len)
+
+    def why_uncompared(self, seen):
+        """Why a sender of the capture that no other is configured for cannot be held beside the file, which names it; or None."""
+        return self.why_not.get(("GOOSE" if seen.kind == "block" else "SMV", seen.name))
+
+    def unread_of(self, seen):
+        """The values of a sender of the capture that cannot be read in the file."""
+        return self.unread.get(key_of(seen), [])
 
     def missing(self):
         """The senders that are configured and not in the capture."""
@@ -49,7 +61,7 @@ class Configured:
         """What is configured of the rate of a stream: smpRate, and what smpMod says of it."""
         stated = [it.more["stated"] for it in self.senders.get(f"stream id={senders.quoted(seen.name)}", ())]
         return [(int(it["smpRate"]), MODES[it.get("smpMod", "SmpPerPeriod")]) for it in stated
-                if it.get("smpRate", "").isdecimal() and it.get("smpMod", "SmpPerPeriod") in MODES]
+                if "smpRate" in it and not {"smpRate", "smpMod"} & {*unread.of_sampling(it)}]
 
     def received(self, ied):
         """The BLOCKs that an IED receives, each APPID and gocbRef once, and those of its blocks that have none."""
@@ -61,6 +73,11 @@ class Configured:
             except ValueError as why:
                 without.append((control.line, control.told(), str(why)))
         return [it for it in blocks.values() if it], without
+
+
+def key_of(seen):
+    """What a sender of the capture has in common with its configuration."""
+    return (seen.appid, seen.name) if seen.kind == "block" else f"stream id={senders.quoted(seen.name)}"
 
 
 def differences(wanted, seen):

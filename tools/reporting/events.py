@@ -17,6 +17,8 @@ FIRST = [*COLUMNS[:-1], page.Column("Members")]
 # The kinds of entries of a block, in the order in which they are told, and those that are listed beside what is acted on.
 KINDS = ("act", "refreshed", "repeated", "old", "refused", "expired", "switched")
 STATE = ("stNum", "sqNum", "delay", "tQuality")
+# The kinds that are no events: most entries of many captures.
+RENEWALS, MEMBERS = (b"refreshed", b"repeated"), b',"members":'
 OTHERS = {"expired": "expired: valid data ends", "switched": "switched between real and simulated frames", "refused": "refused", "old": "old"}
 RESTART = "a device may act here: restart within the lifetime"
 HOUR = 3600 * 10**6
@@ -42,8 +44,22 @@ class Counted:
 class Block:
     """What a device does with one control block."""
 
+    text = told = None
+
+    def read(self, line):
+        """The object of a state. Members of the same text as those before are not read again."""
+        at = line.find(MEMBERS)
+        if at < 0:
+            return json.loads(line)
+        text = line[at + len(MEMBERS):-1]
+        if text != self.text:
+            self.text, self.told = text, json.loads(text)
+        return {**json.loads(line[:at] + b"}"), "members": self.told}
+
     def __init__(self, record):
         self.appid, self.name, self.counts, self.members = record["appid"], record["gocbRef"], {}, None
+        # Of the counts those that are findings: how many, and the first packet.
+        self.findings = {}
         self.names, self.event = member_names.NONE, None
 
     def count(self, kind, found):
@@ -51,6 +67,26 @@ class Block:
             self.counts[kind].add(found)
         else:
             self.counts[kind] = Counted(found)
+
+    def find(self, kind, packet):
+        """An entry that is a finding."""
+        number, first = self.findings.get(kind, (0, packet))
+        self.findings[kind] = number + 1, first
+
+
+class Renewal:
+    """Entries of one kind of a block that are no event, behind the first: they are counted, and marked in the picture."""
+
+    __slots__ = ("kind", "counted", "key", "picture", "until")
+
+    def __init__(self, kind, block, picture):
+        self.kind, self.counted, self.key, self.picture, self.until = kind, block.counts[kind, None], (block.appid, block.name), picture, 0
+
+    def see(self, found, moment):
+        self.counted.number += 1
+        self.counted.last = found
+        if moment >= self.until or not self.picture.is_marked(self.key, moment):
+            self.until = self.picture.mark(self.key, self.kind, moment, None, None) or 0
 
 
 class Event:
@@ -60,7 +96,7 @@ class Event:
     def __init__(self, kind, where, block, reason=None):
         self.kind, self.place, self.block, self.reason, self.number, self.last = kind, where, block, reason, 1, where.packet
         self.record, self.changes, self.members, self.note, self.names = None, [], None, None, block and block.names
-        self.is_test = False
+        self.is_test, self.is_excused = False, False
 
     def packets(self):
         return f"{self.place.packet} to\u00a0{self.last}" if self.last != self.place.packet else f"{self.place.packet}"
@@ -88,16 +124,25 @@ class Event:
 class Events:
     """The entries of a replay: the events, and a picture of all entries. Comments of the capture stand among them."""
 
-    def __init__(self, picture, trip, names=None, restarts=(), comments=(), most=page.MOST_ROWS):
+    def __init__(self, picture, trip, names=None, restarts=(), comments=(), most=page.MOST_ROWS, excuse=None):
         self.picture, self.trip, self.names, self.restarts, self.comments = picture, trip, names or member_names.Names(), restarts, collections.deque(comments)
+        # What answers why an entry of a block is no finding, or None.
+        self.excuse = excuse or (lambda block, kind, found: None)
         self.blocks, self.acts, self.first, self.last, self.slowest = {}, 0, None, None, None
         self.listed, self.beyond, self.more, self.firsts, self.started, self.restarted = [], None, 0, [], 0, None
         self.most = most
 
     def see(self, lines):
-        lines = (line for line in lines if not line.endswith(SAMPLED))
+        lines, renewals = (line for line in lines if not line.endswith(SAMPLED)), {}
         for found in filter(None, map(ENTRY.match, lines)):
-            self.entry(found.string, found, int(found[5]))
+            key = found.group(4, 5)
+            renewal = renewals.get(key)
+            if renewal and not self.comments:
+                renewal.see(found, int(found[2]))
+                continue
+            self.entry(found.string, found, int(key[1]))
+            if key[0] in RENEWALS and key not in renewals:
+                renewals[key] = Renewal(key[0].decode(), self.blocks[int(key[1])], self.picture)
         self.comment(None)
 
     def entry(self, line, found, position):
@@ -108,12 +153,16 @@ class Events:
             self.blocks[position] = Block(json.loads(line))
         block = self.blocks[position]
         reason = REASON.search(line, found.end()) if kind == "refused" else None
-        block.count((kind, reason[1].decode()) if reason else (kind, None), found)
+        sort = (kind, reason[1].decode()) if reason else (kind, None)
+        block.count(sort, found)
+        excused = self.excuse(block, kind, found) if kind in OTHERS else None
+        if kind in OTHERS and not excused:
+            block.find(sort, int(found[1]))
         state = None
         if kind == "act":
-            state = self.act(json.loads(line), block, place(found))
+            state = self.act(block.read(line), block, place(found))
         elif kind in OTHERS:
-            self.other(kind, reason and reason[1].decode(), block, line, place(found))
+            self.other(kind, sort[1], block, line, place(found), excused)
         self.picture.mark((block.appid, block.name), kind, int(found[2]), state, int(found[1]), block.counts["act", None].number == 1 if state else False)
 
     def comment(self, packet):
@@ -127,7 +176,7 @@ class Events:
         self.acts += 1
         self.first, self.last = self.first or where, where
         quality, delay = record["tQuality"], record["delay"]
-        is_timed = record["sqNum"] == 0 and not quality["clockFailure"] and not quality["clockNotSynchronized"] and abs(delay) < HOUR
+        is_timed = where.microseconds and record["sqNum"] == 0 and not quality["clockFailure"] and not quality["clockNotSynchronized"] and abs(delay) < HOUR
         if is_timed and (self.slowest is None or delay > self.slowest[0]):
             self.slowest = (delay, where.packet, block.name)
         members, is_first = record["members"], block.members is None
@@ -136,6 +185,8 @@ class Events:
             block.names = self.names.names_of(block.appid, block.name, members)
         event = block.event = Event("act", where, block)
         event.act(record, changes or [], is_first or changes is None)
+        # A packet without a time tells no delay.
+        event.record["delay"] = delay if where.microseconds else None
         block.members = members
         if is_first:
             self.first_state(event)
@@ -148,16 +199,19 @@ class Events:
         if self.most is None or len(self.firsts) < self.most:
             self.firsts.append(event)
 
-    def other(self, kind, reason, block, line, where):
-        """An event that is no state. Frames of one kind that follow one another are one."""
+    def other(self, kind, reason, block, line, where, excused):
+        """An event that is no state. Frames of one kind that follow one another are one, unless some of them are no finding."""
         last = block.event
         is_restart = kind == "old" and where.packet in self.restarts
-        if last and (last.kind, last.reason) == (kind, reason) and kind in ("refused", "old") and not is_restart:
+        is_same = last and (last.kind, last.reason, last.is_excused) == (kind, reason, bool(excused))
+        if is_same and kind in ("refused", "old") and not is_restart:
             last.number, last.last = last.number + 1, where.packet
             return
         event = block.event = Event(kind, where, block, reason)
         if kind == "old":
             event.record = json.loads(line)
+        if excused:
+            event.note, event.is_excused = excused, True
         if is_restart:
             event.note, self.restarted = RESTART, self.restarted or where
         self.list(event)
@@ -239,7 +293,7 @@ def delay_of(record):
     notes = [words for name, words in (("clockFailure", "the device's clock has failed"), ("clockNotSynchronized",
              "the device's clock is not synchronized")) if record["tQuality"][name]]
     notes += ["not the state's first frame"] if record["sqNum"] else []
-    told = [page.element("span", page.duration(record["delay"]), class_="whole")]
+    told = [page.element("span", page.duration(record["delay"]), class_="whole")] if record["delay"] is not None else []
     return page.element("span", [*told, *(page.element("span", f" {it}", class_="soft note") for it in notes)])
 
 
@@ -255,7 +309,7 @@ def what(event):
         told = some([f"{name}: {old} \u2192 {new}" for name, old, new in event.words()])
         return page.element("span", [told, page.element("span", " test", class_="note mark")]) if event.is_test else told
     is_whole = event.members is not None
-    soft = page.element("span", f"{event.told()}{': ' if is_whole else ''}", class_="soft" if event.kind == "act" else "mark")
+    soft = page.element("span", f"{event.told()}{': ' if is_whole else ''}", class_="soft" if event.kind == "act" or event.is_excused else "mark")
     return page.element("span", [soft, some(values(event))]) if is_whole else soft
 
 

@@ -5,6 +5,7 @@ from reporting import page
 from reporting.events import Counted
 from reporting.station import HEAD
 
+KIND = b'"kind":"'
 FAULT = re.compile(rb',"offset":(\d+),"error":"(\w+)"')
 COLUMNS = [page.Column("Error"), page.Column("Frames", page.NUMBER), page.Column("First packet", page.NUMBER), page.Column("Time"),
            page.Column("Offset in it", page.NUMBER), page.Column("Last packet", page.NUMBER)]
@@ -20,10 +21,19 @@ class Faults:
         self.errors, self.notes, self.offsets = {}, {}, {}
 
     def see(self, lines):
+        """The lines of goose check. Those of the first note, which can be of each frame, are only counted."""
+        note, number, last = None, 0, None
         for line in lines:
+            if note and line.endswith(note):
+                number, last = number + 1, line
+                continue
             found = HEAD.match(line)
             if found:
                 self.line(line, found)
+                note = note or (line[found.start(4) - len(KIND):] if found[4] != b"fault" else None)
+        if last:
+            held = next(iter(self.notes.values()))
+            held.number, held.last = held.number + number, HEAD.match(last)
 
     def line(self, line, found):
         fault = FAULT.match(line, found.end()) if found[4] == b"fault" else None

@@ -37,7 +37,7 @@ class Window:
     """The samples of a stream around the trip, by their indexes from the first of them on."""
 
     def __init__(self, wave):
-        self.wave, self.counted, self.octets, self.present = wave, samples.Counted(wave.rate), bytearray(), bytearray()
+        self.wave, self.counted, self.octets, self.present = wave, sample_streams.Counted(wave.rate), bytearray(), bytearray()
         self.frames, self.latest, self.most = [], 0, wave.rate * 4
 
     def see(self, counts, octets, now, packet):

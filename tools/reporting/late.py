@@ -1,11 +1,17 @@
-"""Which frames of a control block that were named missing came late, and which late ones were never missing: copies."""
+"""Which frames of a control block, and samples of a stream, that were named missing came late, and which late ones were never missing: copies."""
 import bisect
 import re
 
+from reporting.times import SECOND
+
 # The numbers at the end of a line: a state, and the first and last of what is missing, or the frame that came.
 NUMBERS = re.compile(rb'(?:"stNum":(\d+),)?(?:"from":(\d+),"to":(\d+)|"sqNum":(\d+))\}$')
+# The count of a late sample, or of the first one that is missing.
+COUNT = re.compile(rb'"(?:smpCnt|from)":(\d+)')
 # The greatest number of a frame, and how many runs of missing frames are held of all senders.
 GREATEST, MOST = (1 << 64) - 1, 20000
+# How many runs of missing samples are held of one stream.
+MOST_RUNS = 1000
 
 
 class Late:
@@ -80,3 +86,31 @@ class Lates:
             it.forget()
             self.number += it.number
         return told
+
+
+class LateSamples:
+    """The samples of one stream that are missing, in runs: the count of the first, how many, the packet that showed them and when it came. Counts
+    come again each second, and a late sample is of the last second."""
+
+    def __init__(self, period):
+        self.period, self.runs, self.came, self.copies = period, [], 0, 0
+
+    def miss(self, line, size, packet, now):
+        self.runs = [it for it in self.runs[-MOST_RUNS:] if now - it[3] < SECOND]
+        self.runs.append((int(COUNT.search(line)[1]), size, packet, now))
+
+    def take(self, line):
+        """A late sample: the packet that showed that it was missing, or None."""
+        count = int(COUNT.search(line)[1])
+        for at in range(len(self.runs) - 1, -1, -1):
+            first, size, packet, since = self.runs[at]
+            place = (count - first) % self.period
+            if place < size:
+                del self.runs[at]
+                for it in ((count + 1, size - place - 1, packet, since), (first, place, packet, since)):
+                    if it[1]:
+                        self.runs.insert(at, it)
+                self.came += 1
+                return packet
+        self.copies += 1
+        return None

@@ -7,8 +7,15 @@ from reporting.verdict import found as finding, not_judged, some
 CARRIERS = {"892f": ("HSR", "capture where the frames have no HSR tag, or with one that takes it off"),
             "88a8": ("an outer VLAN tag", "capture where the frames have no outer tag"),
             "8100": ("a tag in a tag", "capture where the frames have one VLAN tag"),
-            "9100": ("an outer VLAN tag", "capture where the frames have no outer tag"),
+            **dict.fromkeys(("9100", "9200", "9300"), ("an outer VLAN tag", "capture where the frames have no outer tag")),
+            **dict.fromkeys(("8847", "8848"), ("MPLS", "capture where the frames have no MPLS label")),
+            "88e7": ("a provider's backbone, PBB", "capture where the frames are not in others"),
+            "893f": ("a tag of IEEE 802.1BR", "capture where the frames have no such tag"),
+            "f1c1": ("a redundancy tag, IEEE 802.1CB", "capture where the frames have no such tag"),
             "88e5": ("MACsec", "capture where the frames are not encrypted")}
+
+# What to do where packets have no time.
+TIMED = "capture with times, as dumpcap and tcpdump do"
 
 
 def of_links(found):
@@ -31,7 +38,8 @@ def of_others(found):
         if kind in ("other", "others"):
             what, todo, kind = "the kinds after sixteen", "look at them in Wireshark", "other protocols"
         if what:
-            yield not_judged(f"{page.count(number, 'frame')} of {kind} ({what}), from packet\u00a0{first} on, may carry GOOSE: not read.", todo)
+            yield not_judged(f"{page.count(number, 'frame')} of {kind} ({what}), from packet\u00a0{first} on, may carry GOOSE: not read, nor are "
+                             "Sampled Values in these.", todo)
 
 
 def of_recorder(found):
@@ -47,8 +55,11 @@ def of_recorder(found):
 
 
 def of_times(found):
-    """Times that go back, and leaps of the capture's clock."""
+    """Packets without times, times that go back, and leaps of the capture's clock."""
     times = found.station.times
+    if found.untimed.number:
+        yield not_judged(f"{found.untimed.told(found.packets)} (simple packet blocks, or times of 0): silences, lifetimes, pauses, clocks and "
+                         "delays are not judged.", TIMED)
     if times.backs:
         it = times.greatest_back
         more = f", first at packet\u00a0{times.backs[0].first.packet}" if it is not times.backs[0] else ""
@@ -77,7 +88,10 @@ def judge(found):
 def silences(found):
     """Silences that are not judged, since the capture's times do not tell them."""
     times = found.station.times
-    if times.backs:
+    if found.untimed.number:
+        more = f": {page.count(found.missing.hidden, 'silence')} may be none" if found.missing.hidden else ""
+        yield not_judged(f"silences are not judged, since {found.untimed.told(found.packets)}{more}.", TIMED)
+    elif times.backs:
         more = f"; {page.count(found.missing.hidden, 'silence')} that they show may be none" if found.missing.hidden else ""
         it = times.backs[0]
         yield not_judged(f"times go back at packet\u00a0{it.first.packet}: silences after packet\u00a0{it.greatest} cannot be seen{more}.",

@@ -29,7 +29,7 @@ class Pace:
                 self.note(*told)
             elif len(self.over) < MOST:
                 self.over.append((gaps[-1], told))
-        self.state, self.number, self.sequence, self.at = state, number, sequence, now
+        self.state, self.number, self.sequence, self.at = state, number, sequence, now or None
 
     def note(self, kinds, pause, packet):
         for kind in kinds:
@@ -56,20 +56,24 @@ def exceeded(seen, pace, times, is_timed):
         yield f"no timeAllowedtoLive above {ANY} {times[ANY]:,} ms: {live:,} ms (packet\u00a0{packet})"
 
 
-def of_all(station, configured):
+def of_all(station, configured, is_timed):
     """What is said of each control block, where it is something."""
     found = {}
     for it in station.of_kind("block"):
         pace, times = station.paces.get((it.appid, it.name)), configured.times.get((it.appid, it.name))
-        told = list(exceeded(it, pace, times, not station.times.backs)) if pace and it.first else []
+        told = list(exceeded(it, pace, times, is_timed)) if pace and it.first else []
         if told:
             found[id(it)] = told
     return found
 
 
-def judge(found, own):
-    """The control blocks that are not as MinTime and MaxTime ask."""
+def judge(found, own, agree):
+    """The control blocks that are not as MinTime and MaxTime ask, beside those that agree with the file in all."""
+    if found.configured.times and not found.is_timed:
+        why = found.untimed.told(found.packets) if found.untimed.number else "times go back"
+        yield not_judged(f"pauses are not held beside MinTime and MaxTime of {own.scd}, since {why}.", "capture with times that go on")
     told = [f"{it.name}: {' and '.join(found.paces[id(it)])}" for it in found.station.seen.values() if id(it) in found.paces]
     if told:
-        yield not_judged(f"{page.count(len(told), 'control block does', 'control blocks do')} not keep the times of {own.scd}: {some(told)}.",
-                         "compare the device's settings with the file")
+        others = page.count(agree, "other agrees", "others agree") if agree else "no other agrees"
+        yield not_judged(f"{page.count(len(told), 'control block does', 'control blocks do')} not keep the times of {own.scd}: {some(told)}; "
+                         f"{others} with it in {found.all_packets}.", "compare the device's settings with the file")

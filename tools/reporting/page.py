@@ -70,6 +70,7 @@ svg .expired { stroke: var(--expired); stroke-width: 3; } svg .lost { fill: var(
   stroke-width: 1.8; } svg text.act { fill: var(--act); font-size: 12px; }
 """ + "".join(f"svg .wave{at} {{ fill: none; stroke: var(--wave{at}); stroke-width: 15; stroke-linejoin: round; }} svg .name{at} {{ fill: var(--wave{at}); font-weight: 600; }}\n"
                for at in range(1, 9)) + """svg .wave4 { stroke-dasharray: 50 30; }
+svg .lane, svg .words, svg [class^=name] { paint-order: stroke; stroke: var(--paper); stroke-width: 4; stroke-linejoin: round; }
 svg .invalid { stroke: var(--expired); stroke-width: 1.4; } svg .doubtful { stroke: var(--warn); stroke-width: 0.8; }
 svg .inception { stroke: var(--warn); stroke-width: 1.5; } svg .opening { stroke: var(--soft); stroke-width: 1.5; stroke-dasharray: 2 2; }
 @media screen and (min-width: 940px) { .wide td.number, .wide th.number { width: 1%; } }
@@ -94,7 +95,8 @@ svg .inception { stroke: var(--warn); stroke-width: 1.5; } svg .opening { stroke
   .summary li { font-size: 8pt; line-height: 1.25; padding: 0.12rem 0.5rem; margin: 0.1rem 0; }
   .wide .name { display: inline-block; min-width: 10.5em; } .legend { break-after: avoid; }
   h2, h3, caption, figcaption { break-after: avoid; } tr, .summary li, figure { break-inside: avoid; } thead { display: table-header-group; break-after: avoid; } thead tr { break-after: avoid; }
-  table { font-size: 7.6pt; } .wide .whole { white-space: normal; overflow-wrap: anywhere; } .legend, figcaption { font-size: 8pt; } th, td { padding: 0.15rem 0.3rem; } .summary a { display: none; }
+  table { font-size: 7.6pt; } .wide .whole { white-space: normal; overflow-wrap: anywhere; } .wide .number .whole { white-space: nowrap; }
+  .legend, figcaption { font-size: 8pt; } th, td { padding: 0.15rem 0.3rem; } .summary a { display: none; }
   a { color: inherit; text-decoration: none; }
   .scroll { overflow: visible; border: 0; } .scroll svg { min-width: 0; max-height: 255mm; } pre { font-size: 7.5pt; }
   body, .summary li, svg, .broken, .verdict { print-color-adjust: exact; -webkit-print-color-adjust: exact; }
@@ -167,7 +169,9 @@ def moment(time, short=True):
 
 
 def when(place, short=True):
-    """The time of a place, or its microseconds where that is later than dates go."""
+    """The time of a place, or its microseconds where that is later than dates go. At 0 a packet has no time."""
+    if not place.microseconds:
+        return "no time"
     return moment(place.time, short) if place.time else f"{place.microseconds} \u03bcs"
 
 

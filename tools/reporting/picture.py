@@ -43,27 +43,55 @@ class Axis:
         self.first, self.span = first, max(last - first, 1)
 
     def x(self, moment):
-        return SIDE + (min(max(moment - self.first, 0), self.span)) * (WIDTH - 2 * SIDE) // self.span
+        since = moment - self.first
+        return SIDE + (0 if since < 0 else since if since < self.span else self.span) * (WIDTH - 2 * SIDE) // self.span
+
+
+    def until(self, x):
+        """The first moment that is behind a place."""
+        return self.first + -((SIDE - 1 - x) * self.span // (WIDTH - 2 * SIDE))
 
 
 class Lane:
-    """What is drawn of one sender over the whole capture: of marks and bars that cover one another one is kept."""
+    """What is drawn of one sender over the whole capture: of marks and bars that cover one another one is kept. Of each kind of marks an octet
+    a place tells whether one is there, and a bar is one number."""
+
+    __slots__ = ("key", "name", "axis", "drawn", "labels", "wide", "since")
 
     def __init__(self, key, name, axis):
-        self.key, self.name, self.axis, self.marks, self.bars, self.since = key, name, axis, {}, {}, None
+        self.key, self.name, self.axis, self.drawn, self.labels, self.wide, self.since = key, name, axis, {}, {}, {}, None
 
     def mark(self, kind, moment, label):
+        """A mark, whose place is answered."""
         x = self.axis.x(moment)
-        self.marks.setdefault((kind, x), label)
-        if kind in ("expired", "switched") and self.since is not None:
+        drawn = self.drawn.get(kind)
+        if drawn is None:
+            drawn = self.drawn[kind] = bytearray(WIDTH)
+        if not drawn[x]:
+            drawn[x] = 1
+            if label:
+                self.labels[x] = label
+        if self.since is None:
+            if kind in ("act", "refreshed"):
+                self.since = moment
+        elif kind in ("expired", "switched"):
             self.bar("valid", self.since, moment)
             self.since = None
-        if kind in ("act", "refreshed") and self.since is None:
-            self.since = moment
+        return x
 
     def bar(self, kind, since, until):
         x = self.axis.x(since)
-        self.bars[kind, x, max(self.axis.x(until) - x, 1)] = None
+        self.wide.setdefault(kind, {})[x * WIDTH + max(self.axis.x(until) - x, 1)] = None
+
+    @property
+    def marks(self):
+        """The marks by their kind and place, each with its label, which states that are acted on have alone."""
+        return {(kind, x): self.labels.get(x, "") if kind == "act" else "" for kind, drawn in self.drawn.items() for x, it in enumerate(drawn) if it}
+
+    @property
+    def bars(self):
+        """The bars: their kind, place and width."""
+        return [(kind, *divmod(it, WIDTH)) for kind, held in self.wide.items() for it in held]
 
     def end(self, moment):
         if self.since is not None:
@@ -99,17 +127,30 @@ class Picture:
         return self.lanes[key]
 
     def mark(self, key, kind, moment, state, packet, is_first=False):
-        """An entry of a control block. Times that go back count as the greatest so far. The first state of a block begins no burst."""
-        self.now = max(self.now, moment)
-        lane, label = self.lane(key, key[1]), "" if state is None else str(state)
-        if self.burst and self.now > self.burst.until:
+        """An entry of a control block. Times that go back count as the greatest so far. The first state of a block begins no burst. Answered is up to
+        when entries of this kind have its place, or 0."""
+        if moment > self.now:
+            self.now = moment
+        now, lane, label = self.now, self.lanes.get(key) or self.lane(key, key[1]), "" if state is None else str(state)
+        if self.burst and now > self.burst.until:
             self.burst = None
-        if kind == "act" and not is_first and not (self.burst and self.burst.add(self.now, packet)):
+        if kind == "act" and not is_first and not (self.burst and self.burst.add(now, packet)):
             self.begin(packet)
-        lane.mark(kind, self.now, label)
-        self.recent.append((lane, kind, self.now, label))
+        x = lane.mark(kind, now, label)
+        if self.recent is not None:
+            self.recent.append((lane, kind, now, label))
+        elif not self.burst:
+            return self.axis.until(x)
         if self.burst and len(self.burst.marks) < MOST_MARKS:
-            self.burst.marks.append(self.recent[-1])
+            self.burst.marks.append((lane, kind, now, label))
+        return 0
+
+    def is_marked(self, key, moment):
+        """Whether an entry that is no event, at a moment before the last answer of `mark` for its kind, changes nothing."""
+        if self.recent is not None or self.burst or self.lanes[key].since is None or moment < self.now:
+            return False
+        self.now = moment
+        return True
 
     def begin(self, packet):
         """A new burst, which begins with an event."""
@@ -119,6 +160,9 @@ class Picture:
         held = {it.key for it in self.lanes.values() if it.since is not None}
         self.burst = Burst(self.now, packet, self.recent, held)
         self.bursts.append(self.burst)
+        # Marks before a burst are those that are drawn around it: no further one is.
+        if len(self.bursts) >= MOST_BURSTS:
+            self.recent = None
 
     def flow(self, key, name, first, last):
         """A stream, from its first sample to its last."""
@@ -235,11 +279,11 @@ def joined(bars):
     return held
 
 
-def lane_of(name, marks, bars, top):
+def lane_of(lane, top):
     """One lane: its name, bars, and marks over them."""
-    y = top + TRACK
+    y, name = top + TRACK, lane.name
     yield text(SIDE, top + 11, name if len(name) <= LONGEST_NAME else f"{name[:LONGEST_NAME]} ..", class_="lane")
-    marks, bars = thinned(marks), joined(bars)
+    marks, bars = thinned(lane.marks), joined(lane.bars)
     for kind, x, wide in sorted(bars, key=lambda it: list(BARS).index(it[0])):
         yield f'<rect class="{kind}" x="{x}" y="{y - BAR // 2}" width="{wide}" height="{BAR}"/>'
     # Retransmissions are many: they are one path, and lie under the other marks.
@@ -255,7 +299,7 @@ def svg(title, axis, lanes, zero, unit):
     height = TOP + LANE * len(lanes) + 6
     inside = [page.element("title", title), *map(page.Raw, scale(axis, height, zero, unit, places_of(step_of(axis.span), unit)))]
     for at, lane in enumerate(lanes):
-        inside += map(page.Raw, lane_of(*lane, TOP + LANE * at))
+        inside += map(page.Raw, lane_of(lane, TOP + LANE * at))
     return page.element("svg", inside, viewBox=f"0 0 {WIDTH} {height}", width=WIDTH, height=height, role="img", aria_label=title)
 
 
@@ -277,8 +321,8 @@ def overviews(picture, zero):
         at = number * MOST_LANES
         of = f", {at + 1} to {at + len(some)} of {len(lanes)}" if len(lanes) > MOST_LANES else ""
         title = f"Control blocks and streams over the whole capture{of}"
-        yield figure(f"{title}. Seconds from {zero.time or zero.microseconds} (packet\u00a0{zero.packet}).", title, picture.axis,
-                     [(it.name, it.marks, it.bars) for it in some], zero.microseconds, 1_000_000)
+        yield figure(f"{title}. Seconds from {zero.time or zero.microseconds} (packet\u00a0{zero.packet}).", title, picture.axis, some,
+                     zero.microseconds, 1_000_000)
 
 
 def lanes_of(burst, axis, places):
@@ -294,7 +338,7 @@ def lanes_of(burst, axis, places):
             lanes[lane.key].bar(kind, since, until)
     for lane in lanes.values():
         lane.end(axis.first + axis.span)
-    return [(it.name, it.marks, it.bars) for it in sorted(lanes.values(), key=lambda it: places[it.key])]
+    return sorted(lanes.values(), key=lambda it: places[it.key])
 
 
 def zooms(picture, short):

@@ -101,7 +101,9 @@ class Asked:
         return fitting[0] if fitting else rate * frequencies[0] if self.frequency or measured else None
 
     def by_mode(self, rate, mode, measured, source):
-        """The rate of a stream of which smpRate and smpMod are told."""
+        """The rate of a stream of which smpRate and smpMod are told. No stream sends 0 samples."""
+        if rate == 0:
+            return Rate(None, None, measured, f"smpRate of {source} is 0")
         if mode == PER_SAMPLE:
             return Rate(None, None, measured, f"{source} say{'' if source == FRAMES else 's'} that smpRate is seconds a sample")
         if mode == PER_SECOND:
@@ -110,7 +112,7 @@ class Asked:
         if number is None:
             return Rate(None, None, measured, f"smpRate {rate} of {source} is a period, and the capture is too short to show how long one is",
                         "give --frequency 50 or 60")
-        return Rate(number, f"by {source}: smpRate {rate}, a period at {number // rate if rate else 0} Hz", measured)
+        return Rate(number, f"by {source}: smpRate {rate}, a period at {number // rate} Hz", measured)
 
     def rate(self, seen, configured, name):
         """The rate of a stream, by what comes first: the arguments, the SCL file of this name, its frames, the capture."""
@@ -129,7 +131,7 @@ class Asked:
 
     def own_rate(self, rate, mode, measured):
         """The rate by what a stream's frames tell. Where they do not say of what it is the rate, it is what fits."""
-        if mode is not None:
+        if mode is not None or rate == 0:
             return self.by_mode(rate, mode, measured, FRAMES)
         fitting = [it for it in (rate, *(it * rate for it in FREQUENCIES)) if measured and is_like(it, measured)]
         return Rate(fitting[0], f"by {FRAMES}: smpRate {rate}", measured) if fitting else shown(measured)
@@ -163,6 +165,9 @@ def judge(found, own):
             unjudged.setdefault(found.rates[it].todo, []).append(f"{it.name}, from packet\u00a0{it.first.packet} on: {found.rates[it].why}")
     for todo, told in unjudged.items():
         yield not_judged(f"samples of {page.count(len(told), 'stream')} are not judged: {some(told)}.", todo)
+    if found.untimed.number:
+        yield not_judged(f"samples are judged by their counts alone, since {found.untimed.told(found.packets)}: half a second that is gone cannot "
+                         "be seen.", "capture with times")
     judged = [f"{it.name}: {found.rates[it].number:,} samples a second {found.rates[it].source}" for it in streams if not found.rates[it].why]
     if judged:
         yield clean(f"samples of {page.count(len(judged), 'stream')} are judged in {found.all_packets} ({some(judged)}).")

@@ -34,8 +34,8 @@ class Fields:
     """How numbers of an order of octets are read."""
 
     def __init__(self, order):
-        self.sizes, self.interface, self.packet, self.old_packet = (
-            struct.Struct(order + form).unpack_from for form in ("II", "HHI", "IIIII", "HHIIII"))
+        self.sizes, self.interface, self.packet, self.old_packet, self.whole = (
+            struct.Struct(order + form).unpack_from for form in ("II", "HHI", "IIIII", "HHIIII", "IIIIIII"))
 
 
 FIELDS = {order: Fields(order) for order in "<>"}
@@ -76,7 +76,7 @@ class Comment:
 
 
 class Cut:
-    """The packets of which less was captured than came: how many, and the first."""
+    """The packets of which something is not captured: how many, and the first."""
 
     def __init__(self):
         self.number, self.first = 0, None
@@ -94,6 +94,8 @@ class Recorded:
         self.checksum = 0
         self.form, self.application, self.numbers, self.most = "", None, 0, packets
         self.order, self.section, self.rest, self.skip, self.is_over, self.cut = "<", [], b"", 0, False, Cut()
+        # The packets of blocks that have no time.
+        self.simple = Cut()
         self.walk, self.fields = self.blocks, FIELDS["<"]
         # The next packet with an error, all after it, and what is told of them.
         self.after, self.heads = iter(malformed.packets), malformed.heads
@@ -142,7 +144,8 @@ class Recorded:
             if self.numbers + 1 == self.wanted and at + 16 + min(captured, HEAD) > len(octets):
                 break
             self.numbers += 1
-            self.look(octets, at + 16, captured)
+            if self.numbers == self.wanted:
+                self.look(octets, at + 16, captured)
             if captured < original:
                 self.cut.add(self.numbers)
             at += 16 + captured
@@ -152,7 +155,7 @@ class Recorded:
 
     def blocks(self, octets):
         """Takes the blocks that begin in these octets, and answers where the next one begins: perhaps behind their end."""
-        at = 0
+        at = self.usual(octets, 0)
         while at + 12 <= len(octets) and not self.is_over:
             kind, size = self.fields.sizes(octets, at)
             if kind == SECTION:
@@ -166,7 +169,24 @@ class Recorded:
                 self.packet(kind, octets, at, size)
             elif kind in TAKEN and not self.is_over:
                 self.block(kind, octets, at, min(size, MOST + 4))
+            at = self.usual(octets, at + size)
+        return at
+
+    def usual(self, octets, at):
+        """Takes the packets in usual blocks that begin there: whole ones without options of which nothing is looked at. Answered is where another
+        block begins."""
+        numbers, section, size_of_all, whole = self.numbers, self.section, len(octets), self.fields.whole
+        until = self.most if self.wanted is None else min(self.most, self.wanted - 1)
+        while numbers < until and at + 32 <= size_of_all and not self.is_over:
+            kind, size, which, _, _, captured, original = whole(octets, at)
+            if (kind != PACKET or size % 4 or not 32 <= size <= 36 + captured or captured < original or at + size > size_of_all
+                    or which >= len(section)):
+                break
+            numbers += 1
+            it = section[which]
+            it.packets, it.first, it.last = it.packets + 1, it.first or numbers, numbers
             at += size
+        self.numbers = numbers
         return at
 
     def block(self, kind, octets, at, size):
@@ -207,6 +227,8 @@ class Recorded:
             self.is_over = True
             return
         self.numbers += 1
+        if kind == SIMPLE:
+            self.simple.add(self.numbers)
         it = self.section[which]
         it.packets, it.first, it.last = it.packets + 1, it.first or self.numbers, self.numbers
         it.dropped_before += dropped

@@ -40,40 +40,22 @@ def columns_of(layout, octets):
     return list(zip(*layout.read.iter_unpack(octets)))
 
 
-class Counted(sample_streams.Counted):
-    """The index of each sample, and of the first of a frame at once where all of it are the next ones."""
-
-    def first_of(self, counts, times):
-        """The index of the first of some samples, with the times of their packets, or None where they are not simply the next ones."""
-        first, number = counts[0], len(counts)
-        if self.newest is None or first != (self.count + 1) % self.rate or counts[-1] != (first + number - 1) % self.rate:
-            return None
-        passed = list(map(operator.sub, times, (self.now, *times)))
-        if min(passed) < 0 or max(passed) >= self.soon:
-            return None
-        whole, rest = divmod(first + number, self.rate)
-        if counts != (list(range(first, first + number)) if not whole else [*range(first, self.rate), *range(rest)]):
-            return None
-        self.samples, self.run, self.newest = self.samples + number, self.run + number, self.newest + number
-        self.count, self.now = counts[-1], times[-1]
-        return self.newest - number + 1
-
-
-def octets_of(frames):
-    """The samples of frames one behind another."""
-    return binascii.unhexlify(b"".join(sample for told, _, _ in frames for _, sample in told))
+def told_of(frames):
+    """What frames say: smpCnt and the sample of each ASDU, one behind another."""
+    return list(itertools.chain.from_iterable(told for told, _, _ in frames))
 
 
 class Held:
     """Frames in as little room as they take."""
 
     def __init__(self, frames):
-        self.octets, self.counts = octets_of(frames), array.array("H", (int(count) for told, _, _ in frames for count, _ in told))
+        told = told_of(frames)
+        self.octets, self.counts = binascii.unhexlify(b"".join(told[1::2])), array.array("H", map(int, told[::2]))
         self.sizes, self.times, self.packets = [array.array("Q", it) for it in zip(*((len(told), now, packet) for told, now, packet in frames))]
 
     def frames(self, size):
-        told = [(b"%d" % count, binascii.hexlify(self.octets[at * size:(at + 1) * size])) for at, count in enumerate(self.counts)]
-        ends = list(itertools.accumulate(self.sizes))
+        told = [it for at, count in enumerate(self.counts) for it in (b"%d" % count, binascii.hexlify(self.octets[at * size:(at + 1) * size]))]
+        ends = itertools.accumulate(self.sizes)
         return [(told[end - number:end], now, packet) for end, number, now, packet in zip(ends, self.sizes, self.times, self.packets)]
 
 
@@ -84,6 +66,11 @@ class Count:
 
     def __init__(self, count, now):
         self.count, self.now = count, now
+
+
+def of_size(told, wide):
+    """What a frame says of the samples that have so many digits."""
+    return [it for pair in zip(told[::2], told[1::2]) if len(pair[1]) == wide for it in pair]
 
 
 class Unlike(Exception):
@@ -159,10 +146,10 @@ class Wave:
         self.periods, self.spans, self.running, self.more_spans, self.limits = Periods(), [], {}, 0, []
 
     def see(self, told, now, packet):
-        """What a frame says: smpCnt and the sample of each ASDU, as they are written. Some frames are looked at together."""
+        """What a frame says: smpCnt and the sample of each ASDU in turn, as they are written. Some frames are looked at together."""
         self.frames.append((told, now, packet))
         self.waiting += len(told)
-        if self.waiting >= BATCH:
+        if self.waiting >= 2 * BATCH:
             self.look()
 
     def look(self):
@@ -171,18 +158,17 @@ class Wave:
         if self.why or not frames:
             return
         if self.size is None:
-            self.size = len(frames[0][0][0][1]) // 2
+            self.size = len(frames[0][0][1]) // 2
             self.can_be_pairs = sample_values.are_pairs_of(self.size)
-        wide = 2 * self.size
-        if any(len(sample) != wide for told, _, _ in frames for _, sample in told):
-            size = sum(len(told) for told, _, _ in frames)
-            frames = [(own, now, packet) for told, now, packet in frames if (own := [it for it in told if len(it[1]) == wide])]
-            self.others += size - sum(len(told) for told, _, _ in frames)
+        wide, told = 2 * self.size, told_of(frames)
+        if set(map(len, told[1::2])) != {wide}:
+            frames = [(own, now, packet) for told, now, packet in frames if (own := of_size(told, wide))]
+            self.others += (len(told) - len(told_of(frames))) // 2
         if self.layout is not None or not frames:
             self.put(frames)
             return
         self.head.append(Held(frames))
-        self.held += self.size * sum(len(told) for told, _, _ in frames)
+        self.held += len(self.head[-1].octets)
         if len(self.seen.rise.rates) >= RISES or self.held > MOST_HEAD:
             self.decide()
 
@@ -205,7 +191,7 @@ class Wave:
         self.is_guess = are_pairs and is_raw(layout)
         self.begin(self.told.layout_of(self.seen, self.size, True) if self.is_guess else layout)
         self.frequency = self.told.frequency or self.frequency_of(whole)
-        self.counted = Counted(self.rate)
+        self.counted = sample_streams.Counted(self.rate)
         for it in head:
             self.put(it.frames(self.size))
 
@@ -252,50 +238,55 @@ class Wave:
         """The samples of frames: all at once, where they are simply the next ones."""
         if not frames:
             return
-        counts, times = [int(count) for told, _, _ in frames for count, _ in told], [now for _, now, _ in frames]
-        index = self.counted.first_of(counts, times)
+        each, times, _ = zip(*frames)
+        told = list(itertools.chain.from_iterable(each))
+        index = self.counted.first_of(list(map(int, told[::2])), times)
         if index is not None:
-            firsts = [index, *(index + it for it in itertools.accumulate(len(told) for told, _, _ in frames[:-1]))]
-            self.append(index, octets_of(frames), firsts, [(packet, now) for _, now, packet in frames])
+            sizes = set(map(len, each))
+            firsts = (range(index, index + len(told) // 2, len(each[0]) // 2) if len(sizes) == 1
+                      else itertools.accumulate((len(own) // 2 for own in each[:-1]), initial=index))
+            self.append(index, binascii.unhexlify(b"".join(told[1::2])), firsts, frames)
         elif len(frames) > 1:
             half = len(frames) // 2
             self.put(frames[:half])
             self.put(frames[half:])
         else:
-            self.put_each(counts, *frames[0])
+            self.put_each(*frames[0])
 
-    def put_each(self, counts, told, now, packet):
+    def put_each(self, told, now, packet):
         """The samples of a frame one by one. Late ones are not looked at."""
         self.latest = max(now, self.latest, self.counted.now)
-        for count, (_, sample) in zip(counts, told):
-            index = self.counted.index(Count(count, self.latest))
+        for count, sample in zip(told[::2], told[1::2]):
+            index = self.counted.index(Count(int(count), self.latest))
             if index is not None and index == self.counted.newest:
-                self.append(index, binascii.unhexlify(sample), [index], [(packet, now)])
+                self.append(index, binascii.unhexlify(sample), [index], [(None, now, packet)])
 
-    def append(self, index, octets, firsts, places):
-        """Samples one after another, with the first of each frame and its place."""
+    def append(self, index, octets, firsts, frames):
+        """Samples one after another, with the first of each frame."""
         if self.start is None:
-            self.start, self.begun = index, places[0][1]
+            self.start, self.begun = index, frames[0][1]
         elif index != self.start + len(self.octets) // self.size:
             self.end_run()
             self.start = index
             self.periods.open += 1
         self.firsts += firsts
-        self.places += places
+        self.places += frames
         self.octets += octets
-        while self.start + len(self.octets) // self.size >= (until := self.end_of_period()):
-            size = (until - self.start) * self.size
+        until = self.start + len(self.octets) // self.size
+        ends = list(itertools.takewhile(lambda it: it <= until, self.ends_of_periods()))
+        if ends:
+            size = (ends[-1] - self.start) * self.size
             piece = bytes(self.octets[:size])
             del self.octets[:size]
-            self.see_period(piece)
-            self.start = until
-            passed = bisect.bisect_right(self.firsts, until) - 1
-            del self.firsts[:passed], self.places[:passed]
+            self.see_periods(piece, ends)
 
-    def end_of_period(self):
-        """The index with which the period of the next sample ends."""
-        number = self.start * self.frequency // self.rate + 1
-        return -(-number * self.rate // self.frequency)
+    def ends_of_periods(self):
+        """The indexes with which the period of the next sample and those behind it end."""
+        end = self.start
+        while True:
+            number = end * self.frequency // self.rate + 1
+            end = -(-number * self.rate // self.frequency)
+            yield end
 
     def end_run(self):
         """What is left of a period before a gap."""
@@ -306,15 +297,55 @@ class Wave:
         self.places.clear()
         self.end_spans(list(self.running))
 
+    def see_periods(self, octets, ends):
+        """The samples of some periods, which end with these indexes: all at once, where nothing is to be said of a quality."""
+        columns = None if self.are_floats or self.running else columns_of(self.layout, octets)
+        if columns and all(map(self.is_usual, map(columns.__getitem__, self.qualities))):
+            self.see_usual(columns, [self.start, *ends])
+            self.pass_to(ends[-1])
+            return
+        begin = self.start
+        for since, until in zip([begin, *ends], ends):
+            self.see_period(octets[(since - begin) * self.size:(until - begin) * self.size])
+            self.pass_to(until)
+
+    def pass_to(self, index):
+        """The next sample has this index."""
+        self.start = index
+        passed = bisect.bisect_right(self.firsts, index) - 1
+        del self.firsts[:passed], self.places[:passed]
+
+    def is_usual(self, column):
+        """Whether a quality has one value alone, which is good."""
+        value = column[0] & 0xFFFFFFFF
+        is_one = column.tobytes() == column[:1].tobytes() * len(column) if isinstance(column, array.array) else column.count(column[0]) == len(column)
+        return is_one and sample_values.is_good(value) and not (self.is_guess and value > sample_values.MOST_QUALITY)
+
+    def see_usual(self, columns, bounds):
+        """The values of periods of which no quality is told: the first can be a part of one."""
+        values, begin = [], self.start
+        for channel, at in enumerate(self.layout.at):
+            column = columns[at]
+            if self.told.has_trips:
+                self.see_limits(self.limits[channel], column)
+            values.append([self.rms(self.channels[channel], column[since - begin:until - begin]) for since, until in zip(bounds, bounds[1:])])
+        for since, until, told in zip(bounds, bounds[1:], zip(*values)):
+            number = since * self.frequency // self.rate
+            self.periods.add(number, list(told) if self.is_whole(number, until - since) else None, 0)
+
+    def is_whole(self, number, samples):
+        """Whether a period has so many samples."""
+        return samples == -(-(number + 1) * self.rate // self.frequency) + (-number * self.rate // self.frequency)
+
     def see_period(self, octets):
         """The samples of a period, or of a part of it."""
         number = self.start * self.frequency // self.rate
-        is_whole = len(octets) // self.size == -(-(number + 1) * self.rate // self.frequency) + (-number * self.rate // self.frequency)
+        is_whole = self.is_whole(number, len(octets) // self.size)
         columns = columns_of(self.layout, octets)
         try:
             bad, marks = self.see_qualities(columns)
         except Unlike:
-            self.is_guess, self.note = False, f"; up to packet {self.places[0][0]} they could be pairs"
+            self.is_guess, self.note = False, f"; up to packet {self.places[0][2]} they could be pairs"
             self.begin(sample_values.raw(self.size))
             self.see_period(octets)
             return
@@ -326,7 +357,7 @@ class Wave:
             values.append(self.rms(self.channels[channel], column) if is_whole and len(column) == len(columns[at]) else None)
             if channel in bad:
                 column = [it for place, it in enumerate(columns[at]) if place not in bad[channel] and math.isfinite(it)]
-            if column:
+            if column and self.told.has_trips:
                 self.see_limits(self.limits[channel], column)
         self.periods.add(number, values if is_whole else None, marks)
 
@@ -335,7 +366,10 @@ class Wave:
         held[0], held[1] = least if least < held[0] else held[0], greatest if greatest > held[1] else held[1]
 
     def rms(self, channel, column):
-        squares, a, b = sum_of_products(column, column), channel.a, channel.b
+        a, b = channel.a, channel.b
+        if not b and not self.are_floats:
+            return abs(a) * math.hypot(*column) / math.sqrt(len(column))
+        squares = sum_of_products(column, column)
         if b:
             return math.sqrt(max(a * a * squares + 2 * a * b * sum(column) + b * b * len(column), 0) / len(column))
         return abs(a) * math.sqrt(squares / len(column))
@@ -381,7 +415,8 @@ class Wave:
 
     def place(self, index):
         """The packet of a sample that is held."""
-        return Place(*self.places[max(bisect.bisect_right(self.firsts, index) - 1, 0)], None)
+        _, now, packet = self.places[max(bisect.bisect_right(self.firsts, index) - 1, 0)]
+        return Place(packet, now, None)
 
     def end_spans(self, which):
         """Spans that have ended: those of some qualities, or all."""
@@ -409,27 +444,30 @@ class Samples:
 
     def __init__(self, rate_of, station_of, frequency=None, channels=None):
         self.rate_of, self.station_of, self.frequency, self.channels = rate_of, station_of, frequency, channels or {}
-        self.waves, self.more = {}, {}
+        # The waves of streams, how many streams more there are, and whether there can be a trip: else no greatest value is asked for.
+        self.waves, self.more, self.has_trips = {}, {}, True
 
-    def see(self, sort, line, at, now, packet):
-        """A frame of Sampled Values."""
-        told = SAMPLES.findall(line, at)
+    def see(self, sort, line, at, now, packet, alike=None):
+        """A frame of Sampled Values: what matched it tells its samples, where it is like one before."""
+        told = alike.groups() if alike else [it for pair in SAMPLES.findall(line, at) for it in pair]
         if len(sort.streams) == 1:
-            self.put(sort.streams[0][1], told, now, packet)
+            sort.wave = self.put(sort.streams[0][1], told, now, packet)
             return
-        names = [it[0] for it in sort.state]
+        pairs = list(zip((it[0] for it in sort.state), told[::2], told[1::2]))
         for _, stream in sort.streams:
-            self.put(stream, [it for name, it in zip(names, told) if name == stream.text], now, packet)
+            self.put(stream, [it for name, *pair in pairs if name == stream.text for it in pair], now, packet)
 
     def put(self, stream, told, now, packet):
+        """What a frame says of a stream. The wave of it is answered, or None."""
         wave = self.waves.get(stream)
         if wave is None:
             if len(self.waves) >= MOST_STREAMS:
                 self.more[stream] = None
-                return
+                return None
             wave = self.waves[stream] = Wave(stream, self)
         if told:
             wave.see(told, now, packet)
+        return wave
 
     def layout_of(self, seen, size, are_pairs):
         """The layout of a stream. Channels that are asked for all streams are of those of that many."""

@@ -13,13 +13,15 @@ QUALITY = [page.Column("Stream"), page.Column("Channels"), page.Column("Quality"
            page.Column("First", page.NUMBER), page.Column("Last", page.NUMBER), page.Column("Packets")]
 # The most octets of these pictures together, and the most names of channels in a cell.
 MOST_OCTETS, MOST_NAMES = 240_000, 24
+# What the channels measure of which it is known on which side of a transformer they are.
+KINDS = ("current", "voltage")
 
 
 def around_trip(found):
     """The samples around the trip, by a second run; None where no trip was recognised, or no stream has samples that can be told."""
     rule, moment = found.trip.found()
     waves = [it for it in found.samples.waves.values() if it.layout]
-    if rule in (None, "busiest") or not waves:
+    if rule in (None, "busiest") or not waves or not moment.place.microseconds:
         return None
     around = Around(waves, moment.place.microseconds)
     around.see(found.asked.parts("reading samples around the trip", "show"), moment.place.packet)
@@ -35,11 +37,17 @@ def section(found):
     streams = page.bounded("Streams and what their samples say", STREAMS, (stream_row(it, found) for it in waves), found.room, "stream")
     more = page.count(len(found.samples.more), "more stream")
     others = [sentence(f"The samples of {more} are not looked at.")] if found.samples.more else []
-    return page.pieces([begin, streams, *others, *pictures(found, waves), qualities(found, waves), page.Raw("</section>\n")])
+    return page.pieces([begin, streams, *others, *primary(waves), *pictures(found, waves), qualities(found, waves), page.Raw("</section>\n")])
 
 
 def sentence(told):
     return page.Raw(page.element("p", told, class_="soft") + "\n")
+
+
+def primary(waves):
+    """Of which side of the transformers the values are, where it is known what they measure."""
+    are_known = any(channel.kind in KINDS for it in waves if it.layout for channel in it.channels)
+    return [sentence("Currents and voltages are primary values, as merging units send them.")] if are_known else []
 
 
 def some(names):
@@ -79,12 +87,12 @@ def figures_of(found, wave):
         title = f"{wave.seen.name}: {BEFORE // 1000} ms before to {AFTER // 1000} ms after the trip"
         svg, more = wave_picture.around(window, moment.place.microseconds, title, BEFORE, AFTER, list(moments(found, moment, window)))
         yield figure(svg, more, title, f"Milliseconds from packet\u00a0{moment.place.packet}.")
-    if wave.periods.whole:
+    if wave.periods.whole and found.station.span[1]:
         title = f"{wave.seen.name}: RMS of each period of the whole recording"
         first, last = found.station.span
         told = [(moment.place.microseconds, "trip", "moment")] if found.around else []
         svg, more = wave_picture.whole(wave, first, last, title, told)
-        where = f"Seconds from {found.station.first.time or first} (packet\u00a0{found.station.first.packet})"
+        where = f"Seconds from {found.station.zero.time or first} (packet\u00a0{found.station.zero.packet})"
         wide = f"; {wave.periods.width} periods a step, least and greatest" if wave.periods.width > 1 else ""
         lacks = f" Periods with missing samples are left open, which is so in {page.count(wave.periods.open, 'place')}." if wave.periods.open else ""
         yield figure(svg, more, title, f"{where}{wide}.{lacks}")
@@ -110,7 +118,7 @@ def moments(found, moment, window):
 
 def legend(waves):
     """What is hatched, where something is."""
-    kinds = [(kind, words) for kind, words, mark in (("invalid", "invalid", 2), ("doubtful", "not good otherwise", 1))
+    kinds = [(kind, words) for kind, words, mark in (("invalid", "invalid", 2), ("doubtful", "not good, but not invalid", 1))
              if any(it.periods.bins[key][2] & mark for it in waves for key in it.periods.bins)]
     if not kinds:
         return ""

@@ -4,7 +4,7 @@ import shlex
 import sys
 
 import senders
-from reporting import clocks, events, faults, missing, page, picture, rates, synchronised
+from reporting import clocks, events, faults, missing, page, picture, rates, synchronised, unread
 
 # How many leaps of the capture's clock are told.
 MOST_LEAPS = 20
@@ -54,11 +54,12 @@ def recorded(found, own):
     rows += [("Packets", f"{found.packets:,}" + (f" ({page.packets(1, found.packets)})" if found.packets else "")),
              ("Of these", "; ".join(kinds_of(found)))]
     if station.first:
-        rows += [("First packet", full(station.first)), ("Last packet", full(station.last)), ("Duration", page.duration(station.span[1] - station.span[0]))]
+        rows += [("First packet", full(station.first)), ("Last packet", full(station.last)),
+                 ("Duration", page.duration(station.span[1] - station.span[0]) if station.span[1] else "not known")]
     rows += [("SCL file", page.element("span", own.scd, class_="name"))] if own.scd else []
     told = [page.table("The capture", FACTS, [page.row(FACTS, it) for it in rows], False)]
-    if found.is_short and station.first and station.first.time:
-        told.append(paragraph(f"Times below are UTC, on {station.first.time[:10]}.", class_="soft"))
+    if found.is_short and station.first and station.first.time and station.span[1]:
+        told.append(paragraph(f"Times below are UTC, on {station.zero.time[:10]}.", class_="soft"))
     if len(found.source.parts) > 1:
         told.append(page.bounded("Files, whose packets are numbered one after another", FILES, map(file_row, found.source.parts), found.room, "file"))
     if any(it.name or it.description or it.packets for it in file.interfaces):
@@ -103,6 +104,8 @@ def clipped(command):
 
 def full(place):
     """A time with its date, or what is told where it has none."""
+    if not place.microseconds:
+        return "no time"
     if place.time is None:
         return f"{place.microseconds:,} \u03bcs since 1970"
     return page.element("span", [page.moment(place.time, False), " UTC"])
@@ -167,12 +170,20 @@ def forms(seen):
     return page.element("span", lines_of(told), class_="name")
 
 
-def agreement(differences, name, times=()):
+def agreement(differences, name, times=(), odd=(), why=None):
     """How a sender is beside its configuration and its times, and whether it differs."""
     if differences is None:
-        return f"not in {name}", True
+        return (f"not compared: {why}", False) if why else (f"not in {name}", True)
     told = [f"differs: {what} {theirs} (packet\u00a0{packet}), configured {ours}" for (what, ours, theirs), packet in differences]
-    return lines_of([*(told or ["agrees"]), *times]), bool(told)
+    agrees = "agrees otherwise" if times or odd else "agrees"
+    return lines_of([*(told or [agrees]), *times, *(f"not compared: {it.value()} (line {it.line})" for it in odd)]), bool(told)
+
+
+def agreement_of(seen, found, own):
+    """How a sender is beside the SCL file."""
+    configured = found.configured
+    times, odd, why = found.paces.get(id(seen), ()), configured.unread_of(seen), configured.why_uncompared(seen)
+    return agreement(found.differences[id(seen)], own.scd, times, odd, why)
 
 
 def block_row(seen, columns, short, compared, changes=0):
@@ -205,12 +216,14 @@ def station(found, own, short):
         heads = [*columns, *([page.Column(f"Beside {own.scd}")] if own.scd else [])]
         held = [it for it in found.station.seen.values() if it.kind == kind]
         held.sort(key=lambda it: (*found.devices.order(it.name), it.appid))
-        rows = [row(it, heads, short, agreement(found.differences[id(it)], own.scd, found.paces.get(id(it), ())) if own.scd else (),
-                    found.station.sequences.changes(it.appid, it.name)) for it in held]
+        rows = [row(it, heads, short, agreement_of(it, found, own) if own.scd else (), found.station.sequences.changes(it.appid, it.name))
+                for it in held]
         rows += [missing_row(it, heads, found.all_packets, own.scd) for it in found.missing_senders if it.kind == kind]
         told.append(page.bounded(what, heads, rows, found.room, "row") if rows else paragraph(f"{what}: none in {found.all_packets}."))
     for line, reference, why in found.unusable[:found.room.rows]:
         told.append(paragraph(f"{own.scd}, line {line}: {reference} is not compared: {why}."))
+    for it in (unread.of_all(found.configured) if found.configured else [])[:found.room.rows]:
+        told.append(paragraph(f"{own.scd}: nothing is held beside {it}: it cannot be read."))
     for it in found.clocks:
         where = f"from packet\u00a0{it.first} on" if it.first else f"{found.all_packets}"
         told += [page.bounded(f"Clocks of devices beside the capture's, {where}", clocks.COLUMNS, it.rows(short), found.room, "row")] if it.off else []
@@ -282,12 +295,13 @@ def wrong(found, short):
 
 def pictures(found, short):
     it = found.picture
-    if not it.lanes or not found.packets:
-        return section("Picture", "picture", paragraph(f"There is nothing to draw in {found.all_packets}."))
+    if not it.lanes or not found.packets or not found.station.span[1]:
+        why = f", since {found.untimed.told(found.packets)}" if found.packets and not found.station.span[1] else ""
+        return section("Picture", "picture", paragraph(f"There is nothing to draw in {found.all_packets}{why}."))
     kinds = {kind for lane in it.lanes.values() for kind, _ in lane.marks}
     bars = {kind for lane in it.lanes.values() for kind, *_ in lane.bars}
     drawn = picture.Limited(found.room.is_all)
-    told = [picture.legend(kinds, bars), drawn.some(picture.overviews(it, found.station.first))]
+    told = [picture.legend(kinds, bars), drawn.some(picture.overviews(it, found.station.zero))]
     if it.bursts:
         told += [page.element("h3", "Events close up"), drawn.some(picture.zooms(it, short))]
     told.append(drawn.left_out())

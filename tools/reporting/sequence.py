@@ -1,6 +1,7 @@
 """How one control block goes on from frame to frame: how often its lifetime changes, and where it restarts within the lifetime."""
 # Where the digits of a time stand in the state of a frame, without its quality; and what stands before stNum.
 BEGIN, END, NUMBER = 6, 20, b'"stNum":'
+GREATEST = (1 << 32) - 1
 # How many restarts are held.
 MOST = 10000
 
@@ -18,12 +19,13 @@ class Sequence:
         self.sort, self.live = sort, live
 
     def see(self, found, state):
-        """A frame of another state: its fields from t to stNum. A younger t with a lower stNum is a restart."""
+        """A frame of another state: its fields from t to stNum. A younger t with a lower stNum is a restart, but for one after the greatest."""
         time = state[BEGIN:END]
         if time <= self.time:
             return
         number = int(state[state.rindex(NUMBER) + len(NUMBER):])
-        if number < self.number and len(self.restarts) < MOST:
+        is_wrap = self.number == GREATEST and number <= 1
+        if number < self.number and not is_wrap and len(self.restarts) < MOST:
             self.restarts.add(int(found[1]))
         self.time, self.number = time, number
 

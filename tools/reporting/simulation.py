@@ -13,6 +13,8 @@ def when(it, span, is_on, short):
 
 def clock(place, short):
     """A time in words that need no element."""
+    if not place.microseconds:
+        return "no time"
     if place.time is None:
         return f"{place.microseconds} \u03bcs"
     return place.time.rstrip("Z").partition("T")[2 if short else 0].replace("T", " ") + " UTC"

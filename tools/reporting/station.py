@@ -3,13 +3,15 @@ import json
 import re
 
 import senders
+from output import date
 from reporting.clocks import Clock
 from reporting.malformed import Malformed
-from reporting.places import HEAD, Span, place
+from reporting.places import HEAD, Place, Span, place
 from reporting.rates import STRETCH, Rise
-from reporting.sequence import Sequences
+from reporting.sequence import NUMBER, Sequences
 from reporting.synchronised import Synch
 from reporting.times import SECOND, Times
+from reporting.wraps import TOP, TOP_STATE, Wraps
 
 # Of an ASDU: svID, confRev, smpSynch, smpRate and smpMod, which stay from one frame to the next.
 ASDU = re.compile(rb'"svID":("(?:[^"\\]|\\.)*"),"datSet":(?:null|"(?:[^"\\]|\\.)*"),"smpCnt":\d+,"confRev":(\d+),"refrTm":(?:null|"[^"]*","refrTime":'
@@ -17,9 +19,9 @@ ASDU = re.compile(rb'"svID":("(?:[^"\\]|\\.)*"),"datSet":(?:null|"(?:[^"\\]|\\.)
 COUNT = re.compile(rb'"smpCnt":(\d+)')
 # A sender of GOOSE, whose simulation stands further on.
 SENDER = re.compile(rb'"appid":"\w+"|"gocbRef":"(?:[^"\\]|\\.)*"')
-# What differs from one frame of a stream to the next, each by what it looks like.
-DIFFERS = {b"smpCnt": rb'"smpCnt":\d+', b"refrTm": rb'"refrTm":"[^"]*","refrTime":(?:null|"[^"]*"),"refrQuality":\{[^}]*\}',
-           b"sample": rb'"sample":"[^"]*"', b"field89": rb'"field89":(?:null|"[^"]*")'}
+# What differs from one frame of a stream to the next, each by what it looks like. The groups are those of a wave in reporting/samples.py.
+DIFFERS = {b"smpCnt": rb'"smpCnt":(\d+)', b"refrTm": rb'"refrTm":"[^"]*","refrTime":(?:null|"[^"]*"),"refrQuality":\{[^}]*\}',
+           b"sample": rb'"sample":"([^"]*)"', b"field89": rb'"field89":(?:null|"[^"]*")'}
 DIFFERENT = re.compile(b"|".join(DIFFERS.values()))
 # After how many frames of a sort it pays to know the next ones by a pattern of their own.
 MANY = 100
@@ -81,12 +83,12 @@ class Sort:
     """Frames of one sender that are the same in all that is told here: how many, the first and the last. Of GOOSE also the state of the
     last one that was looked at, and since when; of Sampled Values what its ASDUs say, and its streams."""
 
-    __slots__ = ("record", "number", "first", "last", "state", "since", "clock", "sequence", "streams", "is_alike", "between", "pace")
+    __slots__ = ("record", "number", "first", "last", "state", "since", "clock", "sequence", "streams", "is_alike", "between", "pace", "wave")
 
     def __init__(self, record, found):
         self.record, self.number, self.first, self.last = record, 0, found, found
         self.state, self.since, self.clock, self.sequence, self.streams, self.is_alike = b"", 0, None, None, (), None
-        self.between, self.pace = None, None
+        self.between, self.pace, self.wave = None, None, None
 
 
 def pattern_of(line, at):
@@ -99,6 +101,12 @@ def pattern_of(line, at):
     return re.compile(pattern + re.escape(line[begin:until])).match
 
 
+def numbers_of(state, line, upto):
+    """stNum and sqNum of a frame."""
+    begin = upto + len(b',"sqNum":')
+    return int(state[state.rindex(NUMBER) + len(NUMBER):]), int(line[begin:line.find(b",", begin)])
+
+
 class Station:
     """The senders of a capture in the order in which they occur, and how many packets are what. Pauses are looked at of the control blocks
     that have a pace."""
@@ -106,7 +114,7 @@ class Station:
     def __init__(self, paces=None, samples=None):
         self.paces, self.samples = paces or {}, samples
         self.seen, self.sorts, self.flows, self.kinds, self.clocks, self.times = {}, {}, {}, {}, {}, Times()
-        self.sequences, self.malformed = Sequences(), Malformed()
+        self.sequences, self.malformed, self.wraps = Sequences(), Malformed(), Wraps()
         self.first, self.last, self.span = None, None, None
 
     def see_blocks(self, lines):
@@ -136,15 +144,16 @@ class Station:
                     self.times.gap(greatest, found)
                 greatest, top = now, found
             elif ahead < 0:
-                least = min(now, least)
+                least = min(now or least, least)
                 if ahead <= -SECOND:
                     self.times.back(-ahead, found, top)
             if kind in looks:
                 looks[kind](found, found.string, now)
         self.add_up()
         self.first, self.last = first and place(first), found and place(found)
-        self.span = (least, greatest) if found else None
-        self.times.ends_back = bool(found) and int(found[2]) <= greatest - SECOND
+        self.span = (least or self.times.began, greatest) if found else None
+        self.wraps.end(greatest)
+        self.times.ends_back = bool(found) and 0 < int(found[2]) <= greatest - SECOND
 
     # ---- Frames --------------------------------------------------------------
 
@@ -166,6 +175,8 @@ class Station:
             sort.pace.see(found, state, int(line[begin:line.find(b",", begin)]), now, self.times.gaps)
         if sort.sequence and sort.sequence.sort is not sort:
             sort.sequence.go_on(sort)
+        if sort.sequence and (self.wraps.is_open or line.startswith(TOP, upto) or state.endswith(TOP_STATE)):
+            self.wraps.see(sort.record, found, numbers_of(state, line, upto), now)
         if state != sort.state or now < sort.since:
             sort.state, sort.since = state, now
             if sort.sequence:
@@ -194,14 +205,17 @@ class Station:
         until = line.find(b',"asdus":[', found.end())
         envelope = line[found.end() + 1:until]
         sort = self.flows.get(envelope)
-        if sort is None or sort.is_alike is None or not sort.is_alike(line, until):
+        alike = sort is not None and sort.is_alike is not None and sort.is_alike(line, until)
+        if not alike:
             sort = self.sort_of_sampled(envelope, tuple(ASDU.findall(line, until)), found)
             if sort.number == MANY:
                 sort.is_alike = pattern_of(line, until)
         sort.number += 1
         sort.last = found
-        if self.samples:
-            self.samples.see(sort, line, until, now, int(found[1]))
+        if alike and sort.wave:
+            sort.wave.see(alike.groups(), now, int(found[1]))
+        elif self.samples:
+            self.samples.see(sort, line, until, now, int(found[1]), alike)
         if not 0 <= now - sort.since < STRETCH:
             sort.since = now
             counts = COUNT.findall(line, until)
@@ -218,9 +232,9 @@ class Station:
             sort = self.sort((envelope, asdus), Sort(json.loads(b"{%s}" % envelope), found))
             sort.state, sort.streams = asdus, self.streams_of(sort.record, asdus, int(found[1]))
         self.flows[envelope] = sort
-        named = {json.loads(svid): synch for svid, _, synch, *_ in asdus}
-        for _, stream in sort.streams:
-            stream.synch.see(int(named[stream.name]), found)
+        named = {stream.text: stream.synch for _, stream in sort.streams}
+        for svid, _, synch, *_ in asdus:
+            named[svid].see(int(synch), found)
         return sort
 
     def streams_of(self, record, asdus, packet):
@@ -274,6 +288,12 @@ class Station:
             seen.sources.setdefault(own, Span()).add(sort.number, first, last)
         if is_simulated:
             seen.simulated.add(sort.number, first, last)
+
+    @property
+    def zero(self):
+        """The first packet that has a time, or the first one where none has."""
+        times = self.times
+        return Place(times.zeros + 1, times.began, date(times.began)) if times.began and not self.first.microseconds else self.first
 
     def of_kind(self, kind):
         return [it for it in self.seen.values() if it.kind == kind]

@@ -27,11 +27,12 @@ UNNAMED = [page.Column("IED"), page.Column("Line of the SCL file", page.NUMBER),
 
 
 class Subscriptions:
-    """The subscriptions of a station: for each IED and each of its control blocks by what it is named; and what its ExtRefs name that is
-    not there."""
+    """The subscriptions of a station: for each IED and each of its control blocks by what it is named, and the inputs that any of several
+    serves; and what its ExtRefs name that is not there."""
 
     def __init__(self, station):
         self.station, self.by, self.rivals, self.unnamed, self.unbound, self.elsewhere = station, {}, {}, [], 0, 0
+        self.inputs = {}
         self.controls = {id(it): it for it in station.controls}
         self.named = {}
         for control in station.controls:
@@ -64,10 +65,23 @@ class Subscriptions:
 
     def serve(self, ied, there):
         """Any of these blocks serves an input of an IED."""
+        if len(there) > 1:
+            self.inputs.setdefault(ied, {})[tuple(map(id, there))] = None
         for control in there:
             self.add(ied, control, "ExtRef" if len(there) == 1 else f"ExtRef: one of {len(there):,}")
             if len(there) > 1:
-                self.rivals.setdefault((ied, id(control)), set()).update(id(it) for it in there if it is not control)
+                self.rivals.setdefault((ied, id(control)), {})[tuple(map(id, there))] = None
+
+    def is_sole(self, ied, at):
+        """Whether an IED names this control block itself, so that no other one serves in its place."""
+        return any("one of" not in by for by in self.by.get((ied, at), ()))
+
+    def served(self, ied, at, accepted):
+        """The control blocks that serve an IED in place of this one: of each input one that is accepted, or none at all."""
+        if self.is_sole(ied, at):
+            return []
+        serving = [next((it for it in there if it != at and accepted(it)), None) for there in self.rivals.get((ied, at), ())]
+        return [] if None in serving else serving
 
     def candidates(self, reference):
         """The control blocks that an ExtRef names."""
@@ -243,10 +257,9 @@ class Matrix:
         outcome = self.outcomes[id(control)]
         if outcome.accepted:
             return finding("refused in part") if outcome.is_partly_refused else clean("accepted")
-        others = [self.subscriptions.controls[at] for at in self.subscriptions.rivals.get((ied, id(control)), ()) if self.outcomes[at].accepted]
-        is_sole = any(by == "IEDName" or "one of" not in by for by in self.subscriptions.by[ied, id(control)])
-        if others and not is_sole:
-            return clean(f"not needed: {name_of(others[0])} serves")
+        others = self.subscriptions.served(ied, id(control), lambda it: self.outcomes[it].accepted)
+        if others:
+            return clean(f"not needed: {name_of(self.subscriptions.controls[others[0]])} serves")
         if outcome.received:
             return finding("no frame accepted")
         if outcome.why:

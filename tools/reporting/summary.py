@@ -1,7 +1,7 @@
 """The summary: what was found, not judged or clean of each topic, each with the packets that it rests on."""
 import member_names
-from reporting import beside, clocks, looked, missing, pace, page, rates, received, simulation, sources, subscriptions, synchronised
-from reporting.verdict import Line, Verdict, clean, found as finding, not_judged, some
+from reporting import beside, clocks, looked, missing, pace, page, rates, received, simulation, sources, subscriptions, synchronised, unread, wraps
+from reporting.verdict import Line, State, Verdict, clean, found as finding, not_judged, some
 
 
 def capture(found, _own):
@@ -24,15 +24,16 @@ def losses(found, _own):
         number, size, packet = it.kinds[kind]
         where = f"up to packet\u00a0{found.packets}" if packet is None else f"first: packet\u00a0{packet}"
         told.append(f"{page.count(size, *missing.WORDS[kind])}{missing.of_these(size, it.late.get(kind, 0))} ({where})")
-    unsure = [*looked.silences(found), *missing.copies(it)]
-    yield from unsure
+    wrapped = list(wraps.judge(found))
+    unsure = [*looked.silences(found), *missing.copies(it), *(it for it in wrapped if it.state != State.CLEAN)]
+    yield from (*unsure, *(it for it in wrapped if it.state == State.CLEAN))
     if told:
         yield finding(f"{'; '.join(told)}.")
     if it.bad.number:
         yield clean(f"{page.count(it.bad.number, 'frame')} that control blocks lack came with an error, first: packet\u00a0{it.bad.first}: "
                     "told under errors alone.")
     if not told and not unsure:
-        yield clean(f"nothing{' else' if it.bad.number else ''} is missing, late, silent or restarted in {found.all_packets}.")
+        yield clean(f"nothing{' else' if it.bad.number or wrapped else ''} is missing, late, silent or restarted in {found.all_packets}.")
 
 
 def errors(found, _own):
@@ -61,7 +62,7 @@ def configuration(found, own):
         return
     seen = [(it, found.differences[id(it)]) for it in found.station.seen.values()]
     differ = [f"{it.name}, packet\u00a0{held[0][1]}" for it, held in seen if held]
-    strange = [f"{it.name}, packet\u00a0{it.first.packet}" for it, held in seen if held is None]
+    strange = [f"{it.name}, packet\u00a0{it.first.packet}" for it, held in seen if held is None and not found.configured.why_uncompared(it)]
     missed = [it.fields.get("gocbRef") or it.more["svID"] for it in found.missing_senders]
     told = [f"{len(held):,} {one if len(held) == 1 else many} ({some(held)})" for held, one, many in (
         (missed, f"is missing in {found.all_packets}", f"are missing in {found.all_packets}"), (differ, "differs", "differ"),
@@ -71,9 +72,11 @@ def configuration(found, own):
     if found.unusable:
         untold = [f"{reference} (line {line}): {why}" for line, reference, why in found.unusable]
         yield not_judged(f"{page.count(len(untold), 'control block')} of {own.scd} cannot be compared: {some(untold)}.", "mend the SCL file")
-    yield from pace.judge(found, own)
-    agree = sum(held == [] and it.name not in others for it, held in seen)
-    yield clean(f"{agree:,} {'agrees' if agree == 1 else 'agree'} with {own.scd} in {found.all_packets}.")
+    yield from unread.judge(found, own)
+    agree = sum(held == [] and not (it.name in others or id(it) in found.paces or found.configured.unread_of(it)) for it, held in seen)
+    yield from pace.judge(found, own, agree)
+    if not found.paces:
+        yield clean(f"{agree:,} {'agrees' if agree == 1 else 'agree'} with {own.scd} in {found.all_packets}.")
 
 
 def are_copies(found, old):
@@ -86,10 +89,9 @@ def events(found, own):
     it = found.events
     others = {}
     for block in it.blocks.values():
-        for (kind, reason), held in block.counts.items():
-            if kind in ("refused", "old", "expired", "switched"):
-                number, packet = others.get((kind, reason), (0, held.first.packet))
-                others[kind, reason] = (number + held.number, min(packet, held.first.packet))
+        for sort, (size, first) in block.findings.items():
+            number, packet = others.get(sort, (0, first))
+            others[sort] = (number + size, min(packet, first))
     copies = others.pop(("old", None), None) if are_copies(found, others.get(("old", None))) else None
     told = [f"{number:,} {kind}{f' ({reason})' if reason else ''}, first: packet\u00a0{packet}" for (kind, reason), (number, packet) in others.items()]
     acts = f"{page.count(it.acts, 'event')} in {page.packets(it.first.packet, it.last.packet)}" if it.acts else f"none in {found.all_packets}"
@@ -98,6 +100,8 @@ def events(found, own):
         acts += f"; slowest first frame {page.duration(delay)} after t (packet\u00a0{packet})"
     if told:
         yield finding(f"{some(told)}.")
+    if found.untimed.number:
+        yield not_judged(f"whether lifetimes were over is not judged, since {found.untimed.told(found.packets)}.", "capture with times")
     if copies:
         yield not_judged(f"{copies[0]:,} old, first: packet\u00a0{copies[1]}: copies, or overtaken by a later state.", "look at the line on losses")
     if found.untold and not own.ied:

@@ -4,37 +4,37 @@ from reporting.places import place
 from reporting.simulation import clock
 from reporting.verdict import clean, found as finding, not_judged, some
 
-# How many changes of a stream are told.
-MOST = 50
-# What smpSynch says (IEC 61850-9-2).
+# How many changes of a stream are told, and how many losses of its clock.
+MOST, MOST_LOST = 50, 2
+# What smpSynch says (IEC 61850-9-2, IEC 61869-9): of 1 and 5 to 254 the clock is a local one. The values between and 255 are reserved.
 NONE, GLOBAL = 0, 2
+RESERVED = (3, 4, 255)
 COLUMNS = [page.Column("Stream"), page.Column("smpSynch"), page.Column("Changes", page.NUMBER)]
 
 
 def meaning(value):
     """What a value of smpSynch says."""
-    return {NONE: "0 (not synchronised)", GLOBAL: "2 (global clock)"}.get(value,
-        f"{value} (local clock)" if value == 1 or 5 <= value <= 254 else f"{value}")
+    return {NONE: "0 (not synchronised)", GLOBAL: "2 (global clock)"}.get(value, f"{value} ({'reserved' if value in RESERVED else 'local clock'})")
 
 
 class Synch:
-    """The values of smpSynch of a stream, each with its place, and how often they change."""
+    """The values of smpSynch of a stream, each with its place, and how often they change; where it first goes to 0 from another value, and where
+    it first has each reserved one."""
 
     def __init__(self):
-        self.values, self.now, self.changes = [], None, 0
+        self.values, self.now, self.changes, self.lost, self.reserved = [], None, 0, [], {}
 
     def see(self, value, found):
         if value == self.now:
             return
+        if self.now is not None and value == NONE and len(self.lost) < MOST_LOST:
+            self.lost.append((value, place(found)))
+        if value in RESERVED:
+            self.reserved.setdefault(value, place(found))
         self.changes += self.now is not None
         if len(self.values) < MOST:
             self.values.append((value, place(found)))
         self.now = value
-
-    @property
-    def lost(self):
-        """Where it goes to 0 from another value."""
-        return [(value, where) for value, where in self.values[1:] if value == NONE]
 
     def told(self, short):
         """The values in order, each with the place from which on it holds."""
@@ -51,20 +51,23 @@ def at(stream, values, short):
 
 def judge(found, _own):
     streams, short = [it for it in found.station.of_kind("stream") if it.synch.values], found.is_short
-    lost = [at(it, it.synch.lost[:2], short) for it in streams if it.synch.lost]
+    lost = [at(it, it.synch.lost, short) for it in streams if it.synch.lost]
+    reserved = [at(it, it.synch.reserved.items(), short) for it in streams if it.synch.reserved]
     changing = [at(it, it.synch.values[:3], short) for it in streams if it.synch.changes and not it.synch.lost]
     without = [at(it, it.synch.values[:1], short) for it in streams if it.synch.values[0][0] == NONE]
     others = sorted({value for it in streams for value, _ in it.synch.values[:1]})
     if lost:
         yield finding(f"smpSynch goes to 0 (not synchronised): {some(lost)}.")
     todo = "look at the clocks of the merging units"
+    if reserved:
+        yield not_judged(f"smpSynch is reserved, so it says of no clock by which the samples are synchronised: {some(reserved)}.", todo)
     if changing:
         yield not_judged(f"smpSynch changes: {some(changing)}.", todo)
     if without:
         yield not_judged(f"smpSynch is 0 (not synchronised): {some(without)}.", todo)
     if len(others) > 1:
         yield not_judged(f"smpSynch differs between streams: {some([meaning(it) for it in others])}.", todo)
-    if not (lost or changing or without or len(others) > 1):
+    if not (lost or reserved or changing or without or len(others) > 1):
         told = f"smpSynch of {page.count(len(streams), 'stream')} is {meaning(others[0])}" if streams else "there is no stream"
         yield clean(f"{told} in {found.all_packets}.")
 

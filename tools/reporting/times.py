@@ -17,6 +17,27 @@ class Back:
         self.by, self.first, self.last, self.greatest = by, where, where.packet, int(greatest[1])
 
 
+class Untimed:
+    """The packets without a time: how many, and the first."""
+
+    def __init__(self, number=0, first=None):
+        self.number, self.first = number, first
+
+    def told(self, packets):
+        if self.number == packets:
+            return "no packet has a time"
+        return f"{self.number:,} {'packet has' if self.number == 1 else 'packets have'} no time, from packet\u00a0{self.first} on"
+
+
+def untimed(station, recorded):
+    """The packets without a time: those of blocks that have none, or of a time of 0."""
+    if recorded.simple.number:
+        return Untimed(recorded.simple.number, recorded.simple.first)
+    if station.span == (0, 0):
+        return Untimed(station.last.packet, 1)
+    return Untimed(station.times.zeros, station.times.first_zero)
+
+
 class Gap:
     """A second or more in which no packet came: its times, the packet that ends it, and what became of the devices in it."""
 
@@ -38,19 +59,26 @@ class Gap:
 
 
 class Times:
-    """What is odd in the times of packets."""
+    """What is odd in the times of packets. A time of 0, at the beginning of 1970, is none: how many packets have none, the first of them, and the
+    first time behind some of these."""
 
     def __init__(self):
         self.backs, self.gaps, self.number, self.ends_back = [], [], 0, False
+        self.zeros, self.first_zero, self.began = 0, None, 0
 
     def gap(self, before, found):
         """The packet before which no packet came for a second or more."""
-        if len(self.gaps) < MOST_GAPS:
+        if before == 0:
+            self.zeros, self.first_zero, self.began = int(found[1]) - 1, 1, int(found[2])
+        elif len(self.gaps) < MOST_GAPS:
             self.gaps.append(Gap(before, found))
 
     def back(self, by, found, greatest):
         """A packet whose time is a second or more before the greatest one."""
         packet, now = int(found[1]), int(found[2])
+        if now == 0:
+            self.zeros, self.first_zero = self.zeros + 1, self.first_zero or packet
+            return
         self.number += 1
         last = self.backs[-1] if self.backs else None
         if last and last.last == packet - 1:

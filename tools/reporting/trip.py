@@ -126,15 +126,16 @@ class Trip:
         if "opening" in self.moments:
             self.moments["opening"].again(opening)
         else:
-            cause = self.rises[0] if self.rises else opening
+            # Without times it is not known what came shortly before.
+            cause = self.rises[0] if self.rises and now else opening
             self.moments["opening"] = Moment(cause.event.place, cause, self.recent, opening)
             self.moments["opening"].latest = now
 
     def count(self, event):
         """The fourth rule: the events of 100 ms, and how many control blocks they are of."""
-        if not any(isinstance(new, bool) or is_two_bits(new) for _, _, new in event.changes):
-            return
         now = event.place.microseconds
+        if not now or not any(isinstance(new, bool) or is_two_bits(new) for _, _, new in event.changes):
+            return
         while self.changed and not 0 <= now - self.changed[0].place.microseconds <= CLOSE:
             self.drop(id(self.changed.popleft().block))
         self.changed.append(event)

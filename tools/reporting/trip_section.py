@@ -7,6 +7,7 @@ OFF = "01"
 COLUMNS = [page.Column("Time", page.NUMBER), page.Column("Packet", page.NUMBER), page.Column("Device"), page.Column("Control block"),
            page.Column("Data"), page.Column("Old to new"), page.Column("Delay from\u00a0t", page.NUMBER)]
 SINCE = page.Column("From the fault", page.NUMBER)
+UNTIMED = "Events in the order of packets, which have no time"
 RULES = {"packet": "--trip names this packet", "member": "the member that --trip names goes true",
          "name": "the member's name says that the device trips"}
 
@@ -44,7 +45,7 @@ def rows_of(event, moment, devices, columns, fault):
     """The rows of an event."""
     told = event.words() or [("", event.told())]
     device, block = devices.parts(event.block.name) if event.block else ("", "")
-    times = [relative(moment.since(event)), *([relative(event.place.microseconds - fault.place.microseconds)] if fault else [])]
+    times = [relative(moment.since(event)) if event.place.microseconds else "", *([relative(event.place.microseconds - fault.place.microseconds)] if fault else [])]
     for name, *values in told:
         yield page.row(columns, [
             *times, event.packets(), page.element("span", page.named(device)) if device else "",
@@ -107,6 +108,8 @@ def rule_of(rule, moment):
         opening, cause = moment.opening, moment.cause
         name, old, new = opening.change()
         opens = f"a breaker opens in packet\u00a0{opening.event.place.packet} ({name}: {old} \u2192 {new})"
+        if not opening.microseconds:
+            return f"{opens}; packets have no time, so what came shortly before is not known"
         if cause is opening:
             return f"{opens}; no boolean goes true in the 100 ms before"
         later = (opening.microseconds - cause.microseconds) / 1000
@@ -116,7 +119,7 @@ def rule_of(rule, moment):
 
 def head(rule, moment, found):
     """What was found, when, and by which rule."""
-    at = [f" in packet\u00a0{moment.place.packet}, at ", page.when(moment.place, False), " UTC"]
+    at = [f" in packet\u00a0{moment.place.packet}", *([", at ", page.when(moment.place, False), " UTC"] if moment.place.microseconds else [])]
     if rule == "busiest":
         return [page.element("strong", ["No trip was recognised. The busiest 100 ms begin", *at]),
                 f": {page.count(moment.blocks, 'control block')} changed a boolean or a two-bit position. Name the trip with --trip PACKET or --trip NAME."]
@@ -144,7 +147,7 @@ def section(found):
         none = f"No trip was recognised in {found.all_packets}: no event meets any of the rules for one."
         return page.pieces([begin, *told, page.element("p", none), "\n", end])
     around = f"{BEFORE // 1000} ms before to {AFTER // 1000000} s after"
-    title = f"Events from {around} {'this' if rule == 'busiest' else 'the trip'}"
+    title = f"Events from {around} {'this' if rule == 'busiest' else 'the trip'}" if moment.place.microseconds else UNTIMED
     fault = found.inceptions[0] if found.inceptions else None
     what = page.Limited(rows(moment, found.devices, fault), found.room)
     told += [page.element("p", head(rule, moment, found)), "\n", *inception(found, moment), later(rule, moment, found)]

@@ -6,8 +6,9 @@ from reporting import page
 from reporting.picture import WIDTH, text
 from time_axis import places_of, step_of
 
-# Where the values' scale ends and the picture does; how high a panel is, what is over it and between two; a column of the picture.
-LEFT, RIGHT, PANEL, TOP, HEAD, BOTTOM, COLUMN, LETTER = 74, 12, 150, 44, 30, 8, 2, 8.8
+# Where the values' scale ends and the picture does; how high a panel is, what is over it and between two; a column of the picture; how wide
+# a letter of a name and of a scale is, how far apart names are, and how high a further row of them.
+LEFT, RIGHT, PANEL, TOP, HEAD, BOTTOM, COLUMN, LETTER, DIGIT, SPACE, ROW = 74, 12, 150, 44, 30, 8, 2, 8.8, 8, 16, 15
 COLUMNS = (WIDTH - LEFT - RIGHT) // COLUMN
 # The most panels of a picture and channels of a panel, and how far the lines of a hatch are apart.
 MOST_PANELS, MOST_CHANNELS, APART = 3, 8, 7
@@ -30,7 +31,12 @@ class Panel:
     """The channels of one unit: a line each, with the greatest value that they have."""
 
     def __init__(self, unit, names, has_both_signs):
-        self.unit, self.names, self.has_both_signs, self.lines, self.greatest = unit, names, has_both_signs, [], 0.0
+        self.unit, self.rows, self.has_both_signs, self.lines, self.greatest = unit, rows_of(names), has_both_signs, [], 0.0
+
+    @property
+    def head(self):
+        """How high what is over it is."""
+        return HEAD + ROW * (len(self.rows) - 1)
 
     def top_value(self):
         """A round value that none is over."""
@@ -54,6 +60,19 @@ def panels_of(wave, has_both_signs):
     some = [(unit, held[:MOST_CHANNELS]) for unit, held in some]
     shown = [(Panel(unit, short_names([wave.channels[it].name for it in held]), has_both_signs), held) for unit, held in some]
     return shown, len(wave.drawn) - sum(len(held) for _, held in shown)
+
+
+def rows_of(names):
+    """The names of channels in rows, none of which is wider than the picture: each with its number and where it begins."""
+    rows, x = [[]], LEFT
+    for at, name in enumerate(names, 1):
+        short = name if len(name) <= MOST_LETTERS else f".. {name[3 - MOST_LETTERS:]}"
+        wide = round(LETTER * len(short))
+        if x + wide > WIDTH - RIGHT:
+            rows, x = [*rows, []], LEFT
+        rows[-1].append((at, short, x))
+        x += wide + SPACE
+    return rows
 
 
 def short_names(names):
@@ -113,18 +132,20 @@ def hatched(first, last, top, kind):
 
 
 def frame_of(panel, top):
-    """The head of a panel with the names of its channels, and the scale of its values."""
+    """The scale of a panel's values."""
     high = panel.top_value()
     values = (high, 0, -high) if panel.has_both_signs else (high, high / 2, 0)
     for value, y in zip(values, (top, top + PANEL // 2, top + PANEL)):
         yield f'<path class="grid" d="M{LEFT} {y}H{WIDTH - RIGHT}"/>'
         yield text(LEFT - 6, y + 4, number(value), class_="scale", text_anchor="end")
-    yield text(LEFT - 6, top - 9, panel.unit, class_="lane", text_anchor="end")
-    x = LEFT
-    for at, name in enumerate(panel.names, 1):
-        short = name if len(name) <= MOST_LETTERS else f".. {name[3 - MOST_LETTERS:]}"
-        yield text(x, top - 9, short, class_=f"name{at}")
-        x += round(LETTER * len(short)) + 16
+
+
+def head_of(panel, top):
+    """The unit of a panel and the names of its channels, over all lines."""
+    first = top - 9 - ROW * (len(panel.rows) - 1)
+    yield text(LEFT - 6, first, panel.unit, class_="lane", text_anchor="end")
+    for row, names in enumerate(panel.rows):
+        yield from (text(x, first + ROW * row, name, class_=f"name{at}") for at, name, x in names)
 
 
 def number(value):
@@ -138,7 +159,8 @@ def time_scale(axis, zero, unit, height):
     for since in range(-((zero - axis.first) // step) * step, axis.first + axis.span - zero + 1, step):
         x = axis.x(zero + since) // 10
         yield f'<path class="grid" d="M{x} {TOP - 22}V{height}"/>'
-        yield text(x, 14, f"{since / unit:.{places_of(step, unit)}f}", class_="scale", text_anchor="middle")
+        told = f"{since / unit:.{places_of(step, unit)}f}"
+        yield text(min(x, WIDTH - 2 - DIGIT * len(told) // 2), 14, told, class_="scale", text_anchor="middle")
 
 
 def moments(axis, told, height):
@@ -157,15 +179,16 @@ def moments(axis, told, height):
 
 def svg(title, axis, panels, hatches, zero, unit, told=()):
     """Panels one below another, each with its lines; hatches are spans with their kinds."""
-    height = TOP + len(panels) * (PANEL + HEAD) + BOTTOM
-    inside = [page.element("title", title), *map(page.Raw, time_scale(axis, zero, unit, height - BOTTOM))]
-    for at, (panel, paths) in enumerate(panels):
-        top = TOP + HEAD + at * (PANEL + HEAD) - 6
+    height = TOP + sum(PANEL + panel.head for panel, _ in panels) + BOTTOM
+    inside, heads, top = [page.element("title", title), *map(page.Raw, time_scale(axis, zero, unit, height - BOTTOM))], [], TOP - PANEL - 6
+    for panel, paths in panels:
+        top += PANEL + panel.head
+        heads += map(page.Raw, head_of(panel, top))
         inside += map(page.Raw, frame_of(panel, top))
         inside += [page.Raw(hatched(first, last, top, kind)) for first, last, kind in hatches]
         lines = "".join(f'<path class="wave{number}" d="{path}"/>' for number, path in enumerate(paths(top), 1) if path)
         inside.append(page.Raw(f'<g transform="scale(.1)">{lines}</g>'))
-    inside += map(page.Raw, moments(axis, told, height - BOTTOM))
+    inside += [*map(page.Raw, moments(axis, told, height - BOTTOM)), *heads]
     return page.element("svg", inside, viewBox=f"0 0 {WIDTH} {height}", width=WIDTH, height=height, role="img", aria_label=title)
 
 
